@@ -1,0 +1,12 @@
+pub mod Counting
+pub mod Names
+pub mod Sets
+pub mod Scale
+pub mod Rows
+pub mod Valid
+pub mod Tables
+pub mod Fronts
+pub mod Candidates
+pub mod Places
+pub mod FirstFit
+pub mod Totals
