@@ -1,0 +1,10 @@
+pub mod Windows
+pub mod Tree
+pub mod Boundaries
+pub mod Runs
+pub mod Rounds
+pub mod Schedule
+pub mod TreeOfSet
+pub mod Making
+pub mod Compiled
+pub mod Plans
