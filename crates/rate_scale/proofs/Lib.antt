@@ -1,0 +1,2 @@
+pub mod MultipleLemmas
+pub mod ScaleLemmas

@@ -1,0 +1,12 @@
+//! The scale of a set: how many ticks make one unit, so that each task gets whole ticks in each unit.
+#![tactic(auto)]
+
+mod multiples;
+mod rates;
+mod scales;
+
+pub use rates::{fits, rate, total};
+pub use scales::{ScaleTooLarge, scale_law, scale_of};
+
+#[cfg(test)]
+mod tests;

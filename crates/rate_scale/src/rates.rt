@@ -1,0 +1,42 @@
+//! The rates of tasks, and whether they fit on the processors.
+ghost use Rattle.std.specs.Prelude.{◌≡◌, ◌≤◌, ◌<◌, ◌^◌, ◌*◌, ◌/◌, ◌↔◌, IsTrue};
+ghost use Rattle.std.specs.Int.{◌∣◌};
+ghost use Rattle.sched_base.specs.Scale.{IsScale, Fits, total_of};
+
+use sched_base::TaskSet;
+
+/// The ticks that a task of this work and period, both in units, is given in each unit of `scale` ticks.
+pub fn rate(work: u64, period: u64, scale: u128) -> u128
+    requires work_fits { work ≤ period }
+    requires some_period { 1 ≤ period }
+    requires divides { period ∣ scale }
+    requires scale_fits { scale ≤ 2 ^ 94 }
+    ensures value { result ≡ work * scale / period }
+    ensures exact { result * period ≡ work * scale }
+    ensures within { result ≤ scale }
+{
+    u128::from(work) * (scale / u128::from(period))
+}
+
+/// The sum of the rates of a set's tasks, in ticks per unit.
+pub fn total(set: &TaskSet, scale: u128) -> u128
+    requires scale { IsScale set.now.tasks scale }
+    requires scale_fits { scale ≤ 2 ^ 94 }
+    ensures value { result ≡ total_of scale set.now.tasks }
+    ensures within { result ≤ 256 * scale }
+{
+    let mut sum: u128 = 0;
+    for task in set.tasks() {
+        sum += rate(task.work, task.period, scale);
+    }
+    sum
+}
+
+/// Whether a set's tasks ask for no more ticks than its processors have.
+pub fn fits(set: &TaskSet, scale: u128) -> bool
+    requires scale { IsScale set.now.tasks scale }
+    requires scale_fits { scale ≤ 2 ^ 94 }
+    ensures { IsTrue result ↔ Fits scale set.now }
+{
+    total(set, scale) <= u128::from(set.processors()) * scale
+}

@@ -1,0 +1,102 @@
+//! Scales, rates and totals of worked sets.
+use super::*;
+use sched_base::{TaskSet, lawful_name};
+use std::alloc::Global;
+use std::process::Abort;
+use std::test::Fail;
+
+/// A set of tasks, each told by its name, work and period.
+fn set_of(
+    rt: &impl Abort,
+    alloc: Global,
+    processors: u32,
+    tasks: &[(&str, u64, u64)],
+) -> Result<TaskSet, Fail> {
+    assert!(rt; 1 <= processors && processors <= 32);
+    let mut set = TaskSet::start(alloc, processors, 1);
+    for (name, work, period) in tasks {
+        add(rt, &mut set, name.as_bytes(), *work, *period)?;
+    }
+    Ok(set)
+}
+
+fn add(
+    rt: &impl Abort,
+    set: &mut TaskSet,
+    name: &[u8],
+    work: u64,
+    period: u64,
+) -> Result<(), Fail> {
+    assert!(rt; lawful_name(name));
+    assert!(rt; set.find(name).is_none());
+    assert!(rt; set.count() < 256);
+    assert!(rt; 1 <= work && work <= period && period < 1 << 32);
+    set.add(name, work, period)?;
+    Ok(())
+}
+
+/// The rate, once it is seen that the numbers meet its conditions.
+fn rate_at(rt: &impl Abort, work: u64, period: u64, scale: u128) -> u128 {
+    assert!(rt; 1 <= period && work <= period && scale <= 1 << 94);
+    assert!(rt; scale % u128::from(period) == 0);
+    rate(work, period, scale)
+}
+
+#[test]
+fn scales_and_totals(rt: HostRuntime) -> Result<(), Fail> {
+    let three: &[(&str, u64, u64)] = &[("a", 2, 3), ("b", 2, 3), ("c", 2, 3)];
+    let overload: &[(&str, u64, u64)] = &[("a", 2, 3), ("b", 1, 2)];
+    let longest: &[(&str, u64, u64)] = &[("a", 1, 4294967295)];
+    let greatest: &[(&str, u64, u64)] = &[
+        ("a", 1, 4294967295),
+        ("b", 1, 4294967294),
+        ("c", 1, 1073741822),
+    ];
+    for (processors, tasks, scale, sum, fitting) in [
+        (2, three, 3, 6, true),
+        (1, overload, 6, 7, false),
+        (2, &[], 1, 0, true),
+        (1, longest, 4294967295, 1, true),
+        (
+            1,
+            greatest,
+            9903520288918769111801004030,
+            13835058038639165444,
+            true,
+        ),
+    ] {
+        let set = set_of(&rt, rt.alloc(), processors, tasks)?;
+        let found = scale_of(&set)?;
+        assert_eq!(rt; found, scale);
+        assert_eq!(rt; total(&set, found), sum);
+        assert_eq!(rt; fits(&set, found), fitting);
+    }
+    Ok(())
+}
+
+#[test]
+fn past_the_limit(rt: HostRuntime) -> Result<(), Fail> {
+    let tasks: &[(&str, u64, u64)] = &[
+        ("a", 1, 4294967295),
+        ("b", 1, 4294967294),
+        ("c", 1, 4294967293),
+    ];
+    let set = set_of(&rt, rt.alloc(), 1, tasks)?;
+    assert_eq!(rt; scale_of(&set), Err(ScaleTooLarge { at: 2 }));
+    Ok(())
+}
+
+#[test]
+fn rates(rt: HostRuntime) {
+    let scale = 9903520288918769111801004030;
+    for (work, period, scale, ticks) in [
+        (2, 3, 3, 2),
+        (2, 3, 6, 4),
+        (1, 2, 6, 3),
+        (1, 4294967295, scale, 2305843003844984834),
+        (1, 4294967294, scale, 2305843004381855745),
+        (1, 1073741822, scale, 9223372030412324865),
+    ] {
+        assert_eq!(rt; rate_at(&rt, work, period, scale), ticks);
+    }
+}
