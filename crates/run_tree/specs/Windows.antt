@@ -19,3 +19,11 @@ window_end is_boundary u = boundary_within (2 ^ 33) is_boundary u
 pub record HasBoundaries (is_boundary : ℕ → Bool) : Type 0 where
   pub first : is_boundary 0 ≡ true
   pub later : (u : ℕ) → (d : ℕ) × (u < d) × (d ≤ u + 2 ^ 33) × (is_boundary d ≡ true)
+
+-- windows that tile the units: the window that holds unit u begins at `begins u` and ends before `ends u`
+pub record IsWindows (begins ends : ℕ → ℕ) : Type 0 where
+  pub begun : (u : ℕ) → begins u ≤ u
+  pub open_still : (u : ℕ) → u < ends u
+  pub same_begin : (u v : ℕ) → begins u ≤ v → v < ends u → begins v ≡ begins u
+  pub same_end : (u v : ℕ) → begins u ≤ v → v < ends u → ends v ≡ ends u
+  pub next_begins : (u v : ℕ) → ends u ≤ v → ends u ≤ begins v
