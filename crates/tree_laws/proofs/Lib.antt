@@ -1,0 +1,17 @@
+mod CountingLemmas
+mod SumLemmas
+mod NodeParts
+mod Joins
+mod Opens
+mod Duals
+mod Rooms
+mod Steps
+mod Leafs
+mod Puts
+mod Items
+mod Levels
+mod Ends
+mod First
+mod Holds
+mod Same
+mod Few

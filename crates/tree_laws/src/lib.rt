@@ -1,0 +1,3 @@
+//! The laws of the compiled tree.
+#![tactic(auto)]
+
