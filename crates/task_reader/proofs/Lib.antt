@@ -1,0 +1,5 @@
+pub mod WrittenLemmas
+pub mod MembersLemmas
+pub mod LimitsLemmas
+pub mod Accepts
+pub mod Refuses

@@ -1,0 +1,59 @@
+-- The refusals for numbers and names, of a document with the right keys and kinds.
+use Rattle.std.specs.Prelude.{ℕ, suc, ◌-◌, ◌^◌, ℤ, pos, negsuc, Bool, false, ◌&&◌, not, nat_le, if◌then◌else◌, List, [], ◌∷◌, ◌++◌, length, Option, Some, None, option_map}
+use Rattle.std.specs.Str.{bytes_eq}
+use Rattle.std.specs.List.{list_any, position}
+use Rattle.sched_base.specs.Names.{is_lawful_name}
+use Rattle.task_reader.specs.declared.refusals.ReadSet.{ReadSet}
+use Rattle.task_reader.specs.declared.refusals.ReadSet.TheVariants.{BadProcessors, BadHorizon, TooManyTasks, BadName, SameName, BadPeriod, BadWork, BadOffset}
+use Rattle.task_reader.specs.Written.{WrittenTask, natural}
+
+-- whether the whole number lies between the two, which it may equal
+abbrev pub is_within : ℕ → ℕ → ℤ → Bool
+is_within low high (pos n) = nat_le low n && nat_le n high
+is_within low high (negsuc n) = false
+
+-- whether the task has one of the earlier names
+abbrev pub is_repeated : List WrittenTask → WrittenTask → Bool
+is_repeated earlier t = list_any (λ (other : WrittenTask). bytes_eq other.name t.name) earlier
+
+-- the first task, of which the first is task i, that has an earlier one's name
+abbrev pub first_repeated : List WrittenTask → ℕ → List WrittenTask → Option ℕ
+first_repeated earlier i [] = None
+first_repeated earlier i (t ∷ ts) = if is_repeated earlier t then Some i else first_repeated (earlier ++ t ∷ []) (suc i) ts
+
+abbrev pub has_bad_name : WrittenTask → Bool
+has_bad_name t = not (is_lawful_name t.name)
+
+abbrev pub has_bad_period : WrittenTask → Bool
+has_bad_period t = not (is_within 1 (2 ^ 32 - 1) t.period)
+
+-- the period is looked at first
+abbrev pub has_bad_work : WrittenTask → Bool
+has_bad_work t = not (is_within 1 (natural t.period) t.work)
+
+abbrev pub has_bad_offset : WrittenTask → Bool
+has_bad_offset t = not (is_within 0 (2 ^ 32 - 1) t.offset)
+
+abbrev pub bad_processors : ℤ → Option ReadSet
+bad_processors z = if is_within 1 32 z then None else Some (BadProcessors z)
+
+abbrev pub bad_horizon : ℤ → Option ReadSet
+bad_horizon z = if is_within 1 (2 ^ 32 - 1) z then None else Some (BadHorizon z)
+
+abbrev pub too_many : List WrittenTask → Option ReadSet
+too_many ts = if nat_le (length ts) 256 then None else Some (TooManyTasks (length ts))
+
+abbrev pub bad_name : List WrittenTask → Option ReadSet
+bad_name ts = option_map (λ i. BadName i) (position has_bad_name ts)
+
+abbrev pub same_name : List WrittenTask → Option ReadSet
+same_name ts = option_map (λ i. SameName i) (first_repeated [] 0 ts)
+
+abbrev pub bad_period : List WrittenTask → Option ReadSet
+bad_period ts = option_map (λ i. BadPeriod i) (position has_bad_period ts)
+
+abbrev pub bad_work : List WrittenTask → Option ReadSet
+bad_work ts = option_map (λ i. BadWork i) (position has_bad_work ts)
+
+abbrev pub bad_offset : List WrittenTask → Option ReadSet
+bad_offset ts = option_map (λ i. BadOffset i) (position has_bad_offset ts)

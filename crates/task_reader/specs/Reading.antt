@@ -1,0 +1,55 @@
+-- The reading of a set: the set that bytes write, or why they are refused.
+use Rattle.std.specs.Prelude.{ℕ, if◌then◌else◌, List, [], ◌∷◌, map, Option, Some, None, Result, Ok, Err}
+use Rattle.std.specs.Str.{is_utf8}
+use Rattle.toml.specs.Data.{Members}
+use Rattle.toml.specs.Parse.{parse_document}
+use Rattle.sched_base.specs.Sets.{SetContents}
+use Rattle.task_reader.specs.declared.refusals.Key.TheVariants as key
+use Rattle.task_reader.specs.declared.refusals.ReadSet.{ReadSet}
+use Rattle.task_reader.specs.declared.refusals.ReadSet.TheVariants.{NotToml}
+use Rattle.task_reader.specs.Tree.{number_at, tasks_of}
+use Rattle.task_reader.specs.Written.{natural, written_tasks, task_of}
+use Rattle.task_reader.specs.Members.{first_refusal, unknown, missing, wrong}
+use Rattle.task_reader.specs.Limits.{bad_processors, bad_horizon, too_many, bad_name, same_name, bad_period, bad_work, bad_offset}
+
+-- the refusals that a document has, numbers 2 to 12 in their order
+abbrev pub refusals_of : Members → List (Option ReadSet)
+refusals_of top =
+    unknown top
+    ∷ missing top
+    ∷ wrong top
+    ∷ bad_processors (number_at key.Processors top)
+    ∷ bad_horizon (number_at key.Horizon top)
+    ∷ too_many (written_tasks (tasks_of top))
+    ∷ bad_name (written_tasks (tasks_of top))
+    ∷ same_name (written_tasks (tasks_of top))
+    ∷ bad_period (written_tasks (tasks_of top))
+    ∷ bad_work (written_tasks (tasks_of top))
+    ∷ bad_offset (written_tasks (tasks_of top))
+    ∷ []
+
+-- the refusal of the lowest number over the whole document
+abbrev pub refusal_of : Members → Option ReadSet
+refusal_of top = first_refusal (λ refusal. refusal) (refusals_of top)
+
+-- the set of a document that isn't refused
+abbrev pub set_of : Members → SetContents
+set_of top = record {
+  processors = natural (number_at key.Processors top);
+  horizon = natural (number_at key.Horizon top);
+  tasks = map task_of (written_tasks (tasks_of top));
+}
+
+-- the answer where this is the refusal, if any
+abbrev pub answer_of : Members → Option ReadSet → Result SetContents ReadSet
+answer_of top None = Ok (set_of top)
+answer_of top (Some refusal) = Err refusal
+
+-- the answer for a document, if there is one
+abbrev pub document_read_from : Option Members → Result SetContents ReadSet
+document_read_from None = Err NotToml
+document_read_from (Some top) = answer_of top (refusal_of top)
+
+-- the set that the bytes write, or why they are refused
+unfoldable pub set_read_from : List ℕ → Result SetContents ReadSet
+set_read_from bytes = document_read_from (if is_utf8 bytes then parse_document bytes else None)

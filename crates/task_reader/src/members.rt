@@ -1,0 +1,176 @@
+//! The refusals for the keys of a document and the kinds of their values.
+ghost use Rattle.std.specs.Prelude.{◌≡◌, option_map, IfOk};
+ghost use Rattle.toml.specs.Data.{table as as_table};
+ghost use Rattle.toml.specs.View.{view, table_view, items_view};
+ghost use Rattle.task_reader.specs.Tree.{Placed, placed_from};
+ghost use Rattle.task_reader.specs.Members.{first_refusal, least_unknown, unknown_at, missing_key, missing_at, wrong_key, wrong_at, unknown, missing, wrong};
+
+use crate::keys::{has_kind, is_known, keys_of, needed_keys_of};
+use crate::refusals::{Key, KeyText, Place, ReadSet};
+use crate::tree::{task_place, tasks_of, value_at};
+use std::alloc::{AllocError, Global};
+use toml::Value;
+use toml::value::Table;
+
+/// The first unknown key. A table's keys come in the order of their bytes.
+fn least_unknown(place: Place, table: &Table) -> Option<&str>
+    ensures { option_map (λ k. k.now) result ≡ least_unknown place (table_view table.now) }
+{
+    for (text, _value) in table.iter() {
+        if !is_known(place, text.as_str()) {
+            return Some(text.as_str());
+        }
+    }
+    None
+}
+
+fn unknown_in(alloc: Global, place: Place, table: &Table) -> Result<Option<ReadSet>, AllocError>
+    ensures { IfOk result (λ o. o ≡ unknown_at place (as_table (table_view table.now))) }
+{
+    match least_unknown(place, table) {
+        None => Ok(None),
+        Some(text) => Ok(Some(ReadSet::UnknownKey {
+            place,
+            key: KeyText::new(alloc, text)?,
+        })),
+    }
+}
+
+fn unknown_at(alloc: Global, place: Place, value: &Value) -> Result<Option<ReadSet>, AllocError>
+    ensures { IfOk result (λ o. o ≡ unknown_at place (view value.now)) }
+{
+    match value.as_table() {
+        Some(table) => unknown_in(alloc, place, table),
+        None => Ok(None),
+    }
+}
+
+fn unknown_in_tasks(alloc: Global, tasks: &[Value]) -> Result<Option<ReadSet>, AllocError>
+    ensures { IfOk result (λ o. o ≡ first_refusal (λ (v : Placed). unknown_at v.place v.value) (placed_from 0 (items_view tasks.now))) }
+{
+    for (i, value) in tasks.iter().enumerate() {
+        if let Some(refusal) = unknown_at(alloc, task_place(i), value)? {
+            return Ok(Some(refusal));
+        }
+    }
+    Ok(None)
+}
+
+/// The first unknown key of a document.
+pub(crate) fn unknown(alloc: Global, top: &Table) -> Result<Option<ReadSet>, AllocError>
+    ensures { IfOk result (λ o. o ≡ unknown (table_view top.now)) }
+{
+    match unknown_in(alloc, Place::Top, top)? {
+        Some(refusal) => Ok(Some(refusal)),
+        None => unknown_in_tasks(alloc, tasks_of(top)),
+    }
+}
+
+fn missing_key(place: Place, table: &Table, key: Key) -> Option<ReadSet>
+    ensures { result ≡ missing_key place (table_view table.now) key }
+{
+    match value_at(table, key) {
+        Some(_) => None,
+        None => Some(ReadSet::Missing { place, key }),
+    }
+}
+
+fn missing_in(place: Place, table: &Table) -> Option<ReadSet>
+    ensures { result ≡ missing_at place (as_table (table_view table.now)) }
+{
+    for key in needed_keys_of(place) {
+        if let Some(refusal) = missing_key(place, table, *key) {
+            return Some(refusal);
+        }
+    }
+    None
+}
+
+fn missing_at(place: Place, value: &Value) -> Option<ReadSet>
+    ensures { result ≡ missing_at place (view value.now) }
+{
+    match value.as_table() {
+        Some(table) => missing_in(place, table),
+        None => None,
+    }
+}
+
+fn missing_in_tasks(tasks: &[Value]) -> Option<ReadSet>
+    ensures { result ≡ first_refusal (λ (v : Placed). missing_at v.place v.value) (placed_from 0 (items_view tasks.now)) }
+{
+    for (i, value) in tasks.iter().enumerate() {
+        if let Some(refusal) = missing_at(task_place(i), value) {
+            return Some(refusal);
+        }
+    }
+    None
+}
+
+/// The first key that is missing.
+pub(crate) fn missing(top: &Table) -> Option<ReadSet>
+    ensures { result ≡ missing (table_view top.now) }
+{
+    match missing_in(Place::Top, top) {
+        Some(refusal) => Some(refusal),
+        None => missing_in_tasks(tasks_of(top)),
+    }
+}
+
+fn wrong_key(place: Place, table: &Table, key: Key) -> Option<ReadSet>
+    ensures { result ≡ wrong_key place (table_view table.now) key }
+{
+    match value_at(table, key) {
+        Some(value) => {
+            if has_kind(key, value) {
+                None
+            } else {
+                Some(ReadSet::WrongKind { place, key })
+            }
+        }
+        None => None,
+    }
+}
+
+fn wrong_in(place: Place, table: &Table) -> Option<ReadSet>
+    ensures { result ≡ wrong_at place (as_table (table_view table.now)) }
+{
+    for key in keys_of(place) {
+        if let Some(refusal) = wrong_key(place, table, *key) {
+            return Some(refusal);
+        }
+    }
+    None
+}
+
+fn wrong_at(place: Place, value: &Value) -> Option<ReadSet>
+    ensures { result ≡ wrong_at place (view value.now) }
+{
+    match value.as_table() {
+        Some(table) => wrong_in(place, table),
+        None => Some(ReadSet::WrongKind {
+            place,
+            key: Key::Task,
+        }),
+    }
+}
+
+fn wrong_in_tasks(tasks: &[Value]) -> Option<ReadSet>
+    ensures { result ≡ first_refusal (λ (v : Placed). wrong_at v.place v.value) (placed_from 0 (items_view tasks.now)) }
+{
+    for (i, value) in tasks.iter().enumerate() {
+        if let Some(refusal) = wrong_at(task_place(i), value) {
+            return Some(refusal);
+        }
+    }
+    None
+}
+
+/// The first value of a wrong kind.
+pub(crate) fn wrong(top: &Table) -> Option<ReadSet>
+    ensures { result ≡ wrong (table_view top.now) }
+{
+    match wrong_in(Place::Top, top) {
+        Some(refusal) => Some(refusal),
+        None => wrong_in_tasks(tasks_of(top)),
+    }
+}
