@@ -1,0 +1,4 @@
+pub mod FitLemmas
+pub mod FirstFitLaw
+pub mod ServerLemmas
+pub mod PackLemmas
