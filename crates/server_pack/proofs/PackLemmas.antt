@@ -1,5 +1,5 @@
 -- What the loop of first fit keeps.
-use Rattle.std.proofs.Common.{◌≡◌, ℕ, zero, suc, ◌+◌, ◌<◌, ◌≤◌, ◌==◌, List, [], ◌∷◌, ◌++◌, length, map, set, drop, get_or, sum, refl, ap, sym, subst, arith, ◌∙◌}
+use Rattle.std.proofs.Common.{◌≡◌, ℕ, ◌+◌, ◌<◌, ◌≤◌, ◌==◌, List, [], ◌∷◌, ◌++◌, length, set, drop, get_or, sum, refl, ap, sym, subst, arith, ◌∙◌}
 use Rattle.std.proofs.lemmas.List.{drop_more, drop_all, append_assoc, append-nil, length-map}
 use Rattle.std.proofs.lemmas.List.Sums.{sum-map}
 use Rattle.sched_base.specs.FirstFit.{first_with_room, with_item, packed_from, packed, homes_from, homes}

@@ -1,5 +1,5 @@
 -- What an item more changes of a list of servers.
-use Rattle.std.proofs.Common.{◌≡◌, ℕ, zero, suc, ◌+◌, ◌*◌, ◌<◌, ◌≤◌, ◌==◌, List, [], ◌∷◌, ◌++◌, length, map, set, get_or, filter, cond, Bool, true, false, refl, ap, sym, subst, arith, ◌⊎◌, inl, inr, ◌∙◌}
+use Rattle.std.proofs.Common.{◌≡◌, ℕ, zero, suc, ◌+◌, ◌*◌, ◌<◌, ◌≤◌, ◌==◌, List, [], ◌∷◌, ◌++◌, length, set, get_or, filter, cond, Bool, true, false, refl, ap, sym, arith, inl, inr, ◌∙◌}
 use Rattle.std.specs.List.{range_with_len}
 use Rattle.std.proofs.lemmas.Bool.{cases_eq, eq-eqb, ne_eqb}
 use Rattle.std.proofs.lemmas.List.{append-nil}
@@ -8,7 +8,7 @@ use Rattle.std.proofs.Math.ListN.{get_or-map}
 use Rattle.sched_base.specs.Counting.{bit}
 use Rattle.sched_base.specs.FirstFit.{first_with_room, with_item}
 use Rattle.server_pack.specs.declared.packing.Server.{Server}
-use Rattle.server_pack.specs.Servers.{no_server, server_at, rates_of, rate_sum, items_of, put_in, alone, with_member, HasNoIdle, IsWithin}
+use Rattle.server_pack.specs.Servers.{no_server, server_at, rates_of, items_of, put_in, alone, with_member, HasNoIdle, IsWithin}
 use Rattle.server_pack.proofs.FitLemmas.{first_with_room-le, first_with_room-fits, rate-with_item}
 
 pub rate-at : (servers : List Server) (b : ℕ) → get_or (rates_of servers) b 0 ≡ (server_at servers b).rate
