@@ -1,8 +1,10 @@
 -- Whole rounds of rows: for each processor its rows, one for each round.
-use Rattle.std.specs.Prelude.{ℕ, ◌≡◌, ◌<◌, ◌+◌, ◌^◌, List, [], ◌∷◌, ◌++◌, Some, length, slice_get, slice_index_or}
+use Rattle.std.specs.Prelude.{ℕ, ◌≡◌, ◌<◌, ◌≤◌, ◌+◌, ◌-◌, ◌*◌, ◌^◌, List, [], ◌∷◌, ◌++◌, Some, length, slice_get, slice_index_or, map, take}
 use Rattle.sched_base.specs.declared.rows.Leaf.TheVariants.{Task}
 use Rattle.sched_base.specs.declared.rows.TaskId.{TaskId}
 use Rattle.sched_base.specs.declared.rows.Row.{Row}
+use Rattle.sched_base.specs.Counting.{bit}
+use Rattle.sched_base.specs.Rows.{is_of_task}
 
 -- what a table holds, with the number of further rounds for which it has room
 pub record Table : Type 0 where
@@ -21,17 +23,21 @@ RowAt lanes p k r = slice_get (lane_of lanes p) k ≡ Some r
 abbrev pub rounds_of : List (List Row) → ℕ
 rounds_of lanes = length (lane_of lanes 0)
 
--- the tick at which the last round ends, 0 where there is none
+-- the tick at which the last of these rows ends, or the one before where there is none
 abbrev pub end_after : ℕ → List Row → ℕ
 end_after before [] = before
 end_after before (r ∷ rows) = end_after r.end rows
 
--- these are the rows of one round that begins at `start`, in the order of their processors
+-- the tick at which the last round ends and the next one would start
+abbrev pub end_of : List (List Row) → ℕ
+end_of lanes = end_after 0 (lane_of lanes 0)
+
+-- these are the rows of one round that starts at `start`, in the order of their processors
 pub record IsRound (start : ℕ) (rows : List Row) : Type 0 where
   pub own : (p : ℕ) (r : Row) → slice_get rows p ≡ Some r → r.processor ≡ p
-  pub starts : (p : ℕ) (r : Row) → slice_get rows p ≡ Some r → (r.start ≡ start) × (start < r.end)
+  pub starts : (p : ℕ) (r : Row) → slice_get rows p ≡ Some r → r.start ≡ start
+  pub forward : (p : ℕ) (r : Row) → slice_get rows p ≡ Some r → (r.start < r.end) × (r.end < 2 ^ 127)
   pub ends : (p q : ℕ) (r s : Row) → slice_get rows p ≡ Some r → slice_get rows q ≡ Some s → r.end ≡ s.end
-  pub fits : (p : ℕ) (r : Row) → slice_get rows p ≡ Some r → r.end < 2 ^ 127
   -- no task stands twice in it
   pub once : (p q : ℕ) (r s : Row) (task : TaskId) → slice_get rows p ≡ Some r → slice_get rows q ≡ Some s → r.leaf ≡ Task task → s.leaf ≡ Task task → p ≡ q
 
@@ -41,7 +47,7 @@ with_round [] rows = []
 with_round (lane ∷ lanes) [] = lane ∷ lanes
 with_round (lane ∷ lanes) (r ∷ rows) = (lane ++ r ∷ []) ∷ with_round lanes rows
 
--- what each table keeps: rounds follow one another from tick 0, and each is one of all processors
+-- what each table keeps: whole rounds of all processors, which follow one another from tick 0
 pub record IsTable (lanes : List (List Row)) : Type 0 where
   pub whole : (p : ℕ) → p < length lanes → length (lane_of lanes p) ≡ rounds_of lanes
   pub own : (p k : ℕ) (r : Row) → RowAt lanes p k r → r.processor ≡ p
@@ -51,3 +57,57 @@ pub record IsTable (lanes : List (List Row)) : Type 0 where
   pub together : (p q k : ℕ) (r s : Row) → RowAt lanes p k r → RowAt lanes q k s → (r.start ≡ s.start) × (r.end ≡ s.end)
   -- no task stands twice in a round
   pub once : (p q k : ℕ) (r s : Row) (task : TaskId) → RowAt lanes p k r → RowAt lanes q k s → r.leaf ≡ Task task → s.leaf ≡ Task task → p ≡ q
+
+-- the rows of all processors, one processor after another
+abbrev pub all_rows : List (List Row) → List Row
+all_rows [] = []
+all_rows (lane ∷ lanes) = lane ++ all_rows lanes
+
+-- the ticks that a row gives to task j
+abbrev pub row_ticks : ℕ → Row → ℕ
+row_ticks j r = bit (is_of_task j r.leaf) * (r.end - r.start)
+
+-- the ticks that these rows give to task j
+abbrev pub ticks_in : ℕ → List Row → ℕ
+ticks_in j [] = 0
+ticks_in j (r ∷ rows) = row_ticks j r + ticks_in j rows
+
+-- the ticks that the first rows of the lanes give to task j, of each lane as many rows as its count says
+abbrev pub ticks_of : ℕ → List (List Row) → List ℕ → ℕ
+ticks_of j [] counts = 0
+ticks_of j (lane ∷ lanes) [] = 0
+ticks_of j (lane ∷ lanes) (n ∷ counts) = ticks_in j (take n lane) + ticks_of j lanes counts
+
+-- the ticks that the rounds before round k give to task j
+abbrev pub ticks_before : ℕ → ℕ → List (List Row) → ℕ
+ticks_before j k [] = 0
+ticks_before j k (lane ∷ lanes) = ticks_in j (take k lane) + ticks_before j k lanes
+
+-- one processor's rows, and for how many more there is room
+pub record LaneHeld : Type 0 where
+  pub rows : List Row
+  pub room : ℕ
+
+-- a lane with one row more
+abbrev pub with_row : LaneHeld → Row → LaneHeld
+with_row lane r = record { rows = lane.rows ++ r ∷ []; room = lane.room - 1 }
+
+-- the lanes, each with its row of one round more
+abbrev pub with_rows : List LaneHeld → List Row → List LaneHeld
+with_rows [] rows = []
+with_rows (lane ∷ lanes) [] = lane ∷ lanes
+with_rows (lane ∷ lanes) (r ∷ rows) = with_row lane r ∷ with_rows lanes rows
+
+-- each lane has room for that many rows
+abbrev pub HaveRoom : ℕ → List LaneHeld → Type 0
+HaveRoom n lanes = (p : ℕ) (lane : LaneHeld) → slice_get lanes p ≡ Some lane → n ≤ lane.room
+
+-- the rows of the lanes
+abbrev pub rows_of : List LaneHeld → List (List Row)
+rows_of lanes = map (λ lane. lane.rows) lanes
+
+-- what the fields of a table keep
+pub record IsHeld (lanes : List LaneHeld) (room : ℕ) : Type 0 where
+  pub few : length lanes < 2 ^ 32
+  pub table : IsTable (rows_of lanes)
+  pub reserved : HaveRoom room lanes

@@ -6,6 +6,7 @@ mod memory;
 mod names;
 mod rows;
 mod sets;
+mod tables;
 mod totals;
 
 pub use candidates::Candidate;
@@ -13,4 +14,5 @@ pub use memory::NoMemory;
 pub use names::{Name, lawful_name};
 pub use rows::{Leaf, NodeId, ProcId, Row, TaskId};
 pub use sets::{Task, TaskSet};
+pub use tables::RowTable;
 pub use totals::Totals;
