@@ -1,0 +1,11 @@
+pub mod Edf
+pub mod Packs
+pub mod Levels
+pub mod LevelMembers
+pub mod LevelCounts
+pub mod Steady
+pub mod Spending
+pub mod Keeping
+pub mod PlacedPacks
+pub mod TaskRows
+pub mod QuietTicks
