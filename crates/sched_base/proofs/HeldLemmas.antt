@@ -129,3 +129,8 @@ sum_on_packs c v (Some j ∷ os) h =
     let one = sum_to-one c (λ i. bit (eqb j i) * v i) j (h j (omega (arith, here))) (λ k l ne. (let z = bit_off (eqb j k) (ne_eqb j k (λ s. ne (sym s))) in omega (arith, ap (λ b. b * v k) z))) in
     let at = ap (λ b. b * v j) here in
     omega (arith, ih, parts, same, one, at)
+
+pub sum_on-same : (v w : ℕ → ℕ) (os : List (Option ℕ)) → ((i : ℕ) → v i ≡ w i) → sum_on v os ≡ sum_on w os
+sum_on-same v w [] h = refl
+sum_on-same v w (None ∷ os) h = sum_on-same v w os h
+sum_on-same v w (Some i ∷ os) h = let ih = sum_on-same v w os h in let here = h i in omega (arith, ih, here)

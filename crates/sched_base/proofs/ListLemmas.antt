@@ -22,6 +22,13 @@ pub filter_none : (p : ℕ → Bool) (xs : List ℕ) → ((x : ℕ) → p x ≡ 
 filter_none p [] h = refl
 filter_none p (x ∷ xs) h = cond-false (p x) (x ∷ filter p xs) (filter p xs) (h x) ∙ filter_none p xs h
 
+-- the numbers from a on that pass begin with a, where it does
+pub passing_on : (p : ℕ → Bool) (a n : ℕ) → p a ≡ true → filter p (range_with_len a (suc n)) ≡ a ∷ filter p (range_with_len (a + 1) n)
+passing_on p a n on = cond-true (p a) (a ∷ filter p (range_with_len (a + 1) n)) (filter p (range_with_len (a + 1) n)) on
+
+pub passing_off : (p : ℕ → Bool) (a n : ℕ) → p a ≡ false → filter p (range_with_len a (suc n)) ≡ filter p (range_with_len (a + 1) n)
+passing_off p a n off = cond-false (p a) (a ∷ filter p (range_with_len (a + 1) n)) (filter p (range_with_len (a + 1) n)) off
+
 pub same_map : (f g : ℕ → Bool) (xs : List ℕ) → ((k : ℕ) → k < length xs → f (get_or xs k 0) ≡ g (get_or xs k 0)) → map f xs ≡ map g xs
 same_map f g [] h = refl
 same_map f g (x ∷ xs) h = ap₂ (λ (y : Bool) (ys : List Bool). y ∷ ys) (h 0 (omega arith)) (same_map f g xs (λ k l. h (suc k) (omega arith)))
@@ -36,9 +43,9 @@ times_below p zero a i l = refl
 times_below p (suc n) a i l =
     let ih = times_below p n (a + 1) i (omega arith) in
     elim (cases_Bool (p a)) [
-      | inl on ↦ (let e = ap (λ ws. times ws i) (cond-true (p a) (a ∷ filter p (range_with_len (a + 1) n)) (filter p (range_with_len (a + 1) n)) on) in
+      | inl on ↦ (let e = ap (λ ws. times ws i) (passing_on p a n on) in
           omega (arith, e, ih, bit_off (eqb a i) (ne_eqb a i (λ same. omega arith))))
-      | inr off ↦ ap (λ ws. times ws i) (cond-false (p a) (a ∷ filter p (range_with_len (a + 1) n)) (filter p (range_with_len (a + 1) n)) off) ∙ ih
+      | inr off ↦ ap (λ ws. times ws i) (passing_off p a n off) ∙ ih
     ]
 
 pub times_from : (p : ℕ → Bool) (n a i : ℕ) → a ≤ i → i < a + n → times (filter p (range_with_len a n)) i ≡ bit (p i)
@@ -49,17 +56,17 @@ times_from p (suc n) a i l m =
           (let rest = times_below p n (a + 1) i (omega arith) in
           let q : p a ≡ p i = ap p same in
           elim (cases_Bool (p a)) [
-            | inl on ↦ (let e = ap (λ ws. times ws i) (cond-true (p a) (a ∷ filter p (range_with_len (a + 1) n)) (filter p (range_with_len (a + 1) n)) on) in
+            | inl on ↦ (let e = ap (λ ws. times ws i) (passing_on p a n on) in
                 omega (arith, e, rest, bit_at (eqb a i) (eq-eqb a i same), bit_at (p i) (sym q ∙ on)))
-            | inr off ↦ (let e = ap (λ ws. times ws i) (cond-false (p a) (a ∷ filter p (range_with_len (a + 1) n)) (filter p (range_with_len (a + 1) n)) off) in
+            | inr off ↦ (let e = ap (λ ws. times ws i) (passing_off p a n off) in
                 omega (arith, e, rest, bit_off (p i) (sym q ∙ off)))
           ])
       | inr ne ↦
           (let ih = times_from p n (a + 1) i (omega arith) (omega arith) in
           elim (cases_Bool (p a)) [
-            | inl on ↦ (let e = ap (λ ws. times ws i) (cond-true (p a) (a ∷ filter p (range_with_len (a + 1) n)) (filter p (range_with_len (a + 1) n)) on) in
+            | inl on ↦ (let e = ap (λ ws. times ws i) (passing_on p a n on) in
                 omega (arith, e, ih, bit_off (eqb a i) (ne_eqb a i ne)))
-            | inr off ↦ ap (λ ws. times ws i) (cond-false (p a) (a ∷ filter p (range_with_len (a + 1) n)) (filter p (range_with_len (a + 1) n)) off) ∙ ih
+            | inr off ↦ ap (λ ws. times ws i) (passing_off p a n off) ∙ ih
           ])
     ]
 
@@ -68,13 +75,13 @@ times_at_most p zero a i = omega arith
 times_at_most p (suc n) a i =
     let ih = times_at_most p n (a + 1) i in
     elim (cases_Bool (p a)) [
-      | inl on ↦ (let e = ap (λ ws. times ws i) (cond-true (p a) (a ∷ filter p (range_with_len (a + 1) n)) (filter p (range_with_len (a + 1) n)) on) in
+      | inl on ↦ (let e = ap (λ ws. times ws i) (passing_on p a n on) in
           elim (cases_eq a i) [
             | inl same ↦ (let rest = times_below p n (a + 1) i (omega arith) in let q : p a ≡ p i = ap p same in
                 omega (arith, e, rest, bit_le (eqb a i), bit_at (p i) (sym q ∙ on)))
             | inr ne ↦ omega (arith, e, ih, bit_off (eqb a i) (ne_eqb a i ne))
           ])
-      | inr off ↦ (let e = ap (λ ws. times ws i) (cond-false (p a) (a ∷ filter p (range_with_len (a + 1) n)) (filter p (range_with_len (a + 1) n)) off) in omega (arith, e, ih))
+      | inr off ↦ (let e = ap (λ ws. times ws i) (passing_off p a n off) in omega (arith, e, ih))
     ]
 
 pub length-passing : (p : ℕ → Bool) (n a : ℕ) → length (filter p (range_with_len a n)) ≡ sum_to n (λ k. bit (p (a + k)))
@@ -85,9 +92,9 @@ length-passing p (suc n) a =
     let shift = sum_to-same n (λ k. bit (p (a + 1 + k))) (λ k. bit (p (a + suc k))) (λ k l. ap (λ x. bit (p x)) (omega arith)) in
     let zero_at = ap (λ x. bit (p x)) (add-zero a) in
     elim (cases_Bool (p a)) [
-      | inl on ↦ (let e = ap length (cond-true (p a) (a ∷ filter p (range_with_len (a + 1) n)) (filter p (range_with_len (a + 1) n)) on) in
+      | inl on ↦ (let e = ap length (passing_on p a n on) in
           omega (arith, e, ih, front, shift, zero_at, bit_at (p a) on))
-      | inr off ↦ (let e = ap length (cond-false (p a) (a ∷ filter p (range_with_len (a + 1) n)) (filter p (range_with_len (a + 1) n)) off) in
+      | inr off ↦ (let e = ap length (passing_off p a n off) in
           omega (arith, e, ih, front, shift, zero_at, bit_off (p a) off))
     ]
 
@@ -101,12 +108,12 @@ first_from p zero a i l = absurd (omega arith)
 first_from p (suc n) a i l =
     elim (cases_Bool (p a)) [
       | inl on ↦
-          (let e = cond-true (p a) (a ∷ filter p (range_with_len (a + 1) n)) (filter p (range_with_len (a + 1) n)) on in
+          (let e = passing_on p a n on in
           let P : List ℕ → Type 0 = λ xs. i < length xs → (get_or xs i 0 < a + suc n) × (p (get_or xs i 0) ≡ true) in
           subst P (sym e) (at_front (λ z. (z < a + suc n) × (p z ≡ true)) a (filter p (range_with_len (a + 1) n)) (omega arith, on)
           (λ k m. let r = first_from p n (a + 1) k m in (let b = r.0 in omega (arith, b), r.1)) i) l)
       | inr off ↦
-          (let e = cond-false (p a) (a ∷ filter p (range_with_len (a + 1) n)) (filter p (range_with_len (a + 1) n)) off in
+          (let e = passing_off p a n off in
           let P : List ℕ → Type 0 = λ xs. i < length xs → (get_or xs i 0 < a + suc n) × (p (get_or xs i 0) ≡ true) in
           subst P (sym e) (λ m. let r = first_from p n (a + 1) i m in (let b = r.0 in omega (arith, b), r.1)) l)
     ]
@@ -128,10 +135,10 @@ sum_list_passing g p (suc n) a =
     let shift = sum_to-same n (λ k. bit (p (a + 1 + k)) * g (a + 1 + k)) (λ k. bit (p (a + suc k)) * g (a + suc k)) (λ k l. ap (λ x. bit (p x) * g x) (omega arith)) in
     let zero_at = ap (λ x. bit (p x) * g x) (add-zero a) in
     elim (cases_Bool (p a)) [
-      | inl on ↦ (let e = ap (sum_list g) (cond-true (p a) (a ∷ filter p (range_with_len (a + 1) n)) (filter p (range_with_len (a + 1) n)) on) in
+      | inl on ↦ (let e = ap (sum_list g) (passing_on p a n on) in
           let one = ap (λ b. b * g a) (bit_at (p a) on) in
           omega (arith, e, ih, front, shift, zero_at, one))
-      | inr off ↦ (let e = ap (sum_list g) (cond-false (p a) (a ∷ filter p (range_with_len (a + 1) n)) (filter p (range_with_len (a + 1) n)) off) in
+      | inr off ↦ (let e = ap (sum_list g) (passing_off p a n off) in
           let none = ap (λ b. b * g a) (bit_off (p a) off) in
           omega (arith, e, ih, front, shift, zero_at, none))
     ]

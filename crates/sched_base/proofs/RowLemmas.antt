@@ -45,3 +45,7 @@ is_of_task_at j l e = ap (is_of_task j) e ∙ eq-eqb j j refl
 pub task_ticks-append : (xs ys : List Row) (j a b : ℕ) → task_ticks (xs ++ ys) j a b ≡ task_ticks xs j a b + task_ticks ys j a b
 task_ticks-append [] ys j a b = sym (zero-add (task_ticks ys j a b))
 task_ticks-append (r ∷ rs) ys j a b = let ih = task_ticks-append rs ys j a b in omega (arith, ih)
+
+pub AllApart-by : (R S : Row → Row → Type 0) (xs : List Row) → ((r q : Row) → R r q → S r q) → AllApart R xs → AllApart S xs
+AllApart-by R S [] f a = tt
+AllApart-by R S (r ∷ rs) f a = (AllByRecursion-by (R r) (S r) rs (λ q x. f r q x) a.0, AllApart-by R S rs f a.1)

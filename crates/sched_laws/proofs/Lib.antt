@@ -9,3 +9,8 @@ pub mod Keeping
 pub mod PlacedPacks
 pub mod TaskRows
 pub mod QuietTicks
+pub mod RoundRows
+pub mod Releases
+pub mod TaskTicks
+pub mod Validity
+pub mod FullRows
