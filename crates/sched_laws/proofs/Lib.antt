@@ -14,3 +14,5 @@ pub mod Releases
 pub mod TaskTicks
 pub mod Validity
 pub mod FullRows
+pub mod OneLevel
+pub mod Height

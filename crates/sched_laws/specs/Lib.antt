@@ -1,3 +1,4 @@
 pub mod Servers
 pub mod Rates
 pub mod LevelCounts
+pub mod Migration
