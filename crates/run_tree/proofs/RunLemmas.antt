@@ -6,7 +6,8 @@ use Rattle.std.proofs.lemmas.List.FromFn.{get_or-map-range_with_len}
 use Rattle.std.proofs.lemmas.List.Sums.{sum_by-take-drop, sum_by_push}
 use Rattle.run_tree.specs.declared.kinds.Kind.{Kind}
 use Rattle.sched_base.specs.declared.rows.Leaf.{Leaf}
-use Rattle.sched_base.specs.Counting.{bit, ticks}
+use Rattle.sched_base.specs.Counting.{ticks}
+use Rattle.sched_base.proofs.CountingLemmas.{cond_bit}
 use Rattle.sched_base.proofs.UnitLemmas.{tick_from}
 use Rattle.run_tree.specs.Windows.{window_begin, window_end}
 use Rattle.run_tree.specs.Tree.{IsMember, IsPack, IsTree, Tree, dual, home, is_pack, kind_at, leaf, level, level_of, primal, rate}
@@ -78,10 +79,6 @@ module _ (t : Tree) (h : IsTree t) (picked picked' : ℕ → Bool) (same : (x : 
           pack_runs_dual t picked above p d e
           ∙ ap₂ (λ a b. not (a && b)) (ih (home t d) (h.homes_are d m).0) (same d m)
           ∙ sym (pack_runs_dual t picked' above p d e))
-
-pub cond_bit : (b : Bool) → cond {A = ℕ} b 1 0 ≡ bit b
-cond_bit true = refl
-cond_bit false = refl
 
 module _ (of_leaf : Leaf → ℕ → Bool) (t : Tree) where
   -- what is left and where windows end at tick n

@@ -1,5 +1,5 @@
 -- Counting the ticks at which something holds.
-use Rattle.std.proofs.Common.{Bool, add-zero, ap, arith, false, inl, inr, not, refl, subst, suc, sym, true, zero, ℕ, ◌&&◌, ◌*◌, ◌+◌, ◌<◌, ◌≡◌, ◌≤◌, ◌⊎◌}
+use Rattle.std.proofs.Common.{Bool, add-zero, ap, arith, cond, false, inl, inr, not, refl, subst, suc, sym, true, zero, ℕ, ◌&&◌, ◌*◌, ◌+◌, ◌<◌, ◌≡◌, ◌≤◌, ◌⊎◌}
 use Rattle.std.proofs.lemmas.Bool.{cases_Bool, cases_eq, cases_lt}
 use Rattle.sched_base.specs.Counting.{bit, ticks}
 
@@ -16,6 +16,10 @@ bit_le false = omega arith
 pub bit_not : (b : Bool) → bit (not b) + bit b ≡ 1
 bit_not true = omega arith
 bit_not false = omega arith
+
+pub cond_bit : (b : Bool) → cond {A = ℕ} b 1 0 ≡ bit b
+cond_bit true = refl
+cond_bit false = refl
 
 pub bit_and : (a b : Bool) → bit (a && b) ≡ bit a * bit b
 bit_and true true = omega arith

@@ -1,12 +1,13 @@
 -- On how many processors a pack is, and how many are free.
-use Rattle.std.proofs.Common.{Bool, List, None, Option, Some, [], ap, arith, eq-eqb, eqb, false, get_or, inl, inr, length, map, refl, replicate, subst, suc, sym, true, zero, ℕ, ◌*◌, ◌+◌, ◌<◌, ◌||◌, ◌∙◌, ◌∷◌, ◌≡◌, ◌≤◌}
+use Rattle.std.proofs.Common.{Bool, List, None, Option, Some, [], ap, ap₂, arith, cond, count_by, eq-eqb, eqb, false, get_or, inl, inr, length, map, refl, replicate, subst, suc, sym, true, zero, ℕ, ◌*◌, ◌+◌, ◌<◌, ◌||◌, ◌∙◌, ◌∷◌, ◌≡◌, ◌≤◌}
 use Rattle.std.proofs.lemmas.Bool.{both_ways, cases_Bool, cases_eq, cases_lt, ne_eqb}
 use Rattle.std.proofs.lemmas.List.{get_or_past}
+use Rattle.std.proofs.lemmas.List.Sums.{sum_by-cons}
 use Rattle.std.specs.List.{list_any}
 use Rattle.sched_base.specs.Counting.{bit, sum_to}
 use Rattle.sched_base.specs.Candidates.{is_at}
 use Rattle.sched_base.specs.Places.{filled, is_held, is_running, kept, returned}
-use Rattle.sched_base.proofs.CountingLemmas.{bit_at, bit_off}
+use Rattle.sched_base.proofs.CountingLemmas.{bit_at, bit_off, cond_bit}
 use Rattle.sched_base.proofs.SumLemmas.{sum_to-add, sum_to-one, sum_to-same, sum_to-zero}
 use Rattle.sched_base.proofs.ListLemmas.{times}
 
@@ -134,3 +135,7 @@ pub sum_on-same : (v w : ℕ → ℕ) (os : List (Option ℕ)) → ((i : ℕ) �
 sum_on-same v w [] h = refl
 sum_on-same v w (None ∷ os) h = sum_on-same v w os h
 sum_on-same v w (Some i ∷ os) h = let ih = sum_on-same v w os h in let here = h i in omega (arith, ih, here)
+
+pub held_count : (os : List (Option ℕ)) (i : ℕ) → count_by (λ o. is_at o i) os ≡ held os i
+held_count [] i = refl
+held_count (o ∷ os) i = sum_by-cons (λ o. cond (is_at o i) 1 0) o os ∙ ap₂ (λ x y. x + y) (cond_bit (is_at o i)) (held_count os i)

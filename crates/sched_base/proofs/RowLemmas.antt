@@ -1,5 +1,5 @@
 -- Rows of a schedule.
-use Rattle.std.proofs.Common.{List, [], ap, arith, eq-eqb, refl, sym, true, zero-add, ℕ, ◌++◌, ◌+◌, ◌∙◌, ◌∷◌, ◌≡◌}
+use Rattle.std.proofs.Common.{List, Some, [], ap, arith, eq-eqb, refl, slice_get, subst, suc, sym, true, zero, zero-add, ℕ, ◌++◌, ◌+◌, ◌∙◌, ◌∷◌, ◌≡◌}
 use Rattle.std.proofs.lemmas.Bool.{eqb-true}
 use Rattle.std.specs.List.{AllByRecursion}
 use Rattle.sched_base.specs.declared.rows.Leaf.{Leaf}
@@ -18,6 +18,11 @@ AllByRecursion-by P Q (r ∷ rs) f a = (f r a.0, AllByRecursion-by P Q rs f a.1)
 pub AllByRecursion-each : (A : ℕ → Row → Type 0) (xs : List Row) → ((j : ℕ) → AllByRecursion (A j) xs) → AllByRecursion (λ r. (j : ℕ) → A j r) xs
 AllByRecursion-each A [] f = tt
 AllByRecursion-each A (r ∷ rs) f = ((λ j. (f j).0), AllByRecursion-each A rs (λ j. (f j).1))
+
+pub AllByRecursion-get : (P : Row → Type 0) (rows : List Row) (k : ℕ) (r : Row) → AllByRecursion P rows → slice_get rows k ≡ Some r → P r
+AllByRecursion-get P [] k r a e = cc
+AllByRecursion-get P (x ∷ rows) zero r a e = let same : x ≡ r = cc in subst P same a.0
+AllByRecursion-get P (x ∷ rows) (suc k) r a e = AllByRecursion-get P rows k r a.1 e
 
 pub AllApart-append : (R : Row → Row → Type 0) (P Q : Row → Type 0) (xs ys : List Row) → ((r q : Row) → P r → Q q → R r q) →
     AllByRecursion P xs → AllByRecursion Q ys → AllApart R xs → AllApart R ys → AllApart R (xs ++ ys)

@@ -126,9 +126,9 @@ module _ (of_leaf : Leaf → ℕ → Bool) (t : Tree) (h : IsTree t) (leaves : H
   pub one_pack_runs : (p n : ℕ) → IsPack t p → RunsRate of_leaf t p → runs of_leaf t p n ≡ true → (k : ℕ) × (k < length (members t p)) × (runs of_leaf t (member t p k) n ≡ true)
   one_pack_runs p n i each on = some_runs (server of_leaf t p) (server_serves of_leaf t h leaves p i) (supplied_by_windows p i each) n on
 
-  -- the dual law
-  pub dual_law : (p d : ℕ) → IsPack t p → dual t p ≡ Some d → RunsRate of_leaf t d → RunsRate of_leaf t p
-  dual_law p d i e each u =
+  -- a dual that runs its rate lets its primal run its own
+  pub primal_served : (p d : ℕ) → IsPack t p → dual t p ≡ Some d → RunsRate of_leaf t d → RunsRate of_leaf t p
+  primal_served p d i e each u =
       let x = h.has_dual p d i e in
       let b = ap (λ b. window_begin b u) (same_bounds of_leaf t h leaves p d i e) in
       let f = ap (λ b. window_end b u) (same_bounds of_leaf t h leaves p d i e) in

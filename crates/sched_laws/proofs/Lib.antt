@@ -16,3 +16,5 @@ pub mod Validity
 pub mod FullRows
 pub mod OneLevel
 pub mod Height
+pub mod BetweenEvents
+pub mod WholeRounds

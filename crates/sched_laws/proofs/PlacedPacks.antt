@@ -1,12 +1,13 @@
 -- Each pack of level 0 that runs is on exactly one processor, and each processor has a pack.
-use Rattle.std.proofs.Common.{Bool, ap, arith, get_or, inl, inr, length, suc, sym, true, ℕ, ◌<◌, ◌∙◌, ◌≡◌}
+use Rattle.std.proofs.Common.{Bool, ap, arith, count_by, get_or, inl, inr, length, suc, sym, true, ℕ, ◌<◌, ◌∙◌, ◌≡◌}
 use Rattle.std.proofs.lemmas.Bool.{cases_Bool}
 use Rattle.sched_base.specs.declared.rows.Leaf.{Leaf}
 use Rattle.sched_base.specs.Counting.{bit, sum_to}
+use Rattle.sched_base.specs.Candidates.{is_at}
 use Rattle.sched_base.specs.Places.{is_running}
 use Rattle.sched_base.proofs.CountingLemmas.{bit_off}
 use Rattle.sched_base.proofs.SumLemmas.{sum_to-same}
-use Rattle.sched_base.proofs.HeldLemmas.{free, held, runs_within, sum_held}
+use Rattle.sched_base.proofs.HeldLemmas.{free, held, held_count, runs_within, sum_held}
 use Rattle.sched_base.proofs.PlaceLemmas.{placed_all}
 use Rattle.run_tree.specs.Tree.{IsTree, Tree}
 use Rattle.run_tree.specs.Boundaries.{HaveBoundaries}
@@ -32,6 +33,9 @@ module _ (of_leaf : Leaf → ℕ → Bool) (t : Tree) (h : IsTree t) (leaves : H
       let c = running_count n in
       let l = length-places of_leaf t n in
       placed_all (packs_running of_leaf t n) (places_below of_leaf t n) (once_below of_leaf t n) (omega (arith, c, l)) i
+
+  pub placed_once : (n i : ℕ) → i < length (packs_at t 0) → count_by (λ o. is_at o i) (onto_at of_leaf t n) ≡ bit (runs of_leaf t (get_or (packs_at t 0) i 0) n)
+  placed_once n i l = held_count (onto_at of_leaf t n) i ∙ held_onto n i ∙ ap bit (running_is of_leaf t n i l)
 
   pub onto_within : (n i : ℕ) → 0 < held (onto_at of_leaf t n) i → (i < length (packs_at t 0)) × (runs of_leaf t (get_or (packs_at t 0) i 0) n ≡ true)
   onto_within n i some =
