@@ -4,7 +4,7 @@ use Rattle.std.proofs.lemmas.Bool.{and_from, and_left, and_right, both_ways, cas
 use Rattle.sched_base.specs.declared.rows.Leaf.{Leaf}
 use Rattle.sched_base.specs.Counting.{bit, sum_to}
 use Rattle.sched_base.proofs.CountingLemmas.{bit_at, bit_not, bit_off}
-use Rattle.sched_base.proofs.SumLemmas.{ones, sum_to-add, sum_to-alone, sum_to-mul, sum_to-same, sum_to-zero, term-le-sum_to}
+use Rattle.sched_base.proofs.SumLemmas.{sum_to-add, sum_to-alone, sum_to-mul, sum_to-same, sum_to-zero, term-le-sum_to}
 use Rattle.run_tree.specs.Tree.{IsPack, IsTree, Tree, at_level, dual, home, is_leaf, is_pack, kind_at, level, member, members, rate}
 use Rattle.run_tree.specs.Boundaries.{HaveBoundaries}
 use Rattle.run_tree.specs.Runs.{runs}
@@ -12,7 +12,7 @@ use Rattle.run_tree.proofs.KindLemmas.{KindOf, dual_no_leaf, kind_of, not_pack_l
 use Rattle.run_tree.proofs.TreeLemmas.{pack_at}
 use Rattle.sched_laws.specs.LevelCounts.{has_dual_at, level_rate, running}
 use Rattle.sched_laws.proofs.Packs.{server_serves}
-use Rattle.sched_laws.proofs.Levels.{member_runs, run_rests, run_root}
+use Rattle.sched_laws.proofs.LevelRates.{member_runs, run_rests, run_root}
 use Rattle.sched_laws.proofs.LevelMembers.{duals_are_next, in_level, level_reindexed, number_or, rates_next}
 
 module _ (of_leaf : Leaf → ℕ → Bool) (t : Tree) (h : IsTree t) (leaves : HaveBoundaries of_leaf t) where

@@ -1,6 +1,6 @@
 pub mod Edf
 pub mod Packs
-pub mod Levels
+pub mod LevelRates
 pub mod LevelMembers
 pub mod LevelCounts
 pub mod Steady
@@ -12,9 +12,9 @@ pub mod QuietTicks
 pub mod RoundRows
 pub mod Releases
 pub mod TaskTicks
-pub mod Validity
+pub mod ValidRows
 pub mod FullRows
 pub mod OneLevel
-pub mod Height
+pub mod LevelBound
 pub mod BetweenEvents
 pub mod WholeRounds

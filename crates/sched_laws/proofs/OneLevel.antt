@@ -24,7 +24,7 @@ use Rattle.run_tree.proofs.TreeLemmas.{first_is_pack, over_packs, pack_at}
 use Rattle.run_tree.proofs.SetBoundaryLemmas.{set_leaves}
 use Rattle.run_tree.proofs.ScheduleLemmas.{once_below}
 use Rattle.sched_laws.specs.Migration.{NoneMigrates}
-use Rattle.sched_laws.proofs.Levels.{run_root}
+use Rattle.sched_laws.proofs.LevelRates.{run_root}
 use Rattle.sched_laws.proofs.PlacedPacks.{held_onto, onto_within}
 use Rattle.sched_laws.proofs.TaskRows.{leaf_in, leaf_in_runs}
 use Rattle.sched_laws.proofs.RoundRows.{row_of, schedule_all}

@@ -11,7 +11,6 @@ use Rattle.run_tree.specs.Tree.{IsLeaf, IsMember, IsTree, Tree, is_leaf, is_pack
 use Rattle.run_tree.specs.Runs.{runs}
 use Rattle.run_tree.specs.Rounds.{is_event, is_task, runs_dry, task_begins}
 use Rattle.run_tree.specs.TreeOfSet.{is_real}
-use Rattle.run_tree.proofs.SetBoundaryLemmas.{idle_late}
 use Rattle.run_tree.proofs.RunLemmas.{left_at}
 
 -- what a tick without an event says

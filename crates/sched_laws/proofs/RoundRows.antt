@@ -6,7 +6,7 @@ use Rattle.sched_base.specs.declared.rows.Row.{Row}
 use Rattle.sched_base.specs.Rows.{AllApart}
 use Rattle.sched_base.proofs.ListLemmas.{passing_off, passing_on}
 use Rattle.sched_base.proofs.RowLemmas.{AllApart-append, AllByRecursion-append}
-use Rattle.run_tree.specs.Tree.{Tree, leaf}
+use Rattle.run_tree.specs.Tree.{Tree}
 use Rattle.run_tree.specs.Boundaries.{set_boundary}
 use Rattle.run_tree.specs.Rounds.{is_event}
 use Rattle.run_tree.specs.Schedule.{leaf_on, onto_at, round_rows, rows_from, rows_of, rows_of_events, schedule, shown}

@@ -20,7 +20,7 @@ use Rattle.run_tree.proofs.TreeLemmas.{at_from, over_packs, pack_at}
 use Rattle.run_tree.proofs.RunLemmas.{ends_at, left_at, run_member}
 use Rattle.run_tree.proofs.ScheduleLemmas.{leaf_among_first, running_is}
 use Rattle.sched_laws.proofs.Packs.{server_serves}
-use Rattle.sched_laws.proofs.Levels.{member_runs}
+use Rattle.sched_laws.proofs.LevelRates.{member_runs}
 use Rattle.sched_laws.proofs.PlacedPacks.{held_onto, onto_within}
 
 -- the leaf that runs in pack p at tick n

@@ -2,6 +2,7 @@
 use Rattle.std.proofs.Common.{List, None, Option, Some, [], add-zero, ap, arith, get_or, length, refl, slice_get, subst, suc, sym, zero, zero-add, ℕ, ◌+◌, ◌<◌, ◌∙◌, ◌∷◌, ◌≡◌}
 use Rattle.std.specs.List.{AllByRecursion}
 use Rattle.sched_base.specs.declared.rows.Row.{Row}
+use Rattle.sched_base.specs.Sets.{SetContents}
 use Rattle.sched_base.specs.Rows.{AllApart}
 use Rattle.sched_base.proofs.RowLemmas.{AllByRecursion-get}
 use Rattle.run_tree.specs.Tree.{Tree}
@@ -48,3 +49,6 @@ module _ (tasks : List declared.Task) (t : Tree) where
   -- every row of the schedule starts before it ends
   pub all_forward : (stop : ℕ) → AllByRecursion (λ r. r.start < r.end) (schedule tasks t stop)
   all_forward stop = schedule_all tasks t stop (λ r. r.start < r.end) (λ s e p up top b. up)
+
+pub set_forward : (s : SetContents) (t : Tree) (stop : ℕ) → AllByRecursion (λ r. r.start < r.end) (schedule s.tasks t stop)
+set_forward s t stop = all_forward s.tasks t stop

@@ -28,8 +28,8 @@ use Rattle.run_tree.proofs.BoundaryLemmas.{bound_leaf, member_has}
 use Rattle.run_tree.proofs.SetBoundaryLemmas.{offset_at, set_leaves}
 use Rattle.run_tree.proofs.ScheduleLemmas.{length-places, onto_is}
 use Rattle.sched_laws.specs.Servers.{due}
-use Rattle.sched_laws.proofs.Levels.{member_total}
-use Rattle.sched_laws.proofs.PlacedPacks.{full, onto_within}
+use Rattle.sched_laws.proofs.LevelRates.{member_total}
+use Rattle.sched_laws.proofs.PlacedPacks.{onto_within}
 use Rattle.sched_laws.proofs.TaskRows.{leaf_in, leaf_in_runs}
 use Rattle.sched_laws.proofs.RoundRows.{rows_from_all, rows_from_apart, schedule_all, schedule_apart}
 use Rattle.sched_laws.proofs.Releases.{shown_task}
@@ -131,8 +131,11 @@ module _ (tasks : List declared.Task) (t : Tree) (h : IsTree t) (leaves : HaveBo
 
   module _ (stop : ℕ) where
     pub all_bounded : AllByRecursion (λ r. (r.processor < t.processors) × (r.end ≤ stop)) (schedule tasks t stop)
-    all_bounded = schedule_all tasks t stop _ (λ s e p up top b. (let l = length-places (set_boundary tasks) t (suc s) in
-        let same = ap length (onto_is (set_boundary tasks) t s) in omega (arith, l, same, b), top))
+    all_bounded = schedule_all tasks t stop _ (λ s e p up top b. (
+      let l = length-places (set_boundary tasks) t (suc s) in
+          let same = ap length (onto_is (set_boundary tasks) t s) in omega (arith, l, same, b),
+      top,
+    ))
 
     pub all_processors_apart : AllApart (λ r q. r.processor ≡ q.processor → DontOverlap r q) (schedule tasks t stop)
     all_processors_apart = schedule_apart tasks t stop _ (λ r q b same. inl b) round_apart

@@ -1,0 +1,21 @@
+//! One server, and its dual.
+ghost use Rattle.std.specs.Prelude.{ℕ, Bool, true, ◌≡◌, ◌<◌, length};
+ghost use Rattle.sched_base.specs.declared.rows.Leaf.{Leaf};
+ghost use Rattle.run_tree.specs.Boundaries.{HaveBoundaries};
+ghost use Rattle.run_tree.specs.Runs.{runs};
+ghost use Rattle.run_tree.specs.Tree.{Tree, IsTree, IsPack, dual, member, members};
+ghost use Rattle.sched_laws.specs.Rates.{RunsRate};
+
+/// The law of a server that serves by earliest deadline first: where a pack runs its rate in each of its windows, each
+/// member runs exactly its due in each of the member's windows, and at each tick at which the pack runs a member runs.
+#[tactic(auto, using(crate::proofs::LevelRates::one_pack_served, crate::proofs::LevelRates::one_pack_runs))]
+pub fn edf_law()
+    ensures served { (of_leaf : Leaf → ℕ → Bool) (t : Tree) → IsTree t → HaveBoundaries of_leaf t → (p k : ℕ) → IsPack t p → RunsRate of_leaf t p → k < length (members t p) → RunsRate of_leaf t (member t p k) }
+    ensures runs { (of_leaf : Leaf → ℕ → Bool) (t : Tree) → IsTree t → HaveBoundaries of_leaf t → (p n : ℕ) → IsPack t p → RunsRate of_leaf t p → runs of_leaf t p n ≡ true → (k : ℕ) × (k < length (members t p)) × (runs of_leaf t (member t p k) n ≡ true) }
+{}
+
+/// The law of duals: a dual that runs its rate in each of its windows lets its primal run its own in each of the same
+/// windows.
+pub fn dual_law()
+    ensures { (of_leaf : Leaf → ℕ → Bool) (t : Tree) → IsTree t → HaveBoundaries of_leaf t → (p d : ℕ) → IsPack t p → dual t p ≡ Some d → RunsRate of_leaf t d → RunsRate of_leaf t p }
+{}
