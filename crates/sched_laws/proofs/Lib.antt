@@ -18,3 +18,4 @@ pub mod OneLevel
 pub mod LevelBound
 pub mod BetweenEvents
 pub mod WholeRounds
+pub mod Examples
