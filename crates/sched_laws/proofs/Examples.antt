@@ -11,7 +11,7 @@ use Rattle.run_tree.specs.Windows.{window_end}
 use Rattle.run_tree.specs.Tree.{Node, Tree}
 use Rattle.run_tree.specs.Boundaries.{is_boundary, set_boundary}
 use Rattle.run_tree.specs.Runs.{runs, runs_now, ticks_below}
-use Rattle.run_tree.specs.Rounds.{is_event, events_below}
+use Rattle.run_tree.specs.Rounds.{is_event}
 use Rattle.run_tree.specs.Schedule.{onto_at, round_rows, schedule}
 use Rattle.run_tree.specs.TreeOfSet.{task_id}
 use Rattle.run_tree.specs.Making.{put}
@@ -110,9 +110,13 @@ pub five_first : map (λ tick. get_or tick 1 false) (ticks_below (set_boundary f
 unfolding runs runs_now window_end is_boundary
 five_first = refl
 
-pub five_events : events_below (set_boundary five_set.tasks) five 25 ≡ 0 ∷ 5 ∷ 10 ∷ 15 ∷ []
-unfolding is_event runs runs_now window_end is_boundary
-five_events = refl
+pub five_rows : schedule five_set.tasks five 25 ≡
+    task_row 0 0 5 0 ∷ task_row 1 0 5 1 ∷ task_row 2 0 5 3
+    ∷ task_row 0 5 10 2 ∷ task_row 1 5 10 1 ∷ task_row 2 5 10 3
+    ∷ task_row 0 10 15 4 ∷ task_row 1 10 15 1 ∷ task_row 2 10 15 3
+    ∷ task_row 0 15 25 4 ∷ task_row 1 15 25 0 ∷ task_row 2 15 25 2 ∷ []
+unfolding schedule round_rows is_event onto_at onto_next runs runs_now window_end is_boundary
+five_rows = refl
 
 -- ---- two tasks of rate 1/2 on one processor, of which the first is released at unit 1
 
