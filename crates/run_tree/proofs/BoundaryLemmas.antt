@@ -14,11 +14,13 @@ pub either_true : (b r : Bool) → r ≡ true → (elim b as (λ y. Bool) [ true
 either_true true r e = refl
 either_true false r e = e
 
+-- an item passes where the k-th does
 pub any_of_at : (p : ℕ → Bool) (xs : List ℕ) (k : ℕ) → k < length xs → p (get_or xs k 0) ≡ true → any_of p xs ≡ true
 any_of_at p [] k l e = absurd (omega arith)
 any_of_at p (x ∷ xs) zero l e = ap (λ (b : Bool). elim b as (λ y. Bool) [ true ↦ true | false ↦ any_of p xs ]) e
 any_of_at p (x ∷ xs) (suc k) l e = either_true (p x) (any_of p xs) (any_of_at p xs k (omega arith) e)
 
+-- and none where no item does
 pub any_of_none : (p : ℕ → Bool) (xs : List ℕ) → ((k : ℕ) → k < length xs → p (get_or xs k 0) ≡ false) → any_of p xs ≡ false
 any_of_none p [] f = refl
 any_of_none p (x ∷ xs) f =
@@ -51,13 +53,16 @@ member_dual of_leaf f (kind.Pack level) u e = cc
 member_dual of_leaf f (kind.Dual primal) u e = refl
 
 module _ (of_leaf : Leaf → ℕ → Bool) (t : Tree) (h : IsTree t) where
+  -- the boundaries of a node
   abbrev pub bound : ℕ → ℕ → Bool
   bound = is_boundary of_leaf t
 
+  -- a leaf has its own boundaries
   pub bound_leaf : (x : ℕ) → IsLeaf t x → (u : ℕ) → bound x u ≡ of_leaf (leaf t x) u
   unfolding is_boundary
   bound_leaf x i u = leaf_node_boundary of_leaf t x (kind_at t x) u i.1
 
+  -- a pack those that its level says
   pub bound_pack : (p : ℕ) → IsPack t p → (u : ℕ) → bound p u ≡ pack_boundary of_leaf t (level t p) p u
   unfolding is_boundary
   bound_pack p i u = pack_boundary_is of_leaf t p (kind_at t p) u i.1
@@ -129,6 +134,7 @@ module _ (of_leaf : Leaf → ℕ → Bool) (t : Tree) (h : IsTree t) where
           (λ v e. bound_member p 0 i (h.filled p i) v (bound_dual (member t p 0) ((h.members_are p 0 i (h.filled p i)).0.0, dual) v ∙ e)))
       at_kind (inr (inr pack)) ih = absurd (both_ways (is_pack (kind_at t (member t p 0))) (h.members_are p 0 i (h.filled p i)).0.1 pack)
 
+  -- each leaf and each dual has boundaries
   pub member_has : HaveBoundaries of_leaf t → (x : ℕ) → IsMember t x → HasBoundaries (bound x)
   member_has leaves x i = at_kind (kind_of (kind_at t x))
     where
@@ -141,6 +147,7 @@ module _ (of_leaf : Leaf → ℕ → Bool) (t : Tree) (h : IsTree t) where
 
 -- no boundary of a leaf, no boundary
 module _ (of_leaf : Leaf → ℕ → Bool) (t : Tree) (h : IsTree t) (u : ℕ) (none : (x : ℕ) → IsLeaf t x → of_leaf (leaf t x) u ≡ false) where
+  -- then no pack has one
   pub no_pack_boundary : (l p : ℕ) → IsPack t p → level t p ≡ l → pack_boundary of_leaf t l p u ≡ false
   no_pack_boundary zero p i at = any_of_none (λ x. member_boundary of_leaf (λ q v. false) (kind_at t x) u) (members t p) (λ k b. at_kind k b (kind_of (kind_at t (member t p k))))
     where
@@ -160,6 +167,7 @@ module _ (of_leaf : Leaf → ℕ → Bool) (t : Tree) (h : IsTree t) (u : ℕ) (
           ∙ ih (primal t (member t p k)) d.0 (omega (arith, up, same, at)))
       at_kind ih k b (inr (inr a_pack)) = absurd (both_ways (is_pack (kind_at t (member t p k))) (h.members_are p k i b).0.1 a_pack)
 
+  -- nor a member
   pub no_boundary : (x : ℕ) → IsMember t x → is_boundary of_leaf t x u ≡ false
   no_boundary x i = at_kind (kind_of (kind_at t x))
     where

@@ -6,6 +6,7 @@ use Rattle.run_tree.specs.Tree.{is_dual, is_leaf, is_pack, leaf, leaf_of, level,
 use Rattle.run_tree.specs.TreeOfSet.{task_id}
 use Rattle.run_tree.specs.declared.kinds.Kind.TheVariants as kind
 
+-- a node is a leaf, a dual or a pack
 abbrev pub KindOf : Kind → Type 0
 KindOf m = (is_leaf m ≡ true) ⊎ ((is_dual m ≡ true) ⊎ (is_pack m ≡ true))
 

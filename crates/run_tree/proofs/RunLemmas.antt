@@ -34,15 +34,18 @@ pub pack_runs_dual : (t : Tree) (picked : ℕ → Bool) (above p d : ℕ) → du
 pack_runs_dual t picked above p d e = ap (λ o. unless_dual o (λ c. pack_runs t picked above (home t c) && picked c)) e
 
 module _ (t : Tree) (h : IsTree t) (remain end : ℕ → ℕ) where
+  -- a pack runs as the levels above say
   pub now_pack : (p : ℕ) → IsPack t p → runs_now t remain end p ≡ pack_runs t (is_picked t remain end) (t.levels - 1 - level t p) p
   unfolding runs_now
   now_pack p i = node_runs_pack t (is_picked t remain end) (kind_at t p) p i.1
 
+  -- a member runs where its home runs and picks it
   pub now_member : (x : ℕ) → IsMember t x → runs_now t remain end x ≡ (runs_now t remain end (home t x) && is_picked t remain end x)
   unfolding runs_now
   now_member x i = node_runs_member t (is_picked t remain end) (kind_at t x) x i.1
       ∙ ap (λ (b : Bool). b && is_picked t remain end x) (sym (now_pack (home t x) (h.homes_are x i).0))
 
+  -- a root runs
   pub now_root : (p : ℕ) → IsPack t p → dual t p ≡ None → runs_now t remain end p ≡ true
   now_root p i e = now_pack p i ∙ go (t.levels - 1 - level t p)
     where
@@ -50,6 +53,7 @@ module _ (t : Tree) (h : IsTree t) (remain end : ℕ → ℕ) where
       go zero = refl
       go (suc above) = ap (λ o. unless_dual o (λ d. pack_runs t (is_picked t remain end) above (home t d) && is_picked t remain end d)) e
 
+  -- a pack with a dual runs where the dual does not
   pub now_rests : (p d : ℕ) → IsPack t p → dual t p ≡ Some d → runs_now t remain end p ≡ not (runs_now t remain end d)
   unfolding runs_now
   now_rests p d i e =
@@ -65,6 +69,7 @@ module _ (t : Tree) (h : IsTree t) (remain end : ℕ → ℕ) where
 
 -- who runs depends on the picks alone
 module _ (t : Tree) (h : IsTree t) (picked picked' : ℕ → Bool) (same : (x : ℕ) → IsMember t x → picked x ≡ picked' x) where
+  -- a pack runs alike under picks that agree on members
   pub same_pack_runs : (above p : ℕ) → IsPack t p → pack_runs t picked above p ≡ pack_runs t picked' above p
   same_pack_runs zero p i = refl
   same_pack_runs (suc above) p i = go (same_pack_runs above) (dual t p) refl
@@ -85,17 +90,21 @@ module _ (of_leaf : Leaf → ℕ → Bool) (t : Tree) where
   abbrev pub left_at : ℕ → ℕ → ℕ
   left_at n = due_left of_leaf t (ticks_below of_leaf t n)
 
+  -- where the windows of the nodes end at tick n
   abbrev pub ends_at : ℕ → ℕ → ℕ
   ends_at n = window_end_now of_leaf t (ticks_below of_leaf t n)
 
+  -- who runs at a tick, from what is left then
   pub runs_is : (x n : ℕ) → x < length t.nodes → runs of_leaf t x n ≡ runs_now t (left_at n) (ends_at n) x
   unfolding runs
   runs_is x n l = get_or-map-range_with_len (runs_now t (left_at n) (ends_at n)) 0 (length t.nodes) x x false l (omega arith)
 
+  -- there are as many ticks as passed
   pub length-ticks : (n : ℕ) → length (ticks_below of_leaf t n) ≡ n
   length-ticks zero = refl
   length-ticks (suc n) = let ih = length-ticks n in let a = length-append (ticks_below of_leaf t n) (next_tick of_leaf t (ticks_below of_leaf t n) ∷ []) in omega (arith, ih, a)
 
+  -- the first ticks are those of an earlier time
   pub take-ticks : (b n : ℕ) → b ≤ n → take b (ticks_below of_leaf t n) ≡ ticks_below of_leaf t b
   take-ticks b zero l = let e : 0 ≡ b = omega arith in subst (λ (x : ℕ). take x (ticks_below of_leaf t 0) ≡ ticks_below of_leaf t x) e refl
   take-ticks b (suc n) l =
@@ -110,6 +119,7 @@ module _ (of_leaf : Leaf → ℕ → Bool) (t : Tree) where
             subst (λ (x : ℕ). take x (ticks_below of_leaf t (suc n)) ≡ ticks_below of_leaf t x) e (take_all (suc n) (ticks_below of_leaf t (suc n)) (omega (arith, long))))
       ]
 
+  -- how often node x ran
   pub count_ticks : (x n : ℕ) → count_by (λ row. get_or row x false) (ticks_below of_leaf t n) ≡ ticks (runs of_leaf t x) n
   unfolding runs
   count_ticks x zero = refl
@@ -138,10 +148,12 @@ module _ (of_leaf : Leaf → ℕ → Bool) (t : Tree) where
       - count_by (λ row. get_or row x false) (drop (window_begin (is_boundary of_leaf t x) (m / t.scale) * t.scale) (ticks_below of_leaf t n))) long
       ∙ ap (λ c. rate t x * (window_end (is_boundary of_leaf t x) (n / t.scale) - window_begin (is_boundary of_leaf t x) (n / t.scale)) - c) cut
 
+  -- where a window ends, by its unit
   pub ends_is : (x n : ℕ) → ends_at n x ≡ window_end (is_boundary of_leaf t x) (n / t.scale)
   ends_is x n = ap (λ m. window_end (is_boundary of_leaf t x) (m / t.scale)) (length-ticks n)
 
 module _ (of_leaf : Leaf → ℕ → Bool) (t : Tree) (h : IsTree t) where
+  -- a member runs where its home runs and picks it
   pub run_member : (x n : ℕ) → IsMember t x → runs of_leaf t x n ≡ (runs of_leaf t (home t x) n && is_picked t (left_at of_leaf t n) (ends_at of_leaf t n) x)
   run_member x n i =
       runs_is of_leaf t x n i.0

@@ -11,14 +11,17 @@ use Rattle.run_tree.specs.Tree.{Tree, leaf}
 use Rattle.run_tree.specs.Runs.{runs}
 use Rattle.run_tree.specs.Schedule.{leaf_among, onto_at, packs_at, packs_running, places_below}
 
+-- the packs on the processors, as they were placed
 pub onto_is : (of_leaf : Leaf → ℕ → Bool) (t : Tree) (n : ℕ) → onto_at of_leaf t n ≡ (places_below of_leaf t (suc n)).onto
 unfolding onto_at
 onto_is of_leaf t n = refl
 
 module _ (of_leaf : Leaf → ℕ → Bool) (t : Tree) where
+  -- which packs of level 0 run
   pub running_is : (n i : ℕ) → i < length (packs_at t 0) → is_running (packs_running of_leaf t n) i ≡ runs of_leaf t (get_or (packs_at t 0) i 0) n
   running_is n i l = get_or-map (λ p. runs of_leaf t p n) (packs_at t 0) i 0 false l
 
+  -- one test for each
   pub length-running : (n : ℕ) → length (packs_running of_leaf t n) ≡ length (packs_at t 0)
   length-running n = length-map (packs_at t 0) (λ p. runs of_leaf t p n)
 
@@ -30,6 +33,7 @@ module _ (of_leaf : Leaf → ℕ → Bool) (t : Tree) where
       let one = bit_le (is_running (packs_running of_leaf t n) i) in
       omega (arith, most, one)
 
+  -- there are as many processors as the tree says
   pub length-places : (n : ℕ) → length (places_below of_leaf t n).onto ≡ t.processors
   length-places zero = length-replicate t.processors None
   length-places (suc n) = length-onto (packs_running of_leaf t n) (places_below of_leaf t n) (once_below n) ∙ length-places n

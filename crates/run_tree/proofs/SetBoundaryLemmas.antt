@@ -12,9 +12,11 @@ use Rattle.run_tree.specs.Boundaries.{HaveBoundaries, set_boundary, task_boundar
 use Rattle.run_tree.specs.TreeOfSet.{HoldsTasks, is_real}
 use Rattle.sched_base.specs.declared.sets.Task as declared
 
+-- a multiple
 pub mod_itself : (k n : ℕ) → eqb (k * n % n) 0 ≡ true
 mod_itself k n = eq-eqb (k * n % n) 0 (mul-mod_left k n)
 
+-- the multiples of a number are boundaries
 pub multiples : (n : ℕ) → 0 < n → n ≤ 2 ^ 33 → HasBoundaries (λ u. eqb (u % n) 0)
 multiples n p q = record {
   first = (let e : 0 * n ≡ 0 = omega arith in ap (λ z. eqb (z % n) 0) (sym e) ∙ mod_itself 0 n);
@@ -22,6 +24,7 @@ multiples n p q = record {
       ((u / n + 1) * n, omega (arith, d, m), omega (arith, d, m, q), mod_itself (u / n + 1) n));
 }
 
+-- a task's periods begin at boundaries
 pub offset_at : (task : declared.Task) (k : ℕ) → task_boundary task (task.offset + k * task.period) ≡ true
 offset_at task k =
     let e : task.offset + k * task.period - task.offset ≡ k * task.period = omega arith in
@@ -42,9 +45,11 @@ offset_multiples task p q r = record {
   ];
 }
 
-pub lt_pow : 2 ^ 32 ≤ 2 ^ 33
-lt_pow = omega arith
+-- offsets and periods are within the limit of boundaries
+pub two_limits : 2 ^ 32 ≤ 2 ^ 33
+two_limits = omega arith
 
+-- each task of a lawful set is lawful
 pub each_lawful : (tasks : List declared.Task) (j : ℕ) → AllByRecursion IsLawfulTask tasks → j < length tasks → IsLawfulTask (task_at tasks j)
 each_lawful [] j h l = absurd (omega arith)
 each_lawful (task ∷ tasks) zero h l = h.0
@@ -62,7 +67,7 @@ module _ (tasks : List declared.Task) (each : AllByRecursion IsLawfulTask tasks)
           let fits = lawful.work_fits in
           let period = lawful.period_fits in
           let offset = lawful.offset_fits in
-          offset_multiples (task_at tasks id.0) (omega (arith, work, fits)) (omega (arith, period, lt_pow)) (omega (arith, offset, lt_pow)))
+          offset_multiples (task_at tasks id.0) (omega (arith, work, fits)) (omega (arith, period, two_limits)) (omega (arith, offset, two_limits)))
       go (Wait id) e = absurd (both_ways (is_real (leaf t x)) (ap is_real e) (holds.real x i))
       go (Idle number) e = multiples (2 ^ 33) (omega arith) (le_refl (2 ^ 33))
       go Empty e = absurd (both_ways (is_real (leaf t x)) (ap is_real e) (holds.real x i))

@@ -9,12 +9,15 @@ use Rattle.run_tree.specs.Schedule.{packs_at}
 use Rattle.run_tree.proofs.KindLemmas.{KindOf, kind_of}
 
 module _ (t : Tree) where
+  -- what the test of the level says
   pub pack_at : (l p : ℕ) → p < length t.nodes → at_level t l p ≡ true → IsPack t p × (level t p ≡ l)
   pack_at l p b e = let both = and_parts (is_pack (kind_at t p)) (eqb (level t p) l) e in ((b, both.0), eqb-true (level t p) l both.1)
 
+  -- and the other way round
   pub at_from : (l p : ℕ) → IsPack t p → level t p ≡ l → at_level t l p ≡ true
   at_from l p i e = and_from (is_pack (kind_at t p)) (eqb (level t p) l) i.1 (eq-eqb (level t p) l e)
 
+-- the packs of level 0 are packs
 pub first_is_pack : (t : Tree) (h : IsTree t) (i : ℕ) → i < length (packs_at t 0) → IsPack t (get_or (packs_at t 0) i 0)
 first_is_pack t h i l = let r = first_from (at_level t 0) (length t.nodes) 0 i l in (pack_at t 0 (get_or (packs_at t 0) i 0) (let b = r.0 in omega (arith, b)) r.1).0
 

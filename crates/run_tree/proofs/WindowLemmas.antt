@@ -21,11 +21,13 @@ pub record IsBegin (b : ℕ → Bool) (u s : ℕ) : Type 0 where
   pub here : b s ≡ true
   pub last : (v : ℕ) → s < v → v ≤ u → b v ≡ false
 
+-- what a window's end is
 pub record IsEnd (b : ℕ → Bool) (u e : ℕ) : Type 0 where
   pub above : u < e
   pub here : b e ≡ true
   pub first : (v : ℕ) → u < v → v < e → b v ≡ false
 
+-- the begin of a window is one
 pub begin_is : (b : ℕ → Bool) → b 0 ≡ true → (u : ℕ) → IsBegin b u (window_begin b u)
 begin_is b z zero = record { below = omega arith; here = z; last = λ v p q. absurd (omega arith) }
 begin_is b z (suc u) =
@@ -44,6 +46,7 @@ begin_is b z (suc u) =
           }))
     ]
 
+-- where there is a boundary within n units
 pub within_is : (n : ℕ) (b : ℕ → Bool) (u d : ℕ) → u < d → d ≤ u + n → b d ≡ true → IsEnd b u (boundary_within n b u)
 within_is zero b u d p q e = absurd (omega arith)
 within_is (suc n) b u d p q e =
@@ -66,6 +69,7 @@ within_is (suc n) b u d p q e =
           }))
     ]
 
+-- the end of a window is one
 pub end_is : (b : ℕ → Bool) → HasBoundaries b → (u : ℕ) → IsEnd b u (window_end b u)
 unfolding window_end
 end_is b h u = let (d, p, q, e) = h.later u in within_is (2 ^ 33) b u d p q e
@@ -81,6 +85,7 @@ same_IsBegin b u s s' x y =
       ]
     ]
 
+-- nor two ends
 pub same_IsEnd : (b : ℕ → Bool) (u e e' : ℕ) → IsEnd b u e → IsEnd b u e' → e ≡ e'
 same_IsEnd b u e e' x y =
     elim (cases_lt e e') [
@@ -98,6 +103,7 @@ inside b h u v p q =
     let y = end_is b h u in
     elim (cases_lt u v) [ inl l ↦ y.first v l q | inr l ↦ x.last v p l ]
 
+-- windows tile the units
 pub windows_of : (b : ℕ → Bool) → HasBoundaries b → IsWindows (window_begin b) (window_end b)
 windows_of b h = record {
   begun = λ u. (begin_is b h.first u).below;
@@ -120,6 +126,7 @@ end_first b c h k sub u =
       | inr l ↦ l
     ]
 
+-- and begins no sooner
 pub begin_last : (b c : ℕ → Bool) → HasBoundaries b → HasBoundaries c → ((v : ℕ) → b v ≡ true → c v ≡ true) → (u : ℕ) → window_begin b u ≤ window_begin c u
 begin_last b c h k sub u =
     elim (cases_lt (window_begin c u) (window_begin b u)) [
@@ -148,15 +155,18 @@ next-le b e w u d at above =
       | inr l ↦ l
     ]
 
+-- a window's end is a boundary
 pub next_at : (b e : ℕ → ℕ) (w : IsWindows b e) (u : ℕ) → b (e u) ≡ e u
 next_at b e w u = let x = w.next_begins u (e u) (le_refl (e u)) in let y = w.begun (e u) in omega (arith, x, y)
 
+-- and so is its begin
 pub begins_again : (b e : ℕ → ℕ) (w : IsWindows b e) (u : ℕ) → b (b u) ≡ b u
 begins_again b e w u =
     let x = w.begun u in
     let y = w.open_still u in
     w.same_begin u (b u) (le_refl (b u)) (omega (arith, x, y))
 
+-- more boundaries are boundaries too
 pub has_more : (b c : ℕ → Bool) → HasBoundaries b → ((v : ℕ) → b v ≡ true → c v ≡ true) → HasBoundaries c
 has_more b c h sub = record {
   first = sub 0 h.first;

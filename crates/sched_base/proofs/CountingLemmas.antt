@@ -21,12 +21,14 @@ pub cond_bit : (b : Bool) → cond {A = ℕ} b 1 0 ≡ bit b
 cond_bit true = refl
 cond_bit false = refl
 
+-- both hold where the product of their bits is 1
 pub bit_and : (a b : Bool) → bit (a && b) ≡ bit a * bit b
 bit_and true true = omega arith
 bit_and true false = omega arith
 bit_and false true = omega arith
 bit_and false false = omega arith
 
+-- more ticks pass below a later tick
 pub ticks-le : (f : ℕ → Bool) (a b : ℕ) → a ≤ b → ticks f a ≤ ticks f b
 ticks-le f a zero h = let e : a ≡ 0 = omega arith in omega (arith, ap (ticks f) e)
 ticks-le f a (suc b) h =
@@ -49,6 +51,7 @@ ticks_capped f d a (suc b) h less =
       | inr l ↦ (let e : a ≡ suc b = omega arith in omega (arith, ap (ticks f) e))
     ]
 
+-- where each tick passes, all do
 pub ticks_all : (f : ℕ → Bool) → ((s : ℕ) → f s ≡ true) → (n : ℕ) → ticks f n ≡ n
 ticks_all f h zero = refl
 ticks_all f h (suc n) = let ih = ticks_all f h n in let one = bit_at (f n) (h n) in omega (arith, ih, one)
@@ -62,6 +65,7 @@ ticks_not f g h (suc n) =
     let same = ap bit (h n) in
     omega (arith, ih, one, same)
 
+-- where k ticks from n on pass as n does
 pub ticks_while : (f : ℕ → Bool) (n k : ℕ) → ((s : ℕ) → n ≤ s → s < n + k → f s ≡ f n) → ticks f (n + k) ≡ ticks f n + bit (f n) * k
 ticks_while f n zero h = omega (arith, ap (ticks f) (add-zero n))
 ticks_while f n (suc k) h =
@@ -70,6 +74,7 @@ ticks_while f n (suc k) h =
     let e : n + suc k ≡ suc (n + k) = omega arith in
     omega (arith, ih, here, ap (ticks f) e)
 
+-- none below tick 0
 pub ticks_at_none : (f : ℕ → Bool) (b l : ℕ) → b ≡ 0 → ticks f (b * l) ≡ 0
 ticks_at_none f b l e = let z : b * l ≡ 0 = omega (arith, ap (λ x. x * l) e) in ap (ticks f) z
 

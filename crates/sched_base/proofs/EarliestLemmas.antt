@@ -9,6 +9,7 @@ abbrev pub IsBestOf : List Candidate → ℕ → Option ℕ → Type 0
 IsBestOf cs n None = (j : ℕ) → j < n → (candidate_at cs j).remain ≡ 0
 IsBestOf cs n (Some k) = IsEarliest cs n k
 
+-- right for the others, and so for one more before them
 pub best_before : (c : Candidate) (cs : List Candidate) (o : Option ℕ) → IsBestOf cs (length cs) o → IsBestOf (c ∷ cs) (suc (length cs)) (earlier_of c cs o)
 best_before c cs None h = go (ltb 0 c.remain) refl
   where
@@ -49,10 +50,12 @@ best_before c cs (Some k) h = go (ltb 0 c.remain && leb c.end ((candidate_at cs 
           ];
         }
 
+-- `earliest` is right
 pub earliest_best : (cs : List Candidate) → IsBestOf cs (length cs) (earliest cs)
 earliest_best [] = λ j l. absurd (omega arith)
 earliest_best (c ∷ cs) = best_before c cs (earliest cs) (earliest_best cs)
 
+-- one answer alone is right
 pub same_best : (cs : List Candidate) (n : ℕ) (o o' : Option ℕ) → IsBestOf cs n o → IsBestOf cs n o' → o ≡ o'
 same_best cs n None None h g = refl
 same_best cs n None (Some k) h g = absurd (let z = h k g.below in let s = g.some in omega (arith, z, s))
@@ -73,21 +76,26 @@ earliest_is cs o h = same_best cs (length cs) o (earliest cs) h (earliest_best c
 pub IsEarliest-le : (cs : List Candidate) (n k j : ℕ) → IsEarliest cs n k → j < n → 0 < (candidate_at cs j).remain → (candidate_at cs k).end ≤ (candidate_at cs j).end
 IsEarliest-le cs n k j best l some = elim (best.first j l some) [ inl less ↦ omega (arith, less) | inr same ↦ (let e = same.0 in omega (arith, e)) ]
 
+-- what is at k is k
 pub is_at_some : (o : Option ℕ) (k : ℕ) → is_at o k ≡ true → o ≡ Some k
 is_at_some None k e = cc
 is_at_some (Some j) k e = ap (λ (i : ℕ). Some i) (eqb-true j k e)
 
+-- and at no other place
 pub is_at_one : (o : Option ℕ) (p q : ℕ) → is_at o p ≡ true → is_at o q ≡ true → p ≡ q
 is_at_one o p q e f = let s : Some p ≡ Some q = sym (is_at_some o p e) ∙ is_at_some o q f in cc
 
+-- members as candidates
 abbrev pub listed : (ℕ → ℕ) → (ℕ → ℕ) → List ℕ → List Candidate
 listed end remain ms = map (λ m. record { end = end m; remain = remain m }) ms
 
+-- the candidate of a member
 pub listed_at : (end remain : ℕ → ℕ) (ms : List ℕ) (k : ℕ) → k < length ms → candidate_at (listed end remain ms) k ≡ record { end = end (get_or ms k 0); remain = remain (get_or ms k 0) }
 listed_at end remain [] k l = absurd (omega arith)
 listed_at end remain (m ∷ ms) zero l = refl
 listed_at end remain (m ∷ ms) (suc k) l = listed_at end remain ms k (omega arith)
 
+-- equal ends of members are equal ends of candidates
 pub same_end_of : (end remain end' remain' : ℕ → ℕ) (ms : List ℕ) →
     ((k : ℕ) → k < length ms → end (get_or ms k 0) ≡ end' (get_or ms k 0)) →
     (k : ℕ) → (candidate_at (listed end remain ms) k).end ≡ (candidate_at (listed end' remain' ms) k).end
@@ -95,6 +103,7 @@ same_end_of end remain end' remain' [] e k = refl
 same_end_of end remain end' remain' (m ∷ ms) e zero = e 0 (omega arith)
 same_end_of end remain end' remain' (m ∷ ms) e (suc k) = same_end_of end remain end' remain' ms (λ j l. e (suc j) (omega arith)) k
 
+-- one candidate more
 pub same_before : (c c' : Candidate) (cs cs' : List Candidate) (o : Option ℕ) → c.end ≡ c'.end → ltb 0 c.remain ≡ ltb 0 c'.remain →
     ((k : ℕ) → (candidate_at cs k).end ≡ (candidate_at cs' k).end) → earlier_of c cs o ≡ earlier_of c' cs' o
 same_before c c' cs cs' None e r ends = ap (λ (b : Bool). elim b as (λ x. Option ℕ) [ true ↦ Some 0 | false ↦ None ]) r

@@ -14,10 +14,12 @@ find_passes p (y ∷ ys) x e = elim (cases_Bool (p y)) [
   | inr f ↦ find_passes p ys x (sym (cond-false (p y) (Some y) (find p ys) f) ∙ e)
 ]
 
+-- where none passes, none is found
 pub find_none : (p : ℕ → Bool) (xs : List ℕ) → ((x : ℕ) → p x ≡ false) → find p xs ≡ None
 find_none p [] h = refl
 find_none p (x ∷ xs) h = cond-false (p x) (Some x) (find p xs) (h x) ∙ find_none p xs h
 
+-- where none passes, none is left
 pub filter_none : (p : ℕ → Bool) (xs : List ℕ) → ((x : ℕ) → p x ≡ false) → filter p xs ≡ []
 filter_none p [] h = refl
 filter_none p (x ∷ xs) h = cond-false (p x) (x ∷ filter p xs) (filter p xs) (h x) ∙ filter_none p xs h
@@ -26,13 +28,16 @@ filter_none p (x ∷ xs) h = cond-false (p x) (x ∷ filter p xs) (filter p xs) 
 pub passing_on : (p : ℕ → Bool) (a n : ℕ) → p a ≡ true → filter p (range_with_len a (suc n)) ≡ a ∷ filter p (range_with_len (a + 1) n)
 passing_on p a n on = cond-true (p a) (a ∷ filter p (range_with_len (a + 1) n)) (filter p (range_with_len (a + 1) n)) on
 
+-- without a, where it does not
 pub passing_off : (p : ℕ → Bool) (a n : ℕ) → p a ≡ false → filter p (range_with_len a (suc n)) ≡ filter p (range_with_len (a + 1) n)
 passing_off p a n off = cond-false (p a) (a ∷ filter p (range_with_len (a + 1) n)) (filter p (range_with_len (a + 1) n)) off
 
+-- what agrees on a list maps it alike
 pub same_map : (f g : ℕ → Bool) (xs : List ℕ) → ((k : ℕ) → k < length xs → f (get_or xs k 0) ≡ g (get_or xs k 0)) → map f xs ≡ map g xs
 same_map f g [] h = refl
 same_map f g (x ∷ xs) h = ap₂ (λ (y : Bool) (ys : List Bool). y ∷ ys) (h 0 (omega arith)) (same_map f g xs (λ k l. h (suc k) (omega arith)))
 
+-- how often i stands in the list
 abbrev pub times : List ℕ → ℕ → ℕ
 times [] i = 0
 times (w ∷ ws) i = bit (eqb w i) + times ws i
@@ -48,6 +53,7 @@ times_below p (suc n) a i l =
       | inr off ↦ ap (λ ws. times ws i) (passing_off p a n off) ∙ ih
     ]
 
+-- a number of the range stands there once where it passes
 pub times_from : (p : ℕ → Bool) (n a i : ℕ) → a ≤ i → i < a + n → times (filter p (range_with_len a n)) i ≡ bit (p i)
 times_from p zero a i l m = absurd (omega arith)
 times_from p (suc n) a i l m =
@@ -70,6 +76,7 @@ times_from p (suc n) a i l m =
           ])
     ]
 
+-- and never more often
 pub times_at_most : (p : ℕ → Bool) (n a i : ℕ) → times (filter p (range_with_len a n)) i ≤ bit (p i)
 times_at_most p zero a i = omega arith
 times_at_most p (suc n) a i =
@@ -84,6 +91,7 @@ times_at_most p (suc n) a i =
       | inr off ↦ (let e = ap (λ ws. times ws i) (passing_off p a n off) in omega (arith, e, ih))
     ]
 
+-- how many pass
 pub length-passing : (p : ℕ → Bool) (n a : ℕ) → length (filter p (range_with_len a n)) ≡ sum_to n (λ k. bit (p (a + k)))
 length-passing p zero a = refl
 length-passing p (suc n) a =
@@ -98,6 +106,7 @@ length-passing p (suc n) a =
           omega (arith, e, ih, front, shift, zero_at, bit_off (p a) off))
     ]
 
+-- what holds of the first item and of each item of the rest holds of each
 pub at_front : (Q : ℕ → Type 0) (x : ℕ) (xs : List ℕ) → Q x → ((i : ℕ) → i < length xs → Q (get_or xs i 0)) → (i : ℕ) → i < length (x ∷ xs) → Q (get_or (x ∷ xs) i 0)
 at_front Q x xs q f zero l = q
 at_front Q x xs q f (suc i) l = f i (omega arith)
@@ -123,10 +132,12 @@ abbrev pub sum_list : (ℕ → ℕ) → List ℕ → ℕ
 sum_list g [] = 0
 sum_list g (x ∷ xs) = g x + sum_list g xs
 
+-- item by item
 pub sum_list_places : (g : ℕ → ℕ) (xs : List ℕ) → sum_to (length xs) (λ i. g (get_or xs i 0)) ≡ sum_list g xs
 sum_list_places g [] = refl
 sum_list_places g (x ∷ xs) = sum_to_front (length xs) (λ i. g (get_or (x ∷ xs) i 0)) ∙ ap (λ s. g x + s) (sum_list_places g xs)
 
+-- over the numbers from a on that pass
 pub sum_list_passing : (g : ℕ → ℕ) (p : ℕ → Bool) (n a : ℕ) → sum_list g (filter p (range_with_len a n)) ≡ sum_to n (λ k. bit (p (a + k)) * g (a + k))
 sum_list_passing g p zero a = refl
 sum_list_passing g p (suc n) a =

@@ -10,6 +10,7 @@ abbrev pub in_ticks : (ℕ → Bool) → ℕ → ℕ → ℕ → ℕ
 in_ticks g a b zero = 0
 in_ticks g a b (suc n) = in_ticks g a b n + bit (g n) * overlap n (suc n) a b
 
+-- one tick more
 pub overlap_more : (s n a b : ℕ) → s ≤ n → overlap s (suc n) a b ≡ overlap s n a b + overlap n (suc n) a b
 overlap_more s n a b l = omega arith
 
@@ -29,6 +30,7 @@ in_round g a b s (suc n) l same =
           omega (arith, ap (in_ticks g a b) e, ap (λ o. bit (g s) * o) z))
     ]
 
+-- no tick below n lies in the span, which begins later
 pub in_ticks_before : (g : ℕ → Bool) (a b n : ℕ) → n ≤ a → in_ticks g a b n ≡ 0
 in_ticks_before g a b zero l = refl
 in_ticks_before g a b (suc n) l =
@@ -36,6 +38,7 @@ in_ticks_before g a b (suc n) l =
     let z : overlap n (suc n) a b ≡ 0 = omega arith in
     omega (arith, ih, ap (λ o. bit (g n) * o) z)
 
+-- the ticks below n that lie in the span, which ends later
 pub in_ticks_during : (g : ℕ → Bool) (a b n : ℕ) → a ≤ n → n ≤ b → in_ticks g a b n + ticks g a ≡ ticks g n
 in_ticks_during g a b zero l m = let e : a ≡ 0 = omega arith in omega (arith, ap (ticks g) e)
 in_ticks_during g a b (suc n) l m =
@@ -50,6 +53,7 @@ in_ticks_during g a b (suc n) l m =
           omega (arith, z, ap (ticks g) e))
     ]
 
+-- those past the end of the span do not count
 pub in_ticks_after : (g : ℕ → Bool) (a b n : ℕ) → b ≤ n → in_ticks g a b n ≡ in_ticks g a b b
 in_ticks_after g a b zero l = let e : 0 ≡ b = omega arith in ap (in_ticks g a b) e
 in_ticks_after g a b (suc n) l =
@@ -65,6 +69,7 @@ in_ticks_after g a b (suc n) l =
 pub in_ticks_all : (g : ℕ → Bool) (a b n : ℕ) → a ≤ b → b ≤ n → in_ticks g a b n + ticks g a ≡ ticks g b
 in_ticks_all g a b n l m = let e = in_ticks_after g a b n m in let d = in_ticks_during g a b b l (le_refl b) in omega (arith, e, d)
 
+-- at most so many
 pub in_ticks_some : (g : ℕ → Bool) (a b n : ℕ) → a ≤ b → in_ticks g a b n + ticks g a ≤ ticks g b
 in_ticks_some g a b n l =
     elim (cases_lt n b) [

@@ -4,6 +4,7 @@ use Rattle.std.proofs.lemmas.Bool.{and_from, and_left, and_parts, and_right, bot
 use Rattle.sched_base.specs.Counting.{bit, sum_to}
 use Rattle.sched_base.proofs.CountingLemmas.{bit_at, bit_le, bit_off, find_below}
 
+-- a sum of no greater terms is no greater
 pub sum_to-le : (n : ℕ) (f g : ℕ → ℕ) → ((k : ℕ) → k < n → f k ≤ g k) → sum_to n f ≤ sum_to n g
 sum_to-le zero f g h = omega arith
 sum_to-le (suc n) f g h =
@@ -27,14 +28,17 @@ sum_to-lt (suc n) f g j l less h =
           omega (arith, rest, here))
     ]
 
+-- a common factor
 pub sum_to-mul : (n : ℕ) (f : ℕ → ℕ) (d : ℕ) → sum_to n (λ k. f k * d) ≡ sum_to n f * d
 sum_to-mul zero f d = omega arith
 sum_to-mul (suc n) f d = let ih = sum_to-mul n f d in omega (arith, ih)
 
+-- term by term
 pub sum_to-add : (n : ℕ) (f g : ℕ → ℕ) → sum_to n (λ k. f k + g k) ≡ sum_to n f + sum_to n g
 sum_to-add zero f g = omega arith
 sum_to-add (suc n) f g = let ih = sum_to-add n f g in omega (arith, ih)
 
+-- no term is greater than the sum
 pub term-le-sum_to : (n : ℕ) (f : ℕ → ℕ) (k : ℕ) → k < n → f k ≤ sum_to n f
 term-le-sum_to zero f k l = omega arith
 term-le-sum_to (suc n) f k l =
@@ -43,6 +47,7 @@ term-le-sum_to (suc n) f k l =
       | inr ne ↦ (let ih = term-le-sum_to n f k (omega arith) in omega (arith, ih))
     ]
 
+-- a sum of nothing
 pub sum_to-zero : (n : ℕ) (f : ℕ → ℕ) → ((k : ℕ) → k < n → f k ≡ 0) → sum_to n f ≡ 0
 sum_to-zero zero f h = refl
 sum_to-zero (suc n) f h =
@@ -67,6 +72,7 @@ sum_to-alone (suc n) f h =
           omega (arith, ih, bit_off (f n) e))
     ]
 
+-- equal terms make equal sums
 pub sum_to-same : (n : ℕ) (f g : ℕ → ℕ) → ((k : ℕ) → k < n → f k ≡ g k) → sum_to n f ≡ sum_to n g
 sum_to-same zero f g h = refl
 sum_to-same (suc n) f g h =
@@ -89,6 +95,7 @@ sum_to-one (suc n) f j l h =
           omega (arith, ih, last))
     ]
 
+-- the order of two sums
 pub sum_to-swap : (m n : ℕ) (f : ℕ → ℕ → ℕ) → sum_to m (λ i. sum_to n (λ j. f i j)) ≡ sum_to n (λ j. sum_to m (λ i. f i j))
 sum_to-swap zero n f = sym (sum_to-zero n (λ j. 0) (λ k l. refl))
 sum_to-swap (suc m) n f =
@@ -96,10 +103,12 @@ sum_to-swap (suc m) n f =
     let parts = sum_to-add n (λ j. sum_to m (λ i. f i j)) (λ j. f m j) in
     omega (arith, ih, parts)
 
+-- a common factor on the left
 pub sum_to-times : (n : ℕ) (c : ℕ) (f : ℕ → ℕ) → sum_to n (λ k. c * f k) ≡ c * sum_to n f
 sum_to-times zero c f = omega arith
 sum_to-times (suc n) c f = let ih = sum_to-times n c f in omega (arith, ih)
 
+-- the first term apart
 pub sum_to_front : (n : ℕ) (f : ℕ → ℕ) → sum_to (suc n) f ≡ f 0 + sum_to n (λ k. f (suc k))
 sum_to_front zero f = omega arith
 sum_to_front (suc n) f = let ih = sum_to_front n f in omega (arith, ih)
@@ -131,14 +140,17 @@ two_pass (suc n) f l =
           (p, q, omega arith, omega arith, ne, fp, fq))
     ]
 
-pub ones : (n : ℕ) → sum_to n (λ k. 1) ≡ n
-ones zero = refl
-ones (suc n) = let ih = ones n in omega (arith, ih)
+-- a sum of ones counts
+pub sum_to-ones : (n : ℕ) → sum_to n (λ k. 1) ≡ n
+sum_to-ones zero = refl
+sum_to-ones (suc n) = let ih = sum_to-ones n in omega (arith, ih)
 
+-- the numbers below m that pass p and those below n that pass q are the same ones, under two names
 pub record IsReindexed (m n : ℕ) (p q : ℕ → Bool) (to from : ℕ → ℕ) : Type 0 where
   pub there : (i : ℕ) → i < m → p i ≡ true → (to i < n) × (q (to i) ≡ true) × (from (to i) ≡ i)
   pub back : (x : ℕ) → x < n → q x ≡ true → (from x < m) × (p (from x) ≡ true) × (to (from x) ≡ x)
 
+-- a sum over the ones is the sum over the others
 pub reindex : (m n : ℕ) (p q : ℕ → Bool) (to from : ℕ → ℕ) → IsReindexed m n p q to from → (g : ℕ → ℕ) →
     sum_to m (λ i. bit (p i) * g (to i)) ≡ sum_to n (λ x. bit (q x) * g x)
 reindex m n p q to from r g =

@@ -10,15 +10,19 @@ mul_span r b e h =
     let parts = mul-add r (e - b) b in
     omega (arith, whole, parts)
 
+-- a tick before unit u lies in a unit below u
 pub unit_below : (t u l : ℕ) → 0 < l → t < u * l → t / l < u
 unit_below t u l p h = (div-lt_iff_lt-mul p).1 h
 
+-- a tick from unit u on lies in a unit from u on
 pub unit_from : (t u l : ℕ) → 0 < l → u * l ≤ t → u ≤ t / l
 unit_from t u l p h = (le-div_iff_mul-le p).1 h
 
+-- a tick in a unit below u lies before unit u
 pub tick_below : (t u l : ℕ) → 0 < l → t / l < u → t < u * l
 tick_below t u l p h = (div-lt_iff_lt-mul p).0 h
 
+-- a tick in a unit from u on lies at unit u or later
 pub tick_from : (t u l : ℕ) → 0 < l → u ≤ t / l → u * l ≤ t
 tick_from t u l p h = (le-div_iff_mul-le p).0 h
 
@@ -37,6 +41,7 @@ next_unit n l p =
           inr (q, z))
     ]
 
+-- what differs from a multiple of c by a multiple of c is one
 pub multiple : (s a b c : ℕ) → s + a * c ≡ b * c → (k : ℕ) × (s ≡ k * c)
 multiple s a b c e =
     elim (cases_lt a b) [

@@ -9,6 +9,7 @@ use Rattle.sched_base.proofs.UnitLemmas.{mul_span, tick_below, tick_from, unit_b
 use Rattle.run_tree.proofs.WindowLemmas.{begins_again, next-le, next_at}
 use Rattle.sched_laws.specs.Servers.{IsSupplied, Server, Serves, due, left}
 
+-- what is left, seen from any unit of the window
 pub left_in : (v : Server) (h : Serves v) (k u t : ℕ) → k < v.count → v.begins k u * v.scale ≤ t → t < v.ends k u * v.scale →
     left v k t ≡ due v k u - (ticks (v.member k) t - ticks (v.member k) (v.begins k u * v.scale))
 left_in v h k u t l p q =
@@ -167,6 +168,7 @@ owed-le-supply v h s d at before (suc t) l =
           ])
     ]
 
+-- all are served up to d where they are served up to each unit before
 pub served_at : (v : Server) (h : Serves v) (s : IsSupplied v) (d : ℕ) → ((u : ℕ) → u < d → IsServed v u) → IsServed v d
 served_at v h s d before k l =
     let w = h.windows k l in
@@ -186,6 +188,7 @@ served_at v h s d before k l =
           subst P (sym here) all)
     ]
 
+-- so all are served up to each unit
 pub served_below : (v : Server) (h : Serves v) (s : IsSupplied v) (n u : ℕ) → u < n → IsServed v u
 served_below v h s zero u l = absurd (omega arith)
 served_below v h s (suc n) u l = served_at' n (served_below v h s n) u l
@@ -299,6 +302,7 @@ supplied_to v h each (suc u) =
           subst P e q)
     ]
 
+-- so a pack that runs its rate in each window runs it up to each boundary
 pub supplied_from_windows : (v : Server) (h : Serves v) →
     ((u : ℕ) → ticks v.pack (v.pack_ends u * v.scale) ≡ ticks v.pack (v.pack_begins u * v.scale) + sum_to v.count v.rate * (v.pack_ends u - v.pack_begins u)) →
     IsSupplied v

@@ -20,16 +20,17 @@ use Rattle.sched_laws.proofs.Releases.{shown_empty}
 use Rattle.sched_base.specs.declared.sets.Task as declared
 
 -- where no processor is free and each pack has a leaf, no row is empty
-pub none_empty : (tasks : List declared.Task) (t : Tree) (s e p : ℕ) (os : List (Option ℕ)) → free os ≡ 0 →
-    ((i : ℕ) → 0 < held os i → leaf_in (set_boundary tasks) t s (get_or (packs_at t 0) i 0) ≡ Empty → ⊥) → AllByRecursion (λ r. r.leaf ≡ Empty → ⊥) (rows_from tasks t s e p os)
+pub none_empty : (tasks : List declared.Task) (t : Tree) (s e p : ℕ) (onto : List (Option ℕ)) → free onto ≡ 0 →
+    ((i : ℕ) → 0 < held onto i → leaf_in (set_boundary tasks) t s (get_or (packs_at t 0) i 0) ≡ Empty → ⊥) → AllByRecursion (λ r. r.leaf ≡ Empty → ⊥) (rows_from tasks t s e p onto)
 none_empty tasks t s e p [] z f = tt
-none_empty tasks t s e p (None ∷ os) z f = absurd (omega arith)
-none_empty tasks t s e p (Some i ∷ os) z f = (
+none_empty tasks t s e p (None ∷ onto) z f = absurd (omega arith)
+none_empty tasks t s e p (Some i ∷ onto) z f = (
   (λ x. f i (let o = bit_at (eqb i i) (eq-eqb i i refl) in omega (arith, o)) (shown_empty tasks t.scale s (leaf_in (set_boundary tasks) t s (get_or (packs_at t 0) i 0)) x)),
-  none_empty tasks t s e (suc p) os z (λ j some. f j (omega arith)),
+  none_empty tasks t s e (suc p) onto z (λ j some. f j (omega arith)),
 )
 
 module _ (tasks : List declared.Task) (t : Tree) (h : IsTree t) (leaves : HaveBoundaries (set_boundary tasks) t) (holds : HoldsTasks tasks t) where
+  -- the pack on a processor has a leaf that runs
   pub leaf_there : (s i : ℕ) → 0 < held (onto_at (set_boundary tasks) t s) i → leaf_in (set_boundary tasks) t s (get_or (packs_at t 0) i 0) ≡ Empty → ⊥
   leaf_there s i some e =
       let at = onto_within (set_boundary tasks) t h leaves s i some in

@@ -16,11 +16,13 @@ use Rattle.sched_laws.proofs.Steady.{pack_still}
 -- in a tick without an event the processors keep their packs
 module _ (of_leaf : Leaf → ℕ → Bool) (t : Tree) (h : IsTree t) (leaves : HaveBoundaries of_leaf t) (n : ℕ)
     (quiet : (x : ℕ) → IsLeaf t x → suc n % t.scale ≡ 0 → of_leaf (leaf t x) (suc n / t.scale) ≡ false)
-    (wet : (x : ℕ) → IsMember t x → runs of_leaf t x n ≡ true → 0 < left_at of_leaf t (suc n) x) where
+    (unspent : (x : ℕ) → IsMember t x → runs of_leaf t x n ≡ true → 0 < left_at of_leaf t (suc n) x) where
+  -- the same packs of level 0 run
   pub running_still : packs_running of_leaf t (suc n) ≡ packs_running of_leaf t n
   running_still = same_map (λ p. runs of_leaf t p (suc n)) (λ p. runs of_leaf t p n) (packs_at t 0)
-      (λ k l. pack_still of_leaf t h leaves n quiet wet (get_or (packs_at t 0) k 0) (first_is_pack t h k l))
+      (λ k l. pack_still of_leaf t h leaves n quiet unspent (get_or (packs_at t 0) k 0) (first_is_pack t h k l))
 
+  -- each processor keeps its pack
   pub places_still : onto_at of_leaf t (suc n) ≡ onto_at of_leaf t n
   unfolding onto_at
   places_still =

@@ -3,9 +3,9 @@ use Rattle.std.proofs.Common.{Bool, None, Option, Some, ap, arith, eq-eqb, eqb, 
 use Rattle.std.proofs.lemmas.Bool.{and_from, and_left, and_parts, and_right, both_ways, cases_Bool, cases_eq, cases_lt, eqb-true}
 use Rattle.sched_base.specs.Counting.{bit, sum_to}
 use Rattle.sched_base.proofs.CountingLemmas.{bit_at, bit_le, bit_off}
-use Rattle.sched_base.proofs.SumLemmas.{ones, sum_to-add, sum_to-alone, sum_to-le, sum_to-mul, sum_to-same, term-le-sum_to, two_pass, two_terms}
+use Rattle.sched_base.proofs.SumLemmas.{sum_to-add, sum_to-alone, sum_to-le, sum_to-mul, sum_to-ones, sum_to-same, term-le-sum_to, two_pass, two_terms}
 use Rattle.sched_base.proofs.UnitLemmas.{multiple}
-use Rattle.run_tree.specs.Tree.{IsDual, IsMember, IsPack, IsTree, Tree, at_level, dual, home, is_pack, kind_at, level, member, members, primal, rate}
+use Rattle.run_tree.specs.Tree.{IsDual, IsMember, IsPack, IsTree, Tree, at_level, dual, home, is_pack, kind_at, leaf, level, member, members, primal, rate}
 use Rattle.run_tree.proofs.KindLemmas.{KindOf, kind_of}
 use Rattle.run_tree.proofs.TreeLemmas.{at_from, pack_at}
 use Rattle.sched_laws.specs.LevelCounts.{duals_of, has_dual_at, running}
@@ -24,13 +24,15 @@ module _ (t : Tree) (h : IsTree t) where
       let i = pack_at t l p b both.0 in
       (i.0, i.1, some_number (dual t p) both.1)
 
+  -- the packs of a level have the duals of the level below as members
   pub members_count : (l : ℕ) → duals_of t l ≡ sum_to (length t.nodes) (λ p. bit (at_level t (suc l) p) * length (members t p))
   members_count l =
       sum_to-same (length t.nodes) (λ p. bit (has_dual_at t l p)) (λ p. bit (has_dual_at t l p) * 1) (λ p b. omega arith)
       ∙ duals_are_next t h l (λ x. 1)
       ∙ sum_to-same (length t.nodes) (λ p. bit (at_level t (suc l) p) * sum_to (length (members t p)) (λ k. 1)) (λ p. bit (at_level t (suc l) p) * length (members t p))
-      (λ p b. ap (λ c. bit (at_level t (suc l) p) * c) (ones (length (members t p))))
+      (λ p b. ap (λ c. bit (at_level t (suc l) p) * c) (sum_to-ones (length (members t p))))
 
+  -- whether pack p of level l has one member
   abbrev pub single : ℕ → ℕ → Bool
   single l p = at_level t l p && eqb (length (members t p)) 1
 
@@ -98,6 +100,7 @@ module _ (t : Tree) (h : IsTree t) where
       let one = one_single l in
       omega (arith, each, twice, parts, count, one)
 
+  -- no more packs are no roots than there are packs
   pub duals-le-packs : (l : ℕ) → duals_of t l ≤ packs_of t l
   duals-le-packs l = sum_to-le (length t.nodes) (λ p. bit (has_dual_at t l p)) (λ p. bit (at_level t l p)) (λ p b.
       elim (cases_Bool (at_level t l p)) [
@@ -131,6 +134,7 @@ module _ (t : Tree) (h : IsTree t) where
   abbrev pub primal_rate : ℕ → ℕ
   primal_rate l = sum_to (length t.nodes) (λ p. bit (has_dual_at t l p) * rate t p)
 
+  -- it is
   pub primal_multiple : (l : ℕ) → l < t.levels → (c : ℕ) × (primal_rate l ≡ c * t.scale)
   primal_multiple l b =
       let count = each_level (λ leaf u. true) t h (λ x i. record { first = refl; later = λ u. (suc u, le_refl (suc u), omega arith, refl) }) l 0 b in
@@ -229,5 +233,6 @@ module _ (t : Tree) (h : IsTree t) where
   levels_bound zero e = inl refl
   levels_bound (suc k) e = let g = height k 0 (omega arith) in inr (omega (arith, g))
 
+-- the same, with the numbers as the law has them
 pub levels_bound_at : (t : Tree) → IsTree t → (k : ℕ) → k + 1 ≡ t.levels → (k ≡ 0) ⊎ (2 ^ k ≤ duals_of t 0 - 1)
 levels_bound_at t h k e = levels_bound t h k (omega (arith, e))

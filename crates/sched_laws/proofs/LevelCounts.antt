@@ -34,6 +34,7 @@ module _ (of_leaf : Leaf → ℕ → Bool) (t : Tree) (h : IsTree t) (leaves : H
             omega (arith, none, bit_off (runs of_leaf t p n) off))
       ]
 
+  -- the duals of a level that run are the packs of the next that run
   pub running_next : (l n : ℕ) → sum_to (length t.nodes) (λ p. bit (has_dual_at t l p) * bit (runs of_leaf t (number_or (dual t p)) n)) ≡ running of_leaf t (suc l) n
   running_next l n =
       duals_are_next t h l (λ x. bit (runs of_leaf t x n))
@@ -72,6 +73,7 @@ module _ (of_leaf : Leaf → ℕ → Bool) (t : Tree) (h : IsTree t) (leaves : H
           let same = ap bit (run_rests of_leaf t h leaves p d n i e) in let at = ap (λ o. bit (runs of_leaf t (number_or o) n)) e in
           omega (arith, pair, same, at, ap (λ w. w * bit (runs of_leaf t p n)) z, ap (λ w. w * bit (runs of_leaf t (number_or (dual t p)) n)) y, ap (λ w. w * 1) z))
 
+  -- so do their rates
   pub pair_rates : (l p : ℕ) → p < length t.nodes →
       bit (at_level t l p) * rate t p + bit (has_dual_at t l p) * rate t (number_or (dual t p)) ≡ bit (at_level t l p) * t.scale
   pair_rates l p b =
@@ -99,10 +101,11 @@ module _ (of_leaf : Leaf → ℕ → Bool) (t : Tree) (h : IsTree t) (leaves : H
           let same = ap (λ o. rate t (number_or o)) e in
           omega (arith, pair, same, ap (λ w. w * rate t p) z, ap (λ w. w * rate t (number_or (dual t p))) y, ap (λ w. w * t.scale) z))
 
+  -- from the next level to this one
   pub level_step : (l n : ℕ) → running of_leaf t (suc l) n * t.scale ≡ level_rate t (suc l) → running of_leaf t l n * t.scale ≡ level_rate t l
   level_step l n e =
       let w = sum_to (length t.nodes) (λ p. bit (at_level t l p)) in
-      let ones = sum_to-same (length t.nodes) _ _ (λ p b. pair_runs l p n b) in
+      let sum_to-ones = sum_to-same (length t.nodes) _ _ (λ p b. pair_runs l p n b) in
       let rates = sum_to-same (length t.nodes) _ _ (λ p b. pair_rates l p b) in
       let ones_add = sum_to-add (length t.nodes) (λ p. bit (at_level t l p) * bit (runs of_leaf t p n)) (λ p. bit (has_dual_at t l p) * bit (runs of_leaf t (number_or (dual t p)) n)) in
       let rates_add = sum_to-add (length t.nodes) (λ p. bit (at_level t l p) * rate t p) (λ p. bit (has_dual_at t l p) * rate t (number_or (dual t p))) in
@@ -110,7 +113,7 @@ module _ (of_leaf : Leaf → ℕ → Bool) (t : Tree) (h : IsTree t) (leaves : H
       let scaled = sum_to-mul (length t.nodes) (λ p. bit (at_level t l p)) t.scale in
       let a = running_next l n in
       let c = rates_next t h l in
-      let o : running of_leaf t l n + running of_leaf t (suc l) n ≡ w = omega (arith, ones, ones_add, a, units) in
+      let o : running of_leaf t l n + running of_leaf t (suc l) n ≡ w = omega (arith, sum_to-ones, ones_add, a, units) in
       let os = ap (λ z. z * t.scale) o in
       omega (arith, os, rates, rates_add, scaled, c, e)
 
@@ -127,6 +130,7 @@ module _ (of_leaf : Leaf → ℕ → Bool) (t : Tree) (h : IsTree t) (leaves : H
   level_count (suc above) l n e = level_step l n (level_count above (suc l) n (omega (arith, e)))
 
 module _ (of_leaf : Leaf → ℕ → Bool) (t : Tree) (h : IsTree t) (leaves : HaveBoundaries of_leaf t) where
+  -- the members of level 0 are the leaves
   pub first_level : (x : ℕ) → x < length t.nodes → in_level t 0 x ≡ is_leaf (kind_at t x)
   first_level x b = go (kind_of (kind_at t x))
     where
@@ -135,6 +139,7 @@ module _ (of_leaf : Leaf → ℕ → Bool) (t : Tree) (h : IsTree t) (leaves : H
       go (inr (inl a_dual)) = and_right (not (is_pack (kind_at t x))) (eqb (level t (home t x)) 0) (ne_eqb (level t (home t x)) 0 (λ z. let up = (h.duals_are x (b, a_dual)).2 in omega (arith, up, z))) ∙ sym (dual_no_leaf (kind_at t x) a_dual)
       go (inr (inr a_pack)) = and_left (not (is_pack (kind_at t x))) (eqb (level t (home t x)) 0) (ap not a_pack) ∙ sym (pack_no_leaf (kind_at t x) a_pack)
 
+  -- so the rate of level 0 is that of the processors
   pub first_rate : level_rate t 0 ≡ t.processors * t.scale
   first_rate =
       sum_to-same (length t.nodes) (λ p. bit (at_level t 0 p) * rate t p) (λ p. bit (at_level t 0 p) * sum_to (length (members t p)) (λ k. rate t (member t p k)))
@@ -147,6 +152,7 @@ module _ (of_leaf : Leaf → ℕ → Bool) (t : Tree) (h : IsTree t) (leaves : H
       ∙ sum_to-same (length t.nodes) (λ x. bit (in_level t 0 x) * rate t x) (λ x. bit (is_leaf (kind_at t x)) * rate t x) (λ x b. ap (λ w. bit w * rate t x) (first_level x b))
       ∙ h.total
 
+  -- for each level
   pub each_level : (l n : ℕ) → l < t.levels → running of_leaf t l n * t.scale ≡ level_rate t l
   each_level l n b = level_count of_leaf t h leaves (t.levels - l) l n (omega arith)
 

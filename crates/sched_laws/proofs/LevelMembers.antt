@@ -10,10 +10,12 @@ use Rattle.run_tree.proofs.KindLemmas.{KindOf, kind_of, leaf_no_dual, not_pack}
 use Rattle.run_tree.proofs.TreeLemmas.{at_from, pack_at}
 use Rattle.sched_laws.specs.LevelCounts.{has_dual_at, level_rate}
 
+-- the number, where there is one
 abbrev pub number_or : Option ℕ → ℕ
 number_or None = 0
 number_or (Some d) = d
 
+-- there is one
 pub some_number : (o : Option ℕ) → is_some o ≡ true → o ≡ Some (number_or o)
 some_number None e = cc
 some_number (Some d) e = refl
@@ -22,6 +24,7 @@ some_number (Some d) e = refl
 abbrev pub in_level : Tree → ℕ → ℕ → Bool
 in_level t l x = not (is_pack (kind_at t x)) && eqb (level t (home t x)) l
 
+-- duals of the packs of a level
 abbrev pub dual_in_level : Tree → ℕ → ℕ → Bool
 dual_in_level t l x = is_dual (kind_at t x) && eqb (level t (primal t x)) l
 
@@ -96,6 +99,7 @@ module _ (t : Tree) (h : IsTree t) where
             (d.0.0, and_from (at_level t l (primal t x)) (is_some (dual t (primal t x))) (at_from t l (primal t x) d.0 (eqb-true (level t (primal t x)) l both.1)) (ap is_some d.1), ap number_or d.1));
       }) g
 
+  -- a member of the next level is a dual of this one
   pub next_level : (l x : ℕ) → x < length t.nodes → in_level t (suc l) x ≡ dual_in_level t l x
   next_level l x b = go (kind_of (kind_at t x))
     where
@@ -131,6 +135,7 @@ module _ (t : Tree) (h : IsTree t) where
       ∙ sum_to-same (length t.nodes) (λ x. bit (dual_in_level t l x) * g x) (λ x. bit (in_level t (suc l) x) * g x) (λ x b. ap (λ w. bit w * g x) (sym (next_level l x b)))
       ∙ sym (level_reindexed (suc l) g)
 
+  -- the rates of the duals come to those of the next level
   pub rates_next : (l : ℕ) → sum_to (length t.nodes) (λ p. bit (has_dual_at t l p) * rate t (number_or (dual t p))) ≡ level_rate t (suc l)
   rates_next l =
       duals_are_next l (rate t)

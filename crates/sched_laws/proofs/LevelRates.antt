@@ -20,14 +20,17 @@ use Rattle.sched_laws.proofs.Edf.{due_served, served_exactly, some_runs, supplie
 use Rattle.sched_laws.proofs.Packs.{server_serves}
 
 module _ (of_leaf : Leaf → ℕ → Bool) (t : Tree) (h : IsTree t) (leaves : HaveBoundaries of_leaf t) where
+  -- a root runs at each tick
   pub run_root : (p n : ℕ) → IsPack t p → dual t p ≡ None → runs of_leaf t p n ≡ true
   run_root p n i e = runs_is of_leaf t p n i.0 ∙ now_root t h (left_at of_leaf t n) (ends_at of_leaf t n) p i e
 
+  -- a pack with a dual runs where the dual does not
   pub run_rests : (p d n : ℕ) → IsPack t p → dual t p ≡ Some d → runs of_leaf t p n ≡ not (runs of_leaf t d n)
   run_rests p d n i e =
       runs_is of_leaf t p n i.0 ∙ now_rests t h (left_at of_leaf t n) (ends_at of_leaf t n) p d i e
       ∙ ap not (sym (runs_is of_leaf t d n (h.has_dual p d i e).0.0))
 
+  -- a dual has the boundaries of its primal
   pub same_bounds : (p d : ℕ) → IsPack t p → dual t p ≡ Some d → is_boundary of_leaf t d ≡ is_boundary of_leaf t p
   same_bounds p d i e =
       let x = h.has_dual p d i e in
@@ -47,6 +50,7 @@ module _ (of_leaf : Leaf → ℕ → Bool) (t : Tree) (h : IsTree t) (leaves : H
       let mine = ap (λ r. r * u) (h.summed p i) in
       omega (arith, s, both, whole, mine)
 
+  -- a root runs its rate
   pub supplied_root : (p : ℕ) → (i : IsPack t p) → dual t p ≡ None → IsSupplied (server of_leaf t p)
   supplied_root p i e u at =
       let all = ticks_all (runs of_leaf t p) (λ n. run_root p n i e) (u * t.scale) in
@@ -71,6 +75,7 @@ module _ (of_leaf : Leaf → ℕ → Bool) (t : Tree) (h : IsTree t) (leaves : H
           let P : ℕ → Type 0 = λ y. (u : ℕ) → ticks (runs of_leaf t y) (window_begin (is_boundary of_leaf t y) u * t.scale) ≡ rate t y * window_begin (is_boundary of_leaf t y) u in
           supplied_by_dual p d i e (subst P at_home.2 (λ u. served_exactly (server of_leaf t (home t d)) law over (place t d) u at_home.1)))
 
+  -- each pack runs its rate
   pub supplied_all : (p : ℕ) → IsPack t p → IsSupplied (server of_leaf t p)
   supplied_all p i = supplied (t.levels - level t p) p i (let l = h.leveled p i in omega (arith, l))
 
@@ -115,14 +120,17 @@ module _ (of_leaf : Leaf → ℕ → Bool) (t : Tree) (h : IsTree t) (leaves : H
 
 -- one pack by itself
 module _ (of_leaf : Leaf → ℕ → Bool) (t : Tree) (h : IsTree t) (leaves : HaveBoundaries of_leaf t) where
+  -- a pack that runs its rate in each window is supplied
   pub supplied_by_windows : (p : ℕ) → IsPack t p → RunsRate of_leaf t p → IsSupplied (server of_leaf t p)
   supplied_by_windows p i each =
       supplied_from_windows (server of_leaf t p) (server_serves of_leaf t h leaves p i)
       (λ u. (let e = each u in let r = ap (λ r. r * (window_end (is_boundary of_leaf t p) u - window_begin (is_boundary of_leaf t p) u)) (h.summed p i) in omega (arith, e, r)))
 
+  -- then each member runs its due in each window
   pub one_pack_served : (p k : ℕ) → IsPack t p → RunsRate of_leaf t p → k < length (members t p) → RunsRate of_leaf t (member t p k)
   one_pack_served p k i each l u = due_served (server of_leaf t p) (server_serves of_leaf t h leaves p i) (supplied_by_windows p i each) k u l
 
+  -- and where the pack runs a member runs
   pub one_pack_runs : (p n : ℕ) → IsPack t p → RunsRate of_leaf t p → runs of_leaf t p n ≡ true → (k : ℕ) × (k < length (members t p)) × (runs of_leaf t (member t p k) n ≡ true)
   one_pack_runs p n i each on = some_runs (server of_leaf t p) (server_serves of_leaf t h leaves p i) (supplied_by_windows p i each) n on
 

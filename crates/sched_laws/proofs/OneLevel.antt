@@ -34,29 +34,32 @@ use Rattle.sched_base.specs.declared.sets.Task as declared
 -- at most one place passes
 abbrev pub total : (Option ℕ → Bool) → List (Option ℕ) → ℕ
 total f [] = 0
-total f (o ∷ os) = bit (f o) + total f os
+total f (o ∷ onto) = bit (f o) + total f onto
 
-pub total_some : (f : Option ℕ → Bool) (os : List (Option ℕ)) (p : ℕ) → p < length os → f (get_or os p None) ≡ true → 0 < total f os
+-- there is one where some place passes
+pub total_some : (f : Option ℕ → Bool) (onto : List (Option ℕ)) (p : ℕ) → p < length onto → f (get_or onto p None) ≡ true → 0 < total f onto
 total_some f [] p l e = absurd (omega arith)
-total_some f (o ∷ os) zero l e = omega (arith, bit_at (f o) e)
-total_some f (o ∷ os) (suc p) l e = let ih = total_some f os p (omega arith) e in omega (arith, ih)
+total_some f (o ∷ onto) zero l e = omega (arith, bit_at (f o) e)
+total_some f (o ∷ onto) (suc p) l e = let ih = total_some f onto p (omega arith) e in omega (arith, ih)
 
-pub total_once : (f : Option ℕ → Bool) (os : List (Option ℕ)) (p q : ℕ) → total f os ≤ 1 → p < length os → q < length os → f (get_or os p None) ≡ true → f (get_or os q None) ≡ true → p ≡ q
+-- and where there is at most one, two places that pass are one
+pub total_once : (f : Option ℕ → Bool) (onto : List (Option ℕ)) (p q : ℕ) → total f onto ≤ 1 → p < length onto → q < length onto → f (get_or onto p None) ≡ true → f (get_or onto q None) ≡ true → p ≡ q
 total_once f [] p q z l m e g = absurd (omega arith)
-total_once f (o ∷ os) zero zero z l m e g = refl
-total_once f (o ∷ os) zero (suc q) z l m e g = let s = total_some f os q (omega arith) g in absurd (omega (arith, s, bit_at (f o) e))
-total_once f (o ∷ os) (suc p) zero z l m e g = let s = total_some f os p (omega arith) e in absurd (omega (arith, s, bit_at (f o) g))
-total_once f (o ∷ os) (suc p) (suc q) z l m e g = ap suc (total_once f os p q (omega arith) (omega arith) (omega arith) e g)
+total_once f (o ∷ onto) zero zero z l m e g = refl
+total_once f (o ∷ onto) zero (suc q) z l m e g = let s = total_some f onto q (omega arith) g in absurd (omega (arith, s, bit_at (f o) e))
+total_once f (o ∷ onto) (suc p) zero z l m e g = let s = total_some f onto p (omega arith) e in absurd (omega (arith, s, bit_at (f o) g))
+total_once f (o ∷ onto) (suc p) (suc q) z l m e g = ap suc (total_once f onto p q (omega arith) (omega arith) (omega arith) e g)
 
 -- whether the pack on a processor is this node
 abbrev pub is_node : Tree → ℕ → Option ℕ → Bool
 is_node t n None = false
 is_node t n (Some i) = eqb (get_or (packs_at t 0) i 0) n
 
-pub total_on : (t : Tree) (n : ℕ) (os : List (Option ℕ)) → total (is_node t n) os ≡ sum_on (λ i. bit (eqb (get_or (packs_at t 0) i 0) n)) os
+-- as a sum over processors
+pub total_on : (t : Tree) (n : ℕ) (onto : List (Option ℕ)) → total (is_node t n) onto ≡ sum_on (λ i. bit (eqb (get_or (packs_at t 0) i 0) n)) onto
 total_on t n [] = refl
-total_on t n (None ∷ os) = let ih = total_on t n os in omega (arith, ih)
-total_on t n (Some i ∷ os) = let ih = total_on t n os in omega (arith, ih)
+total_on t n (None ∷ onto) = let ih = total_on t n onto in omega (arith, ih)
+total_on t n (Some i ∷ onto) = let ih = total_on t n onto in omega (arith, ih)
 
 module _ (of_leaf : Leaf → ℕ → Bool) (t : Tree) (h : IsTree t) (leaves : HaveBoundaries of_leaf t) where
   -- a node is on at most one processor
@@ -84,6 +87,7 @@ module _ (of_leaf : Leaf → ℕ → Bool) (t : Tree) (h : IsTree t) (leaves : H
       omega (arith, e, by_pack, less, nodes, most)
 
   module _ (roots : (p : ℕ) → IsPack t p → level t p ≡ 0 → dual t p ≡ None) where
+    -- where all packs of level 0 are roots, they all run at each tick
     pub running_const : (n m : ℕ) → packs_running of_leaf t n ≡ packs_running of_leaf t m
     running_const n m = same_map (λ p. runs of_leaf t p n) (λ p. runs of_leaf t p m) (packs_at t 0) (λ k l.
         let p = get_or (packs_at t 0) k 0 in
@@ -92,18 +96,21 @@ module _ (of_leaf : Leaf → ℕ → Bool) (t : Tree) (h : IsTree t) (leaves : H
         let low = (pack_at t 0 p i.0 f.1).1 in
         run_root of_leaf t h leaves p n i (roots p i low) ∙ sym (run_root of_leaf t h leaves p m i (roots p i low)))
 
+    -- so each processor keeps its pack
     pub onto_step : (n : ℕ) → onto_at of_leaf t (suc n) ≡ onto_at of_leaf t n
     unfolding onto_at
     onto_step n =
         ap (λ row. onto_next row (place (packs_running of_leaf t n) (places_below of_leaf t n))) (running_const (suc n) n)
         ∙ onto_still (packs_running of_leaf t n) (places_below of_leaf t n) (once_below of_leaf t n)
 
+    -- from tick 0 on
     pub onto_const : (n : ℕ) → onto_at of_leaf t n ≡ onto_at of_leaf t 0
     onto_const zero = refl
     onto_const (suc n) = onto_step n ∙ onto_const n
 
 -- each task stays on one processor, where every pack of level 0 is a root
 module _ (tasks : List declared.Task) (t : Tree) (h : IsTree t) (leaves : HaveBoundaries (set_boundary tasks) t) (holds : HoldsTasks tasks t) (roots : (p : ℕ) → IsPack t p → level t p ≡ 0 → dual t p ≡ None) where
+  -- the boundaries of the leaves
   abbrev pub bounds : Leaf → ℕ → Bool
   bounds = set_boundary tasks
 
@@ -112,6 +119,7 @@ module _ (tasks : List declared.Task) (t : Tree) (h : IsTree t) (leaves : HaveBo
   IsAtHome r = (j : ℕ) → is_of_task j r.leaf ≡ true →
       (x : ℕ) × IsLeaf t x × (leaf t x ≡ Task (task_id j)) × (r.processor < length (onto_at bounds t 0)) × (is_node t (home t x) (get_or (onto_at bounds t 0) r.processor None) ≡ true)
 
+  -- each row is at home
   pub row_at_home : (s e q : ℕ) → q < length (onto_at bounds t s) → IsAtHome (row_of tasks t s e q (get_or (onto_at bounds t s) q None))
   row_at_home s e q l j task = go (get_or (onto_at bounds t s) q None) refl (shown_task tasks t.scale s j (leaf_on bounds t s (get_or (onto_at bounds t s) q None)) task).0
     where
@@ -135,9 +143,10 @@ module _ (tasks : List declared.Task) (t : Tree) (h : IsTree t) (leaves : HaveBo
             (m.0.0, leaf_of_task j (kind_at t x) of_x),
             of_x,
             omega (arith, long, l),
-            ap (λ os. is_node t (home t x) (get_or os q None)) (sym same) ∙ ap (is_node t (home t x)) o_is ∙ eq-eqb p (home t x) (sym m.1),
+            ap (λ onto. is_node t (home t x) (get_or onto q None)) (sym same) ∙ ap (is_node t (home t x)) o_is ∙ eq-eqb p (home t x) (sym m.1),
           ))
 
+  -- and so no task migrates
   pub tasks_stay : (stop : ℕ) → NoneMigrates (schedule tasks t stop)
   tasks_stay stop =
       AllApart-from IsAtHome _ (schedule tasks t stop)
@@ -149,5 +158,6 @@ module _ (tasks : List declared.Task) (t : Tree) (h : IsTree t) (leaves : HaveBo
       (ap (λ z. is_node t (home t z) (get_or (onto_at bounds t 0) q.processor None)) (sym same) ∙ on_y)))
       (schedule_all tasks t stop IsAtHome (λ s e p up top b. row_at_home s e p b))
 
+-- the same of a set
 pub set_stays : (s : SetContents) → IsLawful s → (t : Tree) → IsTreeOf s t → ((p : ℕ) → IsPack t p → level t p ≡ 0 → dual t p ≡ None) → (stop : ℕ) → NoneMigrates (schedule s.tasks t stop)
 set_stays s lawful t is roots stop = tasks_stay s.tasks t is.tree (set_leaves s.tasks lawful.each t is.tasks) is.tasks roots stop

@@ -19,27 +19,32 @@ module _ (of_leaf : Leaf → ℕ → Bool) (t : Tree) (h : IsTree t) (leaves : H
   abbrev pub candidates : ℕ → ℕ → List Candidate
   candidates n p = listed (ends_at of_leaf t n) (left_at of_leaf t n) (members t p)
 
+  -- a member runs where the pack runs and its place is picked
   pub run_at : (p k n : ℕ) → IsPack t p → k < length (members t p) → runs of_leaf t (member t p k) n ≡ (runs of_leaf t p n && is_at (earliest (candidates n p)) k)
   run_at p k n i l =
       let m = h.members_are p k i l in
       run_member of_leaf t h (member t p k) n m.0
       ∙ ap₂ (λ q j. runs of_leaf t q n && is_at (earliest (candidates n q)) j) m.1 m.2
 
+  -- what is left of its due is what the server has left
   pub left_at_is : (p k n : ℕ) → IsPack t p → k < length (members t p) → (candidate_at (candidates n p) k).remain ≡ left (server of_leaf t p) k n
   left_at_is p k n i l =
       ap (λ (c : Candidate). c.remain) (listed_at (ends_at of_leaf t n) (left_at of_leaf t n) (members t p) k l)
       ∙ left_is of_leaf t (member t p k) n (on_time of_leaf t h leaves (member t p k) n (h.members_are p k i l).0)
 
+  -- its window ends as the server's
   pub ends_at_is : (p k n : ℕ) → k < length (members t p) → (candidate_at (candidates n p) k).end ≡ (server of_leaf t p).ends k (n / t.scale)
   ends_at_is p k n l =
       ap (λ (c : Candidate). c.end) (listed_at (ends_at of_leaf t n) (left_at of_leaf t n) (members t p) k l)
       ∙ ends_is of_leaf t (member t p k) n
 
+  -- who runs was picked
   pub picked_by : (p k n : ℕ) → IsPack t p → k < length (members t p) → runs of_leaf t (member t p k) n ≡ true → (runs of_leaf t p n ≡ true) × (earliest (candidates n p) ≡ Some k)
   picked_by p k n i l e =
       let both = and_parts (runs of_leaf t p n) (is_at (earliest (candidates n p)) k) (sym (run_at p k n i l) ∙ e) in
       (both.0, is_at_some (earliest (candidates n p)) k both.1)
 
+  -- the pack serves
   pub server_serves : (p : ℕ) → IsPack t p → Serves (server of_leaf t p)
   server_serves p i = record {
     scaled = h.scaled;

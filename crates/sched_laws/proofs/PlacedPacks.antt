@@ -34,9 +34,11 @@ module _ (of_leaf : Leaf → ℕ → Bool) (t : Tree) (h : IsTree t) (leaves : H
       let l = length-places of_leaf t n in
       placed_all (packs_running of_leaf t n) (places_below of_leaf t n) (once_below of_leaf t n) (omega (arith, c, l)) i
 
+  -- the processors with pack i, counted
   pub placed_once : (n i : ℕ) → i < length (packs_at t 0) → count_by (λ o. is_at o i) (onto_at of_leaf t n) ≡ bit (runs of_leaf t (get_or (packs_at t 0) i 0) n)
   placed_once n i l = held_count (onto_at of_leaf t n) i ∙ held_onto n i ∙ ap bit (running_is of_leaf t n i l)
 
+  -- what is on a processor is a pack of level 0 that runs
   pub onto_within : (n i : ℕ) → 0 < held (onto_at of_leaf t n) i → (i < length (packs_at t 0)) × (runs of_leaf t (get_or (packs_at t 0) i 0) n ≡ true)
   onto_within n i some =
       let e = held_onto n i in

@@ -18,25 +18,29 @@ module _ (of_leaf : Leaf → ℕ → Bool) (t : Tree) (h : IsTree t)
     (idle_late : (i u : ℕ) → 0 < u → u < 2 ^ 33 → of_leaf (Idle i) u ≡ false)
     (real : (x : ℕ) → IsLeaf t x → is_real (leaf t x) ≡ true)
     (n : ℕ) (early : suc n < 2 ^ 33 * t.scale) (calm : is_event of_leaf t (suc n) ≡ false) where
+  -- it is none of the three
   pub calm_parts : ((eqb (suc n % t.scale) 0 && list_any (λ x. task_begins of_leaf t (suc n) x) (range_with_len 0 (length t.nodes))) ≡ false)
       × (list_any (λ x. runs_dry of_leaf t n x) (range_with_len 0 (length t.nodes)) ≡ false)
   unfolding is_event
   calm_parts = or_parts _ _ calm
 
+  -- where no node of a tree passes, this one does not
   pub none_of : (p : ℕ → Bool) → list_any p (range_with_len 0 (length t.nodes)) ≡ false → (x : ℕ) → x < length t.nodes → p x ≡ false
   none_of p none x l = false_from_ne_true (p x) (λ e.
       both_ways (list_any p (range_with_len 0 (length t.nodes))) none
       (list_any_at p (range_with_len 0 (length t.nodes)) x 0 (let c = length-range_with_len 0 (length t.nodes) in omega (arith, c))
       (ap p (get_or-range_with_len 0 (length t.nodes) x 0 l ∙ zero-add x) ∙ e)))
 
-  pub calm_wet : (x : ℕ) → IsMember t x → runs of_leaf t x n ≡ true → 0 < left_at of_leaf t (suc n) x
-  calm_wet x i run =
+  -- who ran has due left
+  pub calm_unspent : (x : ℕ) → IsMember t x → runs of_leaf t x n ≡ true → 0 < left_at of_leaf t (suc n) x
+  calm_unspent x i run =
       elim (cases_eq (left_at of_leaf t (suc n) x) 0) [
         | inl z ↦ absurd (both_ways (runs_dry of_leaf t n x) (none_of (λ y. runs_dry of_leaf t n y) calm_parts.1 x i.0)
             (and_from (not (is_pack (kind_at t x)) && runs of_leaf t x n) (eqb (left_at of_leaf t (suc n) x) 0) (and_from (not (is_pack (kind_at t x))) (runs of_leaf t x n) (ap not i.1) run) (eq-eqb (left_at of_leaf t (suc n) x) 0 z)))
         | inr ne ↦ omega arith
       ]
 
+  -- no leaf has a boundary
   pub calm_quiet : (x : ℕ) → IsLeaf t x → suc n % t.scale ≡ 0 → of_leaf (leaf t x) (suc n / t.scale) ≡ false
   calm_quiet x i z = go (leaf t x) refl
     where

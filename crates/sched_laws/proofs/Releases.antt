@@ -41,10 +41,12 @@ shown_kept tasks scale start j l e low =
     ∙ ap (λ (b : Bool). is_of_task j (elim b as (λ y. Leaf) [ true ↦ Wait (task_id j) | false ↦ Task (task_id j) ])) (le-ltb start ((task_at tasks j).offset * scale) low)
     ∙ eq-eqb j j refl
 
+-- so from the offset on rows are of the task where their leaf is
 pub shown_same : (tasks : List declared.Task) (scale start j : ℕ) (l : Leaf) → (task_at tasks j).offset * scale ≤ start → is_of_task j (shown tasks scale start l) ≡ is_of_task j l
 shown_same tasks scale start j l low =
     same_Bool (is_of_task j (shown tasks scale start l)) (is_of_task j l) (λ e. (shown_task tasks scale start j l e).0) (λ e. shown_kept tasks scale start j l e low)
 
+-- only an empty leaf is shown as empty
 pub shown_empty : (tasks : List declared.Task) (scale start : ℕ) (l : Leaf) → shown tasks scale start l ≡ Empty → l ≡ Empty
 shown_empty tasks scale start (Task id) e = elim (cases_Bool (ltb start ((task_at tasks id.0).offset * scale))) [
   | inl on ↦ (let f : Wait id ≡ Empty = sym (ap (λ (b : Bool). elim b as (λ y. Leaf) [ true ↦ Wait id | false ↦ Task id ]) on) ∙ e in cc)

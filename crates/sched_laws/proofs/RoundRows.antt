@@ -17,21 +17,25 @@ module _ (tasks : List declared.Task) (t : Tree) where
   abbrev pub row_of : ℕ → ℕ → ℕ → Option ℕ → Row
   row_of s e q o = record { processor = q; start = s; end = e; leaf = shown tasks t.scale s (leaf_on (set_boundary tasks) t s o) }
 
-  pub rows_from_all : (P : Row → Type 0) (s e p : ℕ) (os : List (Option ℕ)) →
-      ((q k : ℕ) → q ≡ p + k → k < length os → P (row_of s e q (get_or os k None))) → AllByRecursion P (rows_from tasks t s e p os)
+  -- what holds of the row of each processor holds of all
+  pub rows_from_all : (P : Row → Type 0) (s e p : ℕ) (onto : List (Option ℕ)) →
+      ((q k : ℕ) → q ≡ p + k → k < length onto → P (row_of s e q (get_or onto k None))) → AllByRecursion P (rows_from tasks t s e p onto)
   rows_from_all P s e p [] f = tt
-  rows_from_all P s e p (o ∷ os) f = (f p 0 (omega arith) (omega arith), rows_from_all P s e (suc p) os (λ q k i l. f q (suc k) (omega arith) (omega arith)))
+  rows_from_all P s e p (o ∷ onto) f = (f p 0 (omega arith) (omega arith), rows_from_all P s e (suc p) onto (λ q k i l. f q (suc k) (omega arith) (omega arith)))
 
-  pub rows_from_apart : (R : Row → Row → Type 0) (s e p : ℕ) (os : List (Option ℕ)) →
-      ((p' q : ℕ) (o o' : Option ℕ) → p' < q → R (row_of s e p' o) (row_of s e q o')) → AllApart R (rows_from tasks t s e p os)
+  -- what holds of the rows of each two processors holds of each two
+  pub rows_from_apart : (R : Row → Row → Type 0) (s e p : ℕ) (onto : List (Option ℕ)) →
+      ((p' q : ℕ) (o o' : Option ℕ) → p' < q → R (row_of s e p' o) (row_of s e q o')) → AllApart R (rows_from tasks t s e p onto)
   rows_from_apart R s e p [] f = tt
-  rows_from_apart R s e p (o ∷ os) f =
-      (rows_from_all (R (row_of s e p o)) s e (suc p) os (λ q k at l. f p q o (get_or os k None) (omega arith)), rows_from_apart R s e (suc p) os f)
+  rows_from_apart R s e p (o ∷ onto) f =
+      (rows_from_all (R (row_of s e p o)) s e (suc p) onto (λ q k at l. f p q o (get_or onto k None) (omega arith)), rows_from_apart R s e (suc p) onto f)
 
+  -- the rows of a round, from the first processor on
   pub round_is : (s e : ℕ) → round_rows tasks t s e ≡ rows_from tasks t s e 0 (onto_at (set_boundary tasks) t s)
   unfolding round_rows
   round_is s e = refl
 
+  -- what holds of the row of each processor holds of the round
   pub round_all : (P : Row → Type 0) (s e : ℕ) →
       ((p : ℕ) → p < length (onto_at (set_boundary tasks) t s) → P (row_of s e p (get_or (onto_at (set_boundary tasks) t s) p None))) → AllByRecursion P (round_rows tasks t s e)
   unfolding round_rows

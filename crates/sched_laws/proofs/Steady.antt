@@ -17,13 +17,16 @@ use Rattle.run_tree.proofs.RunLemmas.{ends_at, ends_is, left_at, left_is, now_pa
 
 module _ (of_leaf : Leaf → ℕ → Bool) (t : Tree) (h : IsTree t) (leaves : HaveBoundaries of_leaf t) (n : ℕ)
     (quiet : (x : ℕ) → IsLeaf t x → suc n % t.scale ≡ 0 → of_leaf (leaf t x) (suc n / t.scale) ≡ false)
-    (wet : (x : ℕ) → IsMember t x → runs of_leaf t x n ≡ true → 0 < left_at of_leaf t (suc n) x) where
+    (unspent : (x : ℕ) → IsMember t x → runs of_leaf t x n ≡ true → 0 < left_at of_leaf t (suc n) x) where
+  -- the begin of the window of node x at tick m
   abbrev pub begin_of : ℕ → ℕ → ℕ
   begin_of x m = window_begin (is_boundary of_leaf t x) (m / t.scale)
 
+  -- and its end
   abbrev pub end_at : ℕ → ℕ → ℕ
   end_at x m = window_end (is_boundary of_leaf t x) (m / t.scale)
 
+  -- windows stay
   pub still : (x : ℕ) → IsMember t x → (begin_of x (suc n) ≡ begin_of x n) × (end_at x (suc n) ≡ end_at x n)
   still x i =
       elim (next_unit n t.scale h.scaled) [
@@ -37,6 +40,7 @@ module _ (of_leaf : Leaf → ℕ → Bool) (t : Tree) (h : IsTree t) (leaves : H
             ))
       ]
 
+  -- what is left falls by the tick that was run
   pub left_next : (x : ℕ) → IsMember t x → left_at of_leaf t (suc n) x ≡ left_at of_leaf t n x - bit (runs of_leaf t x n)
   left_next x i =
       let s = still x i in
@@ -46,12 +50,13 @@ module _ (of_leaf : Leaf → ℕ → Bool) (t : Tree) (h : IsTree t) (leaves : H
       let same = ap₂ (λ b e. rate t x * (e - b) - (ticks (runs of_leaf t x) (suc n) - ticks (runs of_leaf t x) (b * t.scale))) s.0 s.1 in
       omega (arith, before, after, order, same)
 
+  -- so who had due left has some still
   pub some_still : (x : ℕ) → IsMember t x → ltb 0 (left_at of_leaf t (suc n) x) ≡ ltb 0 (left_at of_leaf t n x)
   some_still x i =
       let e = left_next x i in
       elim (cases_Bool (runs of_leaf t x n)) [
         | inl run ↦
-            (let w = wet x i run in
+            (let w = unspent x i run in
             lt-ltb 0 (left_at of_leaf t (suc n) x) w ∙ sym (lt-ltb 0 (left_at of_leaf t n x) (omega (arith, e, w))))
         | inr stay ↦
             (let z = bit_off (runs of_leaf t x n) stay in
@@ -59,6 +64,7 @@ module _ (of_leaf : Leaf → ℕ → Bool) (t : Tree) (h : IsTree t) (leaves : H
             ap (ltb 0) same)
       ]
 
+  -- and the same are picked
   pub picked_still : (x : ℕ) → IsMember t x → is_picked t (left_at of_leaf t (suc n)) (ends_at of_leaf t (suc n)) x ≡ is_picked t (left_at of_leaf t n) (ends_at of_leaf t n) x
   picked_still x i =
       let p = (h.homes_are x i).0 in
@@ -68,12 +74,14 @@ module _ (of_leaf : Leaf → ℕ → Bool) (t : Tree) (h : IsTree t) (leaves : H
       ends_is of_leaf t (member t (home t x) k) (suc n) ∙ (still (member t (home t x) k) m).1 ∙ sym (ends_is of_leaf t (member t (home t x) k) n)))
       (λ k l. some_still (member t (home t x) k) (h.members_are (home t x) k p l).0))
 
+  -- the same packs run
   pub pack_still : (p : ℕ) → IsPack t p → runs of_leaf t p (suc n) ≡ runs of_leaf t p n
   pack_still p i =
       runs_is of_leaf t p (suc n) i.0 ∙ now_pack t h (left_at of_leaf t (suc n)) (ends_at of_leaf t (suc n)) p i
       ∙ same_pack_runs t h (is_picked t (left_at of_leaf t (suc n)) (ends_at of_leaf t (suc n))) (is_picked t (left_at of_leaf t n) (ends_at of_leaf t n)) picked_still (t.levels - 1 - level t p) p i
       ∙ sym (now_pack t h (left_at of_leaf t n) (ends_at of_leaf t n) p i) ∙ sym (runs_is of_leaf t p n i.0)
 
+  -- the same members run
   pub member_still : (x : ℕ) → IsMember t x → runs of_leaf t x (suc n) ≡ runs of_leaf t x n
   member_still x i =
       run_member of_leaf t h x (suc n) i

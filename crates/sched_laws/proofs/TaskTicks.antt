@@ -20,16 +20,17 @@ use Rattle.run_tree.proofs.KindLemmas.{not_pack_leaf}
 use Rattle.run_tree.proofs.SetBoundaryLemmas.{idle_late}
 use Rattle.sched_laws.proofs.Steady.{member_still}
 use Rattle.sched_laws.proofs.TaskRows.{leaf_in, task_on}
-use Rattle.sched_laws.proofs.QuietTicks.{calm_quiet, calm_wet}
+use Rattle.sched_laws.proofs.QuietTicks.{calm_quiet, calm_unspent}
 use Rattle.sched_laws.proofs.RoundRows.{round_is}
 use Rattle.sched_laws.proofs.Releases.{release_event, shown_same}
 use Rattle.sched_base.specs.declared.sets.Task as declared
 
-pub rows_ticks : (tasks : List declared.Task) (t : Tree) (s e j a b p : ℕ) (os : List (Option ℕ)) →
-    task_ticks (rows_from tasks t s e p os) j a b ≡ sum_on (λ i. bit (is_of_task j (shown tasks t.scale s (leaf_in (set_boundary tasks) t s (get_or (packs_at t 0) i 0))))) os * overlap s e a b
+-- the rows of a round from processor p on give task j its ticks for each processor that shows it
+pub rows_ticks : (tasks : List declared.Task) (t : Tree) (s e j a b p : ℕ) (onto : List (Option ℕ)) →
+    task_ticks (rows_from tasks t s e p onto) j a b ≡ sum_on (λ i. bit (is_of_task j (shown tasks t.scale s (leaf_in (set_boundary tasks) t s (get_or (packs_at t 0) i 0))))) onto * overlap s e a b
 rows_ticks tasks t s e j a b p [] = omega arith
-rows_ticks tasks t s e j a b p (None ∷ os) = let ih = rows_ticks tasks t s e j a b (suc p) os in omega (arith, ih)
-rows_ticks tasks t s e j a b p (Some i ∷ os) = let ih = rows_ticks tasks t s e j a b (suc p) os in omega (arith, ih)
+rows_ticks tasks t s e j a b p (None ∷ onto) = let ih = rows_ticks tasks t s e j a b (suc p) onto in omega (arith, ih)
+rows_ticks tasks t s e j a b p (Some i ∷ onto) = let ih = rows_ticks tasks t s e j a b (suc p) onto in omega (arith, ih)
 
 module _ (tasks : List declared.Task) (t : Tree) (h : IsTree t) (leaves : HaveBoundaries (set_boundary tasks) t) (holds : HoldsTasks tasks t)
     (x j : ℕ) (is_x : IsLeaf t x) (of_x : leaf t x ≡ Task (task_id j)) where
@@ -94,7 +95,7 @@ module _ (tasks : List declared.Task) (t : Tree) (h : IsTree t) (leaves : HaveBo
               let top' : suc p < 2 ^ 33 * t.scale = omega arith in
               member_still (set_boundary tasks) t h leaves p
               (calm_quiet (set_boundary tasks) t h (idle_late tasks) holds.real p top' off)
-              (calm_wet (set_boundary tasks) t h (idle_late tasks) holds.real p top' off)
+              (calm_unspent (set_boundary tasks) t h (idle_late tasks) holds.real p top' off)
               x (is_x.0, not_pack_leaf (kind_at t x) is_x.1)
               ∙ before')
 

@@ -51,33 +51,34 @@ module _ (tasks : List declared.Task) (t : Tree) (h : IsTree t) (leaves : HaveBo
   pub counts : ℕ → ℕ → ℕ → ℕ
   counts s j i = bit (is_of_task j (leaf_in (set_boundary tasks) t s (get_or (packs_at t 0) i 0)))
 
-  pub none_counts : (s e j p : ℕ) (os : List (Option ℕ)) → sum_on (counts s j) os ≡ 0 → AllByRecursion (λ q. is_of_task j q.leaf ≡ true → ⊥) (rows_from tasks t s e p os)
+  -- where none counts, no row is of the task
+  pub none_counts : (s e j p : ℕ) (onto : List (Option ℕ)) → sum_on (counts s j) onto ≡ 0 → AllByRecursion (λ q. is_of_task j q.leaf ≡ true → ⊥) (rows_from tasks t s e p onto)
   unfolding counts
   none_counts s e j p [] z = tt
-  none_counts s e j p (None ∷ os) z = ((λ b. both_ways false refl b), none_counts s e j (suc p) os z)
-  none_counts s e j p (Some i ∷ os) z = (
+  none_counts s e j p (None ∷ onto) z = ((λ b. both_ways false refl b), none_counts s e j (suc p) onto z)
+  none_counts s e j p (Some i ∷ onto) z = (
     (λ b. (
         let l = leaf_in (set_boundary tasks) t s (get_or (packs_at t 0) i 0) in
         let o = bit_at (is_of_task j l) (shown_task tasks t.scale s j l b).0 in
         omega (arith, z, o))),
-    none_counts s e j (suc p) os (omega (arith, z)),
+    none_counts s e j (suc p) onto (omega (arith, z)),
   )
 
   -- a task that runs on at most one processor stands in no two rows of a round
-  pub tasks_apart : (s e p : ℕ) (os : List (Option ℕ)) → ((j : ℕ) → sum_on (counts s j) os ≤ 1) →
-      AllApart (λ r q. (j : ℕ) → is_of_task j r.leaf ≡ true → is_of_task j q.leaf ≡ true → ⊥) (rows_from tasks t s e p os)
+  pub tasks_apart : (s e p : ℕ) (onto : List (Option ℕ)) → ((j : ℕ) → sum_on (counts s j) onto ≤ 1) →
+      AllApart (λ r q. (j : ℕ) → is_of_task j r.leaf ≡ true → is_of_task j q.leaf ≡ true → ⊥) (rows_from tasks t s e p onto)
   unfolding counts
   tasks_apart s e p [] f = tt
-  tasks_apart s e p (None ∷ os) f = (rows_from_all tasks t _ s e (suc p) os (λ q k a b j x y. both_ways false refl x), tasks_apart s e (suc p) os f)
-  tasks_apart s e p (Some i ∷ os) f = (
-    AllByRecursion-each (λ j q. is_of_task j (shown tasks t.scale s (leaf_in (set_boundary tasks) t s (get_or (packs_at t 0) i 0))) ≡ true → is_of_task j q.leaf ≡ true → ⊥) (rows_from tasks t s e (suc p) os)
+  tasks_apart s e p (None ∷ onto) f = (rows_from_all tasks t _ s e (suc p) onto (λ q k a b j x y. both_ways false refl x), tasks_apart s e (suc p) onto f)
+  tasks_apart s e p (Some i ∷ onto) f = (
+    AllByRecursion-each (λ j q. is_of_task j (shown tasks t.scale s (leaf_in (set_boundary tasks) t s (get_or (packs_at t 0) i 0))) ≡ true → is_of_task j q.leaf ≡ true → ⊥) (rows_from tasks t s e (suc p) onto)
         (λ j. elim (cases_Bool (is_of_task j (leaf_in (set_boundary tasks) t s (get_or (packs_at t 0) i 0)))) [
-          | inl on ↦ AllByRecursion-by (λ q. is_of_task j q.leaf ≡ true → ⊥) _ (rows_from tasks t s e (suc p) os) (λ q no_q x y. no_q y)
-              (none_counts s e j (suc p) os (let l = f j in let o = bit_at (is_of_task j (leaf_in (set_boundary tasks) t s (get_or (packs_at t 0) i 0))) on in omega (arith, l, o)))
-          | inr off ↦ rows_from_all tasks t _ s e (suc p) os (λ q k a b x y.
+          | inl on ↦ AllByRecursion-by (λ q. is_of_task j q.leaf ≡ true → ⊥) _ (rows_from tasks t s e (suc p) onto) (λ q no_q x y. no_q y)
+              (none_counts s e j (suc p) onto (let l = f j in let o = bit_at (is_of_task j (leaf_in (set_boundary tasks) t s (get_or (packs_at t 0) i 0))) on in omega (arith, l, o)))
+          | inr off ↦ rows_from_all tasks t _ s e (suc p) onto (λ q k a b x y.
               both_ways (is_of_task j (leaf_in (set_boundary tasks) t s (get_or (packs_at t 0) i 0))) off (shown_task tasks t.scale s j (leaf_in (set_boundary tasks) t s (get_or (packs_at t 0) i 0)) x).0)
         ]),
-    tasks_apart s e (suc p) os (λ j. (let l = f j in omega (arith, l))),
+    tasks_apart s e (suc p) onto (λ j. (let l = f j in omega (arith, l))),
   )
 
   -- a task counts at most once in a round
@@ -130,6 +131,7 @@ module _ (tasks : List declared.Task) (t : Tree) (h : IsTree t) (leaves : HaveBo
   round_apart s e = rows_from_apart tasks t _ s e 0 (onto_at (set_boundary tasks) t s) (λ p q o o' less same. absurd (omega (arith, same, less)))
 
   module _ (stop : ℕ) where
+    -- each row is on a processor, and ends in time
     pub all_bounded : AllByRecursion (λ r. (r.processor < t.processors) × (r.end ≤ stop)) (schedule tasks t stop)
     all_bounded = schedule_all tasks t stop _ (λ s e p up top b. (
       let l = length-places (set_boundary tasks) t (suc s) in
@@ -137,13 +139,16 @@ module _ (tasks : List declared.Task) (t : Tree) (h : IsTree t) (leaves : HaveBo
       top,
     ))
 
+    -- no processor runs two rows at once
     pub all_processors_apart : AllApart (λ r q. r.processor ≡ q.processor → DontOverlap r q) (schedule tasks t stop)
     all_processors_apart = schedule_apart tasks t stop _ (λ r q b same. inl b) round_apart
 
+    -- no task runs on two processors at once
     pub all_tasks_apart : AllApart (λ r q. (j : ℕ) → is_of_task j r.leaf ≡ true → is_of_task j q.leaf ≡ true → DontOverlap r q) (schedule tasks t stop)
     all_tasks_apart = schedule_apart tasks t stop _ (λ r q b j x y. inl b)
         (λ s e. AllApart-by _ _ (round_rows tasks t s e) (λ r q none j x y. absurd (none j x y)) (round_once s e))
 
+    -- no task runs before its offset
     pub all_released : AllByRecursion (λ r. (j : ℕ) → is_of_task j r.leaf ≡ true → (task_at tasks j).offset * t.scale ≤ r.start) (schedule tasks t stop)
     all_released = schedule_all tasks t stop _ (λ s e p up top b j task.
         (shown_task tasks t.scale s j (leaf_on (set_boundary tasks) t s (get_or (onto_at (set_boundary tasks) t s) p None)) task).1)

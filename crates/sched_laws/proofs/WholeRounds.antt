@@ -23,22 +23,25 @@ AllApart-get R (x ∷ rows) (suc p) zero r s a l e f = absurd (omega arith)
 AllApart-get R (x ∷ rows) (suc p) (suc q) r s a l e f = AllApart-get R rows p q r s a.1 (omega arith) e f
 
 module _ (tasks : List declared.Task) (t : Tree) where
-  pub length-rows : (s e p : ℕ) (os : List (Option ℕ)) → length (rows_from tasks t s e p os) ≡ length os
+  -- one row for each processor
+  pub length-rows : (s e p : ℕ) (onto : List (Option ℕ)) → length (rows_from tasks t s e p onto) ≡ length onto
   length-rows s e p [] = refl
-  length-rows s e p (o ∷ os) = ap suc (length-rows s e (suc p) os)
+  length-rows s e p (o ∷ onto) = ap suc (length-rows s e (suc p) onto)
 
+  -- as many as the tree has
   pub length-round : (s e : ℕ) → length (round_rows tasks t s e) ≡ t.processors
   length-round s e =
       ap length (round_is tasks t s e) ∙ length-rows s e 0 (onto_at (set_boundary tasks) t s)
       ∙ ap length (onto_is (set_boundary tasks) t s) ∙ length-places (set_boundary tasks) t (suc s)
 
-  pub rows_get : (s e p k : ℕ) (os : List (Option ℕ)) (r : Row) → slice_get (rows_from tasks t s e p os) k ≡ Some r → r ≡ row_of tasks t s e (p + k) (get_or os k None)
+  -- the row at place k
+  pub rows_get : (s e p k : ℕ) (onto : List (Option ℕ)) (r : Row) → slice_get (rows_from tasks t s e p onto) k ≡ Some r → r ≡ row_of tasks t s e (p + k) (get_or onto k None)
   rows_get s e p k [] r at = cc
-  rows_get s e p zero (o ∷ os) r at =
+  rows_get s e p zero (o ∷ onto) r at =
       let same : row_of tasks t s e p o ≡ r = cc in
       sym same ∙ ap (λ q. row_of tasks t s e q o) (sym (add-zero p))
-  rows_get s e p (suc k) (o ∷ os) r at =
-      rows_get s e (suc p) k os r at ∙ ap (λ q. row_of tasks t s e q (get_or os k None)) (omega arith)
+  rows_get s e p (suc k) (o ∷ onto) r at =
+      rows_get s e (suc p) k onto r at ∙ ap (λ q. row_of tasks t s e q (get_or onto k None)) (omega arith)
 
   -- the row at place p of a round is that of processor p
   pub round_get : (s e p : ℕ) (r : Row) → slice_get (round_rows tasks t s e) p ≡ Some r → r ≡ row_of tasks t s e p (get_or (onto_at (set_boundary tasks) t s) p None)
@@ -50,5 +53,6 @@ module _ (tasks : List declared.Task) (t : Tree) where
   pub all_forward : (stop : ℕ) → AllByRecursion (λ r. r.start < r.end) (schedule tasks t stop)
   all_forward stop = schedule_all tasks t stop (λ r. r.start < r.end) (λ s e p up top b. up)
 
+-- the same of a set
 pub set_forward : (s : SetContents) (t : Tree) (stop : ℕ) → AllByRecursion (λ r. r.start < r.end) (schedule s.tasks t stop)
 set_forward s t stop = all_forward s.tasks t stop
