@@ -1,5 +1,5 @@
 -- Lists of numbers that pass a test.
-use Rattle.std.proofs.Common.{Bool, List, None, Some, [], add-zero, ap, ap₂, arith, eq-eqb, eqb, false, filter, find, get_or, inl, inr, length, map, refl, subst, suc, sym, true, zero, ℕ, ◌*◌, ◌+◌, ◌<◌, ◌∙◌, ◌∷◌, ◌≡◌, ◌≤◌}
+use Rattle.std.proofs.Common.{Bool, List, None, Some, [], add-zero, ap, ap₂, arith, eq-eqb, eqb, false, filter, find, get_or, inl, inr, le_refl, length, map, refl, subst, suc, sym, true, zero, ℕ, ◌*◌, ◌+◌, ◌<◌, ◌∙◌, ◌∷◌, ◌≡◌, ◌≤◌}
 use Rattle.std.proofs.lemmas.Bool.{cases_Bool, cases_eq, cond-false, cond-true, ne_eqb}
 use Rattle.std.specs.List.{range_with_len}
 use Rattle.sched_base.specs.Counting.{bit, sum_to}
@@ -126,6 +126,34 @@ first_from p (suc n) a i l =
           let P : List ℕ → Type 0 = λ xs. i < length xs → (get_or xs i 0 < a + suc n) × (p (get_or xs i 0) ≡ true) in
           subst P (sym e) (λ m. let r = first_from p n (a + 1) i m in (let b = r.0 in omega (arith, b), r.1)) l)
     ]
+
+-- what passes is of the range
+pub passing_from : (p : ℕ → Bool) (n a i : ℕ) → i < length (filter p (range_with_len a n)) → a ≤ get_or (filter p (range_with_len a n)) i 0
+passing_from p zero a i l = absurd (omega arith)
+passing_from p (suc n) a i l =
+    let P : List ℕ → Type 0 = λ xs. i < length xs → a ≤ get_or xs i 0 in
+    let rest : (k : ℕ) → k < length (filter p (range_with_len (a + 1) n)) → a ≤ get_or (filter p (range_with_len (a + 1) n)) k 0 =
+    (λ k m. let ih = passing_from p n (a + 1) k m in omega (arith, ih)) in
+    elim (cases_Bool (p a)) [
+      | inl on ↦ subst P (sym (passing_on p a n on)) (at_front (λ x. a ≤ x) a (filter p (range_with_len (a + 1) n)) (le_refl a) rest i) l
+      | inr off ↦ subst P (sym (passing_off p a n off)) (rest i) l
+    ]
+
+-- and in order
+pub passing_increases : (p : ℕ → Bool) (n a k : ℕ) → suc k < length (filter p (range_with_len a n)) → get_or (filter p (range_with_len a n)) k 0 < get_or (filter p (range_with_len a n)) (suc k) 0
+passing_increases p zero a k l = absurd (omega arith)
+passing_increases p (suc n) a k l =
+    let P : List ℕ → Type 0 = λ xs. suc k < length xs → get_or xs k 0 < get_or xs (suc k) 0 in
+    elim (cases_Bool (p a)) [
+      | inl on ↦ subst P (sym (passing_on p a n on)) (after_first (filter p (range_with_len (a + 1) n)) k
+          (λ m. (let low = passing_from p n (a + 1) 0 m in omega (arith, low))) (passing_increases p n (a + 1))) l
+      | inr off ↦ subst P (sym (passing_off p a n off)) (passing_increases p n (a + 1) k) l
+    ]
+  where
+    after_first : (xs : List ℕ) (k : ℕ) → (0 < length xs → a < get_or xs 0 0) → ((j : ℕ) → suc j < length xs → get_or xs j 0 < get_or xs (suc j) 0) →
+        suc k < length (a ∷ xs) → get_or (a ∷ xs) k 0 < get_or (a ∷ xs) (suc k) 0
+    after_first xs zero first later m = first (omega arith)
+    after_first xs (suc j) first later m = later j (omega arith)
 
 -- the sum over a list
 abbrev pub sum_list : (ℕ → ℕ) → List ℕ → ℕ

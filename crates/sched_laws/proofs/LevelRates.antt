@@ -19,6 +19,12 @@ use Rattle.sched_laws.specs.Rates.{RunsRate}
 use Rattle.sched_laws.proofs.Edf.{due_served, served_exactly, some_runs, supplied_from_windows}
 use Rattle.sched_laws.proofs.Packs.{server_serves}
 
+-- a dual has the boundaries of its primal
+pub dual_bounds : (of_leaf : Leaf → ℕ → Bool) (t : Tree) (h : IsTree t) (p d : ℕ) → IsPack t p → dual t p ≡ Some d → (u : ℕ) → is_boundary of_leaf t d u ≡ is_boundary of_leaf t p u
+dual_bounds of_leaf t h p d i e u =
+    let x = h.has_dual p d i e in
+    bound_dual of_leaf t h d x.0 u ∙ ap (λ q. is_boundary of_leaf t q u) x.1
+
 module _ (of_leaf : Leaf → ℕ → Bool) (t : Tree) (h : IsTree t) (leaves : HaveBoundaries of_leaf t) where
   -- a root runs at each tick
   pub run_root : (p n : ℕ) → IsPack t p → dual t p ≡ None → runs of_leaf t p n ≡ true
@@ -30,11 +36,9 @@ module _ (of_leaf : Leaf → ℕ → Bool) (t : Tree) (h : IsTree t) (leaves : H
       runs_is of_leaf t p n i.0 ∙ now_rests t h (left_at of_leaf t n) (ends_at of_leaf t n) p d i e
       ∙ ap not (sym (runs_is of_leaf t d n (h.has_dual p d i e).0.0))
 
-  -- a dual has the boundaries of its primal
+  -- they are one test
   pub same_bounds : (p d : ℕ) → IsPack t p → dual t p ≡ Some d → is_boundary of_leaf t d ≡ is_boundary of_leaf t p
-  same_bounds p d i e =
-      let x = h.has_dual p d i e in
-      fun_ext (λ u. bound_dual of_leaf t h d x.0 u ∙ ap (λ q. is_boundary of_leaf t q u) x.1)
+  same_bounds p d i e = fun_ext (λ u. dual_bounds of_leaf t h p d i e u)
 
   -- a dual that runs its rate lets its primal run its own
   pub supplied_by_dual : (p d : ℕ) → (i : IsPack t p) → dual t p ≡ Some d →

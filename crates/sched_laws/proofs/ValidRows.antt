@@ -1,5 +1,5 @@
 -- The schedule is valid.
-use Rattle.std.proofs.Common.{Bool, List, None, Option, Some, [], ap, arith, false, get_or, inl, inr, le_refl, length, refl, suc, sym, true, ℕ, ◌&&◌, ◌*◌, ◌+◌, ◌<◌, ◌^◌, ◌∙◌, ◌∷◌, ◌≡◌, ◌≤◌}
+use Rattle.std.proofs.Common.{Bool, List, None, Option, Some, [], ap, arith, false, get_or, inl, inr, le_refl, length, mul-le-mul_right, refl, suc, sym, true, ℕ, ◌&&◌, ◌*◌, ◌+◌, ◌<◌, ◌^◌, ◌∙◌, ◌∷◌, ◌≡◌, ◌≤◌}
 use Rattle.std.proofs.lemmas.Bool.{and_from, and_parts, both_ways, cases_Bool, cases_lt}
 use Rattle.std.specs.List.{AllByRecursion}
 use Rattle.sched_base.specs.declared.rows.Leaf.{Leaf}
@@ -25,11 +25,11 @@ use Rattle.run_tree.proofs.KindLemmas.{leaf_of_task, not_pack_leaf}
 use Rattle.run_tree.proofs.WindowLemmas.{begin_is, same_IsBegin}
 use Rattle.run_tree.proofs.TreeLemmas.{first_is_pack}
 use Rattle.run_tree.proofs.BoundaryLemmas.{bound_leaf, member_has}
-use Rattle.run_tree.proofs.SetBoundaryLemmas.{offset_at, set_leaves}
+use Rattle.run_tree.proofs.SetBoundaryLemmas.{offset_at, set_leaves, two_limits}
 use Rattle.run_tree.proofs.ScheduleLemmas.{length-places, onto_is}
 use Rattle.sched_laws.specs.Servers.{due}
 use Rattle.sched_laws.proofs.LevelRates.{member_total}
-use Rattle.sched_laws.proofs.PlacedPacks.{onto_within}
+use Rattle.sched_laws.proofs.PlacedPacks.{full, onto_within}
 use Rattle.sched_laws.proofs.TaskRows.{leaf_in, leaf_in_runs}
 use Rattle.sched_laws.proofs.RoundRows.{rows_from_all, rows_from_apart, schedule_all, schedule_apart}
 use Rattle.sched_laws.proofs.Releases.{shown_task}
@@ -193,3 +193,9 @@ schedule_valid s lawful t is stop early horizon l =
           omega (arith, rows, due, all));
       released = AllByRecursion-by _ _ (schedule s.tasks t stop) (λ r late j b task. late j task) (all_released s.tasks t is.tree leaves is.tasks stop);
     }
+
+-- up to its horizon too
+pub set_valid : (s : SetContents) → IsLawful s → (t : Tree) → IsTreeOf s t → IsValid s t.scale (s.horizon * t.scale) (s.horizon * t.scale) (schedule s.tasks t (s.horizon * t.scale))
+set_valid s lawful t is =
+    let fits = lawful.horizon_fits in
+    schedule_valid s lawful t is (s.horizon * t.scale) (mul-le-mul_right t.scale (omega (arith, fits, two_limits))) (s.horizon * t.scale) (le_refl (s.horizon * t.scale))
