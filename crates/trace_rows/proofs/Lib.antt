@@ -1,0 +1,11 @@
+pub mod DueLemmas
+pub mod EntryLemmas
+pub mod HitLemmas
+pub mod IndexLemmas
+pub mod OverlapLemmas
+pub mod PartLemmas
+pub mod StartLemmas
+pub mod SupplyLemmas
+pub mod TickLemmas
+pub mod ValidLemmas
+pub mod VerdictLemmas

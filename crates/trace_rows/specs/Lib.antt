@@ -1,0 +1,5 @@
+pub mod Orders
+pub mod Overlaps
+pub mod Supply
+pub mod Faults
+pub mod Searches

@@ -1,0 +1,114 @@
+//! The verdict on the rows of a trace, with the orders that are made for it.
+ghost use Rattle.std.specs.Prelude.{◌≡◌, ◌*◌, ◌≤◌, ◌^◌, length, not, nat_lt, nat_le, IfOk, ◌↔◌};
+ghost use Rattle.sched_base.specs.Valid.{IsValid};
+ghost use Rattle.trace_rows.specs.Orders.{processor_key, task_key, IsOrder, IsProcessorOrder, IsTaskOrder};
+ghost use Rattle.trace_rows.specs.Faults.{IsTrace, IsVerdict};
+ghost use Rattle.trace_rows.specs.Searches.{kind_of, IsFirstHit};
+
+use crate::entries::Entry;
+use crate::faults::{FaultKind, Verdict};
+use crate::orders::{order_by_processor, order_by_task, places_of, starts_of};
+use crate::searches::{first_processor_hit, first_task_hit, first_unfit, first_unsupplied};
+use sched_base::{NoMemory, Row, TaskSet};
+use std::alloc::Global;
+
+/// What is made of the rows of a trace: their orders and the verdict on them.
+#[derive(Drop)]
+pub struct Judgment {
+    /// The places of all rows, in the order of processor, then start, then place.
+    pub by_processor: Vec<u32>,
+    /// The places of the rows of tasks, in the order of task, then start, then place.
+    pub by_task: Vec<u32>,
+    /// Where each task's part of `by_task` begins, and at its end where the last one ends.
+    pub task_starts: Vec<u32>,
+    pub verdict: Verdict,
+}
+
+fn row_kind(set: &TaskSet, scale: u128, row: &Row, hit: bool, task_hit: bool) -> FaultKind
+    requires scale { scale ≤ 2 ^ 94 }
+    ensures { result ≡ kind_of (not (nat_lt row.now.processor set.now.processors)) (not (nat_le row.now.end (set.now.horizon * scale))) hit task_hit }
+{
+    if row.processor >= set.processors() {
+        FaultKind::Processor
+    } else if row.end > u128::from(set.horizon()) * scale {
+        FaultKind::End
+    } else if hit {
+        FaultKind::ProcessorOverlap
+    } else if task_hit {
+        FaultKind::TaskOverlap
+    } else {
+        FaultKind::Early
+    }
+}
+
+// The verdict, once the first row is known that overlaps an earlier one of its processor. The row lines stand before the
+// totals, so the tasks are looked at only where no row is at fault.
+fn verdict_of(set: &TaskSet, scale: u128, rows: &[Row], hit: u32, by_task: &[Entry]) -> Verdict
+    requires trace { IsTrace set.now scale rows.now }
+    requires hit { IsFirstHit processor_key rows.now hit }
+    requires by_task { IsOrder task_key rows.now by_task.now }
+    ensures { IsVerdict set.now scale rows.now result }
+{
+    let count = rows.len() as u32;
+    let unfit = first_unfit(set, scale, rows);
+    let task_hit = first_task_hit(set, scale, rows, by_task);
+    let first = unfit.min(hit).min(task_hit);
+    if first < count {
+        let kind = row_kind(
+            set,
+            scale,
+            &rows[first as usize],
+            hit == first,
+            task_hit == first,
+        );
+        return Verdict::Fault {
+            line: 6 + u64::from(set.count()) + u64::from(first),
+            kind,
+        };
+    }
+    let task = first_unsupplied(set, scale, rows, by_task);
+    if task < set.count() {
+        return Verdict::Fault {
+            line: 6 + u64::from(set.count()) + u64::from(count) + u64::from(task),
+            kind: FaultKind::Supply,
+        };
+    }
+    Verdict::Valid
+}
+
+// The order by processor, and the first row that overlaps an earlier one of its processor. The entries are let go before
+// those of the tasks are made.
+fn processor_order(
+    alloc: Global,
+    set: &TaskSet,
+    scale: u128,
+    rows: &[Row],
+) -> Result<(Vec<u32>, u32), NoMemory>
+    requires trace { IsTrace set.now scale rows.now }
+    ensures order { IfOk result (λ r. IsProcessorOrder rows.now r.0.items) }
+    ensures hit { IfOk result (λ r. IsFirstHit processor_key rows.now r.1) }
+{
+    let entries = order_by_processor(alloc, rows)?;
+    let hit = first_processor_hit(set, scale, rows, &entries);
+    let places = places_of(alloc, &entries)?;
+    Ok((places, hit))
+}
+
+/// The orders of the rows of a trace and the verdict on them.
+pub fn judge(alloc: Global, set: &TaskSet, scale: u128, rows: &[Row]) -> Result<Judgment, NoMemory>
+    requires trace { IsTrace set.now scale rows.now }
+    ensures by_processor { IfOk result (λ j. IsProcessorOrder rows.now j.by_processor.items) }
+    ensures by_task { IfOk result (λ j. IsTaskOrder (length set.now.tasks) rows.now j.by_task.items j.task_starts.items) }
+    ensures verdict { IfOk result (λ j. IsVerdict set.now scale rows.now j.verdict) }
+    ensures valid { IfOk result (λ j. (j.verdict ≡ Verdict.Valid) ↔ IsValid set.now scale (set.now.horizon * scale) (set.now.horizon * scale) rows.now) }
+{
+    let (by_processor, hit) = processor_order(alloc, set, scale, rows)?;
+    let entries = order_by_task(alloc, rows)?;
+    let verdict = verdict_of(set, scale, rows, hit, &entries);
+    Ok(Judgment {
+        by_processor,
+        by_task: places_of(alloc, &entries)?,
+        task_starts: starts_of(alloc, &entries, set.count())?,
+        verdict,
+    })
+}

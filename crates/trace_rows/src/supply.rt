@@ -1,0 +1,102 @@
+//! Whether the rows of a task give each of its periods its due: two divisions a row, however many periods a row covers.
+ghost use Rattle.std.specs.Prelude.{◌≡◌, ◌+◌, ◌-◌, ◌*◌, ◌<◌, ◌≤◌, ◌^◌, ℕ, [], IsTrue, ◌↔◌};
+ghost use Rattle.trace_rows.specs.Supply.{ended_by, bound_at, gap_holds, row_holds, holds_from, Follows, IsSupplied};
+
+use crate::entries::Entry;
+
+/// A task's periods, in ticks: the first begins at `base`, each has `period` ticks and gets `due` of them, and the schedule
+/// ends at `stop`.
+#[derive(Clone, Copy, Debug)]
+pub struct Periods {
+    pub base: u128,
+    pub period: u128,
+    pub due: u128,
+    pub stop: u128,
+}
+
+// How many periods have ended by this tick.
+fn ended_by(periods: &Periods, tick: u128) -> u128
+    requires some { 0 < periods.now.period }
+    requires begun { periods.now.base ≤ tick }
+    ensures { result ≡ ended_by periods.now tick }
+{
+    (tick - periods.base) / periods.period
+}
+
+// Where a period ends between two rows, what was done by then is its due and those before. Two ends would need a due of 0.
+fn gap_holds(periods: &Periods, done: u128, from: u128, to: u128) -> bool
+    requires some { 0 < periods.now.period }
+    requires within { periods.now.due ≤ periods.now.period }
+    requires begun { periods.now.base ≤ from }
+    requires ordered { from ≤ to }
+    requires fits { to < 2 ^ 127 }
+    ensures { result ≡ gap_holds periods.now done from to }
+{
+    let before = ended_by(periods, from);
+    let after = ended_by(periods, to);
+    before == after || (before + 1 == after && done == after * periods.due)
+}
+
+// The ticks done and the dues are both lines: where they meet at the first and at the last end of a period within the row,
+// they meet at each between.
+fn row_holds(periods: &Periods, done: u128, from: u128, to: u128) -> bool
+    requires some { 0 < periods.now.period }
+    requires within { periods.now.due ≤ periods.now.period }
+    requires begun { periods.now.base ≤ from }
+    requires ordered { from ≤ to }
+    requires fits { to < 2 ^ 127 }
+    requires small { done ≤ from }
+    ensures { result ≡ row_holds periods.now done from to }
+{
+    let before = ended_by(periods, from);
+    let after = ended_by(periods, to);
+    if before == after {
+        return true;
+    }
+    let first = periods.base + (before + 1) * periods.period;
+    let last = periods.base + after * periods.period;
+    done + (first - from) == (before + 1) * periods.due
+        && done + (last - from) == after * periods.due
+}
+
+// The same of all gaps and rows from the first period on.
+fn holds_from_base(periods: &Periods, rows: &[Entry]) -> bool
+    requires some { 0 < periods.now.period }
+    requires within { periods.now.due ≤ periods.now.period }
+    requires fits { periods.now.stop < 2 ^ 127 }
+    requires period_fits { periods.now.period < 2 ^ 127 }
+    requires begun { periods.now.base ≤ periods.now.stop }
+    requires apart { Follows periods.now.stop periods.now.base rows.now }
+    ensures { result ≡ holds_from periods.now 0 periods.now.base rows.now }
+{
+    let mut done: u128 = 0;
+    let mut tick = periods.base;
+    for row in rows {
+        if !gap_holds(periods, done, tick, row.start)
+            || !row_holds(periods, done, row.start, row.end)
+        {
+            return false;
+        }
+        done += row.end - row.start;
+        tick = row.end;
+    }
+    gap_holds(periods, done, tick, periods.stop)
+        && done <= (ended_by(periods, periods.stop) + 1) * periods.due
+}
+
+/// Whether each period that ends by `stop` has exactly its due, and each other at most that.
+pub fn is_supplied(periods: &Periods, rows: &[Entry]) -> bool
+    requires some { 0 < periods.now.period }
+    requires some_due { 0 < periods.now.due }
+    requires within { periods.now.due ≤ periods.now.period }
+    requires fits { periods.now.stop < 2 ^ 127 }
+    requires period_fits { periods.now.period < 2 ^ 127 }
+    requires apart { periods.now.base ≤ periods.now.stop → Follows periods.now.stop periods.now.base rows.now }
+    requires none { periods.now.stop < periods.now.base → rows.now ≡ [] }
+    ensures { IsTrue result ↔ IsSupplied periods.now rows.now }
+{
+    if periods.stop < periods.base {
+        return true;
+    }
+    holds_from_base(periods, rows)
+}
