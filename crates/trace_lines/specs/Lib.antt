@@ -1,0 +1,4 @@
+pub mod Lines
+pub mod Finishes
+pub mod Merging
+pub mod Text

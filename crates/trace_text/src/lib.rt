@@ -1,0 +1,8 @@
+//! Lines, words and numbers of a text that anybody wrote.
+#![tactic(auto)]
+
+mod numbers;
+mod words;
+
+pub use numbers::read_number;
+pub use words::{after_word, cut_space, first_line};
