@@ -1,5 +1,5 @@
 -- The lines that are written: words with a space between each two, and a line feed.
-use Rattle.std.specs.Prelude.{ℕ, List, [], ◌∷◌, ◌++◌, map, decimal}
+use Rattle.std.specs.Prelude.{ℕ, List, [], ◌∷◌, ◌++◌, decimal}
 
 -- what follows a line's first word: each further word after a space, and the line feed
 abbrev pub line_end : List (List ℕ) → List ℕ

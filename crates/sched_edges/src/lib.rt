@@ -7,6 +7,8 @@ mod read;
 mod std_streams;
 mod streams;
 mod sure;
+#[cfg(test)]
+mod tests;
 mod write;
 
 pub use line::{Line, named_line, number_line, numbers_line, word_line};

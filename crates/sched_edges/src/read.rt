@@ -66,6 +66,7 @@ pub fn read_all<R: Source>(alloc: Global, source: &mut R, limit: usize) -> Resul
     ensures too_long { (count : ℕ) → result ≡ Err (TakeFault.TooLong count) → (count ≡ limit + 1) × GaveCount (R.left source.old) (R.left source.new) count }
     ensures exceeds { (count : ℕ) → result ≡ Err (TakeFault.TooLong count) → HoldsMore limit (R.left source.old) }
     ensures bounded { OnErr result (GaveAtMost (R.left source.old) (R.left source.new) (limit + 1)) }
+    ensures unfinished { result ≡ Err TakeFault.Read → GaveAtMost (R.left source.old) (R.left source.new) limit }
 
     ensures later { R.faults source.old ≤ R.faults source.new }
     ensures read { result ≡ Err TakeFault.Read → Rose (R.faults source.old) (R.faults source.new) }
@@ -95,6 +96,7 @@ fn read_rest<R: Source>(
     ensures all { OnOk result (GaveAll (R.left source.old) (R.left source.new) limit bytes.new.items) }
     ensures too_long { (count : ℕ) → result ≡ Err (TakeFault.TooLong count) → (count ≡ limit + 1) × GaveCount (R.left source.old) (R.left source.new) count }
     ensures bounded { OnErr result (GaveAtMost (R.left source.old) (R.left source.new) (limit + 1)) }
+    ensures unfinished { result ≡ Err TakeFault.Read → GaveAtMost (R.left source.old) (R.left source.new) limit }
     ensures later { R.faults source.old ≤ R.faults source.new }
     ensures read { result ≡ Err TakeFault.Read → Rose (R.faults source.old) (R.faults source.new) }
 {
@@ -124,6 +126,7 @@ fn read_piece<R: Source>(
     ensures end { IfOk result (λ n. n ≡ 0 → IsAtEnd (R.left source.new)) }
     ensures short { (count : ℕ) → result ≡ Err (TakeFault.TooLong count) → ⊥ }
     ensures bounded { OnErr result (GaveAtMost (R.left source.old) (R.left source.new) (length piece.old)) }
+    ensures none { result ≡ Err TakeFault.Read → GaveAtMost (R.left source.old) (R.left source.new) 0 }
     ensures later { R.faults source.old ≤ R.faults source.new }
     ensures read { result ≡ Err TakeFault.Read → Rose (R.faults source.old) (R.faults source.new) }
 {

@@ -1,15 +1,14 @@
-use Rattle.std.proofs.Common.{List, ℕ, sym, subst, arith, get_or}
+use Rattle.std.proofs.Common.{List, ℕ, arith}
 use Rattle.std.proofs.lemmas.List.Concat.{concat_is}
 use Rattle.std.specs.Io.KnownBytes.{Appends}
-use Rattle.sched_edges.specs.Streams.{TookPart}
 use Rattle.sched_edges.proofs.Wrote.{item_written, wrote_item}
 use Rattle.sched_edges.proofs.write.write_lines.Goals as goal
 
 pub returns-in_err-write_all-clause-wrote : goal.returns-in_err-write_all-clause-wrote
 returns-in_err-write_all-clause-wrote g c =
-    let part : TookPart (g.W.Sink.taken c.loop-line.sink) (g.W.Sink.taken c.write_all.new.sink) c.line-item.result = rw (← c.as_slice.ensures.bytes) c.in_err-write_all.ensures.wrote.err in
+    let wrote = rw c.as_slice.ensures.bytes at c.in_err-write_all.ensures.wrote in
     let before = rw concat_is at c.loop-line.invariant.0 in
-    rw concat_is (wrote_item (λ (line : List ℕ). line) c.args.lines.now c.loop-line.line-index c.line-item.result _ _ _ c.from_residual.result c.loop-line-test.true c.line-item.is before part c.from_residual.ensures.0)
+    rw concat_is (wrote_item (λ (line : List ℕ). line) c.args.lines.now c.loop-line.line-index c.line-item.result _ _ _ _ _ c.loop-line-test.true c.line-item.is before wrote c.from_residual.ensures.0)
 
 pub loop-line-preserved : goal.loop-line-preserved
 loop-line-preserved g c =
