@@ -1,5 +1,5 @@
 -- Worked sets, whose trees and schedules are computed from the definitions.
-use Rattle.std.proofs.Common.{◌≡◌, ℕ, true, false, Bool, List, [], ◌∷◌, map, get_or, Some, None, refl}
+use Rattle.std.proofs.Common.{◌≡◌, ℕ, true, false, List, [], ◌∷◌, map, get_or, Some, None, refl}
 use Rattle.sched_base.specs.declared.rows.Leaf.{Leaf}
 use Rattle.sched_base.specs.declared.rows.Leaf.TheVariants.{Task, Wait}
 use Rattle.sched_base.specs.declared.rows.Row.{Row}

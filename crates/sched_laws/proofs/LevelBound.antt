@@ -5,7 +5,7 @@ use Rattle.sched_base.specs.Counting.{bit, sum_to}
 use Rattle.sched_base.proofs.CountingLemmas.{bit_at, bit_le, bit_off}
 use Rattle.sched_base.proofs.SumLemmas.{sum_to-add, sum_to-alone, sum_to-le, sum_to-mul, sum_to-ones, sum_to-same, term-le-sum_to, two_pass, two_terms}
 use Rattle.sched_base.proofs.UnitLemmas.{multiple}
-use Rattle.run_tree.specs.Tree.{IsDual, IsMember, IsPack, IsTree, Tree, at_level, dual, home, is_pack, kind_at, leaf, level, member, members, primal, rate}
+use Rattle.run_tree.specs.Tree.{IsDual, IsMember, IsPack, IsTree, Tree, at_level, dual, home, is_pack, kind_at, level, member, members, primal, rate}
 use Rattle.run_tree.proofs.KindLemmas.{KindOf, kind_of}
 use Rattle.run_tree.proofs.TreeLemmas.{at_from, pack_at}
 use Rattle.sched_laws.specs.LevelCounts.{duals_of, has_dual_at, running}

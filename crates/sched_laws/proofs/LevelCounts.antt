@@ -1,5 +1,5 @@
 -- How many packs of a level run at each tick.
-use Rattle.std.proofs.Common.{Bool, None, Option, Some, ap, arith, eq-eqb, eqb, inl, inr, is_some, le_antisymm, le_of_eq, le_of_mul-le-mul_right, length, not, refl, suc, sym, true, zero, zero-add, ℕ, ◌*◌, ◌+◌, ◌-◌, ◌<◌, ◌∙◌, ◌≡◌}
+use Rattle.std.proofs.Common.{Bool, ap, arith, eq-eqb, eqb, inl, inr, le_antisymm, le_of_eq, le_of_mul-le-mul_right, length, not, suc, sym, zero, zero-add, ℕ, ◌*◌, ◌+◌, ◌-◌, ◌<◌, ◌∙◌, ◌≡◌}
 use Rattle.std.proofs.lemmas.Bool.{and_from, and_left, and_right, both_ways, cases_Bool, ne_eqb}
 use Rattle.sched_base.specs.declared.rows.Leaf.{Leaf}
 use Rattle.sched_base.specs.Counting.{bit, sum_to}
@@ -13,7 +13,7 @@ use Rattle.run_tree.proofs.TreeLemmas.{pack_at}
 use Rattle.sched_laws.specs.LevelCounts.{has_dual_at, level_rate, running}
 use Rattle.sched_laws.proofs.Packs.{server_serves}
 use Rattle.sched_laws.proofs.LevelRates.{member_runs, run_rests, run_root}
-use Rattle.sched_laws.proofs.LevelMembers.{duals_are_next, in_level, level_reindexed, number_or, rates_next}
+use Rattle.sched_laws.proofs.LevelMembers.{duals_are_next, in_level, level_reindexed, number_or, pair_rates, pair_whole, rates_next}
 
 module _ (of_leaf : Leaf → ℕ → Bool) (t : Tree) (h : IsTree t) (leaves : HaveBoundaries of_leaf t) where
   -- a pack that runs runs one member, another one none
@@ -45,77 +45,28 @@ module _ (of_leaf : Leaf → ℕ → Bool) (t : Tree) (h : IsTree t) (leaves : H
             omega (arith, ap (λ w. w * sum_to (length (members t p)) (λ k. bit (runs of_leaf t (member t p k) n))) z, ap (λ w. w * bit (runs of_leaf t p n)) z))
       ])
 
-  -- a pack and its dual, at one tick and in all
+  -- of a pack and its dual one runs at each tick
   pub pair_runs : (l p n : ℕ) → p < length t.nodes →
       bit (at_level t l p) * bit (runs of_leaf t p n) + bit (has_dual_at t l p) * bit (runs of_leaf t (number_or (dual t p)) n) ≡ bit (at_level t l p) * 1
-  pair_runs l p n b =
-      elim (cases_Bool (at_level t l p)) [
-        | inr off ↦
-            (let z = bit_off (at_level t l p) off in
-            let y = bit_off (has_dual_at t l p) (and_left (at_level t l p) (is_some (dual t p)) off) in
-            omega (arith, ap (λ w. w * bit (runs of_leaf t p n)) z, ap (λ w. w * bit (runs of_leaf t (number_or (dual t p)) n)) y, ap (λ w. w * 1) z))
-        | inl on ↦ go on (dual t p) refl
-      ]
-    where
-      go : at_level t l p ≡ true → (o : Option ℕ) → dual t p ≡ o →
-          bit (at_level t l p) * bit (runs of_leaf t p n) + bit (has_dual_at t l p) * bit (runs of_leaf t (number_or (dual t p)) n) ≡ bit (at_level t l p) * 1
-      go on None e =
-          (let i = (pack_at t l p b on).0 in
-          let z = bit_at (at_level t l p) on in
-          let y = bit_off (has_dual_at t l p) (and_right (at_level t l p) (is_some (dual t p)) (ap is_some e)) in
-          let root = bit_at (runs of_leaf t p n) (run_root of_leaf t h leaves p n i e) in
-          omega (arith, root, ap (λ w. w * bit (runs of_leaf t p n)) z, ap (λ w. w * bit (runs of_leaf t (number_or (dual t p)) n)) y, ap (λ w. w * 1) z))
-      go on (Some d) e =
-          (let i = (pack_at t l p b on).0 in
-          let z = bit_at (at_level t l p) on in
-          let y = bit_at (has_dual_at t l p) (and_from (at_level t l p) (is_some (dual t p)) on (ap is_some e)) in
-          let pair = bit_not (runs of_leaf t d n) in
-          let same = ap bit (run_rests of_leaf t h leaves p d n i e) in let at = ap (λ o. bit (runs of_leaf t (number_or o) n)) e in
-          omega (arith, pair, same, at, ap (λ w. w * bit (runs of_leaf t p n)) z, ap (λ w. w * bit (runs of_leaf t (number_or (dual t p)) n)) y, ap (λ w. w * 1) z))
-
-  -- so do their rates
-  pub pair_rates : (l p : ℕ) → p < length t.nodes →
-      bit (at_level t l p) * rate t p + bit (has_dual_at t l p) * rate t (number_or (dual t p)) ≡ bit (at_level t l p) * t.scale
-  pair_rates l p b =
-      elim (cases_Bool (at_level t l p)) [
-        | inr off ↦
-            (let z = bit_off (at_level t l p) off in
-            let y = bit_off (has_dual_at t l p) (and_left (at_level t l p) (is_some (dual t p)) off) in
-            omega (arith, ap (λ w. w * rate t p) z, ap (λ w. w * rate t (number_or (dual t p))) y, ap (λ w. w * t.scale) z))
-        | inl on ↦ go on (dual t p) refl
-      ]
-    where
-      go : at_level t l p ≡ true → (o : Option ℕ) → dual t p ≡ o →
-          bit (at_level t l p) * rate t p + bit (has_dual_at t l p) * rate t (number_or (dual t p)) ≡ bit (at_level t l p) * t.scale
-      go on None e =
-          (let i = (pack_at t l p b on).0 in
-          let z = bit_at (at_level t l p) on in
-          let y = bit_off (has_dual_at t l p) (and_right (at_level t l p) (is_some (dual t p)) (ap is_some e)) in
-          let root = h.roots_are p i e in
-          omega (arith, root, ap (λ w. w * rate t p) z, ap (λ w. w * rate t (number_or (dual t p))) y, ap (λ w. w * t.scale) z))
-      go on (Some d) e =
-          (let i = (pack_at t l p b on).0 in
-          let z = bit_at (at_level t l p) on in
-          let y = bit_at (has_dual_at t l p) (and_from (at_level t l p) (is_some (dual t p)) on (ap is_some e)) in
-          let pair = (h.has_dual p d i e).2 in
-          let same = ap (λ o. rate t (number_or o)) e in
-          omega (arith, pair, same, ap (λ w. w * rate t p) z, ap (λ w. w * rate t (number_or (dual t p))) y, ap (λ w. w * t.scale) z))
+  pair_runs l p n = pair_whole t h (λ x. bit (runs of_leaf t x n)) 1
+      (λ p i e. bit_at (runs of_leaf t p n) (run_root of_leaf t h leaves p n i e))
+      (λ p d i e. (let pair = bit_not (runs of_leaf t d n) in let same = ap bit (run_rests of_leaf t h leaves p d n i e) in omega (arith, pair, same))) l p
 
   -- from the next level to this one
   pub level_step : (l n : ℕ) → running of_leaf t (suc l) n * t.scale ≡ level_rate t (suc l) → running of_leaf t l n * t.scale ≡ level_rate t l
   level_step l n e =
       let w = sum_to (length t.nodes) (λ p. bit (at_level t l p)) in
-      let sum_to-ones = sum_to-same (length t.nodes) _ _ (λ p b. pair_runs l p n b) in
-      let rates = sum_to-same (length t.nodes) _ _ (λ p b. pair_rates l p b) in
+      let ones = sum_to-same (length t.nodes) _ _ (λ p b. pair_runs l p n b) in
+      let rates = sum_to-same (length t.nodes) _ _ (λ p b. pair_rates t h l p b) in
       let ones_add = sum_to-add (length t.nodes) (λ p. bit (at_level t l p) * bit (runs of_leaf t p n)) (λ p. bit (has_dual_at t l p) * bit (runs of_leaf t (number_or (dual t p)) n)) in
       let rates_add = sum_to-add (length t.nodes) (λ p. bit (at_level t l p) * rate t p) (λ p. bit (has_dual_at t l p) * rate t (number_or (dual t p))) in
       let units = sum_to-mul (length t.nodes) (λ p. bit (at_level t l p)) 1 in
       let scaled = sum_to-mul (length t.nodes) (λ p. bit (at_level t l p)) t.scale in
       let a = running_next l n in
       let c = rates_next t h l in
-      let o : running of_leaf t l n + running of_leaf t (suc l) n ≡ w = omega (arith, sum_to-ones, ones_add, a, units) in
-      let os = ap (λ z. z * t.scale) o in
-      omega (arith, os, rates, rates_add, scaled, c, e)
+      let o : running of_leaf t l n + running of_leaf t (suc l) n ≡ w = omega (arith, ones, ones_add, a, units) in
+      let both = ap (λ z. z * t.scale) o in
+      omega (arith, both, rates, rates_add, scaled, c, e)
 
   -- at each tick the number of running packs of a level, times the scale, is the level's rate
   pub level_count : (above l n : ℕ) → l + above ≡ t.levels → running of_leaf t l n * t.scale ≡ level_rate t l

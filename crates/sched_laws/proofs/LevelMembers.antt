@@ -1,5 +1,5 @@
 -- The duals of the packs of a level are the members of the packs of the next.
-use Rattle.std.proofs.Common.{Bool, None, Option, Some, ap, arith, eq-eqb, eqb, inl, inr, is_some, length, not, refl, subst, suc, sym, true, ℕ, ◌&&◌, ◌*◌, ◌<◌, ◌∙◌, ◌≡◌}
+use Rattle.std.proofs.Common.{Bool, None, Option, Some, ap, arith, eq-eqb, eqb, inl, inr, is_some, length, not, refl, subst, suc, sym, true, ℕ, ◌&&◌, ◌*◌, ◌+◌, ◌<◌, ◌∙◌, ◌≡◌}
 use Rattle.std.proofs.lemmas.Bool.{and_from, and_left, and_parts, and_right, both_ways, cases_Bool, eqb-true, ne_eqb, not-true}
 use Rattle.sched_base.specs.Counting.{bit, sum_to}
 use Rattle.sched_base.proofs.BoolLemmas.{same_Bool}
@@ -145,3 +145,31 @@ module _ (t : Tree) (h : IsTree t) where
         | inr off ↦ (let z = bit_off (at_level t (suc l) p) off in
             omega (arith, ap (λ w. w * sum_to (length (members t p)) (λ k. rate t (member t p k))) z, ap (λ w. w * rate t p) z))
       ])
+
+  -- where a root's value is the whole, and a pack's and its dual's come to it together, so it is with each pack of a level
+  pub pair_whole : (value : ℕ → ℕ) (whole : ℕ) → ((p : ℕ) → IsPack t p → dual t p ≡ None → value p ≡ whole) → ((p d : ℕ) → IsPack t p → dual t p ≡ Some d → value d + value p ≡ whole) →
+      (l p : ℕ) → p < length t.nodes → bit (at_level t l p) * value p + bit (has_dual_at t l p) * value (number_or (dual t p)) ≡ bit (at_level t l p) * whole
+  pair_whole value whole roots pairs l p b =
+      elim (cases_Bool (at_level t l p)) [
+        | inr off ↦
+            (let z = bit_off (at_level t l p) off in
+            let y = bit_off (has_dual_at t l p) (and_left (at_level t l p) (is_some (dual t p)) off) in
+            omega (arith, ap (λ w. w * value p) z, ap (λ w. w * value (number_or (dual t p))) y, ap (λ w. w * whole) z))
+        | inl on ↦ go on (dual t p) refl
+      ]
+    where
+      go : at_level t l p ≡ true → (o : Option ℕ) → dual t p ≡ o → bit (at_level t l p) * value p + bit (has_dual_at t l p) * value (number_or (dual t p)) ≡ bit (at_level t l p) * whole
+      go on None e =
+          (let z = bit_at (at_level t l p) on in
+          let y = bit_off (has_dual_at t l p) (and_right (at_level t l p) (is_some (dual t p)) (ap is_some e)) in
+          let root = roots p (pack_at t l p b on).0 e in
+          omega (arith, root, ap (λ w. w * value p) z, ap (λ w. w * value (number_or (dual t p))) y, ap (λ w. w * whole) z))
+      go on (Some d) e =
+          (let z = bit_at (at_level t l p) on in
+          let y = bit_at (has_dual_at t l p) (and_from (at_level t l p) (is_some (dual t p)) on (ap is_some e)) in
+          let pair = pairs p d (pack_at t l p b on).0 e in
+          let same = ap (λ o. value (number_or o)) e in
+          omega (arith, pair, same, ap (λ w. w * value p) z, ap (λ w. w * value (number_or (dual t p))) y, ap (λ w. w * whole) z))
+
+  pub pair_rates : (l p : ℕ) → p < length t.nodes → bit (at_level t l p) * rate t p + bit (has_dual_at t l p) * rate t (number_or (dual t p)) ≡ bit (at_level t l p) * t.scale
+  pair_rates l p = pair_whole (rate t) t.scale (λ p i e. h.roots_are p i e) (λ p d i e. (h.has_dual p d i e).2) l p

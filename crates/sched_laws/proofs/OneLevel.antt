@@ -31,24 +31,24 @@ use Rattle.sched_laws.proofs.RoundRows.{row_of, schedule_all}
 use Rattle.sched_laws.proofs.Releases.{shown_task}
 use Rattle.sched_base.specs.declared.sets.Task as declared
 
--- at most one place passes
-abbrev pub total : (Option ℕ → Bool) → List (Option ℕ) → ℕ
-total f [] = 0
-total f (o ∷ onto) = bit (f o) + total f onto
+-- how many places pass
+abbrev pub places_with : (Option ℕ → Bool) → List (Option ℕ) → ℕ
+places_with f [] = 0
+places_with f (o ∷ onto) = bit (f o) + places_with f onto
 
 -- there is one where some place passes
-pub total_some : (f : Option ℕ → Bool) (onto : List (Option ℕ)) (p : ℕ) → p < length onto → f (get_or onto p None) ≡ true → 0 < total f onto
-total_some f [] p l e = absurd (omega arith)
-total_some f (o ∷ onto) zero l e = omega (arith, bit_at (f o) e)
-total_some f (o ∷ onto) (suc p) l e = let ih = total_some f onto p (omega arith) e in omega (arith, ih)
+pub places_with_some : (f : Option ℕ → Bool) (onto : List (Option ℕ)) (p : ℕ) → p < length onto → f (get_or onto p None) ≡ true → 0 < places_with f onto
+places_with_some f [] p l e = absurd (omega arith)
+places_with_some f (o ∷ onto) zero l e = omega (arith, bit_at (f o) e)
+places_with_some f (o ∷ onto) (suc p) l e = let ih = places_with_some f onto p (omega arith) e in omega (arith, ih)
 
 -- and where there is at most one, two places that pass are one
-pub total_once : (f : Option ℕ → Bool) (onto : List (Option ℕ)) (p q : ℕ) → total f onto ≤ 1 → p < length onto → q < length onto → f (get_or onto p None) ≡ true → f (get_or onto q None) ≡ true → p ≡ q
-total_once f [] p q z l m e g = absurd (omega arith)
-total_once f (o ∷ onto) zero zero z l m e g = refl
-total_once f (o ∷ onto) zero (suc q) z l m e g = let s = total_some f onto q (omega arith) g in absurd (omega (arith, s, bit_at (f o) e))
-total_once f (o ∷ onto) (suc p) zero z l m e g = let s = total_some f onto p (omega arith) e in absurd (omega (arith, s, bit_at (f o) g))
-total_once f (o ∷ onto) (suc p) (suc q) z l m e g = ap suc (total_once f onto p q (omega arith) (omega arith) (omega arith) e g)
+pub places_with_once : (f : Option ℕ → Bool) (onto : List (Option ℕ)) (p q : ℕ) → places_with f onto ≤ 1 → p < length onto → q < length onto → f (get_or onto p None) ≡ true → f (get_or onto q None) ≡ true → p ≡ q
+places_with_once f [] p q z l m e g = absurd (omega arith)
+places_with_once f (o ∷ onto) zero zero z l m e g = refl
+places_with_once f (o ∷ onto) zero (suc q) z l m e g = let s = places_with_some f onto q (omega arith) g in absurd (omega (arith, s, bit_at (f o) e))
+places_with_once f (o ∷ onto) (suc p) zero z l m e g = let s = places_with_some f onto p (omega arith) e in absurd (omega (arith, s, bit_at (f o) g))
+places_with_once f (o ∷ onto) (suc p) (suc q) z l m e g = ap suc (places_with_once f onto p q (omega arith) (omega arith) (omega arith) e g)
 
 -- whether the pack on a processor is this node
 abbrev pub is_node : Tree → ℕ → Option ℕ → Bool
@@ -56,17 +56,17 @@ is_node t n None = false
 is_node t n (Some i) = eqb (get_or (packs_at t 0) i 0) n
 
 -- as a sum over processors
-pub total_on : (t : Tree) (n : ℕ) (onto : List (Option ℕ)) → total (is_node t n) onto ≡ sum_on (λ i. bit (eqb (get_or (packs_at t 0) i 0) n)) onto
-total_on t n [] = refl
-total_on t n (None ∷ onto) = let ih = total_on t n onto in omega (arith, ih)
-total_on t n (Some i ∷ onto) = let ih = total_on t n onto in omega (arith, ih)
+pub places_with_node : (t : Tree) (n : ℕ) (onto : List (Option ℕ)) → places_with (is_node t n) onto ≡ sum_on (λ i. bit (eqb (get_or (packs_at t 0) i 0) n)) onto
+places_with_node t n [] = refl
+places_with_node t n (None ∷ onto) = let ih = places_with_node t n onto in omega (arith, ih)
+places_with_node t n (Some i ∷ onto) = let ih = places_with_node t n onto in omega (arith, ih)
 
 module _ (of_leaf : Leaf → ℕ → Bool) (t : Tree) (h : IsTree t) (leaves : HaveBoundaries of_leaf t) where
   -- a node is on at most one processor
-  pub node_once : (n s : ℕ) → total (is_node t n) (onto_at of_leaf t s) ≤ 1
+  pub node_once : (n s : ℕ) → places_with (is_node t n) (onto_at of_leaf t s) ≤ 1
   node_once n s =
       let v : ℕ → ℕ = λ i. bit (eqb (get_or (packs_at t 0) i 0) n) in
-      let e = total_on t n (onto_at of_leaf t s) in
+      let e = places_with_node t n (onto_at of_leaf t s) in
       let by_pack = sum_on_packs (length (packs_at t 0)) v (onto_at of_leaf t s) (λ i some. (onto_within of_leaf t h leaves s i some).0) in
       let less = sum_to-le (length (packs_at t 0)) (λ i. held (onto_at of_leaf t s) i * v i) v (λ i l. (
       let a = held_onto of_leaf t h leaves s i in
@@ -154,7 +154,7 @@ module _ (tasks : List declared.Task) (t : Tree) (h : IsTree t) (leaves : HaveBo
       let (x, is_x, of_x, lx, on_x) = at_r j task_r in
       let (y, is_y, of_y, ly, on_y) = at_q j task_q in
       let same : y ≡ x = holds.once y x (task_id j) is_y is_x of_y of_x in
-      total_once (is_node t (home t x)) (onto_at bounds t 0) r.processor q.processor (node_once bounds t h leaves (home t x) 0) lx ly on_x
+      places_with_once (is_node t (home t x)) (onto_at bounds t 0) r.processor q.processor (node_once bounds t h leaves (home t x) 0) lx ly on_x
       (ap (λ z. is_node t (home t z) (get_or (onto_at bounds t 0) q.processor None)) (sym same) ∙ on_y)))
       (schedule_all tasks t stop IsAtHome (λ s e p up top b. row_at_home s e p b))
 

@@ -29,7 +29,7 @@ use Rattle.run_tree.proofs.SetBoundaryLemmas.{offset_at, set_leaves, two_limits}
 use Rattle.run_tree.proofs.ScheduleLemmas.{length-places, onto_is}
 use Rattle.sched_laws.specs.Servers.{due}
 use Rattle.sched_laws.proofs.LevelRates.{member_total}
-use Rattle.sched_laws.proofs.PlacedPacks.{full, onto_within}
+use Rattle.sched_laws.proofs.PlacedPacks.{onto_within}
 use Rattle.sched_laws.proofs.TaskRows.{leaf_in, leaf_in_runs}
 use Rattle.sched_laws.proofs.RoundRows.{rows_from_all, rows_from_apart, schedule_all, schedule_apart}
 use Rattle.sched_laws.proofs.Releases.{shown_task}
