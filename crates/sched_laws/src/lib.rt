@@ -16,7 +16,7 @@ mod validity;
 pub use height::height_law;
 pub use levels::{count_law, levels_law};
 pub use migration::one_level_law;
-pub use rounds::round_law;
+pub use rounds::{order_law, round_law};
 pub use servers::{dual_law, edf_law};
 pub use stillness::still_law;
 pub use validity::valid_law;
