@@ -8,7 +8,7 @@ ghost use Rattle.run_tree.specs.Schedule.{onto_at};
 ghost use Rattle.run_tree.specs.Tree.{Tree};
 ghost use Rattle.run_tree.specs.TreeOfSet.{IsTreeOf};
 
-/// The law of rounds: at a tick below 2^33 units that is no event, the same nodes run as at the tick before, and each
+/// The law between events: at a tick below 2^33 units that is no event, the same nodes run as at the tick before, and each
 /// processor keeps its pack.
 
 pub fn still_law()
