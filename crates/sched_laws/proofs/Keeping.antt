@@ -13,7 +13,7 @@ use Rattle.run_tree.proofs.RunLemmas.{left_at}
 use Rattle.run_tree.proofs.ScheduleLemmas.{once_below}
 use Rattle.sched_laws.proofs.Steady.{pack_still}
 
--- in a tick without an event the processors keep their packs
+-- where no leaf has a boundary at tick n + 1, and each member that ran at tick n has due left then
 module _ (of_leaf : Leaf → ℕ → Bool) (t : Tree) (h : IsTree t) (leaves : HaveBoundaries of_leaf t) (n : ℕ)
     (quiet : (x : ℕ) → IsLeaf t x → suc n % t.scale ≡ 0 → of_leaf (leaf t x) (suc n / t.scale) ≡ false)
     (unspent : (x : ℕ) → IsMember t x → runs of_leaf t x n ≡ true → 0 < left_at of_leaf t (suc n) x) where

@@ -18,7 +18,7 @@ module _ (of_leaf : Leaf → ℕ → Bool) (t : Tree) (h : IsTree t)
     (idle_late : (i u : ℕ) → 0 < u → u < 2 ^ 33 → of_leaf (Idle i) u ≡ false)
     (real : (x : ℕ) → IsLeaf t x → is_real (leaf t x) ≡ true)
     (n : ℕ) (early : suc n < 2 ^ 33 * t.scale) (calm : is_event of_leaf t (suc n) ≡ false) where
-  -- it is none of the three
+  -- no task has a boundary there, and no member ran dry
   pub calm_parts : ((eqb (suc n % t.scale) 0 && list_any (λ x. task_begins of_leaf t (suc n) x) (range_with_len 0 (length t.nodes))) ≡ false)
       × (list_any (λ x. runs_dry of_leaf t n x) (range_with_len 0 (length t.nodes)) ≡ false)
   unfolding is_event

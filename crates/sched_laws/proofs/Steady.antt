@@ -15,6 +15,7 @@ use Rattle.run_tree.proofs.WindowLemmas.{begin_off, same_window_end}
 use Rattle.run_tree.proofs.BoundaryLemmas.{member_has, no_boundary}
 use Rattle.run_tree.proofs.RunLemmas.{ends_at, ends_is, left_at, left_is, now_pack, on_time, run_member, runs_is, same_pack_runs}
 
+-- where no leaf has a boundary at tick n + 1, and each member that ran at tick n has due left then
 module _ (of_leaf : Leaf → ℕ → Bool) (t : Tree) (h : IsTree t) (leaves : HaveBoundaries of_leaf t) (n : ℕ)
     (quiet : (x : ℕ) → IsLeaf t x → suc n % t.scale ≡ 0 → of_leaf (leaf t x) (suc n / t.scale) ≡ false)
     (unspent : (x : ℕ) → IsMember t x → runs of_leaf t x n ≡ true → 0 < left_at of_leaf t (suc n) x) where
