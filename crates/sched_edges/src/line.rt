@@ -1,5 +1,6 @@
 //! One line of a text, made without memory.
 ghost use Rattle.std.specs.Prelude.{◌≡◌, ◌≤◌, ◌<◌, ◌+◌, ◌++◌, ◌∷◌, [], length, decimal};
+ghost use Rattle.std.specs.Fmt.{signed_decimal};
 ghost use Rattle.sched_edges.specs.Lines.{word_line, number_line, numbers_line, named_line};
 
 use itoa::Buffer;
@@ -58,6 +59,16 @@ impl Line {
     pub fn number(&mut self, number: u128)
         requires { length self.old ≤ 216 }
         ensures text { self.new ≡ self.old ++ decimal number }
+        ensures short { length self.new ≤ length self.old + 40 }
+    {
+        let mut buffer = Buffer::new();
+        self.text(buffer.format(number).as_bytes());
+    }
+
+    /// Adds a number that may be below 0, in decimal digits, with a `-` before them where it is.
+    pub fn signed(&mut self, number: i64)
+        requires { length self.old ≤ 216 }
+        ensures text { self.new ≡ self.old ++ signed_decimal number }
         ensures short { length self.new ≤ length self.old + 40 }
     {
         let mut buffer = Buffer::new();

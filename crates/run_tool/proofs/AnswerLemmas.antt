@@ -1,0 +1,190 @@
+-- Where nothing fails, the answer for the bytes is given.
+use Rattle.std.proofs.Common.{◌≡◌, ◌⊎◌, inl, inr, ℕ, ◌+◌, ◌^◌, ◌≤◌, ◌<◌, List, ◌++◌, length, Result, Ok, Err, Option, Some, None, refl, sym, ◌∙◌, ap, subst, arith, append-nil}
+use Rattle.sched_base.specs.Sets.{SetContents}
+use Rattle.sched_base.specs.Scale.{IsScale, PassesAt, total_of, room_of, Fits}
+use Rattle.sched_edges.specs.Causes.{Rose}
+use Rattle.sched_edges.specs.Streams.{GaveAll, GaveCount}
+use Rattle.sched_edges.proofs.Pieces.{holds_more}
+use Rattle.task_reader.specs.Reading.{set_read_from}
+use Rattle.task_reader.specs.declared.refusals.ReadSet.{ReadSet}
+use Rattle.rate_scale.proofs.ScaleLemmas.{same_scale, PassesAt-whole}
+use Rattle.run_tool.specs.declared.words.Command.{Command}
+use Rattle.run_tool.specs.declared.words.Command.TheVariants.{Rate}
+use Rattle.run_tool.specs.declared.refusal.Refusal.{Refusal}
+use Rattle.run_tool.specs.declared.refusal.Refusal.TheVariants as why
+use Rattle.run_tool.specs.declared.status.Status.{Status}
+use Rattle.run_tool.specs.declared.status.Status.TheVariants.{Done, Usage, ReadFault, WriteFault, NoMemory, BadInput, Overload, ScaleTooLarge, InputTooLong}
+use Rattle.run_tool.specs.Commands.{limit_of, ReadsSet, Writes, Refuses, RefusesSet}
+use Rattle.run_tool.specs.Refusals.{status_of, set_status}
+use Rattle.run_tool.specs.Ends.{Streams, ErrorStream, IsDone, Stops, IsAnswer, IsAnswered}
+use Rattle.run_tool.specs.Refuse.{IsRefused}
+
+-- there is one command
+pub only_rate : (c : Command) → c ≡ Rate
+only_rate Rate = refl
+
+-- a source that tells its bytes gave just these
+same_bytes : (bytes given : List ℕ) (left : Option (List ℕ)) (n : ℕ) → GaveAll (Some bytes) left n given → given ≡ bytes
+same_bytes bytes given None n all = absurd all.gave
+same_bytes bytes given (Some rest) n all = sym (all.gave ∙ ap (λ r. given ++ r) all.ended ∙ append-nil given)
+
+same_set : (bytes : List ℕ) (s t : SetContents) → set_read_from bytes ≡ Ok s → set_read_from bytes ≡ Ok t → s ≡ t
+same_set bytes s t a b = let e : ◌≡◌ {A = Result SetContents ReadSet} (Ok s) (Ok t) = sym a ∙ b in cc
+
+same_refusal : (bytes : List ℕ) (r q : ReadSet) → set_read_from bytes ≡ Err r → set_read_from bytes ≡ Err q → r ≡ q
+same_refusal bytes r q a b = let e : ◌≡◌ {A = Result SetContents ReadSet} (Err r) (Err q) = sym a ∙ b in cc
+
+not_both : (bytes : List ℕ) (s : SetContents) (r : ReadSet) → set_read_from bytes ≡ Ok s → set_read_from bytes ≡ Err r → ⊥
+not_both bytes s r a b = let e : ◌≡◌ {A = Result SetContents ReadSet} (Ok s) (Err r) = sym a ∙ b in cc
+
+-- a set with a scale within the limit has no task that passes it
+no_pass : (bytes : List ℕ) (s t : SetContents) (scale task : ℕ) → ReadsSet bytes s scale → set_read_from bytes ≡ Ok t → PassesAt (2 ^ 94) t.tasks task → ⊥
+no_pass bytes s t scale task reads read passes =
+    let same : t ≡ s = same_set bytes t s read reads.read in
+    let passes' : PassesAt (2 ^ 94) s.tasks task = subst (λ (x : SetContents). PassesAt (2 ^ 94) x.tasks task) same passes in
+    let over = PassesAt-whole (2 ^ 94) s.tasks task passes' scale reads.is_scale in
+    let within = reads.within in
+    absurd (omega (arith, over, within))
+
+-- a set that fits doesn't ask for more than there is
+no_overload : (bytes : List ℕ) (s t : SetContents) (scale other total room : ℕ) → ReadsSet bytes s scale → Fits scale s
+    → ReadsSet bytes t other → room < total → total ≡ total_of other t.tasks → room ≡ room_of other t → ⊥
+no_overload bytes s t scale other total room reads fits reads' over is_total is_room =
+    let same : t ≡ s = same_set bytes t s reads'.read reads.read in
+    let scale' : IsScale s.tasks other = subst (λ (x : SetContents). IsScale x.tasks other) same reads'.is_scale in
+    let one : other ≡ scale = same_scale s.tasks other scale scale' reads.is_scale in
+    let fits' : total_of other t.tasks ≤ room_of other t = rw (same, one) fits in
+    absurd (omega (arith, fits', over, is_total, is_room))
+
+-- no command writes a text for bytes that it refuses
+writes_or_refuses : (c : Command) (bytes text : List ℕ) (refusal : Refusal) → Writes c bytes text → Refuses c bytes refusal → ⊥
+writes_or_refuses Rate bytes text (why.BadSet r) writes refuses = let (s, scale, reads, fits, is_text) = writes in not_both bytes s r reads.read refuses
+writes_or_refuses Rate bytes text (why.ScaleTooLarge task) writes refuses =
+    let (s, scale, reads, fits, is_text) = writes in
+    let (t, read, passes) = refuses in
+    no_pass bytes s t scale task reads read passes
+writes_or_refuses Rate bytes text (why.Overload total room) writes refuses =
+    let (s, scale, reads, fits, is_text) = writes in
+    let (t, other, reads', over, is_total, is_room) = refuses in
+    no_overload bytes s t scale other total room reads fits reads' over is_total is_room
+writes_or_refuses Rate bytes text why.Usage writes refuses = refuses
+writes_or_refuses Rate bytes text why.ReadFault writes refuses = refuses
+writes_or_refuses Rate bytes text why.WriteFault writes refuses = refuses
+writes_or_refuses Rate bytes text why.NoMemory writes refuses = refuses
+writes_or_refuses Rate bytes text (why.InputTooLong count) writes refuses = refuses
+
+-- bytes where a set is wanted are refused with one status
+one_set_status : (bytes : List ℕ) (r q : Refusal) → RefusesSet bytes r → RefusesSet bytes q → status_of r ≡ status_of q
+one_set_status bytes (why.BadSet r) (why.BadSet q) a b = ap set_status (same_refusal bytes r q a b)
+one_set_status bytes (why.BadSet r) (why.ScaleTooLarge task) a b = absurd (not_both bytes b.0 r b.1 a)
+one_set_status bytes (why.BadSet r) (why.Overload total room) a b = absurd (not_both bytes b.0 r b.2.read a)
+one_set_status bytes (why.ScaleTooLarge task) (why.BadSet q) a b = absurd (not_both bytes a.0 q a.1 b)
+one_set_status bytes (why.ScaleTooLarge task) (why.ScaleTooLarge other) a b = refl
+one_set_status bytes (why.ScaleTooLarge task) (why.Overload total room) a b = absurd (no_pass bytes b.0 a.0 b.1 task b.2 a.1 a.2)
+one_set_status bytes (why.Overload total room) (why.BadSet q) a b = absurd (not_both bytes a.0 q a.2.read b)
+one_set_status bytes (why.Overload total room) (why.ScaleTooLarge task) a b = absurd (no_pass bytes a.0 b.0 a.1 task a.2 b.1 b.2)
+one_set_status bytes (why.Overload total room) (why.Overload other more) a b = refl
+one_set_status bytes why.Usage q a b = absurd a
+one_set_status bytes why.ReadFault q a b = absurd a
+one_set_status bytes why.WriteFault q a b = absurd a
+one_set_status bytes why.NoMemory q a b = absurd a
+one_set_status bytes (why.InputTooLong count) q a b = absurd a
+one_set_status bytes r why.Usage a b = absurd b
+one_set_status bytes r why.ReadFault a b = absurd b
+one_set_status bytes r why.WriteFault a b = absurd b
+one_set_status bytes r why.NoMemory a b = absurd b
+one_set_status bytes r (why.InputTooLong count) a b = absurd b
+
+-- each command refuses bytes with one status
+one_status : (c : Command) (bytes : List ℕ) (r q : Refusal) → Refuses c bytes r → Refuses c bytes q → status_of r ≡ status_of q
+one_status Rate bytes r q a b = one_set_status bytes r q a b
+
+-- the answer, where the command writes a text
+answer_writes : (c : Command) (bytes text : List ℕ) (answer : Status) → length bytes ≤ limit_of c → Writes c bytes text → IsAnswer c bytes answer → Done ≡ answer
+answer_writes c bytes text Done within writes is = refl
+answer_writes c bytes text InputTooLong within writes is = absurd (omega (arith, within, is))
+answer_writes c bytes text BadInput within writes is = absurd (writes_or_refuses c bytes text is.1.0 writes is.1.2)
+answer_writes c bytes text Overload within writes is = absurd (writes_or_refuses c bytes text is.1.0 writes is.1.2)
+answer_writes c bytes text ScaleTooLarge within writes is = absurd (writes_or_refuses c bytes text is.1.0 writes is.1.2)
+answer_writes c bytes text Usage within writes is = absurd is
+answer_writes c bytes text ReadFault within writes is = absurd is
+answer_writes c bytes text WriteFault within writes is = absurd is
+answer_writes c bytes text NoMemory within writes is = absurd is
+
+-- the answer, where the command refuses the bytes
+answer_refuses : (c : Command) (bytes : List ℕ) (r : Refusal) (answer : Status) → length bytes ≤ limit_of c → Refuses c bytes r → IsAnswer c bytes answer → status_of r ≡ answer
+answer_refuses c bytes r Done within refuses is = absurd (writes_or_refuses c bytes is.1.0 r is.1.1 refuses)
+answer_refuses c bytes r InputTooLong within refuses is = absurd (omega (arith, within, is))
+answer_refuses c bytes r BadInput within refuses is = one_status c bytes r is.1.0 refuses is.1.2 ∙ is.1.1
+answer_refuses c bytes r Overload within refuses is = one_status c bytes r is.1.0 refuses is.1.2 ∙ is.1.1
+answer_refuses c bytes r ScaleTooLarge within refuses is = one_status c bytes r is.1.0 refuses is.1.2 ∙ is.1.1
+answer_refuses c bytes r Usage within refuses is = absurd is
+answer_refuses c bytes r ReadFault within refuses is = absurd is
+answer_refuses c bytes r WriteFault within refuses is = absurd is
+answer_refuses c bytes r NoMemory within refuses is = absurd is
+
+-- the answer, where there are more bytes than the command reads
+answer_too_long : (c : Command) (bytes : List ℕ) (answer : Status) → limit_of c < length bytes → IsAnswer c bytes answer → InputTooLong ≡ answer
+answer_too_long c bytes InputTooLong over is = refl
+answer_too_long c bytes Done over is = let within = is.0 in absurd (omega (arith, within, over))
+answer_too_long c bytes BadInput over is = let within = is.0 in absurd (omega (arith, within, over))
+answer_too_long c bytes Overload over is = let within = is.0 in absurd (omega (arith, within, over))
+answer_too_long c bytes ScaleTooLarge over is = let within = is.0 in absurd (omega (arith, within, over))
+answer_too_long c bytes Usage over is = absurd is
+answer_too_long c bytes ReadFault over is = absurd is
+answer_too_long c bytes WriteFault over is = absurd is
+answer_too_long c bytes NoMemory over is = absurd is
+
+done_asked : (c : Command) (left : Option (List ℕ)) (old new : Streams) → old.left ≡ left → IsDone c old new → IsAnswered (Some c) left old new Done
+done_asked c None old new e h = tt
+done_asked c (Some bytes) old new e h = λ unread unwritten answer is.
+    let (given, text, read, writes, took) = h.done in
+    let all : GaveAll (Some bytes) new.left (limit_of c) given = subst (λ (l : Option (List ℕ)). GaveAll l new.left (limit_of c) given) e read in
+    let same : given ≡ bytes = same_bytes bytes given new.left (limit_of c) all in
+    let within : length bytes ≤ limit_of c = subst (λ (b : List ℕ). length b ≤ limit_of c) same all.within in
+    inl (answer_writes c bytes text answer within (subst (λ (b : List ℕ). Writes c b text) same writes) is)
+
+-- a command that was done answered
+pub done_answered : (asked : Option Command) (c : Command) (old new : Streams) → Some c ≡ asked → IsDone c old new → IsAnswered asked old.left old new Done
+done_answered asked c old new e h = subst (λ (a : Option Command). IsAnswered a old.left old new Done) e (done_asked c old.left old new refl h)
+
+refused_by : (c : Command) (bytes given : List ℕ) (left : Option (List ℕ)) (r : Refusal) (answer : Status) → GaveAll (Some bytes) left (limit_of c) given → Refuses c given r
+    → IsAnswer c bytes answer → status_of r ≡ answer
+refused_by c bytes given left r answer all refuses is =
+    let same : given ≡ bytes = same_bytes bytes given left (limit_of c) all in
+    let within : length bytes ≤ limit_of c = subst (λ (b : List ℕ). length b ≤ limit_of c) same all.within in
+    answer_refuses c bytes r answer within (subst (λ (b : List ℕ). Refuses c b r) same refuses) is
+
+stop_answered : (c : Command) (bytes : List ℕ) (old new : Streams) (r : Refusal) (answer : Status) → old.left ≡ Some bytes → Stops c old new r
+    → ¬ (Rose old.read_faults new.read_faults) → ¬ (Rose old.out_faults new.out_faults) → IsAnswer c bytes answer → (status_of r ≡ answer) ⊎ (status_of r ≡ NoMemory)
+stop_answered c bytes old new why.Usage answer e stops unread unwritten is = absurd stops
+stop_answered c bytes old new why.ReadFault answer e stops unread unwritten is = absurd (unread stops.0)
+stop_answered c bytes old new why.NoMemory answer e stops unread unwritten is = inr refl
+stop_answered c bytes old new why.WriteFault answer e stops unread unwritten is = absurd (unwritten stops.5)
+stop_answered c bytes old new (why.InputTooLong count) answer e stops unread unwritten is =
+    let gave : GaveCount (Some bytes) new.left (limit_of c + 1) = subst (λ (n : ℕ). GaveCount (Some bytes) new.left n) stops.0 (subst (λ (l : Option (List ℕ)). GaveCount l new.left count) e stops.1) in
+    inl (answer_too_long c bytes answer (holds_more (Some bytes) new.left (limit_of c) gave) is)
+stop_answered c bytes old new (why.BadSet r) answer e stops unread unwritten is =
+    inl (refused_by c bytes stops.0 new.left (why.BadSet r) answer (subst (λ (l : Option (List ℕ)). GaveAll l new.left (limit_of c) stops.0) e stops.1) stops.2 is)
+stop_answered c bytes old new (why.Overload total room) answer e stops unread unwritten is =
+    inl (refused_by c bytes stops.0 new.left (why.Overload total room) answer (subst (λ (l : Option (List ℕ)). GaveAll l new.left (limit_of c) stops.0) e stops.1) stops.2 is)
+stop_answered c bytes old new (why.ScaleTooLarge task) answer e stops unread unwritten is =
+    inl (refused_by c bytes stops.0 new.left (why.ScaleTooLarge task) answer (subst (λ (l : Option (List ℕ)). GaveAll l new.left (limit_of c) stops.0) e stops.1) stops.2 is)
+
+stops_asked : (c : Command) (left : Option (List ℕ)) (old new : Streams) (err err' : ErrorStream) (r : Refusal) (status : Status) → old.left ≡ left → Stops c old new r → IsRefused r err err' status
+    → IsAnswered (Some c) left old new status
+stops_asked c None old new err err' r status e stops told = tt
+stops_asked c (Some bytes) old new err err' r status e stops told = λ unread unwritten answer is.
+    elim (told.told) [
+      | inl own ↦ elim (stop_answered c bytes old new r answer e stops unread unwritten is) [
+        | inl given ↦ inl (own.0 ∙ given)
+        | inr wanting ↦ inr (own.0 ∙ wanting)
+      ]
+      | inr wanting ↦ inr wanting.1
+    ]
+
+-- a command that stopped answered
+pub stops_answered : (asked : Option Command) (c : Command) (old new : Streams) (err err' : ErrorStream) (r : Refusal) (status : Status) → Some c ≡ asked → Stops c old new r → IsRefused r err err' status
+    → IsAnswered asked old.left old new status
+stops_answered asked c old new err err' r status e stops told =
+    subst (λ (a : Option Command). IsAnswered a old.left old new status) e (stops_asked c old.left old new err err' r status refl stops told)

@@ -1,0 +1,20 @@
+use Rattle.std.proofs.Common.{Err, sym, subst}
+use Rattle.std.specs.Int.{◌∣◌}
+use Rattle.sched_base.specs.declared.sets.Task.{Task}
+use Rattle.sched_edges.specs.Streams.{Wrote}
+use Rattle.sched_edges.proofs.Wrote.{wrote_item}
+use Rattle.rate_scale.proofs.ScaleLemmas.{AllByRecursion-at}
+use Rattle.run_tool.specs.RateText.{rate_line}
+use Rattle.run_tool.proofs.rate_text.write_rates.Goals as goal
+
+pub rate-rate-requires-clause-divides : goal.rate-rate-requires-clause-divides
+rate-rate-requires-clause-divides g c =
+    let divided = rw (← c.tasks-task-items.ensures.value) at c.requires.scale.divided in
+    subst (λ (t : Task). t.period ∣ c.args.scale) (sym c.task-item.is) (AllByRecursion-at (λ (t : Task). t.period ∣ c.args.scale) c.tasks-task-items.result.now c.loop-task.task-index c.task-item.result c.loop-task-test.true divided)
+
+pub returns-in_err-write_all-clause-wrote : goal.returns-in_err-write_all-clause-wrote
+returns-in_err-write_all-clause-wrote g c =
+    let line : Wrote {T = Unit {0}} (g.W.Sink.taken c.loop-task.out) (g.W.Sink.taken c.write_all.new.sink) (rate_line c.args.scale c.task-item.result) (Err c.in_err-write_all.field-0.0) =
+    rw (← c.as_slice.ensures.bytes, ← c.rate-rate.ensures.value, ← c.named_line.ensures, ← c.as_slice-in-loop-task.ensures.bytes) c.in_err-write_all.ensures.wrote in
+    rw (← c.tasks-task-items.ensures.value)
+    (wrote_item (rate_line c.args.scale) c.tasks-task-items.result.now c.loop-task.task-index c.task-item.result _ _ _ _ c.from_residual.result c.loop-task-test.true c.task-item.is c.loop-task.invariant.0 line c.from_residual.ensures.0)

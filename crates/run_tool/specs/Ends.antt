@@ -1,0 +1,103 @@
+-- How a call ends: what was read, what was written, and why.
+use Rattle.std.specs.Prelude.{◌≡◌, ◌⊎◌, ℕ, ◌+◌, ◌≤◌, ◌<◌, List, length, Some, None}
+use Rattle.std.specs.declared.option.Option.{Option}
+use Rattle.std.specs.Io.KnownBytes.{Appends, Keeps}
+use Rattle.sched_edges.specs.Causes.{Rose}
+use Rattle.sched_edges.specs.Streams.{GaveAll, GaveCount, TookPart}
+use Rattle.run_tool.specs.declared.words.Command.{Command}
+use Rattle.run_tool.specs.declared.refusal.Refusal.{Refusal}
+use Rattle.run_tool.specs.declared.refusal.Refusal.TheVariants as why
+use Rattle.run_tool.specs.declared.status.Status.{Status}
+use Rattle.run_tool.specs.declared.status.Status.TheVariants.{Done, NoMemory, BadInput, Overload, ScaleTooLarge, InputTooLong}
+use Rattle.run_tool.specs.Commands.{limit_of, Writes, Refuses}
+use Rattle.run_tool.specs.Refusals.{status_of, refusal_line}
+
+-- the source and `out` at one moment; content is None where a stream doesn't tell it
+pub record Streams : Type 0 where
+  -- the bytes that the source has still to give
+  pub left : Option (List ℕ)
+  pub read_faults : ℕ
+  -- the bytes that `out` took
+  pub out : Option (List ℕ)
+  pub out_faults : ℕ
+
+-- what contracts see of the source and `out`
+abbrev pub streams : Option (List ℕ) → ℕ → Option (List ℕ) → ℕ → Streams
+streams left read_faults out out_faults = record {
+  left = left;
+  read_faults = read_faults;
+  out = out;
+  out_faults = out_faults;
+}
+
+-- what contracts see of `err`
+pub record ErrorStream : Type 0 where
+  pub taken : Option (List ℕ)
+  pub faults : ℕ
+
+abbrev pub error_stream : Option (List ℕ) → ℕ → ErrorStream
+error_stream taken faults = record { taken = taken; faults = faults }
+
+-- nothing was read, and the source didn't fail
+pub record IsUnread (old new : Streams) : Type 0 where
+  pub left : Keeps old.left new.left
+  pub faults : new.read_faults ≡ old.read_faults
+
+-- nothing was written to `err`
+pub record IsQuiet (old new : ErrorStream) : Type 0 where
+  pub taken : Keeps old.taken new.taken
+  pub faults : new.faults ≡ old.faults
+
+-- `err` took this line, or a first part of it where it failed; whether it failed changes nothing else
+pub record Tells (old new : ErrorStream) (line : List ℕ) : Type 0 where
+  pub told : Appends old.taken new.taken line ⊎ (TookPart old.taken new.taken line × Rose old.faults new.faults)
+
+-- the source was read to its end, and gave these bytes
+abbrev pub Read : Command → Streams → Streams → List ℕ → Type 0
+Read c old new bytes = GaveAll old.left new.left (limit_of c) bytes
+
+-- the command was done: `out` took its whole text
+pub record IsDone (c : Command) (old new : Streams) : Type 0 where
+  pub done : (bytes text : List ℕ) × Read c old new bytes × Writes c bytes text × Appends old.out new.out text
+
+-- why a command stopped, and what `out` took of its text
+abbrev pub Stops : Command → Streams → Streams → Refusal → Type 0
+Stops c old new why.Usage = ⊥
+Stops c old new why.ReadFault = Rose old.read_faults new.read_faults × Keeps old.out new.out
+Stops c old new (why.InputTooLong count) = (count ≡ limit_of c + 1) × GaveCount old.left new.left count × Keeps old.out new.out
+Stops c old new why.NoMemory = Keeps old.out new.out
+Stops c old new why.WriteFault = (bytes text : List ℕ) × Read c old new bytes × Writes c bytes text × TookPart old.out new.out text × Rose old.out_faults new.out_faults
+Stops c old new refusal = (bytes : List ℕ) × Read c old new bytes × Refuses c bytes refusal × Keeps old.out new.out
+
+-- how a command ends with this status, and what `err` took
+abbrev pub Ends : Command → Streams → Streams → ErrorStream → ErrorStream → Status → Type 0
+Ends c old new err err' Done = IsDone c old new × IsQuiet err err'
+Ends c old new err err' status = (refusal : Refusal) × (status_of refusal ≡ status) × Stops c old new refusal × Tells err err' (refusal_line refusal)
+
+-- words that are no command line: nothing was read or written, and `err` took the line that says so
+pub record IsUsage (old new : Streams) (err err' : ErrorStream) : Type 0 where
+  pub unread : IsUnread old new
+  pub out : Keeps old.out new.out
+  pub out_faults : new.out_faults ≡ old.out_faults
+  pub line : Tells err err' (refusal_line why.Usage)
+
+-- the command refuses these bytes with this status
+abbrev pub Refused : Command → List ℕ → Status → Type 0
+Refused c bytes status = (length bytes ≤ limit_of c) × ((refusal : Refusal) × (status_of refusal ≡ status) × Refuses c bytes refusal)
+
+-- the answer for these bytes, where nothing fails and memory is there
+abbrev pub IsAnswer : Command → List ℕ → Status → Type 0
+IsAnswer c bytes Done = (length bytes ≤ limit_of c) × ((text : List ℕ) × Writes c bytes text)
+IsAnswer c bytes InputTooLong = limit_of c < length bytes
+IsAnswer c bytes BadInput = Refused c bytes BadInput
+IsAnswer c bytes Overload = Refused c bytes Overload
+IsAnswer c bytes ScaleTooLarge = Refused c bytes ScaleTooLarge
+IsAnswer c bytes _ = ⊥
+
+-- where the source tells its bytes and nothing fails, their answer is given, or memory was refused
+abbrev pub IsAnswered : Option Command → Option (List ℕ) → Streams → Streams → Status → Type 0
+IsAnswered None left old new status = Unit {0}
+IsAnswered (Some c) None old new status = Unit {0}
+IsAnswered (Some c) (Some bytes) old new status =
+    ¬ (Rose old.read_faults new.read_faults) → ¬ (Rose old.out_faults new.out_faults) →
+    (answer : Status) → IsAnswer c bytes answer → (status ≡ answer) ⊎ (status ≡ NoMemory)

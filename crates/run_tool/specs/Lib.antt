@@ -1,0 +1,8 @@
+pub mod Status
+pub mod Words
+pub mod Refusals
+pub mod RateText
+pub mod Commands
+pub mod Rate
+pub mod Ends
+pub mod Refuse

@@ -1,0 +1,89 @@
+-- The lines of refusals.
+use Rattle.std.specs.Prelude.{ℕ, nat_le, ◌&&◌, if◌then◌else◌, List, [], ◌∷◌, ◌++◌, map, codes, decimal}
+use Rattle.std.specs.Fmt.{signed_decimal}
+use Rattle.sched_edges.specs.Lines.{line_of}
+use Rattle.task_reader.specs.declared.refusals.Place.{Place}
+use Rattle.task_reader.specs.declared.refusals.Place.TheVariants as place
+use Rattle.task_reader.specs.declared.refusals.ReadSet.{ReadSet}
+use Rattle.task_reader.specs.declared.refusals.ReadSet.TheVariants as set
+use Rattle.task_reader.specs.Keys.{key_text}
+use Rattle.run_tool.specs.declared.refusal.Refusal.{Refusal}
+use Rattle.run_tool.specs.declared.refusal.Refusal.TheVariants.{Usage, ReadFault, WriteFault, NoMemory, BadSet, Overload, ScaleTooLarge, InputTooLong}
+use Rattle.run_tool.specs.declared.status.Status.{Status}
+use Rattle.run_tool.specs.declared.status.Status.TheVariants as status
+use Rattle.run_tool.specs.Status.{code_of}
+
+-- the status of bytes that are no set
+abbrev pub set_status : ReadSet → Status
+set_status set.NoMemory = status.NoMemory
+set_status _ = status.BadInput
+
+-- the status with which a refusal ends the call
+abbrev pub status_of : Refusal → Status
+status_of Usage = status.Usage
+status_of ReadFault = status.ReadFault
+status_of WriteFault = status.WriteFault
+status_of NoMemory = status.NoMemory
+status_of (BadSet refusal) = set_status refusal
+status_of (Overload total room) = status.Overload
+status_of (ScaleTooLarge task) = status.ScaleTooLarge
+status_of (InputTooLong count) = status.InputTooLong
+
+-- a byte of an unknown key as it is printed: `?` for one that isn't from 33 to 126
+abbrev pub printed_byte : ℕ → ℕ
+printed_byte b = if nat_le 33 b && nat_le b 126 then b else 63
+
+-- `top`, or `task` and its index
+abbrev pub place_words : Place → List (List ℕ)
+place_words place.Top = codes "top" ∷ []
+place_words (place.Task i) = codes "task" ∷ decimal i ∷ []
+
+-- the words that tell of a place, and one more
+abbrev pub place_and : Place → List ℕ → List (List ℕ)
+place_and place.Top word = codes "top" ∷ word ∷ []
+place_and (place.Task i) word = codes "task" ∷ decimal i ∷ word ∷ []
+
+-- why bytes are no set
+abbrev pub set_words : ReadSet → List (List ℕ)
+set_words set.NotToml = codes "NotToml" ∷ []
+set_words (set.UnknownKey p key) = codes "UnknownKey" ∷ place_and p (map printed_byte key)
+set_words (set.Missing p key) = codes "Missing" ∷ place_and p (key_text key)
+set_words (set.WrongKind p key) = codes "WrongKind" ∷ place_and p (key_text key)
+set_words (set.BadProcessors value) = codes "BadProcessors" ∷ signed_decimal value ∷ []
+set_words (set.BadHorizon value) = codes "BadHorizon" ∷ signed_decimal value ∷ []
+set_words (set.TooManyTasks count) = codes "TooManyTasks" ∷ decimal count ∷ []
+set_words (set.BadName index) = codes "BadName" ∷ decimal index ∷ []
+set_words (set.SameName index) = codes "SameName" ∷ decimal index ∷ []
+set_words (set.BadPeriod index) = codes "BadPeriod" ∷ decimal index ∷ []
+set_words (set.BadWork index) = codes "BadWork" ∷ decimal index ∷ []
+set_words (set.BadOffset index) = codes "BadOffset" ∷ decimal index ∷ []
+set_words set.NoMemory = codes "NoMemory" ∷ []
+
+-- why a command wasn't done
+abbrev pub refusal_words : Refusal → List (List ℕ)
+refusal_words Usage = codes "Usage" ∷ []
+refusal_words ReadFault = codes "ReadFault" ∷ []
+refusal_words WriteFault = codes "WriteFault" ∷ []
+refusal_words NoMemory = codes "NoMemory" ∷ []
+refusal_words (BadSet refusal) = set_words refusal
+refusal_words (Overload total room) = codes "Overload" ∷ codes "total" ∷ decimal total ∷ codes "room" ∷ decimal room ∷ []
+refusal_words (ScaleTooLarge task) = codes "ScaleTooLarge" ∷ codes "task" ∷ decimal task ∷ []
+refusal_words (InputTooLong count) = codes "InputTooLong" ∷ decimal count ∷ []
+
+-- the line of a refusal: `refused`, the status, and why
+unfoldable pub refusal_line : Refusal → List ℕ
+refusal_line refusal = line_of (codes "refused") (decimal (code_of (status_of refusal)) ∷ refusal_words refusal)
+
+-- what a line has of a place
+abbrev pub place_text : Place → List ℕ
+place_text place.Top = 32 ∷ codes "top"
+place_text (place.Task i) = 32 ∷ (codes "task" ++ (32 ∷ decimal i))
+
+-- whether the line is short: any but that of an unknown key, whose text may be long
+abbrev pub IsShortSet : ReadSet → Type 0
+IsShortSet (set.UnknownKey p key) = ⊥
+IsShortSet _ = Unit {0}
+
+abbrev pub IsShort : Refusal → Type 0
+IsShort (BadSet refusal) = IsShortSet refusal
+IsShort _ = Unit {0}

@@ -1,0 +1,16 @@
+-- The numbers of statuses.
+use Rattle.std.specs.Prelude.{ℕ}
+use Rattle.run_tool.specs.declared.status.Status.{Status}
+use Rattle.run_tool.specs.declared.status.Status.TheVariants.{Done, Usage, ReadFault, WriteFault, NoMemory, BadInput, Overload, ScaleTooLarge, InputTooLong}
+
+-- the exit status of the program
+abbrev pub code_of : Status → ℕ
+code_of Done = 0
+code_of Usage = 2
+code_of ReadFault = 3
+code_of WriteFault = 4
+code_of NoMemory = 5
+code_of BadInput = 6
+code_of Overload = 7
+code_of ScaleTooLarge = 8
+code_of InputTooLong = 12

@@ -1,0 +1,19 @@
+//! The commands, from the words and the bytes given to the status and the bytes written.
+#![tactic(auto)]
+
+mod rate;
+mod rate_text;
+mod refusal;
+mod refusal_line;
+mod status;
+mod top;
+mod words;
+
+pub use rate_text::write_rate;
+pub use refusal::Refusal;
+pub use status::Status;
+pub use top::run_still;
+pub use words::{Command, command_of};
+
+#[cfg(test)]
+mod tests;

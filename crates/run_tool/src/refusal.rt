@@ -1,0 +1,46 @@
+//! Refusals, and their lines.
+ghost use Rattle.std.specs.Prelude.{◌≡◌, ◌≤◌, ◌<◌, ◌+◌, ◌++◌, ◌∷◌, [], length, IfOk};
+ghost use Rattle.run_tool.specs.Refusals.{status_of};
+
+use crate::status::Status;
+use task_reader::ReadSet;
+
+/// Why a command wasn't done.
+#[derive(Drop)]
+pub enum Refusal {
+    /// The words are no command line.
+    Usage,
+    /// The source failed.
+    ReadFault,
+    /// The sink failed.
+    WriteFault,
+    /// Memory was refused.
+    NoMemory,
+    /// The bytes are no task set, for this reason.
+    BadSet(ReadSet),
+    /// The tasks ask for `total` ticks in each unit, and there are `room`.
+    Overload { total: u128, room: u128 },
+    /// This task's period brings the scale past 2^94.
+    ScaleTooLarge { task: u32 },
+    /// The source gave that many bytes, one more than the command reads.
+    InputTooLong { count: u64 },
+}
+
+impl Refusal {
+    /// The status with which it ends the call.
+    pub fn status(&self) -> Status
+        ensures { result ≡ status_of self.now }
+    {
+        match self {
+            Refusal::Usage => Status::Usage,
+            Refusal::ReadFault => Status::ReadFault,
+            Refusal::WriteFault => Status::WriteFault,
+            Refusal::NoMemory => Status::NoMemory,
+            Refusal::BadSet(ReadSet::NoMemory) => Status::NoMemory,
+            Refusal::BadSet(_) => Status::BadInput,
+            Refusal::Overload { .. } => Status::Overload,
+            Refusal::ScaleTooLarge { .. } => Status::ScaleTooLarge,
+            Refusal::InputTooLong { .. } => Status::InputTooLong,
+        }
+    }
+}

@@ -1,0 +1,45 @@
+//! Statuses.
+ghost use Rattle.std.specs.Prelude.{◌≡◌};
+ghost use Rattle.run_tool.specs.Status.{code_of};
+
+/// How a call ended. Its code is the exit status of the program.
+#[derive(Clone, Copy, Debug, PartialEq, Eq)]
+pub enum Status {
+    /// The command was done, and its whole text was written.
+    Done,
+    /// The words are no command line. Nothing was read.
+    Usage,
+    /// The source failed.
+    ReadFault,
+    /// The sink failed, after a first part of the text.
+    WriteFault,
+    /// Memory was refused. No clause says when.
+    NoMemory,
+    /// The bytes were refused as what the command reads.
+    BadInput,
+    /// The tasks ask for more than the processors have.
+    Overload,
+    /// The scale exceeds 2^94.
+    ScaleTooLarge,
+    /// The source gave more bytes than the command reads.
+    InputTooLong,
+}
+
+impl Status {
+    /// The number of the status.
+    pub fn code(self) -> u8
+        ensures { result ≡ code_of self }
+    {
+        match self {
+            Status::Done => 0,
+            Status::Usage => 2,
+            Status::ReadFault => 3,
+            Status::WriteFault => 4,
+            Status::NoMemory => 5,
+            Status::BadInput => 6,
+            Status::Overload => 7,
+            Status::ScaleTooLarge => 8,
+            Status::InputTooLong => 12,
+        }
+    }
+}

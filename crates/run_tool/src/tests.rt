@@ -1,0 +1,224 @@
+//! The command `rate`, from the words and the bytes to the status and the bytes written: worked sets, and faults in
+//! mid-stream.
+use crate::{Status, run_still};
+use sched_edges::{MemSink, MemSource};
+use std::alloc::Global;
+use std::test::Fail;
+
+const THREE_TASKS: &str =
+    "processors = 2\nhorizon = 3\ntask = [{name = \"a\", work = 2, period = 3}, {name = \"b\", work = 2, period = 3}, {name = \"c\", work = 2, period = 3}]\n";
+
+const THREE_RATES: &str =
+    "processors 2\nhorizon 3\ntasks 3\nscale 3\nrate a 2\nrate b 2\nrate c 2\ntotal 6\nroom 6\nverdict fits\n";
+
+/// What a call left: its status, and what `out` and `err` took.
+#[derive(Drop)]
+struct Left {
+    status: Status,
+    out: Vec<u8>,
+    err: Vec<u8>,
+}
+
+/// The call numbers that fail, of the source, `out` and `err`.
+#[derive(Clone, Copy)]
+struct Fails {
+    source: &'static [u64],
+    out: &'static [u64],
+    err: &'static [u64],
+}
+
+const NONE: Fails = Fails {
+    source: &[],
+    out: &[],
+    err: &[],
+};
+
+fn call(alloc: Global, words: &[&str], input: &[u8], fails: Fails) -> Result<Left, Fail> {
+    let mut source = MemSource::new(alloc, input, fails.source)?;
+    let mut out = MemSink::new(alloc, 4096, fails.out)?;
+    let mut err = MemSink::new(alloc, 4096, fails.err)?;
+    let mut owned = Vec::new(alloc);
+    for word in words {
+        owned.push(String::from_str(alloc, word)?)?;
+    }
+    let status = run_still(alloc, &owned, &mut source, &mut out, &mut err);
+    Ok(Left {
+        status,
+        out: Vec::from_slice(alloc, out.taken())?,
+        err: Vec::from_slice(alloc, err.taken())?,
+    })
+}
+
+#[test]
+fn each_end_has_its_texts(rt: HostRuntime) -> Result<(), Fail> {
+    let rows = [
+        (THREE_TASKS, Status::Done, THREE_RATES, ""),
+        (
+            "processors = 2\nhorizon = 1\n",
+            Status::Done,
+            "processors 2\nhorizon 1\ntasks 0\nscale 1\ntotal 0\nroom 2\nverdict fits\n",
+            "",
+        ),
+        (
+            "processors = 1\nhorizon = 1\ntask = [{name = \"a\", work = 1, period = 4294967295}, {name = \"b\", work = 1, period = 4294967294}, {name = \"c\", work = 1, period = 1073741822}]\n",
+            Status::Done,
+            "processors 1\nhorizon 1\ntasks 3\nscale 9903520288918769111801004030\nrate a 2305843003844984834\nrate b 2305843004381855745\nrate c 9223372030412324865\ntotal 13835058038639165444\nroom 9903520288918769111801004030\nverdict fits\n",
+            "",
+        ),
+        (
+            "processors = 1\nhorizon = 6\ntask = [{name = \"a\", work = 2, period = 3}, {name = \"b\", work = 1, period = 2}]\n",
+            Status::Overload,
+            "",
+            "refused 7 Overload total 7 room 6\n",
+        ),
+        (
+            "processors = 1\nhorizon = 1\ntask = [{name = \"a\", work = 1, period = 4294967295}, {name = \"b\", work = 1, period = 4294967294}, {name = \"c\", work = 1, period = 4294967293}]\n",
+            Status::ScaleTooLarge,
+            "",
+            "refused 8 ScaleTooLarge task 2\n",
+        ),
+        // It asks for too much besides, which comes later in the order.
+        (
+            "processors = 1\nhorizon = 1\ntask = [{name = \"a\", work = 4294967295, period = 4294967295}, {name = \"b\", work = 4294967294, period = 4294967294}, {name = \"c\", work = 4294967293, period = 4294967293}]\n",
+            Status::ScaleTooLarge,
+            "",
+            "refused 8 ScaleTooLarge task 2\n",
+        ),
+        (
+            "",
+            Status::BadInput,
+            "",
+            "refused 6 Missing top processors\n",
+        ),
+        (
+            "processors = 2\nhorizon = 3\n[[task]]\nname = \"a",
+            Status::BadInput,
+            "",
+            "refused 6 NotToml\n",
+        ),
+        (
+            "processors = -9223372036854775808\nhorizon = 3\n",
+            Status::BadInput,
+            "",
+            "refused 6 BadProcessors -9223372036854775808\n",
+        ),
+        (
+            "processors = 1\nhorizon = 3\ntask = [{name = \"a\", work = 4, period = 3}]\n",
+            Status::BadInput,
+            "",
+            "refused 6 BadWork 0\n",
+        ),
+        (
+            "processors = 2\nhorizon = 3\ntask = [{name = \"a\", work = 2, period = 3, deadline = 3}]\n",
+            Status::BadInput,
+            "",
+            "refused 6 UnknownKey task 0 deadline\n",
+        ),
+        (
+            "processors = 2\nhorizon = 3\n\"a \\u00E9~\" = 1\n",
+            Status::BadInput,
+            "",
+            "refused 6 UnknownKey top a???~\n",
+        ),
+        (
+            "processors = 2\nhorizon = \"x\"\n",
+            Status::BadInput,
+            "",
+            "refused 6 WrongKind top horizon\n",
+        ),
+        (
+            "processors = 2\nhorizon = 3\ntask = [{name = \"a\", work = 2, period = 3, offset = -1}]\n",
+            Status::BadInput,
+            "",
+            "refused 6 BadOffset 0\n",
+        ),
+    ];
+    for (input, status, out, err) in rows {
+        let left = call(rt.alloc(), &["rate"], input.as_bytes(), NONE)?;
+        assert_eq!(rt; left.status, status, "of {input}");
+        assert_eq!(rt; left.out.as_slice(), out.as_bytes(), "of {input}");
+        assert_eq!(rt; left.err.as_slice(), err.as_bytes(), "of {input}");
+    }
+    Ok(())
+}
+
+#[test]
+fn other_words_are_no_line(rt: HostRuntime) -> Result<(), Fail> {
+    let rows: [&[&str]; 6] = [
+        &[],
+        &["run"],
+        &["rate", "x"],
+        &["rate", "rate"],
+        &["--help"],
+        &["Rate"],
+    ];
+    for words in rows {
+        let left = call(rt.alloc(), words, THREE_TASKS.as_bytes(), NONE)?;
+        assert_eq!(rt; left.status, Status::Usage);
+        assert_eq!(rt; left.status.code(), 2);
+        assert_eq!(rt; left.out.as_slice(), b"".as_slice());
+        assert_eq!(rt; left.err.as_slice(), b"refused 2 Usage\n".as_slice());
+    }
+    Ok(())
+}
+
+#[test]
+fn faults_leave_a_first_part(rt: HostRuntime) -> Result<(), Fail> {
+    let rows = [
+        // The first read gives all, and the second one is to find the end.
+        (
+            Fails {
+                source: &[2],
+                ..NONE
+            },
+            Status::ReadFault,
+            "",
+            "refused 3 ReadFault\n",
+        ),
+        // Each line is one piece.
+        (
+            Fails { out: &[3], ..NONE },
+            Status::WriteFault,
+            "processors 2\nhorizon 3\n",
+            "refused 4 WriteFault\n",
+        ),
+        // A fault of `err` changes nothing.
+        (
+            Fails {
+                source: &[1],
+                err: &[1],
+                ..NONE
+            },
+            Status::ReadFault,
+            "",
+            "",
+        ),
+        (Fails { err: &[1], ..NONE }, Status::Done, THREE_RATES, ""),
+    ];
+    for (fails, status, out, err) in rows {
+        let left = call(rt.alloc(), &["rate"], THREE_TASKS.as_bytes(), fails)?;
+        assert_eq!(rt; left.status, status);
+        assert_eq!(rt; left.out.as_slice(), out.as_bytes());
+        assert_eq!(rt; left.err.as_slice(), err.as_bytes());
+    }
+    Ok(())
+}
+
+#[test]
+fn a_set_has_at_most_a_mebibyte(rt: HostRuntime) -> Result<(), Fail> {
+    let mut bytes = Vec::from_slice(rt.alloc(), THREE_TASKS.as_bytes())?;
+    while bytes.len() < 1_048_576 {
+        bytes.push(b'\n')?;
+    }
+    let left = call(rt.alloc(), &["rate"], &bytes, NONE)?;
+    assert_eq!(rt; left.status, Status::Done);
+    assert_eq!(rt; left.out.as_slice(), THREE_RATES.as_bytes());
+    bytes.push(b'\n')?;
+    let left = call(rt.alloc(), &["rate"], &bytes, NONE)?;
+    assert_eq!(rt; left.status, Status::InputTooLong);
+    assert_eq!(rt;
+        left.err.as_slice(),
+        b"refused 12 InputTooLong 1048577\n".as_slice()
+    );
+    Ok(())
+}

@@ -1,0 +1,46 @@
+//! The top call.
+ghost use Rattle.std.specs.Prelude.{◌≡◌, ◌↔◌, map, string_bytes, None, Some};
+ghost use Rattle.run_tool.specs.Words.{command_of};
+ghost use Rattle.run_tool.specs.Ends.{streams, error_stream, IsDone, IsUsage, Ends, IsAnswered};
+ghost use Rattle.run_tool.specs.declared.words.Command.{Command};
+
+use crate::rate::rate;
+use crate::refusal::Refusal;
+use crate::refusal_line::refuse;
+use crate::status::Status;
+use crate::words::{Command, command_of};
+use sched_edges::{Sink, Source};
+use std::alloc::Global;
+
+/// Does what the words, those after the program's name, ask for: reads the source, writes the whole text to `out`, or one line
+/// that says why not to `err`. It takes all its memory before the first byte goes to `out`, and it always returns.
+///
+/// The clauses speak of bytes where a stream tells its content. Want of memory alone has no cause.
+pub fn run_still<R: Source, W: Sink, E: Sink>(
+    alloc: Global,
+    words: &[String],
+    source: &mut R,
+    out: &mut W,
+    err: &mut E,
+) -> Status
+    // Words that are no command line leave all as it was.
+    ensures usage { (result ≡ Status.Usage) ↔ (command_of (map string_bytes words.now) ≡ None) }
+    ensures unread { result ≡ Status.Usage → IsUsage (streams (R.left source.old) (R.faults source.old) (W.taken out.old) (W.faults out.old)) (streams (R.left source.new) (R.faults source.new) (W.taken out.new) (W.faults out.new)) (error_stream (E.taken err.old) (E.faults err.old)) (error_stream (E.taken err.new) (E.faults err.new)) }
+
+    // Done: `out` took exactly the text that the command writes for the bytes that the source gave.
+    ensures done { result ≡ Status.Done → (c : Command) × (command_of (map string_bytes words.now) ≡ Some c) × IsDone c (streams (R.left source.old) (R.faults source.old) (W.taken out.old) (W.faults out.old)) (streams (R.left source.new) (R.faults source.new) (W.taken out.new) (W.faults out.new)) }
+
+    // Each status comes only for its reason, and `err` took its line.
+    ensures ends { (c : Command) → command_of (map string_bytes words.now) ≡ Some c → Ends c (streams (R.left source.old) (R.faults source.old) (W.taken out.old) (W.faults out.old)) (streams (R.left source.new) (R.faults source.new) (W.taken out.new) (W.faults out.new)) (error_stream (E.taken err.old) (E.faults err.old)) (error_stream (E.taken err.new) (E.faults err.new)) result }
+
+    // Where nothing fails, the answer for the bytes is given.
+    ensures answered { IsAnswered (command_of (map string_bytes words.now)) (R.left source.old) (streams (R.left source.old) (R.faults source.old) (W.taken out.old) (W.faults out.old)) (streams (R.left source.new) (R.faults source.new) (W.taken out.new) (W.faults out.new)) result }
+{
+    match command_of(words) {
+        None => refuse(alloc, &Refusal::Usage, err),
+        Some(Command::Rate) => match rate(alloc, source, out) {
+            Ok(()) => Status::Done,
+            Err(refusal) => refuse(alloc, &refusal, err),
+        },
+    }
+}
