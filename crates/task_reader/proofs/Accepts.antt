@@ -1,20 +1,19 @@
 -- A tree that isn't refused writes its set, and the set is lawful.
-use Rattle.std.proofs.Common.{◌≡◌, ℕ, suc, ℤ, pos, negsuc, true, cond, List, [], map, Ok, Option, Some, None, is_some, unwrap_or, option_map, option_and_then, refl, sym, ◌∙◌, ap, subst, inl, inr}
+use Rattle.std.proofs.Common.{◌≡◌, ℕ, suc, pos, true, cond, List, [], map, Ok, Option, Some, None, is_some, unwrap_or, option_and_then, refl, sym, ◌∙◌, ap, subst, inl, inr}
 use Rattle.std.proofs.lemmas.Bool.{cases_Bool}
 use Rattle.std.specs.List.{AllByRecursion}
 use Rattle.std.specs.Option.{option_or}
 use Rattle.std.specs.Str.{is_utf8}
-use Rattle.toml.specs.Data.{Data, string, integer, float, boolean, datetime, array, table, Items, no_items, item, Members, get_member, as_str, as_integer, as_array}
+use Rattle.toml.specs.Data.{Data, string, integer, float, boolean, datetime, array, table, Items, no_items, item, Members, as_str, as_integer, as_array}
 use Rattle.toml.specs.Parse.{parse_document}
 use Rattle.sched_base.specs.Sets.{SetContents, IsLawful}
 use Rattle.task_reader.specs.declared.refusals.ReadSet.{ReadSet}
 use Rattle.task_reader.specs.declared.refusals.ReadSet.TheVariants.{UnknownKey}
 use Rattle.task_reader.specs.declared.refusals.Key.TheVariants as key
-use Rattle.task_reader.specs.declared.refusals.Place.{Place}
 use Rattle.task_reader.specs.declared.refusals.Place.TheVariants as place
 use Rattle.task_reader.specs.Tree.{Placed, number_at, tasks_of, task_place, placed_from}
 use Rattle.task_reader.specs.Written.{natural, written_in, written_tasks, task_of}
-use Rattle.task_reader.specs.Members.{first_refusal, least_unknown, unknown_at, missing_key, missing_at, wrong_key, wrong_at, unknown, missing, wrong}
+use Rattle.task_reader.specs.Members.{first_refusal, unknown_at, missing_key, missing_at, wrong_key, wrong_at, unknown, missing, wrong}
 use Rattle.task_reader.specs.Limits.{bad_processors, bad_horizon, too_many, bad_name, same_name, bad_period, bad_work, bad_offset}
 use Rattle.task_reader.specs.Reading.{refusal_of, set_of, answer_of, document_read_from, set_read_from}
 use Rattle.task_reader.specs.Writes.{WritesOffset, WritesTask, WritesTasks, WritesArray, Writes}

@@ -5,11 +5,10 @@ use Rattle.std.proofs.lemmas.Bool.Decides.{nat_tests}
 use Rattle.std.proofs.lemmas.Iterator.Adapters.{position_from-zero}
 use Rattle.std.proofs.lemmas.List.{length-map, map-append, drop_more, take-append-drop}
 use Rattle.std.proofs.lemmas.Slice.Eq.{bytes_eq-Decides}
-use Rattle.std.specs.List.{AllByRecursion, list_any, position, position_from}
+use Rattle.std.specs.List.{AllByRecursion, position, position_from}
 use Rattle.std.specs.Str.{bytes_eq}
 use Rattle.sched_base.specs.declared.sets.Task.{Task}
 use Rattle.sched_base.specs.Sets.{IsFree, NamesDiffer, IsLawfulTask, IsLawful}
-use Rattle.task_reader.specs.declared.refusals.ReadSet.{ReadSet}
 use Rattle.task_reader.specs.declared.refusals.ReadSet.TheVariants.{BadProcessors, BadHorizon, TooManyTasks, BadName, SameName, BadPeriod, BadWork, BadOffset}
 use Rattle.task_reader.specs.Written.{WrittenTask, natural, task_of}
 use Rattle.task_reader.specs.Limits.{is_within, is_repeated, first_repeated, has_bad_name, has_bad_period, has_bad_work, has_bad_offset, bad_processors, bad_horizon, too_many, bad_name, same_name, bad_period, bad_work, bad_offset}

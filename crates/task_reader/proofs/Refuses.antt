@@ -7,16 +7,16 @@ use Rattle.std.proofs.lemmas.Slice.Eq.{bytes_eq-Decides}
 use Rattle.std.specs.List.{AllByRecursion}
 use Rattle.std.specs.Option.{option_or}
 use Rattle.std.specs.Str.{bytes_eq, is_utf8}
-use Rattle.toml.specs.Data.{Data, integer, array, table, Items, no_items, item, Members, get_member, as_integer, as_array}
+use Rattle.toml.specs.Data.{Data, table, Items, no_items, item, Members, as_integer, as_array}
 use Rattle.toml.specs.Parse.{parse_document}
 use Rattle.sched_base.specs.declared.sets.Task.{Task}
 use Rattle.sched_base.specs.Sets.{SetContents, IsLawful, IsLawfulTask, IsFree, NamesDiffer}
 use Rattle.task_reader.specs.declared.refusals.ReadSet.TheVariants.{WrongKind}
 use Rattle.task_reader.specs.declared.refusals.Key.TheVariants as key
 use Rattle.task_reader.specs.declared.refusals.Place.TheVariants as place
-use Rattle.task_reader.specs.Tree.{Placed, number_at, tasks_of, task_place, placed_from}
+use Rattle.task_reader.specs.Tree.{number_at, tasks_of, task_place}
 use Rattle.task_reader.specs.Written.{WrittenTask, written_in, written_tasks, task_of}
-use Rattle.task_reader.specs.Members.{first_refusal, unknown_at, missing_at, wrong_at, unknown, missing, wrong}
+use Rattle.task_reader.specs.Members.{unknown_at, missing_at, wrong_at, unknown, missing, wrong}
 use Rattle.task_reader.specs.Limits.{is_within, is_repeated, first_repeated, has_bad_name, has_bad_period, has_bad_work, has_bad_offset, bad_processors, bad_horizon, too_many, bad_name, same_name, bad_period, bad_work, bad_offset}
 use Rattle.task_reader.specs.Reading.{refusal_of, set_of, set_read_from}
 use Rattle.task_reader.specs.Writes.{WritesOffset, WritesTask, WritesTasks, WritesArray, Writes}

@@ -21,39 +21,50 @@ abbrev pub first_repeated : List WrittenTask → ℕ → List WrittenTask → Op
 first_repeated earlier i [] = None
 first_repeated earlier i (t ∷ ts) = if is_repeated earlier t then Some i else first_repeated (earlier ++ t ∷ []) (suc i) ts
 
+-- whether the name isn't lawful
 abbrev pub has_bad_name : WrittenTask → Bool
 has_bad_name t = not (is_lawful_name t.name)
 
+-- whether the period isn't 1 to 4294967295 units
 abbrev pub has_bad_period : WrittenTask → Bool
 has_bad_period t = not (is_within 1 (2 ^ 32 - 1) t.period)
 
--- the period is looked at first
+-- whether the work isn't 1 unit up to the period, which is looked at before
 abbrev pub has_bad_work : WrittenTask → Bool
 has_bad_work t = not (is_within 1 (natural t.period) t.work)
 
+-- whether the offset isn't 0 to 4294967295 units
 abbrev pub has_bad_offset : WrittenTask → Bool
 has_bad_offset t = not (is_within 0 (2 ^ 32 - 1) t.offset)
 
+-- the processors, if they aren't 1 to 32
 abbrev pub bad_processors : ℤ → Option ReadSet
 bad_processors z = if is_within 1 32 z then None else Some (BadProcessors z)
 
+-- the horizon, if it isn't 1 to 4294967295 units
 abbrev pub bad_horizon : ℤ → Option ReadSet
 bad_horizon z = if is_within 1 (2 ^ 32 - 1) z then None else Some (BadHorizon z)
 
+-- the tasks, if they are more than 256
 abbrev pub too_many : List WrittenTask → Option ReadSet
 too_many ts = if nat_le (length ts) 256 then None else Some (TooManyTasks (length ts))
 
+-- the first task whose name isn't lawful
 abbrev pub bad_name : List WrittenTask → Option ReadSet
 bad_name ts = option_map (λ i. BadName i) (position has_bad_name ts)
 
+-- the first task that has an earlier one's name
 abbrev pub same_name : List WrittenTask → Option ReadSet
 same_name ts = option_map (λ i. SameName i) (first_repeated [] 0 ts)
 
+-- the first task whose period is out of its limits
 abbrev pub bad_period : List WrittenTask → Option ReadSet
 bad_period ts = option_map (λ i. BadPeriod i) (position has_bad_period ts)
 
+-- the first task whose work is out of its limits
 abbrev pub bad_work : List WrittenTask → Option ReadSet
 bad_work ts = option_map (λ i. BadWork i) (position has_bad_work ts)
 
+-- the first task whose offset is out of its limits
 abbrev pub bad_offset : List WrittenTask → Option ReadSet
 bad_offset ts = option_map (λ i. BadOffset i) (position has_bad_offset ts)

@@ -7,7 +7,6 @@ use Rattle.task_reader.specs.declared.refusals.Key.TheVariants as key
 use Rattle.task_reader.specs.declared.refusals.Place.{Place}
 use Rattle.task_reader.specs.declared.refusals.Place.TheVariants as place
 use Rattle.task_reader.specs.Keys.{key_text, is_known}
-use Rattle.task_reader.specs.Tree.{task_place}
 
 -- the table has no other key than those of its place
 abbrev pub HasOnlyKnown : Place → Members → Type 0

@@ -1,6 +1,5 @@
-use Rattle.std.proofs.Common.{◌≡◌, true, false, ◌∷◌, String, Global, string_bytes, sym, ◌∙◌}
+use Rattle.std.proofs.Common.{◌≡◌, true, false, string_bytes, sym}
 use Rattle.toml.specs.View.{table_view}
-use Rattle.toml.specs.declared.value.Value.{Value}
 use Rattle.task_reader.specs.Keys.{is_known}
 use Rattle.task_reader.proofs.MembersLemmas.{least_unknown-first, least_unknown-known}
 use Rattle.task_reader.proofs.members.least_unknown.Goals as goal

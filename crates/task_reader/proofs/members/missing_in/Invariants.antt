@@ -1,6 +1,5 @@
 use Rattle.std.proofs.Common.{◌≡◌, drop}
 use Rattle.toml.specs.View.{table_view}
-use Rattle.task_reader.specs.Keys.{needed_keys_of}
 use Rattle.task_reader.specs.Members.{first_refusal, missing_key}
 use Rattle.task_reader.proofs.members.missing_in.Given as goal
 

@@ -1,6 +1,5 @@
 use Rattle.std.proofs.Common.{◌≡◌, drop}
 use Rattle.toml.specs.View.{table_view}
-use Rattle.task_reader.specs.Keys.{keys_of}
 use Rattle.task_reader.specs.Members.{first_refusal, wrong_key}
 use Rattle.task_reader.proofs.members.wrong_in.Given as goal
 
