@@ -1,2 +1,1 @@
-pub mod EarliestLemmas
 pub mod PickLemmas

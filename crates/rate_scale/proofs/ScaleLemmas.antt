@@ -11,12 +11,6 @@ use Rattle.sched_base.specs.Scale.{PeriodsDivide, IsScale, PassesAt}
 use Rattle.rate_scale.specs.Multiples.{IsLcm}
 use Rattle.rate_scale.proofs.MultipleLemmas.{some_lcm}
 
--- what holds of each element holds of element i
-pub AllByRecursion-at : {A : Type 0} (P : A → Type 0) (xs : List A) (i : ℕ) (d : A) → i < length xs → AllByRecursion P xs → P (get_or xs i d)
-AllByRecursion-at P [] i d h all = absurd (omega arith)
-AllByRecursion-at P (x ∷ xs) zero d h all = all.0
-AllByRecursion-at P (x ∷ xs) (suc i) d h all = AllByRecursion-at P xs i d (omega arith) all.1
-
 -- two scales of the same tasks are one
 pub same_scale : (tasks : List Task) (a b : ℕ) → IsScale tasks a → IsScale tasks b → a ≡ b
 same_scale tasks a b left right = le_antisymm (left.least b right.positive right.divided) (right.least a left.positive left.divided)

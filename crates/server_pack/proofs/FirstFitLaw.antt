@@ -5,23 +5,12 @@ use Rattle.std.proofs.lemmas.Grind.{same_number_lists}
 use Rattle.std.proofs.Math.ListN.{get_or-eq_default}
 use Rattle.sched_base.specs.Counting.{bit, sum_to}
 use Rattle.sched_base.specs.FirstFit.{first_with_room, with_item, packed_from, packed, homes_from, homes, load, IsFirstFit}
+use Rattle.sched_base.proofs.SumLemmas.{sum_to-same, sum_to_front}
 use Rattle.server_pack.proofs.FitLemmas.{first_with_room-le, first_with_room-fits, first_with_room-first, rate-with_item, home-with_item, length-packed_from-ge, sum-packed_from, length-homes_from}
-
--- the first number's value apart
-sum_to-front : (n : ℕ) (value : ℕ → ℕ) → sum_to (suc n) value ≡ value 0 + sum_to n (λ j. value (suc j))
-sum_to-front zero value = omega arith
-sum_to-front (suc n) value = let more = sum_to-front n value in omega (arith, more)
-
-sum_to-same : (n : ℕ) (f g : ℕ → ℕ) → ((j : ℕ) → j < n → f j ≡ g j) → sum_to n f ≡ sum_to n g
-sum_to-same zero f g h = refl
-sum_to-same (suc n) f g h =
-    let more = sum_to-same n f g (λ j l. h j (omega arith)) in
-    let here = h n (omega arith) in
-    omega (arith, more, here)
 
 -- the first item's rate apart
 load-front : (rate : ℕ) (rates : List ℕ) (home : ℕ) (servers : List ℕ) (k b : ℕ) → load (rate ∷ rates) (home ∷ servers) (suc k) b ≡ bit (home == b) * rate + load rates servers k b
-load-front rate rates home servers k b = sum_to-front k (λ j. bit (get_or (home ∷ servers) j 0 == b) * get_or (rate ∷ rates) j 0)
+load-front rate rates home servers k b = sum_to_front k (λ j. bit (get_or (home ∷ servers) j 0 == b) * get_or (rate ∷ rates) j 0)
 
 -- what a server has at the start, and its items
 loads_from : (scale : ℕ) (rates servers : List ℕ) (b : ℕ) → get_or (packed_from scale rates servers) b 0 ≡ get_or servers b 0 + load rates (homes_from scale rates servers) (length rates) b

@@ -1,4 +1,5 @@
 pub mod FitLemmas
 pub mod FirstFitLaw
+pub mod ItemLemmas
 pub mod ServerLemmas
 pub mod PackLemmas

@@ -7,7 +7,7 @@ mod members;
 mod packing;
 
 pub use fitting::first_fit;
-pub use laws::first_fit_law;
+pub use laws::{first_fit_law, items_law};
 pub use members::Members;
 pub use packing::{Packing, Server};
 

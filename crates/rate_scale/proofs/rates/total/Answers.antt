@@ -1,10 +1,14 @@
-use Rattle.std.proofs.Common.{sym, subst}
+use Rattle.std.proofs.Common.{sym, subst, ◌∙◌}
 use Rattle.std.specs.Int.{◌∣◌}
+use Rattle.std.proofs.lemmas.List.{get_or_default}
 use Rattle.sched_base.specs.declared.sets.Task.{Task}
-use Rattle.rate_scale.proofs.ScaleLemmas.{AllByRecursion-at}
+use Rattle.sched_base.specs.Sets.{no_task}
+use Rattle.sched_base.proofs.RateLemmas.{period_divides}
 use Rattle.rate_scale.proofs.rates.total.Goals as goal
 
 pub rate-sum-requires-clause-divides : goal.rate-sum-requires-clause-divides
 rate-sum-requires-clause-divides c =
+    let tasks = c.tasks-task-items.result.now in
     let divided = rw (← c.tasks-task-items.ensures.value) at c.requires.scale.divided in
-    subst (λ (t : Task). t.period ∣ c.args.scale) (sym c.task-item.is) (AllByRecursion-at (λ (t : Task). t.period ∣ c.args.scale) c.tasks-task-items.result.now c.loop-task.task-index c.task-item.result c.loop-task-test.true divided)
+    let is = c.task-item.is ∙ get_or_default tasks c.loop-task.task-index c.task-item.result no_task c.loop-task-test.true in
+    subst (λ (t : Task). t.period ∣ c.args.scale) (sym is) (period_divides tasks c.args.scale c.loop-task.task-index divided c.loop-task-test.true)
