@@ -1,13 +1,13 @@
 -- The steps of the idle fill.
-use Rattle.std.proofs.Common.{◌≡◌, ℕ, zero, suc, ◌+◌, ◌-◌, ◌*◌, ◌/◌, ◌<◌, ◌≤◌, List, [], ◌∷◌, ◌++◌, length, map, set, get_or, take, drop, min, replicate, refl, ap, sym, subst, ap₂, ◌∙◌, arith, ◌⊎◌, inl, inr, add-mul, sub-add_cancel, le_of_lt, mul-le-mul_right}
-use Rattle.std.proofs.lemmas.List.{length-set, drop_more, drop_all, take_all, take_more, take_more_set, drop-set-lt, get_or-set_other, set-get_or, append_assoc}
-use Rattle.std.proofs.lemmas.List.Sums.{sum_by-cons, sum_by-append, sum_by-set}
+use Rattle.std.proofs.Common.{◌≡◌, ℕ, zero, suc, ◌+◌, ◌-◌, ◌*◌, ◌/◌, ◌<◌, ◌≤◌, List, [], ◌∷◌, ◌++◌, length, map, set, take, drop, min, replicate, refl, ap, sym, ap₂, ◌∙◌, arith, ◌⊎◌, inl, inr, add-mul, sub-add_cancel, le_of_lt, mul-le-mul_right}
+use Rattle.std.proofs.lemmas.List.{drop_all, take_all, set-get_or}
+use Rattle.std.proofs.lemmas.List.Sums.{sum_by-cons, sum_by-append}
 use Rattle.std.proofs.lemmas.List.Folds.{sum_by-replicate}
 use Rattle.std.proofs.lemmas.Bool.{cases_lt, cases_eq}
 use Rattle.std.proofs.Math.Nat.{mul-div_cancel}
 use Rattle.sched_base.specs.FirstFit.{idles}
 use Rattle.server_pack.specs.declared.packing.Server.{Server}
-use Rattle.server_pack.specs.Servers.{Packed, no_server, server_at, rates_of, rate_sum, HasNoIdle, IsWithin, idle_alone, with_idle, with_idles}
+use Rattle.server_pack.specs.Servers.{Packed, server_at, rates_of, rate_sum, IsWithin, idle_alone, with_idle, with_idles}
 
 -- ---- sums of rates
 

@@ -1,9 +1,9 @@
 -- What first fit is: each item's server is the first that has room beside the items before it.
-use Rattle.std.proofs.Common.{◌≡◌, ℕ, zero, suc, ◌+◌, ◌*◌, ◌<◌, ◌≤◌, ◌==◌, List, [], ◌∷◌, length, get_or, sum, All, refl, ap, sym, subst, arith, inl, inr, ◌∙◌}
+use Rattle.std.proofs.Common.{◌≡◌, ℕ, zero, suc, ◌+◌, ◌*◌, ◌<◌, ◌≤◌, ◌==◌, List, [], ◌∷◌, length, get_or, sum, All, ap, sym, subst, arith, inl, inr, ◌∙◌}
 use Rattle.std.proofs.lemmas.Bool.{cases_lt, cases_order}
 use Rattle.std.proofs.lemmas.Grind.{same_number_lists}
 use Rattle.std.proofs.Math.ListN.{get_or-eq_default}
-use Rattle.sched_base.specs.Counting.{bit, sum_to}
+use Rattle.sched_base.specs.Counting.{bit}
 use Rattle.sched_base.specs.FirstFit.{first_with_room, with_item, packed_from, packed, homes_from, homes, load, IsFirstFit}
 use Rattle.sched_base.proofs.SumLemmas.{sum_to-same, sum_to_front}
 use Rattle.server_pack.proofs.FitLemmas.{first_with_room-le, first_with_room-fits, first_with_room-first, rate-with_item, home-with_item, length-packed_from-ge, sum-packed_from, length-homes_from}

@@ -18,6 +18,7 @@ pub fn first_fit(alloc: Global, rates: &[u128], scale: u128) -> Result<Packing, 
     ensures rates { IfOk result (λ p. rates_of p.servers ≡ packed scale rates.now) }
     ensures members { IfOk result (λ p. (b : ℕ) → (server_at p.servers b).members ≡ items_of (homes scale rates.now) b) }
     ensures no_idle { IfOk result (λ p. HasNoIdle p.servers) }
+    ensures few { IfOk result (λ p. length p.servers ≤ length rates.now) }
     ensures sum { IfOk result (λ p. rate_sum p.servers ≡ sum rates.now) }
 {
     let mut servers = Vec::new(alloc);

@@ -1,4 +1,4 @@
-use Rattle.std.proofs.Common.{◌≡◌, ◌<◌, ◌+◌, ◌-◌, ◌*◌, ◌/◌, ◌⊎◌, ◌++◌, ◌∙◌, arith, ap, sym, length, map, replicate, inl, inr}
+use Rattle.std.proofs.Common.{◌≡◌, ◌+◌, ◌-◌, ◌*◌, ◌/◌, ◌⊎◌, ◌++◌, ◌∙◌, arith, ap, sym, length, map, replicate, inl, inr}
 use Rattle.sched_base.specs.FirstFit.{idles}
 use Rattle.server_pack.specs.Servers.{rates_of, rate_sum, idle_alone, with_idles}
 use Rattle.idle_fill.proofs.FillLemmas.{left_is_whole}

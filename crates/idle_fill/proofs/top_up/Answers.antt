@@ -1,6 +1,4 @@
-use Rattle.std.proofs.Common.{◌≡◌, ◌*◌, ◌/◌, ◌++◌, ◌∙◌, arith, map, replicate}
-use Rattle.sched_base.specs.FirstFit.{idles}
-use Rattle.server_pack.specs.Servers.{rates_of, idle_alone, with_idles}
+use Rattle.std.proofs.Common.{arith}
 use Rattle.idle_fill.proofs.FillLemmas.{Fills-filled}
 use Rattle.idle_fill.proofs.top_up.Goals as goal
 

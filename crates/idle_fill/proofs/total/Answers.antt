@@ -1,4 +1,4 @@
-use Rattle.std.proofs.Common.{arith, ◌≤◌, mul-le-mul_right, length}
+use Rattle.std.proofs.Common.{arith, mul-le-mul_right}
 use Rattle.std.proofs.lemmas.List.Sums.{sum_by_more, sum_by_more_le}
 use Rattle.server_pack.specs.Servers.{no_server}
 use Rattle.idle_fill.proofs.FillLemmas.{rate_of, rate_sum-le}
