@@ -6,3 +6,7 @@ pub mod PackBoundaryLemmas
 pub mod SetBoundaryLemmas
 pub mod RunLemmas
 pub mod ScheduleLemmas
+pub mod Grown
+pub mod Duals
+pub mod Puts
+pub mod Lifted

@@ -6,5 +6,7 @@ pub mod Rounds
 pub mod Schedule
 pub mod TreeOfSet
 pub mod Making
+pub mod Growth
+pub mod Maker
 pub mod Compiled
 pub mod Plans

@@ -1,8 +1,9 @@
 -- Reduction trees: servers packed over leaves, their duals packed again, up to servers that run all the time.
-use Rattle.std.specs.Prelude.{ℕ, suc, ◌+◌, ◌*◌, ◌<◌, ◌≤◌, ◌≡◌, ◌==◌, ◌&&◌, Bool, true, false, List, [], length, Option, Some, None, slice_index_or}
+use Rattle.std.specs.Prelude.{ℕ, suc, ◌+◌, ◌*◌, ◌<◌, ◌≤◌, ◌≡◌, ◌==◌, ◌&&◌, Bool, true, false, List, [], length, map, Option, Some, None, slice_index_or}
 use Rattle.sched_base.specs.Counting.{sum_to, bit}
 use Rattle.sched_base.specs.declared.rows.Leaf.{Leaf}
 use Rattle.sched_base.specs.declared.rows.Leaf.TheVariants.{Empty}
+use Rattle.sched_base.specs.declared.rows.NodeId.{NodeId}
 use Rattle.run_tree.specs.declared.kinds.Kind.{Kind}
 use Rattle.run_tree.specs.declared.kinds.Kind.TheVariants as kind
 
@@ -21,6 +22,10 @@ pub record Tree : Type 0 where
   pub scale : ℕ
   pub levels : ℕ
   pub nodes : List Node
+
+-- the numbers of these nodes
+abbrev pub numbers : List NodeId → List ℕ
+numbers ids = map (λ n. n.0) ids
 
 -- stands where a tree has no such node, and is never looked at
 abbrev pub no_node : Node
