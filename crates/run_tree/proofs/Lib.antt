@@ -10,3 +10,7 @@ pub mod Grown
 pub mod Duals
 pub mod Puts
 pub mod Lifted
+pub mod NodeKinds
+pub mod NodeReads
+pub mod Growing
+pub mod MakerLemmas

@@ -1,7 +1,6 @@
 -- What the maker of trees keeps, and what its calls ask for.
-use Rattle.std.specs.Prelude.{ℕ, suc, ◌+◌, ◌-◌, ◌*◌, ◌<◌, ◌≤◌, ◌≡◌, ◌^◌, List, [], ◌∷◌, length, map, slice_index, slice_index_or}
+use Rattle.std.specs.Prelude.{ℕ, ◌+◌, ◌*◌, ◌<◌, ◌≤◌, ◌≡◌, ◌^◌, List, [], length, map, slice_index, slice_index_or}
 use Rattle.sched_base.specs.Counting.{sum_to, bit}
-use Rattle.sched_base.specs.FirstFit.{with_item}
 use Rattle.run_tree.specs.Tree.{Tree, kind_at, rate, members, is_leaf}
 use Rattle.run_tree.specs.Schedule.{packs_at}
 use Rattle.run_tree.specs.Making.{Making}
@@ -32,15 +31,10 @@ pub record HasLevels (lower : List (List ℕ)) (m : Making) : Type 0 where
   pub last : m.last ≡ packs_at m.tree (length lower)
   pub above : (l : ℕ) → m.tree.levels ≤ l → packs_at m.tree l ≡ []
 
--- each item of these rates goes to a server that has room for it, or to a new one, by the rates of the servers so far
-abbrev pub StayWithin : ℕ → List ℕ → List ℕ → List ℕ → Type 0
-StayWithin scale [] homes servers = Unit {0}
-StayWithin scale (r ∷ rates) [] servers = Unit {0}
-StayWithin scale (r ∷ rates) (b ∷ homes) servers = (b ≤ length servers) × (slice_index servers b + r ≤ scale) × StayWithin scale rates homes (with_item r b servers)
-
--- what the duals of these packs ask for
-abbrev pub dual_rates : Tree → List ℕ → List ℕ
-dual_rates t packs = map (λ p. t.scale - rate t p) packs
+-- what the type of a maker keeps, with the packs of the levels below the last
+pub record IsMaker (lower : List (List ℕ)) (m : Making) : Type 0 where
+  pub making : IsMaking m
+  pub levels : HasLevels lower m
 
 -- packs of the last level by their places there
 abbrev pub packs_named : Making → List ℕ → List ℕ

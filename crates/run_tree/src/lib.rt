@@ -3,6 +3,8 @@
 
 mod growth;
 mod kinds;
+mod maker;
 mod nodes;
 
 pub use kinds::Kind;
+pub use maker::TreeMaker;

@@ -1,6 +1,7 @@
 //! Nodes as they are stored.
-ghost use Rattle.std.specs.Prelude.{◌≡◌, ◌+◌, ◌<◌, ◌^◌, option_map, OnOk, OnErr};
+ghost use Rattle.std.specs.Prelude.{◌≡◌, ◌+◌, ◌<◌, ◌^◌, length, option_map, OnOk, OnErr};
 ghost use Rattle.run_tree.specs.Tree.{numbers};
+ghost use Rattle.run_tree.specs.Growth.{node_in};
 ghost use Rattle.run_tree.specs.Making.{member_node, pack_node, joined, with_dual};
 
 use crate::kinds::Kind;
@@ -110,4 +111,13 @@ impl Node {
     {
         self.dual
     }
+}
+
+/// Node n of these.
+#[tactic(auto, using(crate::proofs::NodeReads::read_node))]
+pub(crate) fn node_of(nodes: &[Node], n: u32) -> &Node
+    requires { n < length nodes.now }
+    ensures { result.now ≡ node_in nodes.now n }
+{
+    &nodes[n as usize]
 }

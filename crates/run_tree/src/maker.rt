@@ -1,0 +1,98 @@
+//! Trees in the making.
+ghost use Rattle.std.specs.Prelude.{◌≡◌, ◌≤◌, ◌<◌, ◌^◌, ◌+◌, ℕ, length, slice_index, OnOk, OnErr};
+ghost use Rattle.run_tree.specs.declared.kinds.Kind.TheVariants as kind;
+ghost use Rattle.run_tree.specs.Tree.{rate as rate_in};
+ghost use Rattle.run_tree.specs.Making.{started, put};
+ghost use Rattle.run_tree.specs.Maker.{IsMaking, leaf_count};
+
+use crate::growth::Growth;
+use crate::kinds::Kind;
+use crate::nodes::node_of;
+use sched_base::{Leaf, NoMemory};
+use std::alloc::Global;
+use std::marker::Model;
+
+/// The packs of a level, in order.
+#[derive(Drop)]
+struct Packs {
+    numbers: Vec<u32>,
+}
+
+impl Model for Packs {
+    ghost use Rattle.std.specs.Prelude.{List, ℕ};
+
+    ghost Value = { List ℕ };
+
+    ghost view = { λ p. p.numbers.items };
+}
+
+/// A tree that is being made, member by member and level by level.
+#[derive(Drop)]
+pub struct TreeMaker {
+    processors: u32,
+    scale: u128,
+    levels: u32,
+    growth: Growth,
+    lower: Vec<Packs>,
+}
+
+impl Model for TreeMaker {
+    ghost use Rattle.run_tree.specs.Making.{Making};
+    ghost use Rattle.run_tree.specs.Maker.{IsMaker};
+
+    ghost Value = { Making };
+
+    ghost view = { λ m. record { tree = record { processors = m.processors; scale = m.scale; levels = m.levels; nodes = m.growth.nodes }; last = m.growth.packs } };
+
+    ghost invariant = { λ m. IsMaker m.lower.items (record { tree = record { processors = m.processors; scale = m.scale; levels = m.levels; nodes = m.growth.nodes }; last = m.growth.packs }) };
+}
+
+impl TreeMaker {
+    /// No node yet. It takes no memory.
+    pub fn start(alloc: Global, processors: u32, scale: u128) -> TreeMaker
+        requires some_processors { 1 ≤ processors }
+        requires few_processors { processors ≤ 32 }
+        requires some_scale { 1 ≤ scale }
+        requires scale_fits { scale ≤ 2 ^ 94 }
+        ensures { result ≡ started processors scale }
+    {
+        TreeMaker {
+            processors,
+            scale,
+            levels: 1,
+            growth: Growth::new(alloc),
+            lower: Vec::new(alloc),
+        }
+    }
+
+    /// The number of packs of the last level.
+    pub fn packs(&self) -> u32
+        ensures value { result ≡ length self.now.last }
+        ensures lawful { IsMaking self.now }
+    {
+        self.growth.packs().len() as u32
+    }
+
+    /// The rate of pack i of the last level, in ticks a unit.
+    pub fn pack_rate(&self, i: u32) -> u128
+        requires { i < length self.now.last }
+        ensures { result ≡ rate_in self.now.tree (slice_index self.now.last i) }
+    {
+        let pack = self.growth.packs()[i as usize];
+        node_of(self.growth.nodes(), pack).rate()
+    }
+
+    /// Adds a leaf at the end of pack `pack` of level 0, which is new where `pack` is the number of packs.
+    pub fn leaf(&mut self, leaf: Leaf, rate: u128, pack: u32) -> Result<(), NoMemory>
+        requires first_level { self.old.tree.levels ≡ 1 }
+        requires few { leaf_count self.old.tree < 1280 }
+        requires pack { pack ≤ length self.old.last }
+        requires some_rate { 1 ≤ rate }
+        requires rate_fits { rate ≤ self.old.tree.scale }
+        requires within { pack < length self.old.last → rate_in self.old.tree (slice_index self.old.last pack) + rate ≤ self.old.tree.scale }
+        ensures ok { OnOk result (self.new ≡ put (kind.Leaf leaf) rate pack self.old) }
+        ensures err { OnErr result (self.new ≡ self.old) }
+    {
+        self.growth.put(0, self.levels - 1, Kind::Leaf(leaf), rate, pack)
+    }
+}
