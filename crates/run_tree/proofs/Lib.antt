@@ -13,4 +13,6 @@ pub mod Lifted
 pub mod NodeKinds
 pub mod NodeReads
 pub mod Growing
+pub mod LevelsMade
+pub mod LevelsKept
 pub mod MakerLemmas

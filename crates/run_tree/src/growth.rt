@@ -2,10 +2,10 @@
 ghost use Rattle.std.specs.Prelude.{◌≡◌, ◌≤◌, ◌<◌, ◌+◌, ◌-◌, ◌^◌, ℕ, suc, [], ◌∷◌, ◌++◌, length, slice_index, slice_index_or, slice_set, vec_capacity, vec_len, OnOk, OnErr, IfOk};
 ghost use Rattle.run_tree.specs.Tree.{Node as SeenNode};
 ghost use Rattle.run_tree.specs.Making.{member_node, pack_node, joined};
-ghost use Rattle.run_tree.specs.Growth.{no_growth, node_in, with_member, grown, IsPrimalBelow, mark_primal, with_duals};
+ghost use Rattle.run_tree.specs.Growth.{no_growth, node_in, with_member, grown, IsPrimalBelow, mark_primal, with_duals, with_duals_of};
 
 use crate::kinds::Kind;
-use crate::nodes::Node;
+use crate::nodes::{Node, node_of};
 use sched_base::{NoMemory, NodeId};
 use std::alloc::Global;
 use std::marker::Model;
@@ -129,6 +129,33 @@ impl Growth {
             nodes: Vec::new(alloc),
             packs: Vec::new(alloc),
         }
+    }
+
+    /// A level of the duals of these packs of `below`, each in the home that is told. Its numbers begin where those of
+    /// `below` end.
+    pub(crate) fn of_duals(
+        alloc: Global,
+        below: &[Node],
+        scale: u128,
+        level: u32,
+        packs: &[u32],
+        homes: &[u32],
+    ) -> Result<Growth, NoMemory>
+        requires scale_fits { scale ≤ 2 ^ 94 }
+        requires few { length packs.now ≤ 1280 }
+        requires numbers_fit { length below.now + 2560 < 2 ^ 32 }
+        requires packs { (i : ℕ) → i < length packs.now → slice_index packs.now i < length below.now }
+        requires rates { (i : ℕ) → i < length packs.now → (node_in below.now (slice_index packs.now i)).rate ≤ scale }
+        requires homes { length homes.now ≡ length packs.now }
+        ensures { IfOk result (λ g. g ≡ with_duals_of below.now scale level packs.now homes.now no_growth) }
+    {
+        let base = below.len() as u32;
+        let mut growth = Growth::new(alloc);
+        for (i, pack) in packs.iter().enumerate() {
+            let rate = scale - node_of(below, *pack).rate();
+            growth.put(base, level, Kind::Dual(NodeId(*pack)), rate, homes[i])?;
+        }
+        Ok(growth)
     }
 
     /// The nodes, in order.

@@ -2,7 +2,7 @@
 ghost use Rattle.std.specs.Prelude.{◌≡◌, ◌≤◌, ◌<◌, ◌^◌, ◌+◌, ℕ, length, slice_index, OnOk, OnErr};
 ghost use Rattle.run_tree.specs.declared.kinds.Kind.TheVariants as kind;
 ghost use Rattle.run_tree.specs.Tree.{rate as rate_in};
-ghost use Rattle.run_tree.specs.Making.{started, put};
+ghost use Rattle.run_tree.specs.Making.{started, put, lifted};
 ghost use Rattle.run_tree.specs.Maker.{IsMaking, leaf_count};
 
 use crate::growth::Growth;
@@ -94,5 +94,30 @@ impl TreeMaker {
         ensures err { OnErr result (self.new ≡ self.old) }
     {
         self.growth.put(0, self.levels - 1, Kind::Leaf(leaf), rate, pack)
+    }
+
+    // One more level, of the duals of these packs, each in the home that is told.
+    fn raise(&mut self, packs: &[u32], homes: &[u32]) -> Result<(), NoMemory>
+        requires few_levels { self.old.tree.levels < 4096 }
+        requires few { length packs.now ≤ 1280 }
+        requires packs { (i : ℕ) → i < length packs.now → slice_index packs.now i < length self.old.tree.nodes }
+        requires rates { (i : ℕ) → i < length packs.now → rate_in self.old.tree (slice_index packs.now i) ≤ self.old.tree.scale }
+        requires homes { length homes.now ≡ length packs.now }
+        ensures ok { OnOk result (self.new ≡ lifted packs.now homes.now self.old) }
+        ensures err { OnErr result (self.new ≡ self.old) }
+    {
+        let level = Growth::of_duals(
+            *self.lower.allocator(),
+            self.growth.nodes(),
+            self.scale,
+            self.levels,
+            packs,
+            homes,
+        )?;
+        self.lower.reserve(1)?;
+        let numbers = self.growth.append(level)?;
+        self.lower.push_reserved(Packs { numbers });
+        self.levels += 1;
+        Ok(())
     }
 }
