@@ -15,4 +15,5 @@ pub mod NodeReads
 pub mod Growing
 pub mod LevelsMade
 pub mod LevelsKept
+pub mod PackLists
 pub mod MakerLemmas

@@ -1,17 +1,19 @@
 -- What the maker of trees keeps.
-use Rattle.std.proofs.Common.{◌≡◌, ◌≢◌, ℕ, zero, suc, ◌+◌, ◌-◌, ◌*◌, ◌<◌, ◌≤◌, ◌⊎◌, List, [], ◌∷◌, ◌++◌, true, false, length, get_or, set, ap, ap₂, subst, sym, ◌∙◌, refl, arith, inl, inr, le_refl, Result, Ok, Err, OnOk, OnErr, zero-add}
+use Rattle.std.proofs.Common.{◌≡◌, ◌≢◌, ℕ, zero, suc, ◌+◌, ◌-◌, ◌*◌, ◌<◌, ◌≤◌, ◌⊎◌, Bool, nat_lt, List, [], ◌∷◌, ◌++◌, true, false, length, get_or, set, ap, ap₂, subst, sym, ◌∙◌, refl, arith, inl, inr, le_refl, Result, Ok, Err, OnOk, OnErr, zero-add}
 use Rattle.std.proofs.lemmas.Bool.{cases_lt, cases_eq}
-use Rattle.std.proofs.lemmas.List.{get_or_push, length_push}
+use Rattle.std.proofs.lemmas.List.{get_or_push, get_or-map, length_push, length-map}
+use Rattle.run_tree.proofs.PackLists.{filter_at, length-filter-le, length_apart}
+use borrow.Author.Tests.{ltb-true}
 use Rattle.sched_base.specs.declared.rows.Leaf.{Leaf}
 use Rattle.sched_base.specs.Counting.{bit}
 use Rattle.sched_base.proofs.ListLemmas.{first_from}
 use Rattle.run_tree.specs.declared.kinds.Kind.{Kind}
 use Rattle.run_tree.specs.declared.kinds.Kind.TheVariants as kind
-use Rattle.run_tree.specs.Tree.{Tree, Node, no_node, at_level, is_leaf}
+use Rattle.run_tree.specs.Tree.{Tree, Node, no_node, at_level, is_leaf, rate}
 use Rattle.run_tree.specs.Schedule.{packs_at}
-use Rattle.run_tree.specs.Making.{Making, with_nodes, member_node, pack_node, joined, joined_at, opened, put}
+use Rattle.run_tree.specs.Making.{Making, lower_packs, with_nodes, member_node, pack_node, joined, joined_at, opened, put}
 use Rattle.run_tree.specs.Growth.{Growth, node_in, with_member, with_pack, grown_at, grown}
-use Rattle.run_tree.specs.Maker.{IsMaking, HasLevels, IsMaker, leaf_count}
+use Rattle.run_tree.specs.Maker.{IsMaking, HasLevels, IsMaker, NamesLower, leaf_count, packs_named}
 use Rattle.run_tree.proofs.Puts.{put_old, put_new}
 use Rattle.run_tree.proofs.Grown.{grown_old, grown_new}
 use Rattle.run_tree.proofs.NodeKinds.{kinds, packs_from, packs_at_is, leaves_in, leaf_count_is}
@@ -108,3 +110,36 @@ leaf_kept lower m leaf rate b was only few =
 pub either_way : {T E : Type 0} (P : Growth → Type 0) (old new made : Growth) (r : Result T E) → P old → P made → OnOk r (new ≡ made) → OnErr r (new ≡ old) → P new
 either_way P old new made (Ok x) was is ok err = subst P (sym ok) is
 either_way P old new made (Err e) was is ok err = subst P (sym err) was
+
+-- ---- what a level more is made of
+
+-- packs that can have duals
+pub record HaveDuals (m : Making) (packs : List ℕ) : Type 0 where
+  pub few : length packs ≤ 1280
+  pub nodes : (i : ℕ) → i < length packs → get_or packs i 0 < length m.tree.nodes
+  pub rates : (i : ℕ) → i < length packs → rate m.tree (get_or packs i 0) ≤ m.tree.scale
+
+pub lower_have : (lower : List (List ℕ)) (m : Making) (packs : List ℕ) → IsMaker lower m → packs ≡ lower_packs m → HaveDuals m packs
+lower_have lower m packs was e =
+    let passes : ℕ → Bool = λ p. nat_lt (rate m.tree p) m.tree.scale in
+    let at = filter_at passes (λ p. p < length m.tree.nodes) m.last (last_in lower m was.levels) in
+    let few = length-filter-le passes m.last in
+    let few_last = was.making.few_packs in
+    subst (HaveDuals m) (sym e) (record {
+      few = omega (arith, few, few_last);
+      nodes = λ i l. (at i l).0;
+      rates = λ i l. let low = ltb-true (rate m.tree (get_or (lower_packs m) i 0)) m.tree.scale (at i l).1 in omega (arith, low)
+    })
+
+pub named_have : (lower : List (List ℕ)) (m : Making) (order packs : List ℕ) → IsMaker lower m → NamesLower m order → packs ≡ packs_named m order → HaveDuals m packs
+named_have lower m order packs was names e =
+    let place : ℕ → ℕ = λ i. get_or m.last i 0 in
+    let long : length (packs_named m order) ≡ length order = length-map order place in
+    let at : (k : ℕ) → k < length (packs_named m order) → get_or (packs_named m order) k 0 ≡ place (get_or order k 0) = λ k l. get_or-map place order k 0 0 (omega (arith, l, long)) in
+    let few = length_apart order (length m.last) (λ k l. (names.lower k l).0) names.once in
+    let few_last = was.making.few_packs in
+    subst (HaveDuals m) (sym e) (record {
+      few = omega (arith, few, few_last, long);
+      nodes = λ k l. let r = last_in lower m was.levels (get_or order k 0) (names.lower k (omega (arith, l, long))).0 in omega (arith, r, at k l);
+      rates = λ k l. let r = (names.lower k (omega (arith, l, long))).1 in let f = ap (rate m.tree) (at k l) in omega (arith, r, f)
+    })

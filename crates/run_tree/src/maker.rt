@@ -1,13 +1,14 @@
 //! Trees in the making.
-ghost use Rattle.std.specs.Prelude.{◌≡◌, ◌≤◌, ◌<◌, ◌^◌, ◌+◌, ℕ, length, slice_index, OnOk, OnErr};
+ghost use Rattle.std.specs.Prelude.{◌≡◌, ◌≤◌, ◌<◌, ◌^◌, ◌+◌, ℕ, filter, length, map, nat_lt, slice_index, IfOk, OnOk, OnErr};
 ghost use Rattle.run_tree.specs.declared.kinds.Kind.TheVariants as kind;
 ghost use Rattle.run_tree.specs.Tree.{rate as rate_in};
-ghost use Rattle.run_tree.specs.Making.{started, put, lifted};
-ghost use Rattle.run_tree.specs.Maker.{IsMaking, leaf_count};
+ghost use Rattle.run_tree.specs.Growth.{node_in};
+ghost use Rattle.run_tree.specs.Making.{started, put, lower_packs, lifted};
+ghost use Rattle.run_tree.specs.Maker.{IsMaking, NamesLower, leaf_count, packs_named};
 
 use crate::growth::Growth;
 use crate::kinds::Kind;
-use crate::nodes::node_of;
+use crate::nodes::{Node, node_of};
 use sched_base::{Leaf, NoMemory};
 use std::alloc::Global;
 use std::marker::Model;
@@ -45,6 +46,37 @@ impl Model for TreeMaker {
     ghost view = { λ m. record { tree = record { processors = m.processors; scale = m.scale; levels = m.levels; nodes = m.growth.nodes }; last = m.growth.packs } };
 
     ghost invariant = { λ m. IsMaker m.lower.items (record { tree = record { processors = m.processors; scale = m.scale; levels = m.levels; nodes = m.growth.nodes }; last = m.growth.packs }) };
+}
+
+// Those of these packs that aren't roots, in order.
+fn lower_of(
+    alloc: Global,
+    nodes: &[Node],
+    packs: &[u32],
+    scale: u128,
+) -> Result<Vec<u32>, NoMemory>
+    requires { (i : ℕ) → i < length packs.now → slice_index packs.now i < length nodes.now }
+    ensures { IfOk result (λ found. found.items ≡ filter (λ p. nat_lt (node_in nodes.now p).rate scale) packs.now) }
+{
+    let mut found = Vec::new(alloc);
+    for pack in packs {
+        if node_of(nodes, *pack).rate() < scale {
+            found.push(*pack)?;
+        }
+    }
+    Ok(found)
+}
+
+// The packs at these places, in the order told.
+fn named_of(alloc: Global, packs: &[u32], order: &[u32]) -> Result<Vec<u32>, NoMemory>
+    requires { (k : ℕ) → k < length order.now → slice_index order.now k < length packs.now }
+    ensures { IfOk result (λ named. named.items ≡ map (λ i. slice_index packs.now i) order.now) }
+{
+    let mut named = Vec::new(alloc);
+    for place in order {
+        named.push(packs[*place as usize])?;
+    }
+    Ok(named)
 }
 
 impl TreeMaker {
@@ -94,6 +126,38 @@ impl TreeMaker {
         ensures err { OnErr result (self.new ≡ self.old) }
     {
         self.growth.put(0, self.levels - 1, Kind::Leaf(leaf), rate, pack)
+    }
+
+    /// Adds a level: the dual of the i-th pack of the last level that isn't a root goes to the end of pack `homes[i]`,
+    /// which is new where so many packs aren't there yet.
+    pub fn lift(&mut self, homes: &[u32]) -> Result<(), NoMemory>
+        requires few_levels { self.old.tree.levels < 4096 }
+        requires some { 0 < length (lower_packs self.old) }
+        requires homes { length homes.now ≡ length (lower_packs self.old) }
+        ensures ok { OnOk result (self.new ≡ lifted (lower_packs self.old) homes.now self.old) }
+        ensures err { OnErr result (self.new ≡ self.old) }
+    {
+        let packs = lower_of(
+            *self.lower.allocator(),
+            self.growth.nodes(),
+            self.growth.packs(),
+            self.scale,
+        )?;
+        self.raise(&packs, homes)
+    }
+
+    /// Adds a level: for each i in turn the dual of pack `order[i]` of the last level goes to the end of pack `homes[i]`,
+    /// which is new where so many packs aren't there yet.
+    pub fn lift_order(&mut self, order: &[u32], homes: &[u32]) -> Result<(), NoMemory>
+        requires few_levels { self.old.tree.levels < 4096 }
+        requires some { 0 < length (lower_packs self.old) }
+        requires order { NamesLower self.old order.now }
+        requires homes { length homes.now ≡ length order.now }
+        ensures ok { OnOk result (self.new ≡ lifted (packs_named self.old order.now) homes.now self.old) }
+        ensures err { OnErr result (self.new ≡ self.old) }
+    {
+        let packs = named_of(*self.lower.allocator(), self.growth.packs(), order)?;
+        self.raise(&packs, homes)
     }
 
     // One more level, of the duals of these packs, each in the home that is told.
