@@ -17,3 +17,4 @@ pub mod LevelsMade
 pub mod LevelsKept
 pub mod PackLists
 pub mod MakerLemmas
+pub mod LawfulTrees

@@ -2,7 +2,7 @@
 use Rattle.std.specs.Prelude.{ℕ, ◌*◌, ◌≤◌, ◌<◌, ◌^◌, Bool, List, length}
 use Rattle.sched_base.specs.declared.rows.Row.{Row}
 use Rattle.sched_base.specs.Sets.{SetContents, IsLawful}
-use Rattle.run_tree.specs.Tree.{Tree}
+use Rattle.run_tree.specs.Tree.{Tree, IsTree, rate}
 use Rattle.run_tree.specs.TreeOfSet.{IsTreeOf}
 use Rattle.run_tree.specs.Boundaries.{is_boundary, set_boundary}
 use Rattle.run_tree.specs.Schedule as schedule
@@ -17,6 +17,12 @@ pub record IsSized (t : Tree) : Type 0 where
   pub some_processors : 1 ≤ t.processors
   pub few_processors : t.processors ≤ 32
   pub few_nodes : length t.nodes < 2 ^ 32
+  pub rates : (x : ℕ) → x < length t.nodes → rate t x ≤ t.scale
+
+-- what the type of a tree keeps
+pub record IsLawfulTree (t : Tree) : Type 0 where
+  pub tree : IsTree t
+  pub sized : IsSized t
 
 -- what the type of a plan keeps
 pub record IsPlan (p : PlanContents) : Type 0 where

@@ -5,6 +5,8 @@ mod growth;
 mod kinds;
 mod maker;
 mod nodes;
+mod tree;
 
 pub use kinds::Kind;
 pub use maker::TreeMaker;
+pub use tree::Tree;

@@ -1,7 +1,8 @@
 //! Trees in the making.
 ghost use Rattle.std.specs.Prelude.{◌≡◌, ◌≤◌, ◌<◌, ◌^◌, ◌+◌, ℕ, filter, length, map, nat_lt, slice_index, IfOk, OnOk, OnErr};
 ghost use Rattle.run_tree.specs.declared.kinds.Kind.TheVariants as kind;
-ghost use Rattle.run_tree.specs.Tree.{rate as rate_in};
+ghost use Rattle.run_tree.specs.Tree.{IsTree, rate as rate_in};
+ghost use Rattle.run_tree.specs.Schedule.{packs_at};
 ghost use Rattle.run_tree.specs.Growth.{node_in};
 ghost use Rattle.run_tree.specs.Making.{started, put, lower_packs, lifted};
 ghost use Rattle.run_tree.specs.Maker.{IsMaking, NamesLower, leaf_count, packs_named};
@@ -9,6 +10,7 @@ ghost use Rattle.run_tree.specs.Maker.{IsMaking, NamesLower, leaf_count, packs_n
 use crate::growth::Growth;
 use crate::kinds::Kind;
 use crate::nodes::{Node, node_of};
+use crate::tree::Tree;
 use sched_base::{Leaf, NoMemory};
 use std::alloc::Global;
 use std::marker::Model;
@@ -183,5 +185,58 @@ impl TreeMaker {
         self.lower.push_reserved(Packs { numbers });
         self.levels += 1;
         Ok(())
+    }
+
+    /// The tree that was made.
+    pub fn finish(self) -> Tree
+        requires { IsTree self.tree }
+        ensures { result ≡ self.tree }
+    {
+        Tree::of_maker(self)
+    }
+
+    /// What the type says of a maker.
+    pub(crate) fn limits(&self)
+        ensures { IsMaking self.now }
+    {
+        let _levels = self.levels;
+    }
+
+    pub(crate) fn processors(&self) -> u32
+        ensures { result ≡ self.now.tree.processors }
+    {
+        self.processors
+    }
+
+    pub(crate) fn scale(&self) -> u128
+        ensures { result ≡ self.now.tree.scale }
+    {
+        self.scale
+    }
+
+    pub(crate) fn levels(&self) -> u32
+        ensures { result ≡ self.now.tree.levels }
+    {
+        self.levels
+    }
+
+    /// The nodes, in order.
+    pub(crate) fn nodes(&self) -> &[Node]
+        ensures { result.now ≡ self.now.tree.nodes }
+    {
+        self.growth.nodes()
+    }
+
+    /// The packs of a level, in order.
+    pub(crate) fn packs_of(&self, level: u32) -> &[u32]
+        requires { level < self.now.tree.levels }
+        ensures { result.now ≡ packs_at self.now.tree level }
+    {
+        if (level as usize) < self.lower.len() {
+            let packs = &self.lower[level as usize];
+            packs.numbers.as_slice()
+        } else {
+            self.growth.packs()
+        }
     }
 }
