@@ -118,6 +118,17 @@ fn mark_duals(nodes: &mut Vec<Node>, number: u32, level: &[Node])
     }
 }
 
+// The same nodes again.
+fn copies(nodes: &Vec<Node>) -> Result<Vec<Node>, NoMemory>
+    ensures { IfOk result (λ copied. copied.items ≡ nodes.now.items) }
+{
+    let mut copied = Vec::new(*nodes.allocator());
+    for node in nodes {
+        copied.push(node.copy()?)?;
+    }
+    Ok(copied)
+}
+
 impl Growth {
     ghost use Rattle.run_tree.specs.Growth as growth;
 
@@ -129,6 +140,16 @@ impl Growth {
             nodes: Vec::new(alloc),
             packs: Vec::new(alloc),
         }
+    }
+
+    /// The same again.
+    pub(crate) fn copy(&self) -> Result<Growth, NoMemory>
+        ensures { IfOk result (λ g. g ≡ self.now) }
+    {
+        Ok(Growth {
+            nodes: copies(&self.nodes)?,
+            packs: Vec::from_slice(*self.packs.allocator(), self.packs.as_slice())?,
+        })
     }
 
     /// A level of the duals of these packs of `below`, each in the home that is told. Its numbers begin where those of

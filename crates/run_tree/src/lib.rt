@@ -5,8 +5,10 @@ mod growth;
 mod kinds;
 mod maker;
 mod nodes;
+mod plans;
 mod tree;
 
 pub use kinds::Kind;
 pub use maker::TreeMaker;
+pub use plans::Plan;
 pub use tree::Tree;

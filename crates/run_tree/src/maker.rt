@@ -50,6 +50,20 @@ impl Model for TreeMaker {
     ghost invariant = { λ m. IsMaker m.lower.items (record { tree = record { processors = m.processors; scale = m.scale; levels = m.levels; nodes = m.growth.nodes }; last = m.growth.packs }) };
 }
 
+// The same levels again.
+fn copies(levels: &Vec<Packs>) -> Result<Vec<Packs>, NoMemory>
+    ensures { IfOk result (λ copied. copied.items ≡ levels.now.items) }
+{
+    let alloc = *levels.allocator();
+    let mut copied = Vec::new(alloc);
+    for packs in levels {
+        copied.push(Packs {
+            numbers: Vec::from_slice(alloc, packs.numbers.as_slice())?,
+        })?;
+    }
+    Ok(copied)
+}
+
 // Those of these packs that aren't roots, in order.
 fn lower_of(
     alloc: Global,
@@ -193,6 +207,19 @@ impl TreeMaker {
         ensures { result ≡ self.tree }
     {
         Tree::of_maker(self)
+    }
+
+    /// The same maker again.
+    pub(crate) fn copy(&self) -> Result<TreeMaker, NoMemory>
+        ensures { IfOk result (λ m. m ≡ self.now) }
+    {
+        Ok(TreeMaker {
+            processors: self.processors,
+            scale: self.scale,
+            levels: self.levels,
+            growth: self.growth.copy()?,
+            lower: copies(&self.lower)?,
+        })
     }
 
     /// What the type says of a maker.

@@ -1,5 +1,5 @@
 //! Nodes as they are stored.
-ghost use Rattle.std.specs.Prelude.{◌≡◌, ◌+◌, ◌<◌, ◌^◌, length, option_map, OnOk, OnErr};
+ghost use Rattle.std.specs.Prelude.{◌≡◌, ◌+◌, ◌<◌, ◌^◌, length, option_map, IfOk, OnOk, OnErr};
 ghost use Rattle.run_tree.specs.Tree.{numbers};
 ghost use Rattle.run_tree.specs.Growth.{node_in};
 ghost use Rattle.run_tree.specs.Making.{member_node, pack_node, joined, with_dual};
@@ -56,6 +56,20 @@ impl Node {
             members: Vec::new(alloc),
             dual: None,
         }
+    }
+
+    /// The same node again.
+    pub(crate) fn copy(&self) -> Result<Node, NoMemory>
+        ensures { IfOk result (λ n. n ≡ self.now) }
+    {
+        Ok(Node {
+            kind: self.kind,
+            rate: self.rate,
+            home: self.home,
+            place: self.place,
+            members: Vec::from_slice(*self.members.allocator(), self.members.as_slice())?,
+            dual: self.dual,
+        })
     }
 
     /// The pack gets one more member.

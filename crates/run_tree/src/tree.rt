@@ -1,5 +1,5 @@
 //! Reduction trees.
-ghost use Rattle.std.specs.Prelude.{◌≡◌, ◌<◌, length, option_map, slice_index};
+ghost use Rattle.std.specs.Prelude.{◌≡◌, ◌<◌, length, option_map, slice_index, IfOk};
 ghost use Rattle.run_tree.specs.Tree.{IsTree, kind_at, rate as rate_in, home as home_in, place as place_in, members as members_in, member as member_in, dual as dual_in, numbers};
 ghost use Rattle.run_tree.specs.Schedule.{packs_at};
 ghost use Rattle.run_tree.specs.Plans.{IsLawfulTree};
@@ -7,7 +7,7 @@ ghost use Rattle.run_tree.specs.Plans.{IsLawfulTree};
 use crate::kinds::Kind;
 use crate::maker::TreeMaker;
 use crate::nodes::node_of;
-use sched_base::NodeId;
+use sched_base::{NoMemory, NodeId};
 use std::marker::Model;
 
 /// A reduction tree: leaves in the packs of level 0, the duals of a level's packs in those of the next, up to packs that
@@ -36,6 +36,15 @@ impl Tree {
     {
         made.limits();
         Tree { made }
+    }
+
+    /// The same tree again.
+    pub(crate) fn copy(&self) -> Result<Tree, NoMemory>
+        ensures { IfOk result (λ t. t ≡ self.now) }
+    {
+        Ok(Tree {
+            made: self.made.copy()?,
+        })
     }
 
     /// The number of processors, from 1 to 32.

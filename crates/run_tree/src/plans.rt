@@ -1,0 +1,82 @@
+//! Plans.
+ghost use Rattle.std.specs.Prelude.{◌≡◌, IfOk};
+ghost use Rattle.sched_base.specs.Scale.{IsScale};
+ghost use Rattle.run_tree.specs.TreeOfSet.{IsTreeOf};
+ghost use Rattle.run_tree.specs.Plans.{IsPlan, stop_of};
+
+use crate::tree::Tree;
+use sched_base::{NoMemory, TaskSet};
+use std::marker::Model;
+
+/// A task set with a reduction tree of it.
+#[derive(Drop)]
+pub struct Plan {
+    set: TaskSet,
+    tree: Tree,
+}
+
+impl Model for Plan {
+    ghost use Rattle.run_tree.specs.Plans.{PlanContents, IsPlan};
+
+    ghost Value = { PlanContents };
+
+    ghost view = { λ p. record { set = p.set; tree = p.tree } };
+
+    ghost invariant = { λ p. IsPlan (record { set = p.set; tree = p.tree }) };
+}
+
+impl Plan {
+    /// The plan of a set, its scale and a reduction tree of it.
+    pub fn new(set: TaskSet, scale: u128, tree: Tree) -> Plan
+        requires scale { IsScale set.tasks scale }
+        requires made { tree.scale ≡ scale }
+        requires tree { IsTreeOf set tree }
+        ensures { result ≡ record { set = set; tree = tree } }
+    {
+        prove!(tree.scale() == scale);
+        let _tasks = set.count();
+        Plan { set, tree }
+    }
+
+    /// The set.
+    pub fn set(&self) -> &TaskSet
+        ensures value { result.now ≡ self.now.set }
+        ensures lawful { IsPlan self.now }
+    {
+        &self.set
+    }
+
+    /// The ticks of a unit.
+    pub fn scale(&self) -> u128
+        ensures value { result ≡ self.now.tree.scale }
+        ensures lawful { IsPlan self.now }
+    {
+        self.tree.scale()
+    }
+
+    /// The tree.
+    pub fn tree(&self) -> &Tree
+        ensures value { result.now ≡ self.now.tree }
+        ensures lawful { IsPlan self.now }
+    {
+        &self.tree
+    }
+
+    /// The tick at which the last round ends: the horizon, in ticks.
+    pub fn rounds_end(&self) -> u128
+        ensures value { result ≡ stop_of self.now }
+        ensures lawful { IsPlan self.now }
+    {
+        u128::from(self.set.horizon()) * self.tree.scale()
+    }
+
+    /// The same plan again.
+    pub fn copy(&self) -> Result<Plan, NoMemory>
+        ensures { IfOk result (λ p. p ≡ self.now) }
+    {
+        Ok(Plan {
+            set: self.set.copy()?,
+            tree: self.tree.copy()?,
+        })
+    }
+}
