@@ -18,3 +18,5 @@ pub mod LevelsKept
 pub mod PackLists
 pub mod MakerLemmas
 pub mod LawfulTrees
+pub mod TaskEnds
+pub mod NextBoundaries

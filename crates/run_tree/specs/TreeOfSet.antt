@@ -26,6 +26,13 @@ is_real (Wait id) = false
 is_real (Idle number) = true
 is_real Empty = false
 
+-- a leaf that the tree of these tasks may have
+abbrev pub IsKnown : List declared.Task → Leaf → Type 0
+IsKnown tasks (Task id) = id.0 < length tasks
+IsKnown tasks (Wait id) = ⊥
+IsKnown tasks (Idle number) = Unit {0}
+IsKnown tasks Empty = ⊥
+
 -- how many idle leaves a tree has
 abbrev pub idle_count : Tree → ℕ
 idle_count t = sum_to (length t.nodes) (λ x. bit (is_leaf (kind_at t x) && is_idle (leaf t x)))
