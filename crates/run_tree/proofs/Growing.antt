@@ -1,14 +1,14 @@
 -- What one more member of a growth changes, and what it keeps.
-use Rattle.std.proofs.Common.{◌≡◌, ◌≢◌, ℕ, zero, suc, ◌+◌, ◌-◌, ◌<◌, ◌≤◌, ◌&&◌, eqb, Bool, true, false, List, [], ◌∷◌, ◌++◌, map, length, get_or, set, ap, ap₂, subst, sym, ◌∙◌, refl, arith, inl, inr, le_refl, eq-eqb}
+use Rattle.std.proofs.Common.{◌≡◌, ◌≢◌, ℕ, zero, suc, ◌+◌, ◌-◌, ◌≤◌, false, List, [], ◌∷◌, ◌++◌, length, get_or, set, ap, ap₂, subst, sym, ◌∙◌, refl, arith, inl, inr, le_refl, eq-eqb}
 use Rattle.std.proofs.lemmas.Bool.{cases_eq, cases_lt, ne_eqb}
-use Rattle.std.proofs.lemmas.List.{length-set, length-append, length_push, length-map, get_or_append_left, get_or-append_right, get_or_past, set_past, get_or-set_same, get_or-set_other, append-nil, append_assoc, get_or_push}
+use Rattle.std.proofs.lemmas.List.{length-set, length_push, length-map, get_or_append_left, get_or-append_right, get_or_past, set_past, get_or-set_same, get_or-set_other, append-nil, get_or_push}
 use Rattle.sched_base.specs.Counting.{sum_to, bit}
 use Rattle.sched_base.proofs.SumLemmas.{sum_to-same}
 use Rattle.run_tree.specs.declared.kinds.Kind.{Kind}
 use Rattle.run_tree.specs.declared.kinds.Kind.TheVariants as kind
 use Rattle.run_tree.specs.Tree.{Node, no_node, is_pack, is_leaf}
-use Rattle.run_tree.specs.Making.{member_node, pack_node, joined, with_dual}
-use Rattle.run_tree.specs.Growth.{Growth, node_in, with_member, with_pack, grown_at, grown, IsPrimalBelow, mark_primal, with_duals}
+use Rattle.run_tree.specs.Making.{member_node, pack_node, joined}
+use Rattle.run_tree.specs.Growth.{Growth, node_in, with_member, with_pack, grown_at, grown, IsPrimalBelow}
 use Rattle.run_tree.proofs.NodeKinds.{kinds, is_of_level, packs_from, packs_from_at, packs_from_off, packs_from-append, leaves_in, kinds-member}
 use Rattle.run_tree.proofs.Grown.{grown_old, grown_new}
 use Rattle.std.proofs.lemmas.List.{map-append}
@@ -111,7 +111,7 @@ step_at base level k rate b g e =
       others = λ l ne. ap (packs_from l base) ks ∙ packs_from-member l base (kinds g.nodes) k e;
       members = λ n all. all_push (FewMembers (suc n)) (set g.nodes i y) m (omega arith) (all_set (FewMembers (suc n)) g.nodes i y (let h = all i in omega (arith, h, length_push x.members (base + length g.nodes))) (wider n all));
       rates = λ r all. all_push (LowRate (r + rate)) (set g.nodes i y) m (omega arith) (all_set (LowRate (r + rate)) g.nodes i y (let h = all i in omega (arith, h)) (higher r all));
-      primals = λ n new all. all_push (PrimalBelow n) (set g.nodes i y) m new (all_set (PrimalBelow n) g.nodes i y (all i) all)
+      primals = λ n new all. all_push (PrimalBelow n) (set g.nodes i y) m new (all_set (PrimalBelow n) g.nodes i y (all i) all);
     }
 
 -- a new pack, and then a member
@@ -132,7 +132,7 @@ step_new base level k rate b g e =
       others = λ l ne. s.others l ne ∙ ap (packs_from l base) ks ∙ packs_from-other l level base (kinds g.nodes) ne;
       members = λ n all. s.members n (all_push (FewMembers n) g.nodes (pack_node level) (omega arith) all);
       rates = λ r all. s.rates r (all_push (LowRate r) g.nodes (pack_node level) (omega arith) all);
-      primals = λ n new all. s.primals n new (all_push (PrimalBelow n) g.nodes (pack_node level) tt all)
+      primals = λ n new all. s.primals n new (all_push (PrimalBelow n) g.nodes (pack_node level) tt all);
     }
 
 pub step_is : (base level : ℕ) (k : Kind) (rate b : ℕ) (g : Growth) → is_pack k ≡ false → IsStep base level k rate g (grown base level k rate b g)

@@ -1,5 +1,5 @@
 -- What the type of a tree keeps.
-use Rattle.std.proofs.Common.{◌≡◌, ℕ, ◌<◌, ◌≤◌, length, ap, arith, inl, inr, ◌∙◌}
+use Rattle.std.proofs.Common.{ℕ, ◌<◌, ◌≤◌, length, ap, arith, inl, inr}
 use Rattle.std.specs.List.{range_with_len}
 use Rattle.std.proofs.lemmas.Bool.{cases_Bool}
 use Rattle.std.proofs.lemmas.List.FromFn.{length-range_with_len}
@@ -33,8 +33,8 @@ tree_is_lawful m h k = record {
     some_processors = k.some_processors;
     few_processors = k.few_processors;
     few_nodes = (let nodes = k.few_nodes in let levels = k.few_levels in omega (arith, nodes, levels));
-    rates = rate-le m.tree h
-  }
+    rates = rate-le m.tree h;
+  };
 }
 
 -- no level has more packs than the tree has nodes

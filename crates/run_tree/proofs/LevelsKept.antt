@@ -1,10 +1,10 @@
 -- What the maker of trees keeps with a level more.
-use Rattle.std.proofs.Common.{◌≡◌, ◌≢◌, ℕ, zero, suc, ◌+◌, ◌-◌, ◌*◌, ◌<◌, ◌≤◌, List, [], ◌∷◌, ◌++◌, true, false, length, get_or, set, ap, ap₂, subst, sym, ◌∙◌, refl, arith, inl, inr, le_refl, add-one}
-use Rattle.std.proofs.lemmas.Bool.{cases_lt, cases_eq}
+use Rattle.std.proofs.Common.{◌≡◌, ◌≢◌, ℕ, suc, ◌+◌, ◌<◌, ◌≤◌, List, [], ◌∷◌, ◌++◌, length, get_or, ap, ap₂, subst, sym, ◌∙◌, arith, inl, inr, le_refl, add-one}
+use Rattle.std.proofs.lemmas.Bool.{cases_lt}
 use Rattle.std.proofs.lemmas.List.{append-nil, get_or_append_left, get_or_push, length-append, length_push, length-map, map-append}
 use Rattle.run_tree.specs.declared.kinds.Kind.{Kind}
 use Rattle.run_tree.specs.declared.kinds.Kind.TheVariants as kind
-use Rattle.run_tree.specs.Tree.{Tree, Node, no_node}
+use Rattle.run_tree.specs.Tree.{Tree, Node}
 use Rattle.run_tree.specs.Schedule.{packs_at}
 use Rattle.run_tree.specs.Making.{Making, with_dual}
 use Rattle.run_tree.specs.Growth.{Growth, node_in, mark_primal, with_duals, with_duals_of, no_growth}
@@ -56,14 +56,14 @@ module _ (lower : List (List ℕ)) (m : Making) (n : ℕ) (g : Growth) (was : Is
         few_packs = omega (arith, packs, few);
         few_nodes = omega (arith, nodes, long, few, few_nodes);
         few_members = λ p.
-          let all : AllNodes (FewMembers (length m.tree.nodes + length g.nodes)) (level_on m.tree g).tree.nodes =
+            let all : AllNodes (FewMembers (length m.tree.nodes + length g.nodes)) (level_on m.tree g).tree.nodes =
             all_append (FewMembers (length m.tree.nodes + length g.nodes)) (with_duals (length m.tree.nodes) g.nodes m.tree.nodes) g.nodes
             (few_with_duals (length m.tree.nodes + length g.nodes) (length m.tree.nodes) g.nodes m.tree.nodes (λ q. let h = k.few_members q in omega (arith, h)))
             (λ q. let h = fresh.members q in omega (arith, h, enough)) in
-          let h = all p in
-          omega (arith, h, nodes);
+            let h = all p in
+            omega (arith, h, nodes);
         first_packs = λ e. absurd (omega (arith, e, some_level));
-        first_nodes = λ e. absurd (omega (arith, e, some_level))
+        first_nodes = λ e. absurd (omega (arith, e, some_level));
       }
 
   same_below : (l : ℕ) → l ≢ m.tree.levels → packs_at (level_on m.tree g).tree l ≡ packs_at m.tree l
@@ -83,9 +83,9 @@ module _ (lower : List (List ℕ)) (m : Making) (n : ℕ) (g : Growth) (was : Is
               get_or_push lower m.last [] l (sym e) ∙ h.last ∙ ap (packs_at m.tree) (sym e) ∙ sym (same_below l (λ f. omega (arith, e, f, count))))
         ];
         last =
-          let e : m.tree.levels ≡ length (lower ++ m.last ∷ []) = omega (arith, count, long) in
-          fresh.packs ∙ sym (packs_on m.tree g m.tree.levels ∙ ap (λ xs. xs ++ packs_from m.tree.levels (length m.tree.nodes) (kinds g.nodes)) (h.above m.tree.levels (le_refl m.tree.levels))) ∙ ap (packs_at (level_on m.tree g).tree) e;
-        above = λ l b. same_below l (λ e. omega (arith, e, b)) ∙ h.above l (omega (arith, b))
+            let e : m.tree.levels ≡ length (lower ++ m.last ∷ []) = omega (arith, count, long) in
+            fresh.packs ∙ sym (packs_on m.tree g m.tree.levels ∙ ap (λ xs. xs ++ packs_from m.tree.levels (length m.tree.nodes) (kinds g.nodes)) (h.above m.tree.levels (le_refl m.tree.levels))) ∙ ap (packs_at (level_on m.tree g).tree) e;
+        above = λ l b. same_below l (λ e. omega (arith, e, b)) ∙ h.above l (omega (arith, b));
       }
 
 -- a level more keeps all
@@ -113,7 +113,7 @@ pub primals_told : (m : Making) (packs homes : List ℕ) (level : Growth) → le
     IsLevelOf (length m.tree.nodes) m.tree.levels m.tree.scale (0 + length packs) level
 primals_told m packs homes level told each old =
     subst (IsLevelOf (length m.tree.nodes) m.tree.levels m.tree.scale (0 + length packs)) (sym told)
-      (level_made m.tree.nodes m.tree.scale m.tree.levels 0 packs homes no_growth each old (level_none (length m.tree.nodes) m.tree.levels m.tree.scale))
+    (level_made m.tree.nodes m.tree.scale m.tree.levels 0 packs homes no_growth each old (level_none (length m.tree.nodes) m.tree.levels m.tree.scale))
 
 pub raised_kept : (lower now : List (List ℕ)) (m : Making) (packs homes : List ℕ) (level new : Growth) → now ≡ lower ++ m.last ∷ [] → level ≡ level_told m packs homes →
     new.nodes ≡ with_duals (length m.tree.nodes) level.nodes m.tree.nodes ++ level.nodes → new.packs ≡ level.packs → IsMaker (lower ++ m.last ∷ []) (level_on m.tree (level_told m packs homes)) →

@@ -1,17 +1,15 @@
 -- A level of duals, as it is made apart from the nodes below.
-use Rattle.std.proofs.Common.{◌≡◌, ◌≢◌, ℕ, zero, suc, ◌+◌, ◌-◌, ◌*◌, ◌<◌, ◌≤◌, List, [], ◌∷◌, ◌++◌, true, false, length, take, get_or, set, ap, ap₂, subst, sym, ◌∙◌, refl, arith, inl, inr, le_refl, add-one}
+use Rattle.std.proofs.Common.{◌≡◌, ◌≢◌, ℕ, zero, suc, ◌+◌, ◌-◌, ◌*◌, ◌<◌, ◌≤◌, List, [], ◌∷◌, length, take, get_or, ap, ap₂, subst, sym, ◌∙◌, refl, arith, inl, inr, le_refl, add-one}
 use Rattle.std.proofs.lemmas.Bool.{cases_Bool}
 use Rattle.std.proofs.lemmas.List.{append-nil, length-map}
-use Rattle.std.proofs.Math.Nat.{mul-le-mul_right}
 use Rattle.sched_base.proofs.ListLemmas.{at_front}
-use Rattle.sched_base.specs.declared.rows.NodeId.{NodeId}
 use Rattle.run_tree.specs.declared.kinds.Kind.{Kind}
 use Rattle.run_tree.specs.declared.kinds.Kind.TheVariants as kind
-use Rattle.run_tree.specs.Tree.{Tree, Node, no_node, is_pack, rate}
-use Rattle.run_tree.specs.Making.{Making, dual_items, put_items, new_level, lifted}
-use Rattle.run_tree.specs.Growth.{Growth, node_in, grown, with_duals_of, no_growth, IsPrimalBelow}
+use Rattle.run_tree.specs.Tree.{Tree, Node, rate}
+use Rattle.run_tree.specs.Making.{Making, dual_items, put_items, lifted}
+use Rattle.run_tree.specs.Growth.{Growth, node_in, grown, with_duals_of, no_growth}
 use Rattle.run_tree.proofs.NodeKinds.{kinds, packs_from, packs_from_at, packs_from_off, is_of_level}
-use Rattle.run_tree.proofs.Growing.{IsStep, step_is, AllNodes, FewMembers, LowRate, PrimalBelow}
+use Rattle.run_tree.proofs.Growing.{step_is, AllNodes, FewMembers, LowRate, PrimalBelow}
 use Rattle.run_tree.proofs.Lifted.{level_on, AreAmong, put_on}
 
 abbrev pub dual_of : ℕ → Kind
@@ -37,7 +35,7 @@ level_none base level scale = record {
   others = λ l ne. refl;
   members = λ p. omega arith;
   rates = λ p. omega arith;
-  primals = λ p. tt
+  primals = λ p. tt;
 }
 
 pub level_step : (base level scale n b p rate : ℕ) (g : Growth) → IsLevelOf base level scale n g → p < base → rate ≤ scale → IsLevelOf base level scale (suc n) (grown base level (dual_of p) rate b g)
@@ -57,7 +55,7 @@ level_step base level scale n b p rate g was old low =
       others = λ l ne. s.others l ne ∙ was.others l ne;
       members = s.members n was.members;
       rates = λ q. let r = s.rates (n * scale) was.rates q in omega (arith, r, low);
-      primals = s.primals base old was.primals
+      primals = s.primals base old was.primals;
     }
 
 pub level_made : (below : List Node) (scale level n : ℕ) (packs homes : List ℕ) (g : Growth) → length homes ≡ length packs → ((i : ℕ) → i < length packs → get_or packs i 0 < length below) →
@@ -69,8 +67,8 @@ level_made below scale level n (p ∷ packs) (b ∷ homes) g e old was =
     let h : Growth = grown (length below) level (dual_of p) (scale - (node_in below p).rate) b g in
     let made : Growth = with_duals_of below scale level packs homes h in
     subst (λ m. IsLevelOf (length below) level scale m made) f
-      (level_made below scale level (suc n) packs homes h (omega (arith, e)) (λ i l. old (suc i) (omega (arith, l)))
-        (level_step (length below) level scale n b p (scale - (node_in below p).rate) g was (old 0 (omega arith)) (omega arith)))
+    (level_made below scale level (suc n) packs homes h (omega (arith, e)) (λ i l. old (suc i) (omega (arith, l)))
+    (level_step (length below) level scale n b p (scale - (node_in below p).rate) g was (old 0 (omega arith)) (omega arith)))
 
 next_dual : (below : List Node) (scale level i : ℕ) (packs homes : List ℕ) (g : Growth) → i < length packs → i < length homes →
     with_duals_of below scale level (take (suc i) packs) (take (suc i) homes) g
@@ -120,7 +118,7 @@ duals_on t n (p ∷ packs) [] g old was = refl
 duals_on t n (p ∷ packs) (b ∷ homes) g old was =
     ap (put_items (dual_items t packs) homes) (put_on t g (record { 0 = p }) (t.scale - rate t p) b (old 0 (omega arith)) (among_is (length t.nodes) t.levels t.scale n g was))
     ∙ duals_on t (suc n) packs homes (grown (length t.nodes) t.levels (dual_of p) (t.scale - rate t p) b g) (λ i l. old (suc i) (omega (arith, l)))
-      (level_step (length t.nodes) t.levels t.scale n b p (t.scale - rate t p) g was (old 0 (omega arith)) (omega arith))
+    (level_step (length t.nodes) t.levels t.scale n b p (t.scale - rate t p) g was (old 0 (omega arith)) (omega arith))
 
 pub lifted_is : (packs homes : List ℕ) (m : Making) → ((i : ℕ) → i < length packs → get_or packs i 0 < length m.tree.nodes) → lifted packs homes m ≡ level_on m.tree (with_duals_of m.tree.nodes m.tree.scale m.tree.levels packs homes no_growth)
 unfolding lifted

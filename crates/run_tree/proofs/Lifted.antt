@@ -1,14 +1,13 @@
 -- A level that is made apart, and then put above the nodes so far, is the level that `lifted` gives.
 use Rattle.std.proofs.Common.{◌≡◌, ℕ, suc, ◌+◌, ◌-◌, ◌<◌, ◌≤◌, ◌++◌, ◌∷◌, [], List, length, set, get_or, ap, ap₂, sym, ◌∙◌, refl, arith, append_assoc, inl, inr}
 use Rattle.std.proofs.lemmas.Bool.{cases_lt}
-use Rattle.std.proofs.lemmas.List.{get_or_push, get_or_append_left, get_or-append_right, set-append_left, set-append_right, length-append, length_push}
-use Rattle.std.specs.List.{AllByRecursion}
+use Rattle.std.proofs.lemmas.List.{get_or_push, get_or_append_left, get_or-append_right, set-append_left, set-append_right, length-append}
 use Rattle.sched_base.specs.declared.rows.NodeId.{NodeId}
 use Rattle.run_tree.specs.declared.kinds.Kind.{Kind}
 use Rattle.run_tree.specs.declared.kinds.Kind.TheVariants as kind
 use Rattle.run_tree.specs.Tree.{Tree, Node, no_node}
-use Rattle.run_tree.specs.Making.{Making, Item, member_node, pack_node, joined, with_dual, put, joined_at, opened, dual_items, put_items, new_level, lifted}
-use Rattle.run_tree.specs.Growth.{Growth, node_in, with_member, with_pack, grown_at, grown, mark_primal, with_duals, with_duals_of, no_growth}
+use Rattle.run_tree.specs.Making.{Making, member_node, pack_node, joined, with_dual, put, joined_at, opened}
+use Rattle.run_tree.specs.Growth.{Growth, node_in, with_member, with_pack, grown_at, grown, mark_primal, with_duals}
 use Rattle.run_tree.proofs.Puts.{put_old, put_new}
 use Rattle.run_tree.proofs.Grown.{grown_old, grown_new}
 use Rattle.run_tree.proofs.Duals.{length-with_duals, with_duals-push, with_duals-member}

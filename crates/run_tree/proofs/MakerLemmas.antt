@@ -1,23 +1,21 @@
 -- What the maker of trees keeps.
-use Rattle.std.proofs.Common.{◌≡◌, ◌≢◌, ℕ, zero, suc, ◌+◌, ◌-◌, ◌*◌, ◌<◌, ◌≤◌, ◌⊎◌, Bool, nat_lt, List, [], ◌∷◌, ◌++◌, true, false, length, get_or, set, ap, ap₂, subst, sym, ◌∙◌, refl, arith, inl, inr, le_refl, Result, Ok, Err, OnOk, OnErr, zero-add}
-use Rattle.std.proofs.lemmas.Bool.{cases_lt, cases_eq}
-use Rattle.std.proofs.lemmas.List.{get_or_push, get_or-map, length_push, length-map}
+use Rattle.std.proofs.Common.{◌≡◌, ℕ, suc, ◌+◌, ◌-◌, ◌<◌, ◌≤◌, Bool, nat_lt, List, [], ◌∷◌, ◌++◌, length, get_or, set, ap, subst, sym, ◌∙◌, refl, arith, inl, inr, Result, Ok, Err, OnOk, OnErr, zero-add}
+use Rattle.std.proofs.lemmas.Bool.{cases_lt}
+use Rattle.std.proofs.lemmas.List.{get_or-map, length-map}
 use Rattle.run_tree.proofs.PackLists.{filter_at, length-filter-le, length_apart}
 use borrow.Author.Tests.{ltb-true}
 use Rattle.sched_base.specs.declared.rows.Leaf.{Leaf}
-use Rattle.sched_base.specs.Counting.{bit}
 use Rattle.sched_base.proofs.ListLemmas.{first_from}
-use Rattle.run_tree.specs.declared.kinds.Kind.{Kind}
 use Rattle.run_tree.specs.declared.kinds.Kind.TheVariants as kind
-use Rattle.run_tree.specs.Tree.{Tree, Node, no_node, at_level, is_leaf, rate}
+use Rattle.run_tree.specs.Tree.{Tree, at_level, rate}
 use Rattle.run_tree.specs.Schedule.{packs_at}
 use Rattle.run_tree.specs.Making.{Making, lower_packs, with_nodes, member_node, pack_node, joined, joined_at, opened, put}
-use Rattle.run_tree.specs.Growth.{Growth, node_in, with_member, with_pack, grown_at, grown}
+use Rattle.run_tree.specs.Growth.{Growth, node_in, with_pack, grown_at, grown}
 use Rattle.run_tree.specs.Maker.{IsMaking, HasLevels, IsMaker, NamesLower, leaf_count, packs_named}
 use Rattle.run_tree.proofs.Puts.{put_old, put_new}
 use Rattle.run_tree.proofs.Grown.{grown_old, grown_new}
-use Rattle.run_tree.proofs.NodeKinds.{kinds, packs_from, packs_at_is, leaves_in, leaf_count_is}
-use Rattle.run_tree.proofs.Growing.{IsStep, step_is, AllNodes, FewMembers}
+use Rattle.run_tree.proofs.NodeKinds.{packs_at_is, leaf_count_is}
+use Rattle.run_tree.proofs.Growing.{IsStep, step_is}
 
 -- the packs of the last level are nodes
 pub last_in : (lower : List (List ℕ)) (m : Making) → HasLevels lower m → (i : ℕ) → i < length m.last → get_or m.last i 0 < length m.tree.nodes
@@ -82,7 +80,7 @@ leaf_making lower m leaf rate h was only few s =
       few_nodes = omega (arith, packs_few, nodes_few, before, after, leaves, few, only);
       few_members = λ p. let r = s.members (length m.tree.nodes) k.few_members p in omega (arith, r, grew);
       first_packs = λ _. packs_few;
-      first_nodes = λ _. nodes_few
+      first_nodes = λ _. nodes_few;
     }
 
 leaf_levels : (lower : List (List ℕ)) (m : Making) (leaf : Leaf) (rate : ℕ) (h : Growth) → HasLevels lower m → m.tree.levels ≡ 1 → IsStep 0 (m.tree.levels - 1) (kind.Leaf leaf) rate (growth_of m) h → HasLevels lower (making_with m h)
@@ -94,9 +92,9 @@ leaf_levels lower m leaf rate h was only s =
       count = was.count;
       below = λ l b. absurd (omega (arith, count, only, b));
       last =
-        s.packs (was.last ∙ ap (packs_at m.tree) (sym level) ∙ packs_at_is m.tree (m.tree.levels - 1))
-        ∙ sym (packs_at_is t (m.tree.levels - 1)) ∙ ap (packs_at t) level;
-      above = λ l b. packs_at_is t l ∙ s.others l (λ e. omega (arith, e, b, only)) ∙ sym (packs_at_is m.tree l) ∙ was.above l b
+          s.packs (was.last ∙ ap (packs_at m.tree) (sym level) ∙ packs_at_is m.tree (m.tree.levels - 1))
+          ∙ sym (packs_at_is t (m.tree.levels - 1)) ∙ ap (packs_at t) level;
+      above = λ l b. packs_at_is t l ∙ s.others l (λ e. omega (arith, e, b, only)) ∙ sym (packs_at_is m.tree l) ∙ was.above l b;
     }
 
 pub leaf_kept : (lower : List (List ℕ)) (m : Making) (leaf : Leaf) (rate b : ℕ) → IsMaker lower m → m.tree.levels ≡ 1 → leaf_count m.tree < 1280 →
@@ -128,7 +126,7 @@ lower_have lower m packs was e =
     subst (HaveDuals m) (sym e) (record {
       few = omega (arith, few, few_last);
       nodes = λ i l. (at i l).0;
-      rates = λ i l. let low = ltb-true (rate m.tree (get_or (lower_packs m) i 0)) m.tree.scale (at i l).1 in omega (arith, low)
+      rates = λ i l. let low = ltb-true (rate m.tree (get_or (lower_packs m) i 0)) m.tree.scale (at i l).1 in omega (arith, low);
     })
 
 pub named_have : (lower : List (List ℕ)) (m : Making) (order packs : List ℕ) → IsMaker lower m → NamesLower m order → packs ≡ packs_named m order → HaveDuals m packs
@@ -141,5 +139,5 @@ named_have lower m order packs was names e =
     subst (HaveDuals m) (sym e) (record {
       few = omega (arith, few, few_last, long);
       nodes = λ k l. let r = last_in lower m was.levels (get_or order k 0) (names.lower k (omega (arith, l, long))).0 in omega (arith, r, at k l);
-      rates = λ k l. let r = (names.lower k (omega (arith, l, long))).1 in let f = ap (rate m.tree) (at k l) in omega (arith, r, f)
+      rates = λ k l. let r = (names.lower k (omega (arith, l, long))).1 in let f = ap (rate m.tree) (at k l) in omega (arith, r, f);
     })

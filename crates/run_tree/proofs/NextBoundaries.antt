@@ -1,16 +1,15 @@
 -- The next boundary of a node, by those of the nodes below it.
-use Rattle.std.proofs.Common.{◌≡◌, ℕ, zero, suc, ◌+◌, ◌*◌, ◌^◌, ◌<◌, ◌≤◌, ◌⊎◌, Bool, List, true, false, length, min, refl, ap, ap₂, arith, inl, inr, sym, subst, ◌∙◌}
+use Rattle.std.proofs.Common.{◌≡◌, ℕ, zero, suc, ◌+◌, ◌*◌, ◌^◌, ◌<◌, ◌≤◌, ◌⊎◌, Bool, true, false, length, min, refl, ap, ap₂, arith, inl, inr, sym, subst, ◌∙◌}
 use Rattle.std.proofs.lemmas.Bool.{cases_lt, both_ways}
 use Rattle.sched_base.specs.declared.rows.Leaf.{Leaf}
 use Rattle.sched_base.specs.declared.rows.Leaf.TheVariants.{Task, Wait, Idle, Empty}
 use Rattle.sched_base.specs.declared.rows.NodeId.{NodeId}
-use Rattle.sched_base.specs.declared.sets.Task as declared
 use Rattle.run_tree.specs.declared.kinds.Kind.{Kind}
 use Rattle.run_tree.specs.declared.kinds.Kind.TheVariants as kind
 use Rattle.run_tree.specs.Windows.{boundary_within, window_end}
-use Rattle.run_tree.specs.Tree.{Tree, IsTree, IsPack, IsDual, IsLeaf, is_leaf, is_dual, is_pack, kind_at, level_of, level, leaf, leaf_of, primal, primal_of, home, member, members}
-use Rattle.run_tree.specs.Boundaries.{set_boundary, is_boundary}
-use Rattle.run_tree.specs.TreeOfSet.{HoldsTasks, IsKnown, is_real}
+use Rattle.run_tree.specs.Tree.{Tree, IsTree, IsPack, IsLeaf, is_leaf, is_dual, is_pack, kind_at, level_of, level, leaf, leaf_of, primal_of, home, member, members}
+use Rattle.run_tree.specs.Boundaries.{set_boundary}
+use Rattle.run_tree.specs.TreeOfSet.{IsKnown, is_real}
 use Rattle.run_tree.specs.Plans.{PlanContents, IsPlan, boundary_of}
 use Rattle.run_tree.proofs.BoundaryLemmas.{bound_leaf, bound_dual}
 use Rattle.run_tree.proofs.PackBoundaryLemmas.{pack_end}
@@ -121,13 +120,13 @@ module _ (p : PlanContents) (h : IsPlan p) where
   pub least_more : (n u count least found : ℕ) → found < 2 ^ 64 → found ≡ member_end p n u count → IsLeastOf p n u count least → IsLeastOf p n u (count + 1) (min least found)
   least_more n u count least found fits e was = elim (cases_lt least found) [
     | inl low ↦ (let m : min least found ≡ least = omega (arith, low) in record {
-        each = λ j b. elim (cases_lt j count) [ | inl old ↦ (let x = was.each j old in omega (arith, x, m)) | inr new ↦ (let x = last j b new in omega (arith, x, e, m, low)) ];
-        some = kept m low was.some
-      })
+      each = λ j b. elim (cases_lt j count) [ inl old ↦ (let x = was.each j old in omega (arith, x, m)) | inr new ↦ (let x = last j b new in omega (arith, x, e, m, low)) ];
+      some = kept m low was.some;
+    })
     | inr high ↦ (let m : min least found ≡ found = omega (arith, high) in record {
-        each = λ j b. elim (cases_lt j count) [ | inl old ↦ (let x = was.each j old in omega (arith, x, m, high)) | inr new ↦ (let x = last j b new in omega (arith, x, e, m)) ];
-        some = inr (count, omega arith, m ∙ e)
-      })
+      each = λ j b. elim (cases_lt j count) [ inl old ↦ (let x = was.each j old in omega (arith, x, m, high)) | inr new ↦ (let x = last j b new in omega (arith, x, e, m)) ];
+      some = inr (count, omega arith, m ∙ e);
+    })
   ]
     where
       last : (j : ℕ) → j < count + 1 → count ≤ j → member_end p n u j ≡ member_end p n u count

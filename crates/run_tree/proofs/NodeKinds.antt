@@ -1,5 +1,5 @@
 -- The kinds of nodes in a row, which settle the packs of each level and the number of leaves.
-use Rattle.std.proofs.Common.{◌≡◌, ℕ, zero, suc, ◌+◌, ◌<◌, ◌≤◌, ◌&&◌, eqb, cond, Bool, true, false, List, [], ◌∷◌, ◌++◌, map, filter, length, get_or, set, ap, ap₂, sym, ◌∙◌, refl, arith, add-one, inl, inr, zero-add, append-nil}
+use Rattle.std.proofs.Common.{◌≡◌, ℕ, suc, ◌+◌, ◌<◌, ◌&&◌, eqb, cond, Bool, true, false, List, [], ◌∷◌, ◌++◌, map, filter, length, get_or, set, ap, ap₂, sym, ◌∙◌, refl, arith, add-one, inl, inr, zero-add}
 use Rattle.std.specs.List.{range_with_len}
 use Rattle.std.proofs.lemmas.Bool.{cases_Bool, cond-true, cond-false}
 use Rattle.std.proofs.lemmas.List.{map-append, length-map}
@@ -11,7 +11,7 @@ use Rattle.run_tree.specs.declared.kinds.Kind.{Kind}
 use Rattle.run_tree.specs.declared.kinds.Kind.TheVariants as kind
 use Rattle.run_tree.specs.Tree.{Tree, Node, no_node, is_pack, is_leaf, level_of, kind_at, at_level}
 use Rattle.run_tree.specs.Schedule.{packs_at}
-use Rattle.run_tree.specs.Making.{member_node, pack_node, joined}
+use Rattle.run_tree.specs.Making.{member_node, joined}
 use Rattle.run_tree.specs.Growth.{node_in, with_member, mark_primal, with_duals}
 use Rattle.run_tree.specs.Maker.{leaf_count}
 
@@ -50,8 +50,8 @@ passing_is l n p [] same = refl
 passing_is l n p (x ∷ xs) same =
     let here : p n ≡ is_of_level l x.kind = (let e : n ≡ n + 0 = omega arith in ap p e ∙ same 0 (omega arith)) in
     let rest : filter p (range_with_len (n + 1) (length xs)) ≡ packs_from l (suc n) (kinds xs) =
-      ap (λ m. filter p (range_with_len m (length xs))) (add-one n)
-      ∙ passing_is l (suc n) p xs (λ i b. let e : suc n + i ≡ n + suc i = omega arith in ap p e ∙ same (suc i) (omega arith)) in
+    ap (λ m. filter p (range_with_len m (length xs))) (add-one n)
+    ∙ passing_is l (suc n) p xs (λ i b. let e : suc n + i ≡ n + suc i = omega arith in ap p e ∙ same (suc i) (omega arith)) in
     ap₂ (λ (b : Bool) (ys : List ℕ). cond b (n ∷ ys) ys) here rest
 
 pub packs_at_is : (t : Tree) (l : ℕ) → packs_at t l ≡ packs_from l 0 (kinds t.nodes)

@@ -1,10 +1,10 @@
 -- Lists of packs: those that pass a test, and those that are named by their places.
-use Rattle.std.proofs.Common.{◌≡◌, ◌≢◌, ℕ, zero, suc, ◌+◌, ◌*◌, ◌<◌, ◌≤◌, eqb, cond, Bool, true, false, List, [], ◌∷◌, ◌++◌, map, filter, length, take, get_or, ap, ap₂, subst, sym, ◌∙◌, refl, arith, inl, inr, le_refl, add-one, eq-eqb}
+use Rattle.std.proofs.Common.{◌≡◌, ℕ, suc, ◌<◌, ◌≤◌, eqb, Bool, true, List, [], ◌∷◌, filter, length, get_or, ap, subst, sym, ◌∙◌, refl, arith, inl, inr, le_refl, eq-eqb}
 use Rattle.std.proofs.lemmas.Bool.{cases_Bool, cond-true, cond-false, eqb-true, ne_eqb}
 use Rattle.sched_base.specs.Counting.{sum_to, bit}
 use Rattle.sched_base.proofs.ListLemmas.{at_front}
 use Rattle.sched_base.proofs.CountingLemmas.{bit_at, bit_off}
-use Rattle.sched_base.proofs.SumLemmas.{sum_to-same, sum_to-one, sum_to-swap, sum_to-le, sum_to-alone, ones}
+use Rattle.sched_base.proofs.SumLemmas.{sum_to-same, sum_to-one, sum_to-swap, sum_to-le, sum_to-alone, sum_to-ones}
 
 -- what passes a test stood in the list, and passes
 pub filter_at : (f : ℕ → Bool) (Q : ℕ → Type 0) (xs : List ℕ) → ((i : ℕ) → i < length xs → Q (get_or xs i 0)) → (i : ℕ) → i < length (filter f xs) → Q (get_or (filter f xs) i 0) × (f (get_or (filter f xs) i 0) ≡ true)
@@ -34,9 +34,9 @@ pub length_apart : (xs : List ℕ) (n : ℕ) → ((i : ℕ) → i < length xs �
 length_apart xs n below apart =
     let is : ℕ → ℕ → ℕ = λ (i v : ℕ). bit (eqb (get_or xs i 0) v) in
     let each = sum_to-same (length xs) (λ i. sum_to n (is i)) (λ i. 1) (λ i l.
-      sum_to-one n (is i) (get_or xs i 0) (below i l) (λ v b ne. bit_off (eqb (get_or xs i 0) v) (ne_eqb (get_or xs i 0) v (λ e. ne (sym e))))
-      ∙ bit_at (eqb (get_or xs i 0) (get_or xs i 0)) (eq-eqb (get_or xs i 0) (get_or xs i 0) refl)) in
+    sum_to-one n (is i) (get_or xs i 0) (below i l) (λ v b ne. bit_off (eqb (get_or xs i 0) v) (ne_eqb (get_or xs i 0) v (λ e. ne (sym e))))
+    ∙ bit_at (eqb (get_or xs i 0) (get_or xs i 0)) (eq-eqb (get_or xs i 0) (get_or xs i 0) refl)) in
     let swapped = sum_to-swap (length xs) n is in
     let few = sum_to-le n (λ v. sum_to (length xs) (λ i. is i v)) (λ v. 1) (λ v b.
-      sum_to-alone (length xs) (λ i. eqb (get_or xs i 0) v) (λ j k jl kl je ke. apart j k jl kl (eqb-true (get_or xs j 0) v je ∙ sym (eqb-true (get_or xs k 0) v ke)))) in
-    omega (arith, each, swapped, few, ones (length xs), ones n)
+    sum_to-alone (length xs) (λ i. eqb (get_or xs i 0) v) (λ j k jl kl je ke. apart j k jl kl (eqb-true (get_or xs j 0) v je ∙ sym (eqb-true (get_or xs k 0) v ke)))) in
+    omega (arith, each, swapped, few, sum_to-ones (length xs), sum_to-ones n)

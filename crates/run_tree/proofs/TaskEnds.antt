@@ -1,8 +1,7 @@
 -- The boundaries of a leaf, one after the other.
-use Rattle.std.proofs.Common.{◌≡◌, ℕ, zero, suc, ◌+◌, ◌-◌, ◌*◌, ◌/◌, ◌%◌, ◌^◌, ◌<◌, ◌≤◌, ◌&&◌, ◌||◌, eqb, leb, Bool, List, true, false, refl, ap, ap₂, arith, inl, inr, sym, ◌∙◌, div-add-mod', mod-lt, zero-add}
+use Rattle.std.proofs.Common.{◌≡◌, ℕ, ◌+◌, ◌-◌, ◌*◌, ◌/◌, ◌%◌, ◌^◌, ◌<◌, ◌≤◌, ◌&&◌, ◌||◌, eqb, leb, Bool, List, false, ap, ap₂, arith, ◌∙◌, div-add-mod', mod-lt}
 use native.Mathlib.Nat.{div-eq_of_lt-le}
-use Rattle.std.proofs.lemmas.Bool.{cases_lt, and_left, and_right, ne_eqb, lt-leb}
-use Rattle.sched_base.specs.declared.rows.Leaf.{Leaf}
+use Rattle.std.proofs.lemmas.Bool.{and_left, and_right, ne_eqb, lt-leb}
 use Rattle.sched_base.specs.declared.rows.Leaf.TheVariants.{Idle}
 use Rattle.sched_base.specs.declared.sets.Task as declared
 use Rattle.sched_base.specs.Sets.{IsLawfulTask}

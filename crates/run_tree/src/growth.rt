@@ -52,12 +52,7 @@ fn join(
 }
 
 // A pack with a first member.
-fn opened(
-    alloc: Global,
-    level: u32,
-    member: NodeId,
-    rate: u128,
-) -> Result<Node, NoMemory>
+fn opened(alloc: Global, level: u32, member: NodeId, rate: u128) -> Result<Node, NoMemory>
     ensures { IfOk result (λ n. n ≡ joined (pack_node level) member.0 rate) }
 {
     let mut pack = Node::pack(alloc, level);

@@ -65,12 +65,7 @@ fn copies(levels: &Vec<Packs>) -> Result<Vec<Packs>, NoMemory>
 }
 
 // Those of these packs that aren't roots, in order.
-fn lower_of(
-    alloc: Global,
-    nodes: &[Node],
-    packs: &[u32],
-    scale: u128,
-) -> Result<Vec<u32>, NoMemory>
+fn lower_of(alloc: Global, nodes: &[Node], packs: &[u32], scale: u128) -> Result<Vec<u32>, NoMemory>
     requires { (i : ℕ) → i < length packs.now → slice_index packs.now i < length nodes.now }
     ensures { IfOk result (λ found. found.items ≡ filter (λ p. nat_lt (node_in nodes.now p).rate scale) packs.now) }
 {
@@ -141,7 +136,8 @@ impl TreeMaker {
         ensures ok { OnOk result (self.new ≡ put (kind.Leaf leaf) rate pack self.old) }
         ensures err { OnErr result (self.new ≡ self.old) }
     {
-        self.growth.put(0, self.levels - 1, Kind::Leaf(leaf), rate, pack)
+        self.growth
+            .put(0, self.levels - 1, Kind::Leaf(leaf), rate, pack)
     }
 
     /// Adds a level: the dual of the i-th pack of the last level that isn't a root goes to the end of pack `homes[i]`,

@@ -6,6 +6,7 @@ ghost use Rattle.run_tree.specs.Making.{member_node, pack_node, joined, with_dua
 
 use crate::kinds::Kind;
 use sched_base::{NoMemory, NodeId};
+use smallvec::SmallVec;
 use std::alloc::Global;
 use std::marker::Model;
 
@@ -16,7 +17,7 @@ pub(crate) struct Node {
     rate: u128,
     home: u32,
     place: u32,
-    members: Vec<NodeId>,
+    members: SmallVec<NodeId, 4>,
     dual: Option<NodeId>,
 }
 
@@ -39,7 +40,7 @@ impl Node {
             rate: 0,
             home: 0,
             place: 0,
-            members: Vec::new(alloc),
+            members: SmallVec::new(alloc),
             dual: None,
         }
     }
@@ -53,7 +54,7 @@ impl Node {
             rate,
             home,
             place,
-            members: Vec::new(alloc),
+            members: SmallVec::new(alloc),
             dual: None,
         }
     }
@@ -67,7 +68,7 @@ impl Node {
             rate: self.rate,
             home: self.home,
             place: self.place,
-            members: Vec::from_slice(*self.members.allocator(), self.members.as_slice())?,
+            members: SmallVec::from_slice(*self.members.allocator(), self.members.as_slice())?,
             dual: self.dual,
         })
     }

@@ -9,7 +9,7 @@ pub struct TaskId(pub u32);
 pub struct ProcId(pub u32);
 
 /// A node of a tree, by its number in the order in which the nodes were made.
-#[derive(Clone, Copy, Debug, PartialEq, Eq)]
+#[derive(Clone, Copy, Debug, Default, PartialEq, Eq)]
 pub struct NodeId(pub u32);
 
 /// What a processor runs.

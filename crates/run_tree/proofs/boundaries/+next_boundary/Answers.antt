@@ -1,9 +1,9 @@
-use Rattle.std.proofs.Common.{◌≡◌, ◌<◌, ◌^◌, ◌+◌, ◌∙◌, ℕ, length, min, get_or, ap, ap₂, subst, sym, arith}
+use Rattle.std.proofs.Common.{◌≡◌, ◌<◌, ◌+◌, ◌∙◌, length, ap, subst, sym, arith}
 use Rattle.sched_base.specs.Sets.{SetContents}
 use Rattle.run_tree.specs.declared.kinds.Kind.TheVariants as kind
 use Rattle.run_tree.specs.Windows.{window_end}
 use Rattle.run_tree.specs.Boundaries.{set_boundary}
-use Rattle.run_tree.specs.Tree.{Tree, IsPack, kind_at, is_pack, members, member, numbers}
+use Rattle.run_tree.specs.Tree.{Tree, kind_at, is_pack, members, numbers}
 use Rattle.run_tree.specs.Plans.{boundary_of}
 use Rattle.run_tree.proofs.NodeReads.{member_at, length-members}
 use Rattle.run_tree.proofs.NextBoundaries.{IsLeastOf, rank, rank_primal, rank_member, leaf_end_is, dual_end_is, pack_end_is, least_more}
@@ -43,7 +43,7 @@ loop-member-preserved t c =
     let x = member_at c.args.plan.now.tree c.args.n.0 c.loop-member.member-index c.members-member-items.result.now all in
     let found = c.next_boundary-in-loop-member.ensures ∙ ap (λ y. window_end (boundary_of c.args.plan.now y) c.args.after) x in
     subst (λ least. IsLeastOf c.args.plan.now c.args.n.0 c.args.after (c.loop-member.member-index + 1) least) (sym c.min-least.ensures)
-      (least_more c.args.plan.now c.tree.ensures.lawful c.args.n.0 c.args.after c.loop-member.member-index c.loop-member.least c.next_boundary-in-loop-member.result c.next_boundary-in-loop-member.type_inv found c.loop-member.invariant)
+    (least_more c.args.plan.now c.tree.ensures.lawful c.args.n.0 c.args.after c.loop-member.member-index c.loop-member.least c.next_boundary-in-loop-member.result c.next_boundary-in-loop-member.type_inv found c.loop-member.invariant)
 
 pub returns-after-loop-member : goal.returns-after-loop-member
 returns-after-loop-member t c =
@@ -51,4 +51,4 @@ returns-after-loop-member t c =
     let all : numbers c.members-member-items.result.now ≡ members c.args.plan.now.tree c.args.n.0 = c.members-member-items.ensures ∙ ap (λ (x : Tree). members x c.args.n.0) c.tree-in-Pack.ensures.value in
     let e : c.loop-member.member-index ≡ length (members c.args.plan.now.tree c.args.n.0) = omega (arith, c.loop-member-test.false, c.loop-member.auto.member-index-end, length-members c.args.plan.now.tree c.args.n.0 c.members-member-items.result.now all) in
     pack_end_is c.args.plan.now c.tree.ensures.lawful c.args.n.0 c.in-Pack.field-0 c.args.after c.loop-member.least c.requires.node is
-      (subst (λ count. IsLeastOf c.args.plan.now c.args.n.0 c.args.after count c.loop-member.least) e c.loop-member.invariant)
+    (subst (λ count. IsLeastOf c.args.plan.now c.args.n.0 c.args.after count c.loop-member.least) e c.loop-member.invariant)

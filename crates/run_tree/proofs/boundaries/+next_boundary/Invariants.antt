@@ -1,4 +1,3 @@
-use Rattle.std.proofs.Common.{ℕ}
 use Rattle.run_tree.proofs.NextBoundaries.{IsLeastOf, rank}
 use Rattle.run_tree.proofs.boundaries.+next_boundary.Given as goal
 

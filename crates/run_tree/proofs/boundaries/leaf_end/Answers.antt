@@ -1,4 +1,4 @@
-use Rattle.std.proofs.Common.{◌≡◌, ◌^◌, ◌∙◌, ℕ, ap, sym, subst}
+use Rattle.std.proofs.Common.{◌∙◌, ap, sym}
 use Rattle.sched_base.specs.declared.rows.Leaf.{Leaf}
 use Rattle.run_tree.specs.Windows.{window_end}
 use Rattle.run_tree.specs.Boundaries.{set_boundary}

@@ -1,4 +1,4 @@
-use Rattle.std.proofs.Common.{◌<◌, arith}
+use Rattle.std.proofs.Common.{arith}
 use Rattle.run_tree.proofs.TaskEnds.{end_before, end_after, task_end_is}
 use Rattle.run_tree.proofs.boundaries.task_end.Goals as goal
 

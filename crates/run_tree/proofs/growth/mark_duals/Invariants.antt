@@ -6,5 +6,5 @@ abbrev pub invariant-loop-i : goal.invariant-loop-i
 invariant-loop-i l = record {
   nodes : l.nodes.items ≡ with_duals l.number (take l.i l.level) l.initial.nodes.items;
   long : length l.nodes.items ≡ length l.initial.nodes.items;
-  capacity : vec_capacity l.nodes ≡ vec_capacity l.initial.nodes
+  capacity : vec_capacity l.nodes ≡ vec_capacity l.initial.nodes;
 }

@@ -1,5 +1,5 @@
-use Rattle.std.proofs.Common.{◌≡◌, ◌∙◌, ◌<◌, filter, nat_lt, length, get_or, ap, ap₂, subst, arith}
-use Rattle.run_tree.specs.Making.{Making, lower_packs}
+use Rattle.std.proofs.Common.{◌≡◌, ◌∙◌, filter, nat_lt, length, get_or, ap, ap₂, subst, arith}
+use Rattle.run_tree.specs.Making.{lower_packs}
 use Rattle.run_tree.specs.Growth.{node_in}
 use Rattle.run_tree.specs.Maker.{IsMaker}
 use Rattle.run_tree.proofs.MakerLemmas.{last_in, lower_have}

@@ -1,8 +1,6 @@
-use Rattle.std.proofs.Common.{◌≡◌, ◌∙◌, ◌<◌, ◌+◌, ◌++◌, ◌∷◌, [], ℕ, List, length, get_or, ap, subst, sym, arith}
+use Rattle.std.proofs.Common.{◌≡◌, ◌∙◌, ◌<◌, ◌++◌, ◌∷◌, [], ℕ, List, length, get_or, ap, sym, arith}
 use Rattle.run_tree.specs.Making.{Making, lifted}
-use Rattle.run_tree.specs.Growth.{Growth}
-use Rattle.run_tree.specs.Maker.{IsMaker}
-use Rattle.run_tree.proofs.LevelsMade.{IsLevelOf, lifted_is}
+use Rattle.run_tree.proofs.LevelsMade.{lifted_is}
 use Rattle.run_tree.proofs.LevelsKept.{level_told, level_kept, stored_level, primals_told, raised_kept}
 use Rattle.run_tree.proofs.maker.TreeMaker.raise.Goals as goal
 
