@@ -1,0 +1,185 @@
+//! The state of the machine, and its steps.
+ghost use Rattle.std.specs.Prelude.{◌≡◌, ◌≤◌, ◌<◌, ◌+◌, ◌↔◌, ℕ, length, true, IsTrue, IfOk};
+ghost use Rattle.book_machine.specs.Machine.{IsLegal, MayTake, IsOut, IsStuck, after, start, posted_at, horizon_of};
+ghost use Rattle.sched_base.specs.declared.rows.Row.{Row};
+
+use crate::events::Event;
+use crate::search::{any_left, any_out, least_posted, waits_for};
+use sched_base::{NoMemory, ProcId, RowTable};
+use std::alloc::Global;
+use std::marker::Model;
+
+/// A lane: how many of its rows are posted, and whether its next row is out.
+#[derive(Clone, Copy, Debug, PartialEq, Eq)]
+pub struct LaneState {
+    pub posted: u64,
+    pub out: bool,
+}
+
+/// The state of the machine: its lanes, and whether it is halted.
+#[derive(Drop)]
+pub struct MachineState {
+    lanes: Vec<LaneState>,
+    halted: bool,
+}
+
+impl Model for MachineState {
+    ghost use Rattle.book_machine.specs.Machine.{State, CanPost};
+
+    ghost Value = { State };
+
+    ghost view = { λ s. record { lanes = s.lanes.items; halted = s.halted } };
+
+    ghost invariant = { λ s. CanPost s.lanes.items };
+}
+
+impl MachineState {
+    /// The state before the first event.
+    pub fn new(alloc: Global, processors: u32) -> Result<MachineState, NoMemory>
+        requires some { 1 ≤ processors }
+        requires few { processors ≤ 32 }
+        ensures { IfOk result (λ s. s ≡ start processors) }
+    {
+        let mut lanes = Vec::new(alloc);
+        for _p in 0..processors {
+            lanes.push(LaneState {
+                posted: 0,
+                out: false,
+            })?;
+        }
+        Ok(MachineState {
+            lanes,
+            halted: false,
+        })
+    }
+
+    /// Whether the event may come now. A round that the table doesn't hold is no round.
+    pub fn is_legal(&self, table: &RowTable, window: u32, event: Event) -> bool
+        requires lanes { length self.now.lanes ≡ length table.now.lanes }
+        requires some_window { 1 ≤ window }
+        requires small_window { window ≤ 1024 }
+        ensures { IsTrue result ↔ IsLegal table.now.lanes window self.now event }
+    {
+        match event {
+            Event::Take(p) => self.may_take(table, window, p.0),
+            Event::Post(p) => self.has_out(p.0),
+            Event::Halt(p) => self.has_out(p.0),
+        }
+    }
+
+    /// Makes a legal event.
+    pub fn step(&mut self, table: &RowTable, window: u32, event: Event)
+        requires lanes { length self.old.lanes ≡ length table.now.lanes }
+        requires some_window { 1 ≤ window }
+        requires small_window { window ≤ 1024 }
+        requires legal { IsLegal table.now.lanes window self.old event }
+        ensures { self.new ≡ after self.old event }
+    {
+        let _rounds = table.rounds();
+        match event {
+            Event::Take(p) => {
+                let lane = &mut self.lanes[p.0 as usize];
+                lane.out = true;
+            }
+            Event::Post(p) => {
+                let lane = &mut self.lanes[p.0 as usize];
+                lane.posted += 1;
+                lane.out = false;
+            }
+            Event::Halt(p) => {
+                let lane = &mut self.lanes[p.0 as usize];
+                lane.out = false;
+                self.halted = true;
+            }
+        }
+    }
+
+    /// How many rows lane p has posted.
+    pub fn posted(&self, p: u32) -> u64
+        requires { p < length self.now.lanes }
+        ensures { result ≡ posted_at self.now p }
+    {
+        self.lanes[p as usize].posted
+    }
+
+    /// Whether lane p has its next row out.
+    pub fn is_out(&self, p: u32) -> bool
+        requires { p < length self.now.lanes }
+        ensures { IsTrue result ↔ IsOut self.now p }
+    {
+        self.lanes[p as usize].out
+    }
+
+    /// Whether a row has failed.
+    pub fn is_halted(&self) -> bool
+        ensures { IsTrue result ↔ (self.now.halted ≡ true) }
+    {
+        self.halted
+    }
+
+    /// The tick up to which all rows are posted, where the table holds all rounds: the start of the round with the least
+    /// posted count, or `end` where all rounds are posted.
+    pub fn horizon(&self, table: &RowTable, end: u128) -> u128
+        requires { length self.now.lanes ≡ length table.now.lanes }
+        ensures { result ≡ horizon_of table.now.lanes end self.now }
+    {
+        let round = least_posted(self.lanes.as_slice());
+        if round < table.rounds() {
+            table.row(0, round).start
+        } else {
+            end
+        }
+    }
+
+    /// Whether nothing is halted, nothing is out, some round isn't posted, and yet no lane may take. No list of legal
+    /// events leads there.
+    pub fn stuck(&self, table: &RowTable, window: u32) -> bool
+        requires lanes { length self.now.lanes ≡ length table.now.lanes }
+        requires some_window { 1 ≤ window }
+        requires small_window { window ≤ 1024 }
+        ensures { IsTrue result ↔ IsStuck table.now.lanes window self.now }
+    {
+        if self.halted || any_out(self.lanes.as_slice()) {
+            return false;
+        }
+        any_left(self.lanes.as_slice(), table.rounds()) && !self.any_may_take(table, window)
+    }
+
+    fn any_may_take(&self, table: &RowTable, window: u32) -> bool
+        requires { length self.now.lanes ≡ length table.now.lanes }
+        ensures { IsTrue result ↔ ((p : ℕ) × (p < length self.now.lanes) × ((r : Row) × MayTake table.now.lanes window self.now p r)) }
+    {
+        for p in 0..table.processors() {
+            if self.may_take(table, window, p) {
+                return true;
+            }
+        }
+        false
+    }
+
+    fn may_take(&self, table: &RowTable, window: u32, p: u32) -> bool
+        requires { length self.now.lanes ≡ length table.now.lanes }
+        ensures { IsTrue result ↔ ((r : Row) × MayTake table.now.lanes window self.now p r) }
+    {
+        let Some(lane) = self.lanes.get(p as usize) else {
+            return false;
+        };
+        let round = lane.posted;
+        if self.halted || lane.out || round >= table.rounds() {
+            return false;
+        }
+        let least = least_posted(self.lanes.as_slice());
+        let leaf = table.row(p, round).leaf;
+        round - least < window as u64
+            && waits_for(table, self.lanes.as_slice(), p, round, leaf).is_none()
+    }
+
+    fn has_out(&self, p: u32) -> bool
+        ensures { IsTrue result ↔ IsOut self.now p }
+    {
+        match self.lanes.get(p as usize) {
+            Some(lane) => lane.out,
+            None => false,
+        }
+    }
+}
