@@ -1,0 +1,5 @@
+pub mod HolderLemmas
+pub mod BackLemmas
+pub mod FillLemmas
+pub mod NoteLemmas
+pub mod StepLemmas
