@@ -1,3 +1,4 @@
 pub mod Lanes
 pub mod Steps
 pub mod FrontLemmas
+pub mod RoundLemmas

@@ -1,5 +1,5 @@
 -- The machine of the book, over a table of rows and a window: which events are legal, and what they make.
-use Rattle.std.specs.Prelude.{ℕ, ◌≡◌, ◌≢◌, ◌<◌, ◌≤◌, ◌+◌, ◌^◌, min, List, [], ◌∷◌, Bool, true, false, length, replicate, slice_get, slice_index_or, slice_set, unwrap_or, option_map}
+use Rattle.std.specs.Prelude.{ℕ, ◌≡◌, ◌≢◌, ◌<◌, ◌≤◌, ◌+◌, ◌^◌, ◌⊎◌, min, List, [], ◌∷◌, Bool, true, false, length, replicate, slice_get, slice_index_or, slice_set, unwrap_or, option_map}
 use Rattle.sched_base.specs.declared.rows.Leaf.{Leaf}
 use Rattle.sched_base.specs.declared.rows.Row.{Row}
 use Rattle.sched_base.specs.Tables.{lane_of, RowAt, rounds_of}
@@ -100,6 +100,23 @@ pub record IsWaitedFor (rows : List (List Row)) (lanes : List LaneState) (p k : 
   pub other : q ≢ p
   pub unposted : (j : ℕ) × (r : Row) × ((lane_at lanes q).posted ≤ j) × (j < k) × RowAt rows q j r × (r.leaf ≡ leaf)
   pub lowest : (u : ℕ) → u < q → u ≢ p → PostedBefore rows lanes u k leaf
+
+-- lane q is the lowest with the least posted count
+pub record IsLowest (lanes : List LaneState) (q : ℕ) : Type 0 where
+  pub lane : q < length lanes
+  pub least : (lane_at lanes q).posted ≡ least_of lanes
+  pub first : (u : ℕ) → u < q → least_of lanes < (lane_at lanes u).posted
+
+-- lane p has a next row, and its window and the leaf's earlier rows let it be taken
+pub record IsReady (rows : List (List Row)) (window : ℕ) (s : State) (p : ℕ) : Type 0 where
+  pub in_window : posted_at s p < least_posted s + window
+  pub next : (r : Row) × RowAt rows p (posted_at s p) r × EarlierPosted rows s.lanes p (posted_at s p) r.leaf
+
+-- lane p waits for lane q: the window is the reason, or else an earlier row of its leaf
+abbrev pub WaitsFor : List (List Row) → ℕ → State → ℕ → ℕ → Type 0
+WaitsFor rows window s p q =
+    ((least_posted s + window ≤ posted_at s p) × IsLowest s.lanes q)
+    ⊎ ((posted_at s p < least_posted s + window) × ((r : Row) × RowAt rows p (posted_at s p) r × IsWaitedFor rows s.lanes p (posted_at s p) r.leaf q))
 
 -- the post of each row that is out can be counted
 abbrev pub CanPost : List LaneState → Type 0

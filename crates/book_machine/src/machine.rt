@@ -1,10 +1,11 @@
 //! The state of the machine, and its steps.
-ghost use Rattle.std.specs.Prelude.{◌≡◌, ◌≤◌, ◌<◌, ◌+◌, ◌↔◌, ℕ, length, true, IsTrue, IfOk};
-ghost use Rattle.book_machine.specs.Machine.{IsLegal, MayTake, IsOut, IsStuck, after, start, posted_at, horizon_of};
+ghost use Rattle.std.specs.Prelude.{◌≡◌, ◌≤◌, ◌<◌, ◌+◌, ◌↔◌, ℕ, length, true, IsTrue, IfOk, IfSome, IfNone};
+ghost use Rattle.book_machine.specs.Machine.{IsLegal, MayTake, IsReady, WaitsFor, IsOut, IsStuck, after, start, posted_at, horizon_of};
 ghost use Rattle.sched_base.specs.declared.rows.Row.{Row};
+ghost use Rattle.sched_base.specs.Tables.{rounds_of};
 
 use crate::events::Event;
-use crate::search::{any_left, any_out, least_posted, waits_for};
+use crate::search::{any_left, any_out, least_posted, lowest, waits_for};
 use sched_base::{NoMemory, ProcId, RowTable};
 use std::alloc::Global;
 use std::marker::Model;
@@ -145,6 +146,26 @@ impl MachineState {
         any_left(self.lanes.as_slice(), table.rounds()) && !self.any_may_take(table, window)
     }
 
+    /// The lane for which lane p waits before it may take its next row, whatever is out and halted: where the window is the
+    /// reason, the lowest lane with the least posted count; else the lowest lane with an unposted earlier row of that row's
+    /// leaf.
+    pub fn waits_for(&self, table: &RowTable, window: u32, p: u32) -> Option<u32>
+        requires lanes { length self.now.lanes ≡ length table.now.lanes }
+        requires round { posted_at self.now p < rounds_of table.now.lanes }
+        requires lane { p < length self.now.lanes }
+        ensures some { IfSome result (λ q. WaitsFor table.now.lanes window self.now p q) }
+        ensures none { IfNone result (IsReady table.now.lanes window self.now p) }
+    {
+        let lanes = self.lanes.as_slice();
+        let round = lanes[p as usize].posted;
+        let least = least_posted(lanes);
+        if round - least < window as u64 {
+            waits_for(table, lanes, p, round, table.row(p, round).leaf)
+        } else {
+            Some(lowest(lanes, table.processors(), least))
+        }
+    }
+
     fn any_may_take(&self, table: &RowTable, window: u32) -> bool
         requires { length self.now.lanes ≡ length table.now.lanes }
         ensures { IsTrue result ↔ ((p : ℕ) × (p < length self.now.lanes) × ((r : Row) × MayTake table.now.lanes window self.now p r)) }
@@ -161,17 +182,15 @@ impl MachineState {
         requires { length self.now.lanes ≡ length table.now.lanes }
         ensures { IsTrue result ↔ ((r : Row) × MayTake table.now.lanes window self.now p r) }
     {
-        let Some(lane) = self.lanes.get(p as usize) else {
-            return false;
-        };
-        let round = lane.posted;
-        if self.halted || lane.out || round >= table.rounds() {
-            return false;
+        match self.lanes.get(p as usize) {
+            Some(lane) => {
+                !self.halted
+                    && !lane.out
+                    && lane.posted < table.rounds()
+                    && self.waits_for(table, window, p).is_none()
+            }
+            None => false,
         }
-        let least = least_posted(self.lanes.as_slice());
-        let leaf = table.row(p, round).leaf;
-        round - least < window as u64
-            && waits_for(table, self.lanes.as_slice(), p, round, leaf).is_none()
     }
 
     fn has_out(&self, p: u32) -> bool

@@ -2,7 +2,7 @@
 ghost use Rattle.std.specs.Prelude.{◌≡◌, ◌≢◌, ◌≤◌, ◌<◌, ◌↔◌, ℕ, length, true, false, IsTrue, IfSome, IfNone};
 ghost use Rattle.sched_base.specs.Tables.{RowAt, rounds_of};
 ghost use Rattle.sched_base.specs.declared.rows.Row.{Row};
-ghost use Rattle.book_machine.specs.Machine.{lane_at, least_of, PostedBefore, EarlierPosted, IsWaitedFor};
+ghost use Rattle.book_machine.specs.Machine.{lane_at, least_of, PostedBefore, EarlierPosted, IsWaitedFor, IsLowest};
 
 use crate::machine::LaneState;
 use sched_base::{Leaf, RowTable};
@@ -19,6 +19,21 @@ pub(crate) fn least_posted(lanes: &[LaneState]) -> u64
         least = least.min(lane.posted);
     }
     least
+}
+
+/// The lowest of the lanes with the least posted count.
+pub(crate) fn lowest(lanes: &[LaneState], processors: u32, least: u64) -> u32
+    requires all { processors ≡ length lanes.now }
+    requires some { 1 ≤ processors }
+    requires least { least ≡ least_of lanes.now }
+    ensures { IsLowest lanes.now result }
+{
+    for q in 0..processors {
+        if lanes[q as usize].posted == least {
+            return q;
+        }
+    }
+    unreachable!()
 }
 
 /// Whether some lane has a row out.
