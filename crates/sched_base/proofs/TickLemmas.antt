@@ -1,6 +1,6 @@
 -- The ticks that whole rounds give to one task.
-use Rattle.std.proofs.Common.{◌≡◌, ℕ, zero, suc, ◌+◌, ◌-◌, ◌*◌, ◌<◌, ◌≤◌, ◌^◌, Bool, true, false, List, [], ◌∷◌, Option, Some, None, take, get_or, refl, sym, ap, ◌∙◌, arith, add-one, ◌⊎◌, inl, inr}
-use Rattle.std.specs.Prelude.{slice_get}
+use Rattle.std.proofs.Common.{length, ◌≡◌, ℕ, zero, suc, ◌+◌, ◌-◌, ◌*◌, ◌<◌, ◌≤◌, ◌^◌, Bool, true, false, List, [], ◌∷◌, Option, Some, None, take, get_or, refl, sym, ap, ◌∙◌, arith, add-one, ◌⊎◌, inl, inr}
+use Rattle.std.specs.Prelude.{slice_get, slice_set, slice_index}
 use Rattle.std.proofs.lemmas.Option.{slice_get-get_or}
 use Rattle.std.proofs.lemmas.Bool.{eqb-true}
 use Rattle.sched_base.specs.declared.rows.Row.{Row}
@@ -8,7 +8,7 @@ use Rattle.sched_base.specs.declared.rows.Leaf.{Leaf}
 use Rattle.sched_base.specs.declared.rows.Leaf.TheVariants.{Task, Wait, Idle, Empty}
 use Rattle.sched_base.specs.Counting.{bit}
 use Rattle.sched_base.specs.Rows.{is_of_task}
-use Rattle.sched_base.specs.Tables.{lane_of, RowAt, rounds_of, end_after, IsTable, row_ticks, ticks_in, ticks_before}
+use Rattle.sched_base.specs.Tables.{lane_of, RowAt, rounds_of, end_after, IsTable, row_ticks, ticks_in, ticks_of, ticks_before}
 use Rattle.sched_base.proofs.TableLemmas.{no_row, row_at, row_within}
 
 -- a leaf of task j is that task
@@ -127,3 +127,44 @@ module _ (lanes : List (List Row)) (h : IsTable lanes) where
       let start = end_after-take p k r at in
       let span = h.forward p k r at in
       omega (arith, before, start, span.0, span.1)
+
+-- which rows of the task there are decides the ticks
+ticks_in-none : (j n : ℕ) → ticks_in j (take n []) ≡ 0
+ticks_in-none j zero = refl
+ticks_in-none j (suc n) = refl
+
+ticks_in-same : (j : ℕ) (rows : List Row) (n k : ℕ) → ((i : ℕ) (r : Row) → slice_get rows i ≡ Some r → is_of_task j r.leaf ≡ true → (i < n → i < k) × (i < k → i < n)) → ticks_in j (take n rows) ≡ ticks_in j (take k rows)
+ticks_in-same j [] n k h = ticks_in-none j n ∙ sym (ticks_in-none j k)
+ticks_in-same j (r ∷ rows) zero zero h = refl
+ticks_in-same j (r ∷ rows) zero (suc k) h =
+    let rest = ticks_in-same j rows zero k (λ i s at is. (λ less. absurd (omega arith), λ less. let a = (h (suc i) s at is).1 (omega arith) in omega (arith, a))) in
+    let here = given_at-none j (Some r) (λ s at. elim (is_true_or (is_of_task j s.leaf)) [ inl is_task ↦ absurd (let a = (h 0 s at is_task).1 (omega arith) in omega (arith, a)) | inr other ↦ other ]) in
+    omega (arith, rest, here)
+ticks_in-same j (r ∷ rows) (suc n) zero h =
+    let rest = ticks_in-same j rows n zero (λ i s at is. (λ less. let a = (h (suc i) s at is).0 (omega arith) in omega (arith, a), λ less. absurd (omega arith))) in
+    let here = given_at-none j (Some r) (λ s at. elim (is_true_or (is_of_task j s.leaf)) [ inl is_task ↦ absurd (let a = (h 0 s at is_task).0 (omega arith) in omega (arith, a)) | inr other ↦ other ]) in
+    omega (arith, rest, here)
+ticks_in-same j (r ∷ rows) (suc n) (suc k) h =
+    let rest = ticks_in-same j rows n k (λ i s at is. let a = h (suc i) s at is in (λ less. let b = a.0 (omega arith) in omega (arith, b), λ less. let b = a.1 (omega arith) in omega (arith, b))) in
+    omega (arith, rest)
+
+-- where the counted rows of the task are those of the rounds before round k, so are their ticks
+pub ticks_of-before : (j k : ℕ) (lanes : List (List Row)) (counts : List ℕ) → length counts ≡ length lanes
+    → ((q i : ℕ) (r : Row) → RowAt lanes q i r → is_of_task j r.leaf ≡ true → (i < slice_index counts q → i < k) × (i < k → i < slice_index counts q)) → ticks_of j lanes counts ≡ ticks_before j k lanes
+ticks_of-before j k [] counts many h = refl
+ticks_of-before j k (lane ∷ lanes) [] many h = absurd (omega arith)
+ticks_of-before j k (lane ∷ lanes) (n ∷ counts) many h =
+    let here = ticks_in-same j lane n k (λ i r at is. h 0 i r at is) in
+    let rest = ticks_of-before j k lanes counts (omega arith) (λ q i r at is. h (suc q) i r at is) in
+    omega (arith, here, rest)
+
+-- a lane's next row more
+pub ticks_of-set : (j : ℕ) (lanes : List (List Row)) (counts : List ℕ) (p : ℕ) (r : Row) → p < length counts → RowAt lanes p (slice_index counts p) r
+    → ticks_of j lanes (slice_set counts p (slice_index counts p + 1)) ≡ ticks_of j lanes counts + row_ticks j r
+ticks_of-set j [] counts p r within at = absurd (let e : None ≡ Some r = at in cc)
+ticks_of-set j (lane ∷ lanes) [] p r within at = absurd (omega arith)
+ticks_of-set j (lane ∷ lanes) (n ∷ counts) zero r within at =
+    let more : ticks_in j (take (n + 1) lane) ≡ ticks_in j (take n lane) + given_at j (slice_get lane n) = rw add-one (ticks_in-take-suc j lane n) in
+    let given : given_at j (slice_get lane n) ≡ row_ticks j r = ap (given_at j) at in
+    omega (arith, more, given)
+ticks_of-set j (lane ∷ lanes) (n ∷ counts) (suc p) r within at = let rest = ticks_of-set j lanes counts p r (omega arith) at in omega (arith, rest)
