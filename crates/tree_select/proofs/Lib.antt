@@ -1,0 +1,4 @@
+pub mod PickLemmas
+pub mod LevelLemmas
+pub mod WriteLemmas
+pub mod SelectLemmas
