@@ -80,20 +80,37 @@ enough m v (q ∷ r ∷ qs) h k n l whole in_last =
     let long = duals_long m.tree qs in
     omega (arith, f, long)
 
--- a packing of one level: what it leaves, by the duals' rates
-pub lift_level : (m : Making) → IsLevel m → 0 < length (lower_packs m) → IsLevel (level_above m (lower_packs m)) × (length (lower_packs (level_above m (lower_packs m))) < length (lower_packs m))
-lift_level m v some =
-    let qs = lower_packs m in
-    let start = begun m v in
-    let p : IsPacked (new_level m) (level_above m qs) (dual_items m.tree qs) = pack_duals qs m.tree (new_level m) start v.filled tt refl (λ i l. refl) in
-    let less : (i : ℕ) → i < length qs → rate m.tree (get_or qs i 0) < m.tree.scale = (λ i l. (start.waiting i l).3) in
-    let sum = ap total p.rates ∙ total_packed m.tree.scale (dual_rates m.tree qs) [] in
+-- the duals of the packs that aren't roots, packed
+pub lift_packed : (m : Making) → IsLevel m → IsPacked (new_level m) (level_above m (lower_packs m)) (dual_items m.tree (lower_packs m))
+lift_packed m v = pack_duals (lower_packs m) m.tree (new_level m) (begun m v) v.filled tt refl (λ i l. refl)
+
+-- what the duals and the roots have in all
+pub lift_whole : (m : Making) → IsLevel m → (k : ℕ) × (total (dual_rates m.tree (lower_packs m)) + k * m.tree.scale ≡ length m.last * m.tree.scale)
+lift_whole m v =
     let both = lower_total m m.last (λ i l. v.making.made.within (last_at m i) (v.making.last_packs i l).0) in
     let (k, whole) = v.whole in
-    let (c, is) = multiple (total (last_rates (level_above m qs))) k (length m.last) m.tree.scale (omega (arith, sum, both, whole)) in
+    (k, omega (arith, both, whole))
+
+-- the level above has fewer packs than this one has packs that aren't roots
+pub lift_fewer : (m : Making) → IsLevel m → 0 < length (lower_packs m) → length (level_above m (lower_packs m)).last < length (lower_packs m)
+lift_fewer m v some =
+    let (k, whole) = lift_whole m v in
+    let packs = ap length (lift_packed m v).rates in
+    let less = enough m v (lower_packs m) (begun m v) k (length m.last) some whole (λ i l. (let (j, lj, e, ok) = kept_in (is_lower m) m.last i l in (j, lj, e))) in
+    let long = length-map (level_above m (lower_packs m)).last (rate (level_above m (lower_packs m)).tree) in
+    omega (arith, packs, less, long)
+
+-- the level above is whole again
+pub lift_level : (m : Making) → IsLevel m → 0 < length (lower_packs m) → IsLevel (level_above m (lower_packs m))
+lift_level m v some =
+    let qs = lower_packs m in
+    let p : IsPacked (new_level m) (level_above m qs) (dual_items m.tree qs) = lift_packed m v in
+    let less : (i : ℕ) → i < length qs → rate m.tree (get_or qs i 0) < m.tree.scale = (λ i l. ((begun m v).waiting i l).3) in
+    let sum = ap total p.rates ∙ total_packed m.tree.scale (dual_rates m.tree qs) [] in
+    let (k, whole) = lift_whole m v in
+    let (c, is) = multiple (total (last_rates (level_above m qs))) k (length m.last) m.tree.scale (omega (arith, sum, whole)) in
     let long = length-map (level_above m qs).last (rate (level_above m qs).tree) in
-    let fewer : length (last_rates (level_above m qs)) < length qs = (let a = ap length p.rates in let b = enough m v qs start k (length m.last) some (omega (arith, both, whole)) (λ i l. (let (j, lj, e, ok) = kept_in (is_lower m) m.last i l in (j, lj, e))) in omega (arith, a, b)) in
-    (record {
+    record {
       scaled = (let a = p.scale_same in let z = v.scaled in omega (arith, a, z));
       making = p.making;
       filled = p.filled;
@@ -103,28 +120,11 @@ lift_level m v some =
       some = (let a = ap length p.rates in let b = one_left m.tree.scale (dual_rates m.tree qs) (let d = duals_long m.tree qs in omega (arith, d, some)) in omega (arith, a, b, long));
       leaves = (let a = p.sum in let z = duals_have_no_part m.tree qs in let l = v.leaves in
         omega (arith, a, z, l, ap₂ (λ x y. x * y) p.processors_same p.scale_same));
-    }, (let a = filter_le (is_lower (level_above m qs)) (level_above m qs).last in omega (arith, a, fewer, long)))
+    }
   where
     one_left : (scale : ℕ) (rs : List ℕ) → 0 < length rs → 0 < length (packed_from scale rs [])
     one_left scale [] l = absurd (omega arith)
     one_left scale (r ∷ rs) l = (let a = packed_keeps scale rs (r ∷ []) in omega (arith, a))
-
--- with as many levels as there are packs that wait, all are roots
-abbrev pub Ended : Making → Type 0
-Ended m = IsLevel m × (length (lower_packs m) ≡ 0)
-
-pub climb_case : (fuel : ℕ) (m : Making) → IsLevel m → ((n : Making) → IsLevel n → length (lower_packs n) ≤ fuel → Ended (climb fuel n)) → (qs : List ℕ) → lower_packs m ≡ qs → length (lower_packs m) ≤ suc fuel → Ended (climb_by qs m (climb fuel))
-climb_case fuel m v ih [] e l = (v, ap length e)
-climb_case fuel m v ih (q ∷ qs) e l =
-    let P : List ℕ → Type 0 = λ xs. Ended (climb fuel (level_above m xs)) in
-    let long = ap length e in
-    let up = lift_level m v (omega (arith, long)) in
-    let less = up.1 in
-    subst P e (ih (level_above m (lower_packs m)) up.0 (omega (arith, less, l)))
-
-pub climb_ends : (fuel : ℕ) (m : Making) → IsLevel m → length (lower_packs m) ≤ fuel → Ended (climb fuel m)
-climb_ends zero m v l = (v, omega arith)
-climb_ends (suc fuel) m v l = climb_case fuel m v (λ n w b. climb_ends fuel n w b) (lower_packs m) refl l
 
 -- a level of roots makes a tree
 pub is_tree : (m : Making) → IsLevel m → length (lower_packs m) ≡ 0 → IsTree m.tree

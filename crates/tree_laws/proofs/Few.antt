@@ -11,7 +11,8 @@ use Rattle.run_tree.specs.Compiled.{pack_items, task_items, put_idles, filled_up
 use Rattle.tree_laws.proofs.Steps.{last_at, IsMaking}
 use Rattle.tree_laws.proofs.Items.{IsPut, put_at, serves_leaf}
 use Rattle.tree_laws.proofs.Levels.{total, IsLevel, is_lower}
-use Rattle.tree_laws.proofs.First.{first_is, filled_in, packed, packed_total, amounts, amounts_total, rates_within, tree_of_is, task_rates, same_total}
+use Rattle.tree_laws.proofs.Raised.{climb_none}
+use Rattle.tree_laws.proofs.First.{first_is, filled_in, packed, packed_total, amounts, amounts_total, rates_within, task_rates, same_total}
 
 -- the whole rate on few packs leaves none below the scale
 pub all_full : (scale m : ℕ) (rs : List ℕ) → AllByRecursion (λ r. r ≤ scale) rs → m * scale ≤ total rs → length rs ≤ m → AllByRecursion (λ r. scale ≤ r) rs
@@ -31,10 +32,6 @@ pub none_lower : (m : Making) (ps : List ℕ) → AllByRecursion (λ r. m.tree.s
 none_lower m [] h = refl
 none_lower m (p ∷ ps) h = ap (λ b. cond b (p ∷ filter (is_lower m) ps) (filter (is_lower m) ps)) (le-ltb (rate m.tree p) m.tree.scale h.0) ∙ none_lower m ps h.1
 
-pub climb_none : (fuel : ℕ) (m : Making) → lower_packs m ≡ [] → climb fuel m ≡ m
-climb_none zero m e = refl
-climb_none (suc fuel) m e = ap (λ qs. climb_by qs m (climb fuel)) e
-
 -- where level 0 has few packs it is the whole tree
 pub one_level : (processors scale : ℕ) (rates : List ℕ) → 0 < processors → 0 < scale → AllByRecursion (λ r. (0 < r) × (r ≤ scale)) rates → total rates ≤ processors * scale →
     length (first_level processors scale rates).last ≤ processors → (p : ℕ) → IsPack (tree_of_rates processors scale rates) p → level (tree_of_rates processors scale rates) p ≡ 0 → dual (tree_of_rates processors scale rates) p ≡ None
@@ -50,7 +47,7 @@ one_level processors scale rates p q each fits few =
     let c = amounts_total processors scale rates p q each fits in
     let same = ap (λ s. processors * s) (f.scale_same ∙ g.scale_same) in
     let full = all_full m.tree.scale processors (last_rates m) (rates_within m v.making) (omega (arith, a, b, c, same, fits)) (omega (arith, long, few)) in
-    let still : all_levels m ≡ m = climb_none (length m.last) m (none_lower m m.last full) in
+    let still : all_levels m ≡ m = climb_none (length m.last) m (ap length (none_lower m m.last full)) in
     let P : Making → Type 0 = λ n. (x : ℕ) → IsPack n.tree x → level n.tree x ≡ 0 → dual n.tree x ≡ None in
     subst P (sym still) (λ x i low. (
       let one = f.making.some_level in

@@ -22,7 +22,6 @@ use Rattle.tree_laws.proofs.Rooms.{IsRoom, PairsExceed, all_more}
 use Rattle.tree_laws.proofs.Puts.{Filled, leaf_sum}
 use Rattle.tree_laws.proofs.Items.{IsPacked, IsPut, put_at, pack_leaves, parts, serves_leaf, IsLeafItem}
 use Rattle.tree_laws.proofs.Levels.{is_lower, total, AllSome, IsLevel, total_with_item, some_with_item, some_packed, total_packed}
-use Rattle.tree_laws.proofs.Ends.{Ended, climb_ends, is_tree, filter_le}
 
 -- amounts that fit
 abbrev pub Fits : ℕ → List ℕ → List ℕ → Type 0
@@ -265,10 +264,3 @@ module _ (processors scale : ℕ) (rates : List ℕ) (p : 0 < processors) (q : 0
       not_empty : (rs : List ℕ) → 0 < total rs → 0 < length rs
       not_empty [] l = l
       not_empty (r ∷ rs) l = omega arith
-
-  pub tree_of_is : IsTree (tree_of_rates processors scale rates)
-  unfolding tree_of_rates
-  tree_of_is =
-      let first : Making = first_level processors scale rates in
-      let (v, done) = climb_ends (length first.last) first first_is (filter_le (is_lower first) first.last) in
-      is_tree (all_levels first) v done

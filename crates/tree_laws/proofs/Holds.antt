@@ -13,36 +13,11 @@ use Rattle.run_tree.specs.declared.kinds.Kind.{Kind}
 use Rattle.run_tree.specs.declared.kinds.Kind.TheVariants as kind
 use Rattle.run_tree.specs.Tree.{Node, Tree, kind_at, is_leaf, leaf_of, leaf, rate, no_node, IsLeaf}
 use Rattle.run_tree.specs.TreeOfSet.{task_id, is_idle, is_real, idle_count, HoldsTasks, NumbersIdles}
-use Rattle.run_tree.specs.Making.{Making, dual_items, lower_packs, new_level}
-use Rattle.run_tree.specs.Compiled.{task_items, level_above, climb, climb_by}
-use Rattle.tree_laws.proofs.SumLemmas.{sum_to-first, sum_to-same}
+use Rattle.run_tree.specs.Compiled.{task_items}
+use Rattle.tree_laws.proofs.SumLemmas.{sum_to_front, sum_to-same}
 use Rattle.tree_laws.proofs.Leafs.{Entry, entries, entry_of, kind_entry, no_entry, entry_at, entry_in, entries_before, leaf_from}
-use Rattle.tree_laws.proofs.Items.{IsPacked, pack_duals, item_entries}
-use Rattle.tree_laws.proofs.Levels.{IsLevel, begun}
-use Rattle.tree_laws.proofs.Ends.{lift_level}
+use Rattle.tree_laws.proofs.Items.{item_entries}
 use Rattle.tree_laws.proofs.First.{idle_entries}
-
--- ---- higher levels add no leaf
-
-pub duals_no_entries : (t : Tree) (qs : List ℕ) → item_entries (dual_items t qs) ≡ []
-duals_no_entries t [] = refl
-duals_no_entries t (q ∷ qs) = duals_no_entries t qs
-
-pub lift_leaves : (m : Making) → IsLevel m → entries (level_above m (lower_packs m)).tree.nodes ≡ entries m.tree.nodes
-lift_leaves m v =
-    let p : IsPacked (new_level m) (level_above m (lower_packs m)) (dual_items m.tree (lower_packs m)) = pack_duals (lower_packs m) m.tree (new_level m) (begun m v) v.filled tt refl (λ i l. refl) in
-    p.leaves ∙ ap (λ xs. entries m.tree.nodes ++ xs) (duals_no_entries m.tree (lower_packs m)) ∙ append-nil (entries m.tree.nodes)
-
-pub climb_leaves_case : (fuel : ℕ) (m : Making) → IsLevel m → ((n : Making) → IsLevel n → entries (climb fuel n).tree.nodes ≡ entries n.tree.nodes) → (qs : List ℕ) → lower_packs m ≡ qs → entries (climb_by qs m (climb fuel)).tree.nodes ≡ entries m.tree.nodes
-climb_leaves_case fuel m v ih [] e = refl
-climb_leaves_case fuel m v ih (q ∷ qs) e =
-    let P : List ℕ → Type 0 = λ xs. entries (climb fuel (level_above m xs)).tree.nodes ≡ entries m.tree.nodes in
-    let long = ap length e in
-    subst P e (ih (level_above m (lower_packs m)) (lift_level m v (omega (arith, long))).0 ∙ lift_leaves m v)
-
-pub climb_leaves : (fuel : ℕ) (m : Making) → IsLevel m → entries (climb fuel m).tree.nodes ≡ entries m.tree.nodes
-climb_leaves zero m v = refl
-climb_leaves (suc fuel) m v = climb_leaves_case fuel m v (λ n w. climb_leaves fuel n w) (lower_packs m) refl
 
 -- ---- how many entries are idle
 
@@ -61,7 +36,7 @@ pub idles_counted : (ns : List Node) → sum_to (length ns) (idle_bit ns) ≡ id
 idles_counted [] = refl
 idles_counted (n ∷ ns) =
     let ih = idles_counted ns in
-    let front = sum_to-first (length ns) (idle_bit (n ∷ ns)) in
+    let front = sum_to_front (length ns) (idle_bit (n ∷ ns)) in
     let here = one n.kind n.rate in
     let both = idles_in-append (entry_of n) (entries ns) in
     omega (arith, ih, front, here, both)

@@ -141,12 +141,41 @@ pub pairs_put : (m made : Making) (rs : List ℕ) (c : Kind) (r b : ℕ) → IsP
 pairs_put m made rs c r b put room h =
     subst₂ (λ s xs. PairsExceed s xs) (sym put.scale_same) (sym put.rates) (pairs_with_item m.tree.scale r b (last_rates m) room h)
 
+-- a leaf may come to level 0
+pub leaf_next : (c : Kind) (r : ℕ) (t : Tree) → t.levels ≡ 1 → IsLeafKind c → IsNext t r c
+leaf_next (kind.Leaf leaf) r t one ok = one
+leaf_next (kind.Pack level) r t one ok = absurd ok
+leaf_next (kind.Dual q) r t one ok = absurd ok
+
+pub leaf_serves : (c : Kind) → IsLeafKind c → Serves c [] []
+leaf_serves (kind.Leaf leaf) ok = serves_leaf leaf
+leaf_serves (kind.Pack level) ok = absurd ok
+leaf_serves (kind.Dual q) ok = absurd ok
+
+-- the dual of the first pack that waits may come next
+pub dual_next : (q : ℕ) (qs : List ℕ) (m : Making) (t : Tree) → IsMaking m (q ∷ qs) → m.tree.scale ≡ t.scale → rate m.tree q ≡ rate t q → IsNext m.tree (t.scale - rate t q) (kind.Dual (node_id q))
+dual_next q qs m t h scale now =
+    let w = h.waiting 0 (omega arith) in
+    let less = w.3 in
+    (w.0, w.1, w.2, w.3, omega (arith, less, now, scale))
+
+pub dual_serves : (q : ℕ) (qs : List ℕ) → ((i j : ℕ) → i < length (q ∷ qs) → j < length (q ∷ qs) → get_or (q ∷ qs) i 0 ≡ get_or (q ∷ qs) j 0 → i ≡ j) → Serves (kind.Dual (node_id q)) (q ∷ qs) qs
+dual_serves q qs apart = record {
+  rest = among;
+  was = λ i l. (suc i, omega arith, refl, (λ e. (let z = apart (suc i) 0 (omega arith) (omega arith) e in omega (arith, z))));
+  apart = λ i j li lj e. (let z = apart (suc i) (suc j) (omega arith) (omega arith) e in omega (arith, z));
+}
+  where
+    among : (p : ℕ) → Among p (q ∷ qs) → (p ≡ q) ⊎ Among p qs
+    among p (zero, l, e) = inl (sym e)
+    among p (suc i, l, e) = inr (i, omega arith, e)
+
 pub pack_leaves : (xs : List Item) (m : Making) → IsMaking m [] → Filled m.tree → PairsExceed m.tree.scale (last_rates m) → m.tree.levels ≡ 1 → AllByRecursion (IsLeafItem m.tree.scale) xs → IsPacked m (pack_items xs m) xs
 pack_leaves [] m h f pairs one all = record { making = h; filled = f; pairs = pairs; scale_same = refl; levels_same = refl; processors_same = refl; rates = refl; sum = omega arith; leaves = sym (append-nil (entries m.tree.nodes)) }
 pack_leaves (x ∷ xs) m h f pairs one all =
     let b = first_with_room m.tree.scale x.rate (last_rates m) in
     let room = room_is m.tree.scale x.rate (last_rates m) in
-    let put' : IsPut m (put x.kind x.rate b m) [] x.kind x.rate b = put_first m [] [] x.kind x.rate b h f all.0.1 (leaf_next x.kind all.0.0) (leaf_serves x.kind all.0.0) all.0.2 room in
+    let put' : IsPut m (put x.kind x.rate b m) [] x.kind x.rate b = put_first m [] [] x.kind x.rate b h f all.0.1 (leaf_next x.kind x.rate m.tree one all.0.0) (leaf_serves x.kind all.0.0) all.0.2 room in
     let rest = pack_leaves xs (put x.kind x.rate b m) put'.making put'.filled (pairs_put m (put x.kind x.rate b m) [] x.kind x.rate b put' room pairs) (put'.levels_same ∙ one)
       (let P : ℕ → Type 0 = λ s. AllByRecursion (IsLeafItem s) xs in subst P (sym put'.scale_same) all.1) in
     record {
@@ -160,15 +189,6 @@ pack_leaves (x ∷ xs) m h f pairs one all =
       sum = (let a = rest.sum in let z = put'.sum in omega (arith, a, z));
       leaves = rest.leaves ∙ ap (λ ys. ys ++ item_entries xs) put'.leaves ∙ append_assoc (entries m.tree.nodes) (kind_entry x.kind x.rate) (item_entries xs);
     }
-  where
-    leaf_next : (c : Kind) → IsLeafKind c → IsNext m.tree x.rate c
-    leaf_next (kind.Leaf leaf) ok = one
-    leaf_next (kind.Pack level) ok = absurd ok
-    leaf_next (kind.Dual q) ok = absurd ok
-    leaf_serves : (c : Kind) → IsLeafKind c → Serves c [] []
-    leaf_serves (kind.Leaf leaf) ok = serves_leaf leaf
-    leaf_serves (kind.Pack level) ok = absurd ok
-    leaf_serves (kind.Dual q) ok = absurd ok
 
 pub pack_duals : (qs : List ℕ) (t : Tree) (m : Making) → IsMaking m qs → Filled m.tree → PairsExceed m.tree.scale (last_rates m) → m.tree.scale ≡ t.scale → ((i : ℕ) → i < length qs → rate m.tree (get_or qs i 0) ≡ rate t (get_or qs i 0)) →
     IsPacked m (pack_items (dual_items t qs) m) (dual_items t qs)
@@ -177,16 +197,9 @@ pack_duals (q ∷ qs) t m h f pairs scale same =
     let r = t.scale - rate t q in
     let b = first_with_room m.tree.scale r (last_rates m) in
     let room = room_is m.tree.scale r (last_rates m) in
-    let w = h.waiting 0 (omega arith) in
-    let less = w.3 in
+    let less = (h.waiting 0 (omega arith)).3 in
     let now = same 0 (omega arith) in
-    let next : IsNext m.tree r (kind.Dual (node_id q)) = (w.0, w.1, w.2, w.3, omega (arith, less, now, scale)) in
-    let serves : Serves (kind.Dual (node_id q)) (q ∷ qs) qs = record {
-      rest = among;
-      was = λ i l. (suc i, omega arith, refl, (λ e. (let z = h.apart (suc i) 0 (omega arith) (omega arith) e in omega (arith, z))));
-      apart = λ i j li lj e. (let z = h.apart (suc i) (suc j) (omega arith) (omega arith) e in omega (arith, z));
-    } in
-    let put' : IsPut m (put (kind.Dual (node_id q)) r b m) qs (kind.Dual (node_id q)) r b = put_first m (q ∷ qs) qs (kind.Dual (node_id q)) r b h f (omega (arith, less, now, scale)) next serves (omega (arith, less, now, scale)) room in
+    let put' : IsPut m (put (kind.Dual (node_id q)) r b m) qs (kind.Dual (node_id q)) r b = put_first m (q ∷ qs) qs (kind.Dual (node_id q)) r b h f (omega (arith, less, now, scale)) (dual_next q qs m t h scale now) (dual_serves q qs h.apart) (omega (arith, less, now, scale)) room in
     let rest = pack_duals qs t (put (kind.Dual (node_id q)) r b m) put'.making put'.filled (pairs_put m (put (kind.Dual (node_id q)) r b m) qs (kind.Dual (node_id q)) r b put' room pairs) (put'.scale_same ∙ scale)
       (λ i l. (let v = h.waiting (suc i) (omega arith) in put'.kept (get_or qs i 0) v.0 v.1 ∙ same (suc i) (omega arith))) in
     record {
@@ -200,7 +213,3 @@ pack_duals (q ∷ qs) t m h f pairs scale same =
       sum = (let a = rest.sum in let z = put'.sum in omega (arith, a, z));
       leaves = rest.leaves ∙ ap (λ ys. ys ++ item_entries (dual_items t qs)) (put'.leaves ∙ append-nil (entries m.tree.nodes));
     }
-  where
-    among : (p : ℕ) → Among p (q ∷ qs) → (p ≡ q) ⊎ Among p qs
-    among p (zero, l, e) = inl (sym e)
-    among p (suc i, l, e) = inr (i, omega arith, e)

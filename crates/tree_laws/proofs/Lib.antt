@@ -11,7 +11,10 @@ mod Puts
 mod Items
 mod Levels
 mod Ends
+mod Raised
 mod First
 mod Holds
-mod Same
 mod Few
+mod SetRates
+mod Follows
+mod TreeOf

@@ -11,9 +11,9 @@ sum_to-same (suc n) f g h =
     omega (arith, ih, here)
 
 -- the first term apart
-pub sum_to-first : (n : ℕ) (f : ℕ → ℕ) → sum_to (suc n) f ≡ f 0 + sum_to n (λ k. f (suc k))
-sum_to-first zero f = omega arith
-sum_to-first (suc n) f = let ih = sum_to-first n f in omega (arith, ih)
+pub sum_to_front : (n : ℕ) (f : ℕ → ℕ) → sum_to (suc n) f ≡ f 0 + sum_to n (λ k. f (suc k))
+sum_to_front zero f = omega arith
+sum_to_front (suc n) f = let ih = sum_to_front n f in omega (arith, ih)
 
 pub multiple : (s a b c : ℕ) → s + a * c ≡ b * c → (k : ℕ) × (s ≡ k * c)
 multiple s a b c e =

@@ -1,0 +1,97 @@
+-- The compiled tree, from rates that fit.
+use Rattle.std.proofs.Common.{◌≡◌, ℕ, zero, suc, ◌+◌, ◌-◌, ◌*◌, ◌<◌, ◌≤◌, List, [], ◌∷◌, ◌++◌, map, length, max, sum, None, refl, ap, ap₂, arith, sym, subst, ◌∙◌}
+use Rattle.std.proofs.lemmas.List.Elements.{recursion_from_All, All-from_recursion}
+use Rattle.std.specs.List.{AllByRecursion, All}
+use Rattle.sched_base.specs.declared.sets.Task.{Task}
+use Rattle.sched_base.specs.FirstFit.{packed, packed_from, homes, homes_from, idles}
+use Rattle.sched_base.specs.Scale.{rate_of}
+use Rattle.run_tree.specs.Tree.{Tree, rate, level, dual, IsPack, IsTree}
+use Rattle.run_tree.specs.TreeOfSet.{HoldsTasks, NumbersIdles}
+use Rattle.run_tree.specs.Making.{Making, started, last_rates, lower_packs, put_items, lifted, dual_items}
+use Rattle.run_tree.specs.Compiled.{pack_items, task_items, put_idles, first_level, level_above, all_levels, tree_of_rates}
+use Rattle.tree_laws.specs.Raised.{RatesFit, raised, IsRaised}
+use Rattle.tree_laws.proofs.Leafs.{entries}
+use Rattle.tree_laws.proofs.Levels.{IsLevel, total, begun}
+use Rattle.tree_laws.proofs.Ends.{is_tree}
+use Rattle.tree_laws.proofs.Raised.{IsAbove, all_raised, raised_ends, raised_level, raised_above, raised_levels, raised_few, raised_fewer}
+use Rattle.tree_laws.proofs.First.{same_total, first_is, filled_in, amounts, task_rates, task_leaves, idle_entries}
+use Rattle.tree_laws.proofs.First as first
+use Rattle.tree_laws.proofs.Holds as holds
+use Rattle.tree_laws.proofs.Few.{one_level, first_long}
+use Rattle.tree_laws.proofs.Follows.{leaves_follow, duals_follow}
+
+module _ (processors scale : ℕ) (rates : List ℕ) (h : RatesFit processors scale rates) where
+  pub each : AllByRecursion (λ r. (0 < r) × (r ≤ scale)) rates
+  each = recursion_from_All (λ r. (0 < r) × (r ≤ scale)) rates h.each
+
+  pub fit : total rates ≤ processors * scale
+  fit = let f = h.fit in let same = same_total rates in omega (arith, f, same)
+
+  abbrev pub level_0 : Making
+  level_0 = first_level processors scale rates
+
+  abbrev pub tree : Tree
+  tree = tree_of_rates processors scale rates
+
+  pub level_0_is : IsLevel level_0
+  level_0_is = first_is processors scale rates h.some_processors h.some_scale each fit
+
+  -- the tree is that of the last level
+  pub tree_is : (n : ℕ) × IsRaised n level_0 × (length (lower_packs (raised n level_0)) ≡ 0) × (tree ≡ (raised n level_0).tree)
+  unfolding tree_of_rates
+  tree_is =
+      let (n, up, done) = all_raised level_0 level_0_is in
+      (n, up, done, ap (λ (m : Making). m.tree) (raised_ends level_0 level_0_is n up done))
+
+  pub tree_is_tree : IsTree tree
+  tree_is_tree =
+      let (n, up, done, same) = tree_is in
+      subst IsTree (sym same) (is_tree (raised n level_0) (raised_level level_0 level_0_is n up) done)
+
+  -- the making before any idle leaf
+  abbrev pub tasks_in : Making
+  tasks_in = pack_items (task_items 0 rates) (started processors scale)
+
+  pub level_0_kept : (level_0.tree.scale ≡ scale) × (level_0.tree.processors ≡ processors) × (level_0.tree.levels ≡ 1)
+  level_0_kept =
+      let f = filled_in processors scale rates h.some_processors h.some_scale each fit in
+      let p = first.packed processors scale rates h.some_processors h.some_scale each fit in
+      (f.scale_same ∙ p.scale_same, f.processors_same ∙ p.processors_same, f.levels_same ∙ p.levels_same)
+
+  pub tree_kept : (tree.scale ≡ scale) × (tree.processors ≡ processors)
+  tree_kept =
+      let (n, up, done, same) = tree_is in
+      let above = raised_above level_0 level_0_is n up in
+      (ap (λ (t : Tree). t.scale) same ∙ above.scale_same ∙ level_0_kept.0, ap (λ (t : Tree). t.processors) same ∙ above.processors_same ∙ level_0_kept.1)
+
+  abbrev pub given : List ℕ
+  given = amounts processors scale rates h.some_processors h.some_scale each fit
+
+  pub tree_leaves : entries tree.nodes ≡ holds.all given 0 rates
+  tree_leaves =
+      let (n, up, done, same) = tree_is in
+      ap (λ (t : Tree). entries t.nodes) same ∙ (raised_above level_0 level_0_is n up).leaves
+      ∙ (filled_in processors scale rates h.some_processors h.some_scale each fit).leaves
+      ∙ ap (λ xs. xs ++ idle_entries 0 given) (first.packed processors scale rates h.some_processors h.some_scale each fit).leaves
+
+  pub tree_holds : (tasks : List Task) → rates ≡ map (rate_of scale) tasks → HoldsTasks tasks tree
+  tree_holds tasks are = holds.holds_tasks tree rates given tree_leaves tasks (are ∙ ap (λ s. map (rate_of s) tasks) (sym tree_kept.0))
+
+  pub tree_numbers : NumbersIdles tree
+  tree_numbers = holds.numbers_idles tree rates given tree_leaves
+
+  -- ---- told homes
+
+  pub tasks_follow : put_items (task_items 0 rates) (homes scale rates) (started processors scale) ≡ tasks_in
+  unfolding homes
+  tasks_follow =
+      let start = first.empty_making processors scale rates h.some_processors h.some_scale each fit in
+      ap (λ rs. put_items (task_items 0 rates) (homes_from scale rs []) (started processors scale)) (sym (task_rates 0 rates))
+      ∙ leaves_follow (task_items 0 rates) (started processors scale) start (λ x i. absurd (let a = i.0 in omega (arith, a))) refl (task_leaves scale 0 rates each)
+
+  pub servers_are : last_rates tasks_in ≡ packed scale rates
+  unfolding packed
+  servers_are = (first.packed processors scale rates h.some_processors h.some_scale each fit).rates ∙ ap (λ rs. packed_from scale rs []) (task_rates 0 rates)
+
+  pub servers_total : sum (packed scale rates) ≡ sum rates
+  servers_total = ap sum (sym servers_are) ∙ same_total (last_rates tasks_in) ∙ first.packed_total processors scale rates h.some_processors h.some_scale each fit ∙ sym (same_total rates)
