@@ -38,7 +38,7 @@ lower_total m (p ∷ ps) h =
     let here = h 0 (omega arith) in
     let f : List ℕ → ℕ = λ xs. total (dual_rates m.tree xs) in
     elim (cases_Bool (is_lower m p)) [
-      inl on ↦ (let e = ap f (ap (λ b. cond b (p ∷ filter (is_lower m) ps) (filter (is_lower m) ps)) on) in let l = ltb-true (rate m.tree p) m.tree.scale on in omega (arith, ih, here, e, l))
+      | inl on ↦ (let e = ap f (ap (λ b. cond b (p ∷ filter (is_lower m) ps) (filter (is_lower m) ps)) on) in let l = ltb-true (rate m.tree p) m.tree.scale on in omega (arith, ih, here, e, l))
       | inr off ↦ (let e = ap f (ap (λ b. cond b (p ∷ filter (is_lower m) ps) (filter (is_lower m) ps)) off) in let l = ltb-false (rate m.tree p) m.tree.scale off in omega (arith, ih, here, e, l))
     ]
 
@@ -47,7 +47,7 @@ filter_le f [] = omega arith
 filter_le f (p ∷ ps) =
     (let ih = filter_le f ps in
     elim (cases_Bool (f p)) [
-      inl on ↦ (let e = ap length (ap (λ b. cond b (p ∷ filter f ps) (filter f ps)) on) in omega (arith, e, ih))
+      | inl on ↦ (let e = ap length (ap (λ b. cond b (p ∷ filter f ps) (filter f ps)) on) in omega (arith, e, ih))
       | inr off ↦ (let e = ap length (ap (λ b. cond b (p ∷ filter f ps) (filter f ps)) off) in omega (arith, e, ih))
     ])
 
@@ -68,7 +68,7 @@ enough m v (q ∷ []) h k n l whole in_last =
     let at = get_or-map (rate m.tree) m.last j 0 0 lj ∙ ap (rate m.tree) e in
     let (c, is) = multiple (total (dual_rates m.tree (q ∷ []))) k n m.tree.scale whole in
     absurd (elim (cases_eq c 0) [
-      inl z ↦ (let f = ap (λ x. x * m.tree.scale) z in omega (arith, is, f, less, some, at))
+      | inl z ↦ (let f = ap (λ x. x * m.tree.scale) z in omega (arith, is, f, less, some, at))
       | inr nz ↦ (let f : 1 * m.tree.scale ≤ c * m.tree.scale = mul-le-mul_right m.tree.scale (omega arith) in omega (arith, is, f, less, some, at))
     ])
 enough m v (q ∷ r ∷ qs) h k n l whole in_last =
@@ -119,7 +119,7 @@ lift_level m v some =
       whole = (c, is ∙ ap (λ s. c * s) (sym p.scale_same));
       some = (let a = ap length p.rates in let b = one_left m.tree.scale (dual_rates m.tree qs) (let d = duals_long m.tree qs in omega (arith, d, some)) in omega (arith, a, b, long));
       leaves = (let a = p.sum in let z = duals_have_no_part m.tree qs in let l = v.leaves in
-        omega (arith, a, z, l, ap₂ (λ x y. x * y) p.processors_same p.scale_same));
+          omega (arith, a, z, l, ap₂ (λ x y. x * y) p.processors_same p.scale_same));
     }
   where
     one_left : (scale : ℕ) (rs : List ℕ) → 0 < length rs → 0 < length (packed_from scale rs [])
@@ -140,20 +140,20 @@ is_tree m v done = record {
   leaves_are = v.making.made.leaves_are;
   duals_are = v.making.duals.duals_are;
   each_level = λ l lo. elim (cases_lt (suc l) m.tree.levels) [
-    inl b ↦ v.making.each_below l b
+    | inl b ↦ v.making.each_below l b
     | inr ge ↦ (let a = v.making.last_packs 0 v.some in (last_at m 0, a.0, (let z = a.1 in omega (arith, z, ge, lo))))
   ];
   pairs = λ p q i j ne same. elim (cases_lt (suc (level m.tree p)) m.tree.levels) [
-    inl l ↦ v.making.pairs_below p q i j ne same l
+    | inl l ↦ v.making.pairs_below p q i j ne same l
     | inr ge ↦ (let lo = v.making.made.leveled p i in pair_last m v.making v.pairs p q i j ne (omega (arith, ge, lo)) (omega (arith, ge, lo, same)))
   ];
   roots_are = λ p i none. elim (cases_lt (suc (level m.tree p)) m.tree.levels) [
-    inl l ↦ elim (v.making.roots_below p i l none) [ inl e ↦ e | inr a ↦ absurd (let b = a.1 in omega (arith, b)) ]
+    | inl l ↦ elim (v.making.roots_below p i l none) [ inl e ↦ e | inr a ↦ absurd (let b = a.1 in omega (arith, b)) ]
     | inr ge ↦ elim (cases_lt (rate m.tree p) m.tree.scale) [
-      inr full ↦ (let w = v.making.made.within p i in omega (arith, w, full))
+      | inr full ↦ (let w = v.making.made.within p i in omega (arith, w, full))
       | inl less ↦ absurd (let lo = v.making.made.leveled p i in
-        let (k, lk, e) = v.making.last_all p i (omega (arith, ge, lo)) in
-        let (j, lj, at) = kept_from (is_lower m) m.last k lk (ap (is_lower m) e ∙ lt-ltb (rate m.tree p) m.tree.scale less) in omega (arith, lj, done))
+          let (k, lk, e) = v.making.last_all p i (omega (arith, ge, lo)) in
+          let (j, lj, at) = kept_from (is_lower m) m.last k lk (ap (is_lower m) e ∙ lt-ltb (rate m.tree p) m.tree.scale less) in omega (arith, lj, done))
     ]
   ];
   has_dual = v.making.duals.has_dual;

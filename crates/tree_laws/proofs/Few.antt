@@ -50,10 +50,10 @@ one_level processors scale rates p q each fits few =
     let still : all_levels m ≡ m = climb_none (length m.last) m (ap length (none_lower m m.last full)) in
     let P : Making → Type 0 = λ n. (x : ℕ) → IsPack n.tree x → level n.tree x ≡ 0 → dual n.tree x ≡ None in
     subst P (sym still) (λ x i low. (
-      let one = f.making.some_level in
-      let levels : m.tree.levels ≡ 1 = levels_one processors scale rates p q each fits in
-      let (k, lk, e) = v.making.last_all x i (omega (arith, low, levels)) in
-      sym (ap (dual m.tree) e) ∙ (v.making.last_packs k lk).2))
+    let one = f.making.some_level in
+    let levels : m.tree.levels ≡ 1 = levels_one processors scale rates p q each fits in
+    let (k, lk, e) = v.making.last_all x i (omega (arith, low, levels)) in
+    sym (ap (dual m.tree) e) ∙ (v.making.last_packs k lk).2))
   where
     levels_one : (processors scale : ℕ) (rates : List ℕ) (p : 0 < processors) (q : 0 < scale) (each : AllByRecursion (λ r. (0 < r) × (r ≤ scale)) rates) (fits : total rates ≤ processors * scale) → (first_level processors scale rates).tree.levels ≡ 1
     levels_one processors scale rates p q each fits = (filled_in processors scale rates p q each fits).levels_same ∙ (packed processors scale rates p q each fits).levels_same
@@ -76,16 +76,15 @@ idles_long scale slack zero (r ∷ rs) p h e = let z = none_long scale (slack - 
 idles_long scale slack (suc m) (r ∷ rs) p h e =
     let w = h.0 in
     elim (cases_lt slack (scale - r)) [
-      inl l ↦ (let z = none_long scale (slack - min (scale - r) slack) rs p (omega (arith, l)) in omega (arith, z))
+      | inl l ↦ (let z = none_long scale (slack - min (scale - r) slack) rs p (omega (arith, l)) in omega (arith, z))
       | inr ge ↦ (let ih = idles_long scale (slack - min (scale - r) slack) m rs p h.1 (omega (arith, e, ge, w)) in omega (arith, ih))
     ]
 
--- level 0 has as many packs as first fit needs, or as there are processors
-pub first_long : (processors scale : ℕ) (rates : List ℕ) → 0 < processors → 0 < scale → AllByRecursion (λ r. (0 < r) × (r ≤ scale)) rates → total rates ≤ processors * scale →
-    length (first_level processors scale rates).last ≤ max processors (length (packed_from scale rates []))
-first_long processors scale rates p q each fits =
+-- each pack of level 0 is offered an amount, as is each further one
+pub amounts_long : (processors scale : ℕ) (rates : List ℕ) (p : 0 < processors) (q : 0 < scale) (each : AllByRecursion (λ r. (0 < r) × (r ≤ scale)) rates) (fits : total rates ≤ processors * scale) →
+    length (amounts processors scale rates p q each fits) ≤ max processors (length (packed_from scale rates []))
+amounts_long processors scale rates p q each fits =
     let m : Making = pack_items (task_items 0 rates) (started processors scale) in
-    let f = filled_in processors scale rates p q each fits in
     let g = packed processors scale rates p q each fits in
     let room : m.tree.processors * m.tree.scale ≡ processors * scale = ap₂ (λ a b. a * b) g.processors_same g.scale_same in
     let s = same_total (last_rates m) in
@@ -93,7 +92,15 @@ first_long processors scale rates p q each fits =
     let z = g.scale_same in
     let n = idles_long m.tree.scale (m.tree.processors * m.tree.scale - sum (last_rates m)) m.tree.processors (last_rates m) (omega (arith, z, q)) (rates_within m g.making) (omega (arith, room, s, t, fits)) in
     let servers = ap length (g.rates ∙ ap (λ rs. packed_from scale rs []) (task_rates 0 rates)) in
-    let packs = f.packs in
-    let long = length-map (first_level processors scale rates).last (rate (first_level processors scale rates).tree) in
     let same = g.processors_same in
-    omega (arith, n, servers, packs, long, same)
+    omega (arith, n, servers, same)
+
+-- level 0 has as many packs as first fit needs, or as there are processors
+pub first_long : (processors scale : ℕ) (rates : List ℕ) → 0 < processors → 0 < scale → AllByRecursion (λ r. (0 < r) × (r ≤ scale)) rates → total rates ≤ processors * scale →
+    length (first_level processors scale rates).last ≤ max processors (length (packed_from scale rates []))
+first_long processors scale rates p q each fits =
+    let few = amounts_long processors scale rates p q each fits in
+    let servers = ap length ((packed processors scale rates p q each fits).rates ∙ ap (λ rs. packed_from scale rs []) (task_rates 0 rates)) in
+    let packs = (filled_in processors scale rates p q each fits).packs in
+    let long = length-map (first_level processors scale rates).last (rate (first_level processors scale rates).tree) in
+    omega (arith, few, servers, packs, long)

@@ -53,11 +53,11 @@ idles_total scale slack m [] p h e =
 idles_total scale slack m (r ∷ rs) p h e =
     let w = h.0 in
     elim (cases_lt slack (scale - r)) [
-      inl l ↦ (let z = idles_none scale (slack - min (scale - r) slack) rs p (omega (arith, l)) in omega (arith, z, l))
+      | inl l ↦ (let z = idles_none scale (slack - min (scale - r) slack) rs p (omega (arith, l)) in omega (arith, z, l))
       | inr ge ↦ (let some : 0 < m = elim (cases_eq m 0) [ inl z ↦ absurd (let f = ap (λ x. x * scale) z in omega (arith, e, f, ge, p, w)) | inr nz ↦ omega arith ] in
-        let (k, is) = before m some in
-        let f = ap (λ x. x * scale) is in
-        let ih = idles_total scale (slack - min (scale - r) slack) k rs p h.1 (omega (arith, e, f, ge, w)) in omega (arith, ih, ge))
+          let (k, is) = before m some in
+          let f = ap (λ x. x * scale) is in
+          let ih = idles_total scale (slack - min (scale - r) slack) k rs p h.1 (omega (arith, e, f, ge, w)) in omega (arith, ih, ge))
     ]
   where
     before : (n : ℕ) → 0 < n → (k : ℕ) × (n ≡ suc k)
@@ -149,13 +149,16 @@ idles_put (suc a ∷ more) b k m h f pairs some one p fits l =
     let put' : IsPut m (put c (suc a) b m) [] c (suc a) b = put_at m [] [] c (suc a) b h f (omega arith) one (serves_leaf (Idle k)) at.1 at.0 in
     let scale = put'.scale_same in
     let rest = idles_put more (suc b) (suc k) (put c (suc a) b m) put'.making put'.filled
-      (subst₂ (λ s xs. PairsExceed s xs) (sym put'.scale_same) (sym put'.rates) (pairs_raised m.tree.scale (suc a) b (last_rates m) pairs some first l))
-      (subst AllSome (sym put'.rates) (some_with_item (suc a) b (last_rates m) (omega arith) some))
-      (put'.levels_same ∙ one) (omega (arith, scale, p))
-      (subst₂ (λ s xs. Fits s more xs) (sym put'.scale_same) (sym (drop_added (suc a) b (last_rates m) l) ∙ sym (ap (drop (suc b)) put'.rates)) (fits_next m.tree.scale (suc a) more b (last_rates m) fits))
-      (let e = ap length put'.rates in let g = longer (suc a) b (last_rates m) l in omega (arith, e, g)) in
+    (subst₂ (λ s xs. PairsExceed s xs) (sym put'.scale_same) (sym put'.rates) (pairs_raised m.tree.scale (suc a) b (last_rates m) pairs some first l))
+    (subst AllSome (sym put'.rates) (some_with_item (suc a) b (last_rates m) (omega arith) some))
+    (put'.levels_same ∙ one) (omega (arith, scale, p))
+    (subst₂ (λ s xs. Fits s more xs) (sym put'.scale_same) (sym (drop_added (suc a) b (last_rates m) l) ∙ sym (ap (drop (suc b)) put'.rates)) (fits_next m.tree.scale (suc a) more b (last_rates m) fits))
+    (let e = ap length put'.rates in let g = longer (suc a) b (last_rates m) l in omega (arith, e, g)) in
     record {
-      making = rest.making; filled = rest.filled; pairs = rest.pairs; positive = rest.positive;
+      making = rest.making;
+      filled = rest.filled;
+      pairs = rest.pairs;
+      positive = rest.positive;
       scale_same = rest.scale_same ∙ put'.scale_same;
       processors_same = rest.processors_same ∙ put'.processors_same;
       levels_same = rest.levels_same ∙ put'.levels_same;
@@ -235,7 +238,7 @@ module _ (processors scale : ℕ) (rates : List ℕ) (p : 0 < processors) (q : 0
 
   pub filled_in : IsFilled tasks_in (first_level processors scale rates) 0 0 amounts
   filled_in = idles_put amounts 0 0 tasks_in packed.making packed.filled packed.pairs packed_some (packed.levels_same) (let s = packed.scale_same in omega (arith, s, q))
-    (idles_fit tasks_in.tree.scale (tasks_in.tree.processors * tasks_in.tree.scale - sum (last_rates tasks_in)) (last_rates tasks_in) (rates_within tasks_in packed.making)) (omega arith)
+      (idles_fit tasks_in.tree.scale (tasks_in.tree.processors * tasks_in.tree.scale - sum (last_rates tasks_in)) (last_rates tasks_in) (rates_within tasks_in packed.making)) (omega arith)
 
   pub amounts_total : total amounts ≡ processors * scale - total rates
   amounts_total =
@@ -244,7 +247,7 @@ module _ (processors scale : ℕ) (rates : List ℕ) (p : 0 < processors) (q : 0
       let t = packed_total in
       let z = packed.scale_same in
       idles_total tasks_in.tree.scale (tasks_in.tree.processors * tasks_in.tree.scale - sum (last_rates tasks_in)) tasks_in.tree.processors (last_rates tasks_in) (omega (arith, z, q)) (rates_within tasks_in packed.making)
-        (omega (arith, room, s, t, fits)) ∙ omega (arith, room, s, t)
+      (omega (arith, room, s, t, fits)) ∙ omega (arith, room, s, t)
 
   pub first_is : IsLevel (first_level processors scale rates)
   first_is = record {
@@ -255,10 +258,10 @@ module _ (processors scale : ℕ) (rates : List ℕ) (p : 0 < processors) (q : 0
     positive = filled_in.positive;
     whole = (processors, (let a = filled_in.sums in let b = packed_total in let c = amounts_total in let s = ap (λ x. processors * x) (filled_in.scale_same ∙ packed.scale_same) in omega (arith, a, b, c, s, fits)));
     some = (let a = filled_in.sums in let b = packed_total in let c = amounts_total in let m : 1 * scale ≤ processors * scale = mul-le-mul_right scale p in
-      let long = length-map (first_level processors scale rates).last (rate (first_level processors scale rates).tree) in
-      let t = not_empty (last_rates (first_level processors scale rates)) (omega (arith, a, b, c, m, q, fits)) in omega (arith, t, long));
+        let long = length-map (first_level processors scale rates).last (rate (first_level processors scale rates).tree) in
+        let t = not_empty (last_rates (first_level processors scale rates)) (omega (arith, a, b, c, m, q, fits)) in omega (arith, t, long));
     leaves = (let a = filled_in.sum in let b = packed.sum in let c = amounts_total in let d = task_parts 0 rates in
-      let s = ap₂ (λ x y. x * y) (filled_in.processors_same ∙ packed.processors_same) (filled_in.scale_same ∙ packed.scale_same) in omega (arith, a, b, c, d, s, fits));
+        let s = ap₂ (λ x y. x * y) (filled_in.processors_same ∙ packed.processors_same) (filled_in.scale_same ∙ packed.scale_same) in omega (arith, a, b, c, d, s, fits));
   }
     where
       not_empty : (rs : List ℕ) → 0 < total rs → 0 < length rs

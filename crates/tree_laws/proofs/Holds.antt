@@ -84,7 +84,7 @@ module _ (amounts : List ℕ) where
   entry_is j (r ∷ rs) zero l = inl (omega arith, ap (λ n. Task (task_id n)) (omega arith))
   entry_is j (r ∷ rs) (suc i) l =
       elim (entry_is (suc j) rs i (omega arith)) [
-        inl task ↦ (let b = task.0 in inl (omega arith, task.1 ∙ ap (λ n. Task (task_id n)) (omega arith)))
+        | inl task ↦ (let b = task.0 in inl (omega arith, task.1 ∙ ap (λ n. Task (task_id n)) (omega arith)))
         | inr idle ↦ (let (n, at, b, e) = idle in inr (n, omega (arith, at), b, e))
       ]
 
@@ -107,9 +107,9 @@ module _ (t : Tree) (rates amounts : List ℕ) (is : entries t.nodes ≡ all amo
   pub alone : (x y : ℕ) → IsLeaf t x → IsLeaf t y → before x ≡ before y → x ≡ y
   alone x y ix iy e =
       elim (cases_lt x y) [
-        inl l ↦ absurd (let z = entries_before t.nodes x y l iy.0 ix.1 in omega (arith, z, e))
+        | inl l ↦ absurd (let z = entries_before t.nodes x y l iy.0 ix.1 in omega (arith, z, e))
         | inr ge ↦ elim (cases_lt y x) [
-          inl l ↦ absurd (let z = entries_before t.nodes y x l ix.0 iy.1 in omega (arith, z, e))
+          | inl l ↦ absurd (let z = entries_before t.nodes y x l ix.0 iy.1 in omega (arith, z, e))
           | inr le ↦ omega (arith, ge, le)
         ]
       ]
@@ -117,26 +117,26 @@ module _ (t : Tree) (rates amounts : List ℕ) (is : entries t.nodes ≡ all amo
   pub of_task : (x : ℕ) (id : TaskId) → IsLeaf t x → leaf t x ≡ Task id → (before x ≡ id.0) × (id.0 < length rates)
   of_task x id i e =
       elim (leaf_is x i) [
-        inl task ↦ (let same : id ≡ task_id (0 + before x) = cc (task.1, e) in let f = ap (λ (n : TaskId). n.0) same in let l = task.0 in (omega (arith, f), omega (arith, f, l)))
+        | inl task ↦ (let same : id ≡ task_id (0 + before x) = cc (task.1, e) in let f = ap (λ (n : TaskId). n.0) same in let l = task.0 in (omega (arith, f), omega (arith, f, l)))
         | inr idle ↦ absurd (let f = idle.3 in cc (f, e))
       ]
 
   pub of_idle : (x number : ℕ) → IsLeaf t x → leaf t x ≡ Idle number → (before x ≡ length rates + number) × (number < length (idle_entries 0 amounts))
   of_idle x number i e =
       elim (leaf_is x i) [
-        inl task ↦ absurd (let f = task.1 in cc (f, e))
+        | inl task ↦ absurd (let f = task.1 in cc (f, e))
         | inr idle ↦ (let (n, at, b, f) = idle in let same : number ≡ n = cc (f, e) in (omega (arith, at, same), omega (arith, b, same)))
       ]
 
   pub holds_tasks : (tasks : List declared.Task) → rates ≡ map (rate_of t.scale) tasks → HoldsTasks tasks t
   holds_tasks tasks are = record {
     has_task = λ j l. (
-      let lr : j < length rates = (let a = ap length are in let b = length-map tasks (rate_of t.scale) in omega (arith, a, b, l)) in
-      let (b, e) = task_entry amounts 0 rates j lr in
-      let lb : j < length (entries t.nodes) = (let a = ap length is in omega (arith, a, b)) in
-      let (x, lx, is_leaf, at) = leaf_from t.nodes j lb in
-      let both = sym at ∙ ap (λ es. get_or es j no_entry) is ∙ e in
-      (x, (lx, is_leaf), ap (λ (z : Entry). z.leaf) both ∙ ap (λ n. Task (task_id n)) (omega arith), ap (λ (z : Entry). z.rate) both ∙ ap (λ rs. get_or rs j 0) are ∙ get_or-map (rate_of t.scale) tasks j _ 0 l));
+        let lr : j < length rates = (let a = ap length are in let b = length-map tasks (rate_of t.scale) in omega (arith, a, b, l)) in
+        let (b, e) = task_entry amounts 0 rates j lr in
+        let lb : j < length (entries t.nodes) = (let a = ap length is in omega (arith, a, b)) in
+        let (x, lx, is_leaf, at) = leaf_from t.nodes j lb in
+        let both = sym at ∙ ap (λ es. get_or es j no_entry) is ∙ e in
+        (x, (lx, is_leaf), ap (λ (z : Entry). z.leaf) both ∙ ap (λ n. Task (task_id n)) (omega arith), ap (λ (z : Entry). z.rate) both ∙ ap (λ rs. get_or rs j 0) are ∙ get_or-map (rate_of t.scale) tasks j _ 0 l));
     once = λ x y id ix iy ex ey. alone x y ix iy ((of_task x id ix ex).0 ∙ sym (of_task y id iy ey).0);
     known = λ x id i e. (let a = (of_task x id i e).1 in let b = ap length are in let c = length-map tasks (rate_of t.scale) in omega (arith, a, b, c));
     real = λ x i. elim (leaf_is x i) [ inl task ↦ ap is_real task.1 | inr idle ↦ (let (n, at, b, f) = idle in ap is_real f) ];
@@ -145,10 +145,10 @@ module _ (t : Tree) (rates amounts : List ℕ) (is : entries t.nodes ≡ all amo
   pub numbers_idles : NumbersIdles t
   numbers_idles = record {
     below = λ x number i e. (
-      let a = (of_idle x number i e).1 in
-      let counted = idles_counted t.nodes ∙ ap idles_in is ∙ idles_in-append (item_entries (task_items 0 rates)) (idle_entries 0 amounts) in
-      let none = tasks_no_idles 0 rates in
-      let every = idles_all 0 amounts in
-      omega (arith, a, counted, none, every));
+        let a = (of_idle x number i e).1 in
+        let counted = idles_counted t.nodes ∙ ap idles_in is ∙ idles_in-append (item_entries (task_items 0 rates)) (idle_entries 0 amounts) in
+        let none = tasks_no_idles 0 rates in
+        let every = idles_all 0 amounts in
+        omega (arith, a, counted, none, every));
     once = λ x y number ix iy ex ey. alone x y ix iy ((of_idle x number ix ex).0 ∙ sym (of_idle y number iy ey).0);
   }

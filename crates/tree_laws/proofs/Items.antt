@@ -78,11 +78,11 @@ module _ (m : Making) (qs rs : List ℕ) (c : Kind) (r b : ℕ) (h : IsMaking m 
         processors_same = processors_join c r (length m.last) (opened m);
         leaves = entries_any c r (last_at (opened m) (length m.last)) (opened m).tree (o.last_packs (length m.last) below).0 (from_next c (opened m).tree r (next_open c m qs r h next)) ∙ ap (λ xs. xs ++ kind_entry c r) (entries_open (m.tree.levels - 1) m.tree);
         kept = λ q i low. (let e = open_old (m.tree.levels - 1) m.tree q i.0 in
-          g.joins.rates q (let a = i.0 in let n = open_long (m.tree.levels - 1) m.tree in omega (arith, a, n)) (λ s. (let z = (o.last_packs (length m.last) below).1 in let y = ap (level (opened m).tree) s in let w = ap node_level e in omega (arith, z, y, w, low))) ∙ ap node_rate e);
+            g.joins.rates q (let a = i.0 in let n = open_long (m.tree.levels - 1) m.tree in omega (arith, a, n)) (λ s. (let z = (o.last_packs (length m.last) below).1 in let y = ap (level (opened m).tree) s in let w = ap node_level e in omega (arith, z, y, w, low))) ∙ ap node_rate e);
       }
     where
       rates_of : (d : Kind) → Grows (opened m).tree (joined_at d r (length m.last) (opened m)).tree (last_at (opened m) (length m.last)) r d → IsMaking (opened m) qs → length m.last < length (opened m).last → length m.last ≤ b →
-        last_rates (joined_at d r (length m.last) (opened m)) ≡ with_item r b (last_rates m)
+          last_rates (joined_at d r (length m.last) (opened m)) ≡ with_item r b (last_rates m)
       rates_of d g o below l =
           (let long = length-map m.last (rate m.tree) in
           join_rates (opened m) (joined_at d r (length m.last) (opened m)).tree qs r (length m.last) d o below g
@@ -94,11 +94,11 @@ module _ (m : Making) (qs rs : List ℕ) (c : Kind) (r b : ℕ) (h : IsMaking m 
   put_at fits room =
       let P : Bool → Type 0 = λ old. IsPut m (put_in c r b m old) rs c r b in
       elim (cases_Bool (nat_lt b (length m.last))) [
-        inl e ↦ (let l = ltb-true b (length m.last) e in
-          let long = length-map m.last (rate m.tree) in
-          let at = get_or-map (rate m.tree) m.last b 0 0 l in
-          let here = room (omega (arith, l, long)) in
-          subst P (sym e) (put_old l (omega (arith, at, here))))
+        | inl e ↦ (let l = ltb-true b (length m.last) e in
+            let long = length-map m.last (rate m.tree) in
+            let at = get_or-map (rate m.tree) m.last b 0 0 l in
+            let here = room (omega (arith, l, long)) in
+            subst P (sym e) (put_old l (omega (arith, at, here))))
         | inr e ↦ subst P (sym e) (put_new (ltb-false b (length m.last) e) fits)
       ]
 
@@ -177,7 +177,7 @@ pack_leaves (x ∷ xs) m h f pairs one all =
     let room = room_is m.tree.scale x.rate (last_rates m) in
     let put' : IsPut m (put x.kind x.rate b m) [] x.kind x.rate b = put_first m [] [] x.kind x.rate b h f all.0.1 (leaf_next x.kind x.rate m.tree one all.0.0) (leaf_serves x.kind all.0.0) all.0.2 room in
     let rest = pack_leaves xs (put x.kind x.rate b m) put'.making put'.filled (pairs_put m (put x.kind x.rate b m) [] x.kind x.rate b put' room pairs) (put'.levels_same ∙ one)
-      (let P : ℕ → Type 0 = λ s. AllByRecursion (IsLeafItem s) xs in subst P (sym put'.scale_same) all.1) in
+    (let P : ℕ → Type 0 = λ s. AllByRecursion (IsLeafItem s) xs in subst P (sym put'.scale_same) all.1) in
     record {
       making = rest.making;
       filled = rest.filled;
@@ -201,7 +201,7 @@ pack_duals (q ∷ qs) t m h f pairs scale same =
     let now = same 0 (omega arith) in
     let put' : IsPut m (put (kind.Dual (node_id q)) r b m) qs (kind.Dual (node_id q)) r b = put_first m (q ∷ qs) qs (kind.Dual (node_id q)) r b h f (omega (arith, less, now, scale)) (dual_next q qs m t h scale now) (dual_serves q qs h.apart) (omega (arith, less, now, scale)) room in
     let rest = pack_duals qs t (put (kind.Dual (node_id q)) r b m) put'.making put'.filled (pairs_put m (put (kind.Dual (node_id q)) r b m) qs (kind.Dual (node_id q)) r b put' room pairs) (put'.scale_same ∙ scale)
-      (λ i l. (let v = h.waiting (suc i) (omega arith) in put'.kept (get_or qs i 0) v.0 v.1 ∙ same (suc i) (omega arith))) in
+    (λ i l. (let v = h.waiting (suc i) (omega arith) in put'.kept (get_or qs i 0) v.0 v.1 ∙ same (suc i) (omega arith))) in
     record {
       making = rest.making;
       filled = rest.filled;

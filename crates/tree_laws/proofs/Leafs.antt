@@ -52,7 +52,7 @@ pub entries_join : (c : Kind) (r p : ℕ) (s : Tree) → IsPack s p → entries 
 entries_join c r p s i =
     entries-append (set s.nodes p (joined (node s p) (length s.nodes) r)) _
     ∙ ap₂ (λ xs ys. xs ++ ys) (entries-set s.nodes p (joined (node s p) (length s.nodes) r) no_node (pack_entry (node s p).kind ((node s p).rate + r) i.1) (pack_entry (node s p).kind (node s p).rate i.1))
-      (append-nil (kind_entry c r))
+    (append-nil (kind_entry c r))
 
 -- the primal of a new dual is a pack
 abbrev pub FromPack : Tree → Kind → Type 0
@@ -118,7 +118,7 @@ pub leaf_from : (ns : List Node) (i : ℕ) → i < length (entries ns) →
 leaf_from [] i l = absurd (omega arith)
 leaf_from (n ∷ ns) i l =
     elim (split n.kind n.rate i l) [
-      inl here ↦ (0, omega arith, here.0, here.1)
+      | inl here ↦ (0, omega arith, here.0, here.1)
       | inr later ↦ (let (j, lj, e) = later in let (x, lx, is, at) = leaf_from ns j lj in (suc x, omega arith, is, e ∙ at))
     ]
   where

@@ -20,10 +20,10 @@ pub kept_in : (f : ℕ → Bool) (ps : List ℕ) (i : ℕ) → i < length (filte
 kept_in f [] i l = absurd (omega arith)
 kept_in f (p ∷ ps) i l =
     elim (cases_Bool (f p)) [
-      inl on ↦ (let P : List ℕ → Type 0 = λ xs. i < length xs → (j : ℕ) × (j < length (p ∷ ps)) × (get_or (p ∷ ps) j 0 ≡ get_or xs i 0) × (f (get_or xs i 0) ≡ true) in
-        subst P (sym (ap (λ b. cond b (p ∷ filter f ps) (filter f ps)) on)) (at (λ k m. kept_in f ps k m) on i) l)
+      | inl on ↦ (let P : List ℕ → Type 0 = λ xs. i < length xs → (j : ℕ) × (j < length (p ∷ ps)) × (get_or (p ∷ ps) j 0 ≡ get_or xs i 0) × (f (get_or xs i 0) ≡ true) in
+          subst P (sym (ap (λ b. cond b (p ∷ filter f ps) (filter f ps)) on)) (at (λ k m. kept_in f ps k m) on i) l)
       | inr off ↦ (let P : List ℕ → Type 0 = λ xs. i < length xs → (j : ℕ) × (j < length (p ∷ ps)) × (get_or (p ∷ ps) j 0 ≡ get_or xs i 0) × (f (get_or xs i 0) ≡ true) in
-        subst P (sym (ap (λ b. cond b (p ∷ filter f ps) (filter f ps)) off)) (λ m. (let (j, lj, e, ok) = kept_in f ps i m in (suc j, omega arith, e, ok))) l)
+          subst P (sym (ap (λ b. cond b (p ∷ filter f ps) (filter f ps)) off)) (λ m. (let (j, lj, e, ok) = kept_in f ps i m in (suc j, omega arith, e, ok))) l)
     ]
   where
     at : ((i : ℕ) → i < length (filter f ps) → (j : ℕ) × (j < length ps) × (get_or ps j 0 ≡ get_or (filter f ps) i 0) × (f (get_or (filter f ps) i 0) ≡ true)) → f p ≡ true → (i : ℕ) → i < length (p ∷ filter f ps) → (j : ℕ) × (j < length (p ∷ ps)) × (get_or (p ∷ ps) j 0 ≡ get_or (p ∷ filter f ps) i 0) × (f (get_or (p ∷ filter f ps) i 0) ≡ true)
@@ -38,7 +38,7 @@ kept_from f (p ∷ ps) zero l on =
 kept_from f (p ∷ ps) (suc j) l on =
     let (i, li, e) = kept_from f ps j (omega arith) on in
     elim (cases_Bool (f p)) [
-      inl y ↦ (let P : List ℕ → Type 0 = λ xs. Among (get_or ps j 0) xs in subst P (sym (ap (λ b. cond b (p ∷ filter f ps) (filter f ps)) y)) (suc i, omega arith, e))
+      | inl y ↦ (let P : List ℕ → Type 0 = λ xs. Among (get_or ps j 0) xs in subst P (sym (ap (λ b. cond b (p ∷ filter f ps) (filter f ps)) y)) (suc i, omega arith, e))
       | inr n ↦ (let P : List ℕ → Type 0 = λ xs. Among (get_or ps j 0) xs in subst P (sym (ap (λ b. cond b (p ∷ filter f ps) (filter f ps)) n)) (i, li, e))
     ]
 
@@ -50,12 +50,13 @@ kept_apart f [] h = h
 kept_apart f (p ∷ ps) h =
     let tail : AreApart (filter f ps) = kept_apart f ps (λ i j li lj e. (let z = h (suc i) (suc j) (omega arith) (omega arith) e in omega (arith, z))) in
     elim (cases_Bool (f p)) [
-      inl on ↦ subst AreApart (sym (ap (λ b. cond b (p ∷ filter f ps) (filter f ps)) on)) (whole tail)
+      | inl on ↦ subst AreApart (sym (ap (λ b. cond b (p ∷ filter f ps) (filter f ps)) on)) (whole tail)
       | inr off ↦ subst AreApart (sym (ap (λ b. cond b (p ∷ filter f ps) (filter f ps)) off)) tail
     ]
   where
     never : (j : ℕ) → j < length (filter f ps) → p ≡ get_or (filter f ps) j 0 → ⊥
     never j l e = let (k, lk, at, ok) = kept_in f ps j l in let z = h 0 (suc k) (omega arith) (omega arith) (e ∙ sym at) in omega (arith, z)
+
     whole : AreApart (filter f ps) → AreApart (p ∷ filter f ps)
     whole tail zero zero li lj e = refl
     whole tail zero (suc j) li lj e = absurd (never j (omega arith) e)
@@ -91,9 +92,9 @@ pair_last m h pairs p q ip iq ne top_p top_q =
     let ri = get_or-map (rate m.tree) m.last i 0 0 li ∙ ap (rate m.tree) ei in
     let rj = get_or-map (rate m.tree) m.last j 0 0 lj ∙ ap (rate m.tree) ej in
     elim (cases_lt i j) [
-      inl l ↦ (let a = pairs_at m.tree.scale (last_rates m) pairs i j l (omega (arith, lj, long)) in omega (arith, a, ri, rj))
+      | inl l ↦ (let a = pairs_at m.tree.scale (last_rates m) pairs i j l (omega (arith, lj, long)) in omega (arith, a, ri, rj))
       | inr ge ↦ elim (cases_lt j i) [
-        inl l ↦ (let a = pairs_at m.tree.scale (last_rates m) pairs j i l (omega (arith, li, long)) in omega (arith, a, ri, rj))
+        | inl l ↦ (let a = pairs_at m.tree.scale (last_rates m) pairs j i l (omega (arith, li, long)) in omega (arith, a, ri, rj))
         | inr le ↦ absurd (ne (sym ei ∙ ap (last_at m) (omega (arith, ge, le)) ∙ ej))
       ]
     ]
@@ -115,26 +116,26 @@ begun m v = record {
   last_all = λ p i top. absurd (let a = v.making.made.leveled p i in omega (arith, a, top));
   last_apart = λ i j l. absurd (omega arith);
   pairs_below = λ p q i j ne same lo. elim (cases_lt (suc (level m.tree p)) m.tree.levels) [
-    inl l ↦ v.making.pairs_below p q i j ne same l
+    | inl l ↦ v.making.pairs_below p q i j ne same l
     | inr ge ↦ pair_last m v.making v.pairs p q i j ne (omega (arith, ge, lo)) (omega (arith, ge, lo, same))
   ];
   roots_below = λ p i lo none. elim (cases_lt (suc (level m.tree p)) m.tree.levels) [
-    inl l ↦ elim (v.making.roots_below p i l none) [ inl e ↦ inl e | inr a ↦ absurd (let b = a.1 in omega (arith, b)) ]
+    | inl l ↦ elim (v.making.roots_below p i l none) [ inl e ↦ inl e | inr a ↦ absurd (let b = a.1 in omega (arith, b)) ]
     | inr ge ↦ elim (cases_lt (rate m.tree p) m.tree.scale) [
-      inr full ↦ inl (let w = v.making.made.within p i in omega (arith, w, full))
+      | inr full ↦ inl (let w = v.making.made.within p i in omega (arith, w, full))
       | inl less ↦
-        (let (k, lk, e) = v.making.last_all p i (omega (arith, ge, lo)) in
-        let P : ℕ → Type 0 = λ x. Among x (lower_packs m) in
-        inr (subst P e (kept_from (is_lower m) m.last k lk (ap (is_lower m) e ∙ lt-ltb (rate m.tree p) m.tree.scale less))))
+          (let (k, lk, e) = v.making.last_all p i (omega (arith, ge, lo)) in
+          let P : ℕ → Type 0 = λ x. Among x (lower_packs m) in
+          inr (subst P e (kept_from (is_lower m) m.last k lk (ap (is_lower m) e ∙ lt-ltb (rate m.tree p) m.tree.scale less))))
     ]
   ];
   each_below = λ l lo. elim (cases_lt (suc l) m.tree.levels) [
-    inl b ↦ v.making.each_below l b
+    | inl b ↦ v.making.each_below l b
     | inr ge ↦ (let a = v.making.last_packs 0 v.some in (last_at m 0, a.0, (let z = a.1 in omega (arith, z, ge, lo))))
   ];
   waiting = λ i l. (let (j, lj, e, ok) = kept_in (is_lower m) m.last i l in
-    let P : ℕ → Type 0 = λ x. rate m.tree x < m.tree.scale → IsPack m.tree x × (suc (suc (level m.tree x)) ≡ suc m.tree.levels) × (dual m.tree x ≡ None) × (rate m.tree x < m.tree.scale) in
-    subst P e (λ less. (let a = v.making.last_packs j lj in (a.0, ap suc a.1, a.2, less))) (ltb-true (rate m.tree (get_or (lower_packs m) i 0)) m.tree.scale ok));
+      let P : ℕ → Type 0 = λ x. rate m.tree x < m.tree.scale → IsPack m.tree x × (suc (suc (level m.tree x)) ≡ suc m.tree.levels) × (dual m.tree x ≡ None) × (rate m.tree x < m.tree.scale) in
+      subst P e (λ less. (let a = v.making.last_packs j lj in (a.0, ap suc a.1, a.2, less))) (ltb-true (rate m.tree (get_or (lower_packs m) i 0)) m.tree.scale ok));
   apart = kept_apart (is_lower m) m.last v.making.last_apart;
 }
 
@@ -192,6 +193,6 @@ fewer_packs scale r s rs fits =
         (let room = room_is scale s (r ∷ []) in
         let low = room.low in
         elim (cases_eq (first_with_room scale s (r ∷ [])) 0) [
-          inl z ↦ z
+          | inl z ↦ z
           | inr nz ↦ absurd (let full = room.full 0 (omega arith) in omega (arith, full, fits))
         ])

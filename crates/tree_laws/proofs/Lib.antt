@@ -18,3 +18,4 @@ mod Few
 mod SetRates
 mod Follows
 mod TreeOf
+mod Sizes

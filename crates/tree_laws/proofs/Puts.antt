@@ -70,14 +70,14 @@ open_rates m qs h =
 pub join_rates : (m : Making) (t : Tree) (qs : List ℕ) (r b : ℕ) (c : Kind) → IsMaking m qs → b < length m.last → Grows m.tree t (last_at m b) r c → map (rate t) m.last ≡ with_item r b (last_rates m)
 join_rates m t qs r b c h l g =
     ext_get_or 0 (map (rate t) m.last) (set (last_rates m) b (get_or (last_rates m) b 0 + r)) (length-map m.last (rate t) ∙ sym (length-map m.last (rate m.tree)) ∙ sym (length-set (last_rates m) b (get_or (last_rates m) b 0 + r)))
-      (λ i li. (let long = length-map m.last (rate t) in let long' = length-map m.last (rate m.tree) in
-        let lm : i < length m.last = omega (arith, li, long) in
-        get_or-map (rate t) m.last i 0 0 lm
-        ∙ elim (cases_eq i b) [
-          inl e ↦ (let f : rate t (last_at m i) ≡ rate m.tree (last_at m b) + r = ap (λ y. rate t (last_at m y)) e ∙ g.joins.rate_here in
-            f ∙ ap (λ y. y + r) (sym (get_or-map (rate m.tree) m.last b 0 0 l)) ∙ sym (get_or-set_same (last_rates m) b (get_or (last_rates m) b 0 + r) 0 (omega (arith, l, long'))) ∙ ap (λ y. get_or (set (last_rates m) b (get_or (last_rates m) b 0 + r)) y 0) (sym e))
-          | inr ne ↦ (g.joins.rates (last_at m i) (h.last_packs i lm).0.0 (λ e. ne (h.last_apart i b lm l e)) ∙ sym (get_or-map (rate m.tree) m.last i 0 0 lm) ∙ sym (get_or-set_other (last_rates m) b i (get_or (last_rates m) b 0 + r) 0 ne))
-        ]))
+    (λ i li. (let long = length-map m.last (rate t) in let long' = length-map m.last (rate m.tree) in
+    let lm : i < length m.last = omega (arith, li, long) in
+    get_or-map (rate t) m.last i 0 0 lm
+    ∙ elim (cases_eq i b) [
+      | inl e ↦ (let f : rate t (last_at m i) ≡ rate m.tree (last_at m b) + r = ap (λ y. rate t (last_at m y)) e ∙ g.joins.rate_here in
+          f ∙ ap (λ y. y + r) (sym (get_or-map (rate m.tree) m.last b 0 0 l)) ∙ sym (get_or-set_same (last_rates m) b (get_or (last_rates m) b 0 + r) 0 (omega (arith, l, long'))) ∙ ap (λ y. get_or (set (last_rates m) b (get_or (last_rates m) b 0 + r)) y 0) (sym e))
+      | inr ne ↦ (g.joins.rates (last_at m i) (h.last_packs i lm).0.0 (λ e. ne (h.last_apart i b lm l e)) ∙ sym (get_or-map (rate m.tree) m.last i 0 0 lm) ∙ sym (get_or-set_other (last_rates m) b i (get_or (last_rates m) b 0 + r) 0 ne))
+    ]))
     ∙ with_item_old r b (last_rates m) (let long = length-map m.last (rate m.tree) in omega (arith, l, long))
 
 -- every pack has members, but perhaps one
@@ -91,7 +91,7 @@ pub join_filled : (s t : Tree) (p r : ℕ) (c : Kind) → Joins s t p r c → Is
 join_filled s t p r c j h f q i =
     let is = old_pack s t p r c j h q i in
     elim (cases_eq q p) [
-      inl e ↦ (let a = ap length (ap (members t) e ∙ j.here) in let long = length-append (members s p) (length s.nodes ∷ []) in omega (arith, a, long))
+      | inl e ↦ (let a = ap length (ap (members t) e ∙ j.here) in let long = length-append (members s p) (length s.nodes ∷ []) in omega (arith, a, long))
       | inr ne ↦ (let a = ap length (j.others q is.0 ne) in let b = f q is ne in omega (arith, a, b))
     ]
 
@@ -128,11 +128,11 @@ join_sum s t p r c j =
     let count = ap (λ n. sum_to n (λ x. bit (is_leaf (kind_at t x)) * rate t x)) j.long in
     let last = ap (λ y. bit (is_leaf_node y) * node_rate y) j.added ∙ part_is c r in
     let front = sum_to-same (length s.nodes) (λ x. bit (is_leaf (kind_at t x)) * rate t x) (λ x. bit (is_leaf (kind_at s x)) * rate s x) (λ x l.
-      elim (cases_eq x p) [
-        inl e ↦ (let a = pack_part (kind_at t p) (j.packs p j.is_p.0 ∙ j.is_p.1) in let b = pack_part (kind_at s p) j.is_p.1 in
+    elim (cases_eq x p) [
+      | inl e ↦ (let a = pack_part (kind_at t p) (j.packs p j.is_p.0 ∙ j.is_p.1) in let b = pack_part (kind_at s p) j.is_p.1 in
           omega (arith, ap (λ w. w * rate t p) a, ap (λ w. w * rate s p) b, ap (λ y. bit (is_leaf (kind_at t y)) * rate t y) e, ap (λ y. bit (is_leaf (kind_at s y)) * rate s y) e))
-        | inr ne ↦ ap₂ (λ a b. bit a * b) (j.leaves x l) (j.rates x l ne)
-      ]) in
+      | inr ne ↦ ap₂ (λ a b. bit a * b) (j.leaves x l) (j.rates x l ne)
+    ]) in
     omega (arith, count, last, front)
 
 pub open_sum : (l : ℕ) (s : Tree) → leaf_sum (open_pack l s) ≡ leaf_sum s

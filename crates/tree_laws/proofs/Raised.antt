@@ -97,12 +97,12 @@ module _ (m : Making) (v : IsLevel m) where
       search_up zero n h l = (n, h, omega (arith, l))
       search_up (suc fuel) n h l =
           elim (cases_eq (length (lower_packs (raised n m))) 0) [
-            inl done ↦ (n, h, done)
+            | inl done ↦ (n, h, done)
             | inr some ↦
-              (let next : IsRaised (suc n) m = one_more n h (omega (arith, some)) in
-              let fewer = raised_fewer n next in
-              let lower = raised_lower (suc n) in
-              search_up fuel (suc n) next (omega (arith, fewer, lower, l)))
+                (let next : IsRaised (suc n) m = one_more n h (omega (arith, some)) in
+                let fewer = raised_fewer n next in
+                let lower = raised_lower (suc n) in
+                search_up fuel (suc n) next (omega (arith, fewer, lower, l)))
           ]
         where
           one_more : (n : ℕ) → IsRaised n m → 0 < length (lower_packs (raised n m)) → IsRaised (suc n) m

@@ -18,13 +18,13 @@ room_is scale r [] = record { low = omega arith; full = λ k l. absurd (omega ar
 room_is scale r (s ∷ ss) =
     let ih = room_is scale r ss in
     elim (cases_Bool (nat_le (s + r) scale)) [
-      inl e ↦ (let P : ℕ → Type 0 = λ b. IsRoom scale r (s ∷ ss) b in
-        let f = leb-true (s + r) scale e in
-        subst P (sym (ap (room_case (first_with_room scale r ss)) e)) (record { low = omega arith; full = λ k l. absurd (omega arith); fits = λ l. f }))
+      | inl e ↦ (let P : ℕ → Type 0 = λ b. IsRoom scale r (s ∷ ss) b in
+          let f = leb-true (s + r) scale e in
+          subst P (sym (ap (room_case (first_with_room scale r ss)) e)) (record { low = omega arith; full = λ k l. absurd (omega arith); fits = λ l. f }))
       | inr e ↦ (let P : ℕ → Type 0 = λ b. IsRoom scale r (s ∷ ss) b in
-        let f = leb-false (s + r) scale e in
-        let low = ih.low in
-        subst P (sym (ap (room_case (first_with_room scale r ss)) e)) (record { low = omega (arith, low); full = full f ih; fits = λ l. ih.fits (omega arith) }))
+          let f = leb-false (s + r) scale e in
+          let low = ih.low in
+          subst P (sym (ap (room_case (first_with_room scale r ss)) e)) (record { low = omega (arith, low); full = full f ih; fits = λ l. ih.fits (omega arith) }))
     ]
   where
     full : scale < s + r → IsRoom scale r ss (first_with_room scale r ss) → (k : ℕ) → k < suc (first_with_room scale r ss) → scale < get_or (s ∷ ss) k 0 + r
@@ -59,9 +59,10 @@ pub pairs_with_item : (scale r b : ℕ) (ss : List ℕ) → IsRoom scale r ss b 
 pairs_with_item scale r b [] room h = (tt, tt)
 pairs_with_item scale r zero (s ∷ ss) room h = (all_more scale s (s + r) ss (omega arith) h.0, h.1)
 pairs_with_item scale r (suc b) (s ∷ ss) room h =
-    let low = room.low in
-    (all_with_item scale s r b ss (room.full 0 (omega arith)) h.0,
-     pairs_with_item scale r b ss (record { low = omega (arith, low); full = λ k l. room.full (suc k) (omega arith); fits = λ l. room.fits (omega arith) }) h.1)
+    let low = room.low in (
+      all_with_item scale s r b ss (room.full 0 (omega arith)) h.0,
+      pairs_with_item scale r b ss (record { low = omega (arith, low); full = λ k l. room.full (suc k) (omega arith); fits = λ l. room.fits (omega arith) }) h.1,
+    )
 
 pub pairs_at : (scale : ℕ) (ss : List ℕ) → PairsExceed scale ss → (i j : ℕ) → i < j → j < length ss → scale < get_or ss i 0 + get_or ss j 0
 pairs_at scale [] h i j l m = absurd (omega arith)

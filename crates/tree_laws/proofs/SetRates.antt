@@ -21,7 +21,7 @@ rate_within scale t some lawful divides =
     let work = lawful.some_work in
     let fits = lawful.work_fits in
     let is : rate_of scale t ≡ t.work * times =
-      ap (λ x. t.work * x / t.period) (sym whole) ∙ ap (λ x. x / t.period) (omega arith) ∙ mul-div_cancel (t.work * times) {n = t.period} (omega (arith, work, fits)) in
+    ap (λ x. t.work * x / t.period) (sym whole) ∙ ap (λ x. x / t.period) (omega arith) ∙ mul-div_cancel (t.work * times) {n = t.period} (omega (arith, work, fits)) in
     let most : t.work * times ≤ t.period * times = mul-le-mul_right times fits in
     let least : 1 * times ≤ t.work * times = mul-le-mul_right times work in
     let positive : 1 ≤ times = elim (cases_eq times 0) [ inl none ↦ (let zero_scale = ap (λ x. t.period * x) none in omega (arith, zero_scale, whole, some)) | inr some' ↦ omega (arith, some') ] in

@@ -29,9 +29,9 @@ pub record Grows (s t : Tree) (p r : ℕ) (c : Kind) : Type 0 where
 pub join_over : {A : Type 0} (f : Node → A) (c : Kind) (r p : ℕ) (s : Tree) → IsPack s p → f (joined (node s p) (length s.nodes) r) ≡ f (node s p) → (x : ℕ) → x < length s.nodes → f (node (join c r p s) x) ≡ f (node s x)
 join_over f c r p s i same x b =
     let front : node (join c r p s) x ≡ get_or (set s.nodes p (joined (node s p) (length s.nodes) r)) x no_node =
-      get_or_append_left (set s.nodes p (joined (node s p) (length s.nodes) r)) _ _ x (omega (arith, b, length-set s.nodes p (joined (node s p) (length s.nodes) r))) in
+    get_or_append_left (set s.nodes p (joined (node s p) (length s.nodes) r)) _ _ x (omega (arith, b, length-set s.nodes p (joined (node s p) (length s.nodes) r))) in
     elim (cases_eq x p) [
-      inl e ↦ ap f (front ∙ ap (λ y. get_or (set s.nodes p (joined (node s p) (length s.nodes) r)) y no_node) e ∙ get_or-set_same s.nodes p (joined (node s p) (length s.nodes) r) _ i.0) ∙ same ∙ sym (ap (λ y. f (node s y)) e)
+      | inl e ↦ ap f (front ∙ ap (λ y. get_or (set s.nodes p (joined (node s p) (length s.nodes) r)) y no_node) e ∙ get_or-set_same s.nodes p (joined (node s p) (length s.nodes) r) _ i.0) ∙ same ∙ sym (ap (λ y. f (node s y)) e)
       | inr ne ↦ ap f (front ∙ get_or-set_other s.nodes p x (joined (node s p) (length s.nodes) r) _ ne)
     ]
 
@@ -124,39 +124,45 @@ step_join m t qs rs c r b h g lb made' duals' serves no_last = record {
   duals = duals';
   some_level = (let a = h.some_level in let z = g.joins.levels_same in omega (arith, a, z));
   last_packs = λ i l. (let a = h.last_packs i l in
-    (new a.0, ap suc (g.joins.levels (last_at m i) a.0.0) ∙ a.1 ∙ sym g.joins.levels_same, g.dual_same (last_at m i) a.0.0 (no_last i l) ∙ a.2));
+      (new a.0, ap suc (g.joins.levels (last_at m i) a.0.0) ∙ a.1 ∙ sym g.joins.levels_same, g.dual_same (last_at m i) a.0.0 (no_last i l) ∙ a.2));
   last_all = λ p i top. (let is = old p i in h.last_all p is (ap suc (sym (g.joins.levels p is.0)) ∙ top ∙ g.joins.levels_same));
   last_apart = h.last_apart;
   pairs_below = λ p q i j ne same low. (
-    let ip = old p i in let iq = old q j in
-    let lp = g.joins.levels p ip.0 in let lq = g.joins.levels q iq.0 in
-    let z = g.joins.levels_same in let s = g.joins.scale_same in
-    let low' : suc (level m.tree p) < m.tree.levels = omega (arith, low, lp, z) in
-    let a = h.pairs_below p q ip iq ne (sym lp ∙ same ∙ lq) low' in
-    let rp = g.joins.rates p ip.0 (no_top p ip low') in
-    let rq = g.joins.rates q iq.0 (no_top q iq (omega (arith, low', lp, lq, same))) in
-    omega (arith, a, rp, rq, s));
+      let ip = old p i in let iq = old q j in
+      let lp = g.joins.levels p ip.0 in let lq = g.joins.levels q iq.0 in
+      let z = g.joins.levels_same in let s = g.joins.scale_same in
+      let low' : suc (level m.tree p) < m.tree.levels = omega (arith, low, lp, z) in
+      let a = h.pairs_below p q ip iq ne (sym lp ∙ same ∙ lq) low' in
+      let rp = g.joins.rates p ip.0 (no_top p ip low') in
+      let rq = g.joins.rates q iq.0 (no_top q iq (omega (arith, low', lp, lq, same))) in
+      omega (arith, a, rp, rq, s));
   roots_below = λ p i low none. (
-    let is = old p i in
-    let lp = g.joins.levels p is.0 in let z = g.joins.levels_same in let s = g.joins.scale_same in
-    let low' : suc (level m.tree p) < m.tree.levels = omega (arith, low, lp, z) in
-    let no : Names c p → ⊥ = (λ name. let e : None ≡ Some (length m.tree.nodes) = sym none ∙ g.dual_named p is.0 name in cc) in
-    root p is low' no (h.roots_below p is low' (sym (g.dual_same p is.0 no) ∙ none)));
+      let is = old p i in
+      let lp = g.joins.levels p is.0 in let z = g.joins.levels_same in let s = g.joins.scale_same in
+      let low' : suc (level m.tree p) < m.tree.levels = omega (arith, low, lp, z) in
+      let no : Names c p → ⊥ = (λ name. let e : None ≡ Some (length m.tree.nodes) = sym none ∙ g.dual_named p is.0 name in cc) in
+      root p is low' no (h.roots_below p is low' (sym (g.dual_same p is.0 no) ∙ none)));
   each_below = λ l low. (let z = g.joins.levels_same in let (p, i, at) = h.each_below l (omega (arith, low, z)) in (p, new i, g.joins.levels p i.0 ∙ at));
   waiting = λ i l. (let (j, lj, e, free) = serves.was i l in
-    let P : ℕ → Type 0 = λ x. (Names c x → ⊥) → IsPack t x × (suc (suc (level t x)) ≡ t.levels) × (dual t x ≡ None) × (rate t x < t.scale) in
-    subst P (sym e) (λ no'. (let a = h.waiting j lj in let x = get_or qs j 0 in
-      (new a.0, ap (λ y. suc (suc y)) (g.joins.levels x a.0.0) ∙ a.1 ∙ sym g.joins.levels_same, g.dual_same x a.0.0 no' ∙ a.2,
-       (let rx = g.joins.rates x a.0.0 (no_top x a.0 (let w = a.1 in omega (arith, w))) in let s = g.joins.scale_same in let w = a.3 in omega (arith, rx, s, w))))) free);
+      let P : ℕ → Type 0 = λ x. (Names c x → ⊥) → IsPack t x × (suc (suc (level t x)) ≡ t.levels) × (dual t x ≡ None) × (rate t x < t.scale) in
+      subst P (sym e) (λ no'. (let a = h.waiting j lj in let x = get_or qs j 0 in (
+        new a.0,
+        ap (λ y. suc (suc y)) (g.joins.levels x a.0.0) ∙ a.1 ∙ sym g.joins.levels_same,
+        g.dual_same x a.0.0 no' ∙ a.2,
+        (let rx = g.joins.rates x a.0.0 (no_top x a.0 (let w = a.1 in omega (arith, w))) in let s = g.joins.scale_same in let w = a.3 in omega (arith, rx, s, w)),
+      ))) free);
   apart = serves.apart;
 }
   where
     new : {p : ℕ} → IsPack m.tree p → IsPack t p
     new {p} i = new_pack m.tree t (last_at m b) r c g.joins h.made p i
+
     old : (p : ℕ) → IsPack t p → IsPack m.tree p
     old p i = old_pack m.tree t (last_at m b) r c g.joins h.made p i
+
     no_top : (p : ℕ) → IsPack m.tree p → suc (level m.tree p) < m.tree.levels → p ≢ last_at m b
     no_top p i low e = let a = (h.last_packs b lb).1 in let f = ap (level m.tree) e in omega (arith, a, f, low)
+
     root : (p : ℕ) → IsPack m.tree p → suc (level m.tree p) < m.tree.levels → (Names c p → ⊥) → (rate m.tree p ≡ m.tree.scale) ⊎ Among p qs → (rate t p ≡ t.scale) ⊎ Among p rs
     root p i low free (inl e) = inl (g.joins.rates p i.0 (no_top p i low) ∙ e ∙ sym g.joins.scale_same)
     root p i low free (inr a) = elim (serves.rest p a) [ inl name ↦ absurd (free name) | inr more ↦ inr more ]
@@ -197,50 +203,49 @@ module _ (m : Making) (qs : List ℕ) (h : IsMaking m qs) where
     duals = open_duals l s h.made low h.duals;
     some_level = h.some_level;
     last_packs = λ i b. elim (cases_lt i (length m.last)) [
-      inl lb ↦ (let P : ℕ → Type 0 = λ x. IsPack t x × (suc (level t x) ≡ s.levels) × (dual t x ≡ None) in
-        subst P (sym (get_or_append_left m.last (n ∷ []) 0 i lb))
+      | inl lb ↦ (let P : ℕ → Type 0 = λ x. IsPack t x × (suc (level t x) ≡ s.levels) × (dual t x ≡ None) in
+          subst P (sym (get_or_append_left m.last (n ∷ []) 0 i lb))
           (let a = h.last_packs i lb in let o = open_old l s (last_at m i) a.0.0 in (new (last_at m i) a.0, ap (λ y. suc (node_level y)) o ∙ a.1, ap node_dual o ∙ a.2)))
       | inr ge ↦ (let e : length m.last ≡ i = (let long = length-append m.last (n ∷ []) in omega (arith, b, ge, long)) in
-        let P : ℕ → Type 0 = λ x. IsPack t x × (suc (level t x) ≡ s.levels) × (dual t x ≡ None) in
-        subst P (sym (get_or_push m.last n 0 i e))
+          let P : ℕ → Type 0 = λ x. IsPack t x × (suc (level t x) ≡ s.levels) × (dual t x ≡ None) in
+          subst P (sym (get_or_push m.last n 0 i e))
           ((let g = open_long l s in let z : n < length t.nodes = omega (arith, g) in z, ap is_pack_node (open_new l s)), (let a = ap node_level (open_new l s) in let z = h.some_level in omega (arith, a, z)), ap node_dual (open_new l s)))
     ];
     last_all = λ p i top. elim (cases_eq p n) [
-      inl e ↦ (length m.last, (let long = length-append m.last (n ∷ []) in omega (arith, long)), get_or_push m.last n 0 (length m.last) refl ∙ sym e)
+      | inl e ↦ (length m.last, (let long = length-append m.last (n ∷ []) in omega (arith, long)), get_or_push m.last n 0 (length m.last) refl ∙ sym e)
       | inr ne ↦ (let b = below p i ne in
-        let o = open_old l s p b in
-        let (k, lk, e) = h.last_all p (b, sym (ap is_pack_node o) ∙ i.1) (ap (λ y. suc (node_level y)) (sym o) ∙ top) in
-        (k, (let long = length-append m.last (n ∷ []) in omega (arith, long, lk)), get_or_append_left m.last (n ∷ []) 0 k lk ∙ e))
+          let o = open_old l s p b in
+          let (k, lk, e) = h.last_all p (b, sym (ap is_pack_node o) ∙ i.1) (ap (λ y. suc (node_level y)) (sym o) ∙ top) in
+          (k, (let long = length-append m.last (n ∷ []) in omega (arith, long, lk)), get_or_append_left m.last (n ∷ []) 0 k lk ∙ e))
     ];
     last_apart = λ i j bi bj e. (
-      let long = length-append m.last (n ∷ []) in
-      elim (cases_lt i (length m.last)) [
-        inl li ↦ elim (cases_lt j (length m.last)) [
-          inl lj ↦ h.last_apart i j li lj (sym (get_or_append_left m.last (n ∷ []) 0 i li) ∙ e ∙ get_or_append_left m.last (n ∷ []) 0 j lj)
-          | inr gj ↦ absurd (let f = sym (get_or_append_left m.last (n ∷ []) 0 i li) ∙ e ∙ get_or_push m.last n 0 j (omega (arith, bj, gj, long)) in let a = (h.last_packs i li).0.0 in omega (arith, f, a))
-        ]
-        | inr gi ↦ elim (cases_lt j (length m.last)) [
-          inl lj ↦ absurd (let f = sym (get_or_append_left m.last (n ∷ []) 0 j lj) ∙ sym e ∙ get_or_push m.last n 0 i (omega (arith, bi, gi, long)) in let a = (h.last_packs j lj).0.0 in omega (arith, f, a))
-          | inr gj ↦ omega (arith, bi, bj, gi, gj, long)
-        ]
-      ]);
+        let long = length-append m.last (n ∷ []) in
+        elim (cases_lt i (length m.last)) [
+          | inl li ↦ elim (cases_lt j (length m.last)) [
+            | inl lj ↦ h.last_apart i j li lj (sym (get_or_append_left m.last (n ∷ []) 0 i li) ∙ e ∙ get_or_append_left m.last (n ∷ []) 0 j lj)
+            | inr gj ↦ absurd (let f = sym (get_or_append_left m.last (n ∷ []) 0 i li) ∙ e ∙ get_or_push m.last n 0 j (omega (arith, bj, gj, long)) in let a = (h.last_packs i li).0.0 in omega (arith, f, a))
+          ]
+          | inr gi ↦ elim (cases_lt j (length m.last)) [
+            | inl lj ↦ absurd (let f = sym (get_or_append_left m.last (n ∷ []) 0 j lj) ∙ sym e ∙ get_or_push m.last n 0 i (omega (arith, bi, gi, long)) in let a = (h.last_packs j lj).0.0 in omega (arith, f, a))
+            | inr gj ↦ omega (arith, bi, bj, gi, gj, long)
+          ]
+        ]);
     pairs_below = λ p q i j ne same lo. elim (cases_eq p n) [
-      inl e ↦ absurd (top p e lo)
+      | inl e ↦ absurd (top p e lo)
       | inr np ↦ elim (cases_eq q n) [
-        inl e ↦ absurd (top q e (omega (arith, lo, same)))
+        | inl e ↦ absurd (top q e (omega (arith, lo, same)))
         | inr nq ↦ (let bp = below p i np in let bq = below q j nq in let op = open_old l s p bp in let oq = open_old l s q bq in
-          let a = h.pairs_below p q (bp, sym (ap is_pack_node op) ∙ i.1) (bq, sym (ap is_pack_node oq) ∙ j.1) ne (sym (ap node_level op) ∙ same ∙ ap node_level oq) (let z = ap node_level op in omega (arith, lo, z)) in
-          let rp = ap node_rate op in let rq = ap node_rate oq in omega (arith, a, rp, rq))
+            let a = h.pairs_below p q (bp, sym (ap is_pack_node op) ∙ i.1) (bq, sym (ap is_pack_node oq) ∙ j.1) ne (sym (ap node_level op) ∙ same ∙ ap node_level oq) (let z = ap node_level op in omega (arith, lo, z)) in
+            let rp = ap node_rate op in let rq = ap node_rate oq in omega (arith, a, rp, rq))
       ]
     ];
     roots_below = λ p i lo none. elim (cases_eq p n) [
-      inl e ↦ absurd (top p e lo)
+      | inl e ↦ absurd (top p e lo)
       | inr np ↦ (let b = below p i np in let o = open_old l s p b in
-        root p (ap node_rate o) (h.roots_below p (b, sym (ap is_pack_node o) ∙ i.1) (let z = ap node_level o in omega (arith, lo, z)) (sym (ap node_dual o) ∙ none)))
+          root p (ap node_rate o) (h.roots_below p (b, sym (ap is_pack_node o) ∙ i.1) (let z = ap node_level o in omega (arith, lo, z)) (sym (ap node_dual o) ∙ none)))
     ];
     each_below = λ k lo. (let (p, i, at) = h.each_below k lo in (p, new p i, ap node_level (open_old l s p i.0) ∙ at));
     waiting = λ i b. (let a = h.waiting i b in let o = open_old l s (get_or qs i 0) a.0.0 in
-      (new (get_or qs i 0) a.0, ap (λ y. suc (suc (node_level y))) o ∙ a.1, ap node_dual o ∙ a.2, (let r = ap node_rate o in let w = a.3 in omega (arith, r, w))));
+        (new (get_or qs i 0) a.0, ap (λ y. suc (suc (node_level y))) o ∙ a.1, ap node_dual o ∙ a.2, (let r = ap node_rate o in let w = a.3 in omega (arith, r, w))));
     apart = h.apart;
   }
-

@@ -18,9 +18,9 @@ sum_to_front (suc n) f = let ih = sum_to_front n f in omega (arith, ih)
 pub multiple : (s a b c : ℕ) → s + a * c ≡ b * c → (k : ℕ) × (s ≡ k * c)
 multiple s a b c e =
     elim (cases_lt a b) [
-      inl l ↦
-        (let whole = ap (λ x. x * c) (sub-add_cancel (le_of_lt l)) in
-        let parts = add-mul (b - a) a c in
-        (b - a, omega (arith, e, whole, parts)))
+      | inl l ↦
+          (let whole = ap (λ x. x * c) (sub-add_cancel (le_of_lt l)) in
+          let parts = add-mul (b - a) a c in
+          (b - a, omega (arith, e, whole, parts)))
       | inr l ↦ (0, (let m = mul-le-mul_right c l in omega (arith, e, m)))
     ]

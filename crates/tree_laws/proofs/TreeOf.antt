@@ -7,18 +7,18 @@ use Rattle.sched_base.specs.FirstFit.{packed, packed_from, homes, homes_from, id
 use Rattle.sched_base.specs.Scale.{rate_of}
 use Rattle.run_tree.specs.Tree.{Tree, rate, level, dual, IsPack, IsTree}
 use Rattle.run_tree.specs.TreeOfSet.{HoldsTasks, NumbersIdles}
-use Rattle.run_tree.specs.Making.{Making, started, last_rates, lower_packs, put_items, lifted, dual_items}
+use Rattle.run_tree.specs.Making.{Making, started, last_rates, lower_packs, new_level, put_items, lifted, dual_items}
 use Rattle.run_tree.specs.Compiled.{pack_items, task_items, put_idles, first_level, level_above, all_levels, tree_of_rates}
 use Rattle.tree_laws.specs.Raised.{RatesFit, raised, IsRaised}
 use Rattle.tree_laws.proofs.Leafs.{entries}
 use Rattle.tree_laws.proofs.Levels.{IsLevel, total, begun}
-use Rattle.tree_laws.proofs.Ends.{is_tree}
+use Rattle.tree_laws.proofs.Ends.{is_tree, lift_packed}
 use Rattle.tree_laws.proofs.Raised.{IsAbove, all_raised, raised_ends, raised_level, raised_above, raised_levels, raised_few, raised_fewer}
 use Rattle.tree_laws.proofs.First.{same_total, first_is, filled_in, amounts, task_rates, task_leaves, idle_entries}
 use Rattle.tree_laws.proofs.First as first
 use Rattle.tree_laws.proofs.Holds as holds
 use Rattle.tree_laws.proofs.Few.{one_level, first_long}
-use Rattle.tree_laws.proofs.Follows.{leaves_follow, duals_follow}
+use Rattle.tree_laws.proofs.Follows.{leaves_follow, duals_follow, item_rates}
 
 module _ (processors scale : ℕ) (rates : List ℕ) (h : RatesFit processors scale rates) where
   pub each : AllByRecursion (λ r. (0 < r) × (r ≤ scale)) rates
@@ -36,12 +36,13 @@ module _ (processors scale : ℕ) (rates : List ℕ) (h : RatesFit processors sc
   pub level_0_is : IsLevel level_0
   level_0_is = first_is processors scale rates h.some_processors h.some_scale each fit
 
+  pub last_level : (n : ℕ) → IsRaised n level_0 → length (lower_packs (raised n level_0)) ≡ 0 → tree ≡ (raised n level_0).tree
+  unfolding tree_of_rates
+  last_level n up done = ap (λ (m : Making). m.tree) (raised_ends level_0 level_0_is n up done)
+
   -- the tree is that of the last level
   pub tree_is : (n : ℕ) × IsRaised n level_0 × (length (lower_packs (raised n level_0)) ≡ 0) × (tree ≡ (raised n level_0).tree)
-  unfolding tree_of_rates
-  tree_is =
-      let (n, up, done) = all_raised level_0 level_0_is in
-      (n, up, done, ap (λ (m : Making). m.tree) (raised_ends level_0 level_0_is n up done))
+  tree_is = let (n, up, done) = all_raised level_0 level_0_is in (n, up, done, last_level n up done)
 
   pub tree_is_tree : IsTree tree
   tree_is_tree =
@@ -95,3 +96,40 @@ module _ (processors scale : ℕ) (rates : List ℕ) (h : RatesFit processors sc
 
   pub servers_total : sum (packed scale rates) ≡ sum rates
   servers_total = ap sum (sym servers_are) ∙ same_total (last_rates tasks_in) ∙ first.packed_total processors scale rates h.some_processors h.some_scale each fit ∙ sym (same_total rates)
+
+  pub idles_follow : put_idles 0 0 (idles scale (processors * scale - sum rates) (packed scale rates)) tasks_in ≡ level_0
+  idles_follow =
+      let p = first.packed processors scale rates h.some_processors h.some_scale each fit in
+      let slack : processors * scale - sum rates ≡ tasks_in.tree.processors * tasks_in.tree.scale - sum (last_rates tasks_in) =
+      ap₂ (λ a b. a * b - sum rates) (sym p.processors_same) (sym p.scale_same) ∙ ap (λ a. tasks_in.tree.processors * tasks_in.tree.scale - a) (sym servers_total ∙ ap sum (sym servers_are)) in
+      ap (λ a. put_idles 0 0 (idles scale a (packed scale rates)) tasks_in) slack
+      ∙ ap₂ (λ s ss. put_idles 0 0 (idles s (tasks_in.tree.processors * tasks_in.tree.scale - sum (last_rates tasks_in)) ss) tasks_in) (sym p.scale_same) (sym servers_are)
+
+  -- ---- how large it is
+
+  pub packs_few : length level_0.last ≤ max processors (length (packed scale rates))
+  unfolding packed
+  packs_few = first_long processors scale rates h.some_processors h.some_scale each fit
+
+  pub few_roots : length (packed scale rates) ≤ processors → (p : ℕ) → IsPack tree p → level tree p ≡ 0 → dual tree p ≡ None
+  few_roots few = one_level processors scale rates h.some_processors h.some_scale each fit (let a = packs_few in omega (arith, a, few))
+
+-- ---- one level more
+
+pub duals_as_rates : (t : Tree) (packs : List ℕ) → item_rates (dual_items t packs) ≡ map (λ p. t.scale - rate t p) packs
+duals_as_rates t [] = refl
+duals_as_rates t (p ∷ packs) = ap (λ xs. (t.scale - rate t p) ∷ xs) (duals_as_rates t packs)
+
+module _ (m : Making) (v : IsLevel m) where
+  abbrev pub lower : List ℕ
+  lower = lower_packs m
+
+  pub level_follows : lifted lower (homes m.tree.scale (map (λ p. m.tree.scale - rate m.tree p) lower)) m ≡ level_above m lower
+  unfolding lifted homes
+  level_follows =
+      ap (λ rs. put_items (dual_items m.tree lower) (homes_from m.tree.scale rs []) (new_level m)) (sym (duals_as_rates m.tree lower))
+      ∙ duals_follow lower m.tree (new_level m) (begun m v) v.filled refl (λ i l. refl)
+
+  pub level_rates : last_rates (level_above m lower) ≡ packed m.tree.scale (map (λ p. m.tree.scale - rate m.tree p) lower)
+  unfolding packed
+  level_rates = (lift_packed m v).rates ∙ ap (λ rs. packed_from m.tree.scale rs []) (duals_as_rates m.tree lower)
