@@ -1,5 +1,5 @@
 -- Counting.
-use Rattle.std.proofs.Common.{◌≡◌, ℕ, zero, suc, ◌+◌, ◌*◌, ◌<◌, ◌≤◌, Bool, true, false, refl, ap, arith}
+use Rattle.std.proofs.Common.{◌≡◌, ℕ, zero, suc, ◌<◌, ◌≤◌, Bool, true, false, ap, arith}
 use Rattle.sched_base.specs.Counting.{sum_to, bit}
 
 pub bit_at : (b : Bool) → b ≡ true → bit b ≡ 1

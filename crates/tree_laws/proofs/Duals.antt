@@ -1,14 +1,13 @@
 -- The duals of packs, as members are added.
-use Rattle.std.proofs.Common.{◌≡◌, ℕ, zero, suc, ◌+◌, ◌<◌, ◌≤◌, ◌≢◌, Bool, true, false, List, [], ◌∷◌, ◌++◌, length, get_or, set, Option, Some, None, refl, ap, arith, ◌⊎◌, inl, inr, sym, subst, subst₂, ◌∙◌}
-use Rattle.std.proofs.lemmas.Bool.{cases_eq, cases_lt, both_ways}
-use Rattle.std.proofs.lemmas.List.{get_or_append_left, get_or_push, length-append, get_or-set_same, get_or-set_other, length-set}
+use Rattle.std.proofs.Common.{◌≡◌, ℕ, suc, ◌+◌, ◌<◌, ◌≢◌, true, false, length, Some, None, refl, ap, arith, inl, inr, sym, subst, subst₂, ◌∙◌}
+use Rattle.std.proofs.lemmas.Bool.{cases_eq, both_ways}
 use Rattle.sched_base.specs.declared.rows.Leaf.{Leaf}
 use Rattle.run_tree.specs.declared.kinds.Kind.{Kind}
 use Rattle.run_tree.specs.declared.kinds.Kind.TheVariants as kind
-use Rattle.run_tree.specs.Tree.{Node, Tree, node, kind_at, rate, home, dual, level, primal, is_pack, is_dual, IsPack, IsDual}
+use Rattle.run_tree.specs.Tree.{Tree, kind_at, rate, home, dual, level, primal, is_pack, is_dual, IsPack, IsDual}
 use Rattle.tree_laws.proofs.NodeParts.{node_rate, node_home, node_dual, node_level, node_primal, is_pack_node, is_dual_node, node_id}
 use Rattle.tree_laws.proofs.Joins.{Joins, IsMade, old_pack, new_pack, old_member}
-use Rattle.tree_laws.proofs.Opens.{open_pack, open_old, open_new, open_long, new_node, opened_below, opened_pack}
+use Rattle.tree_laws.proofs.Opens.{open_pack, open_old, open_long, new_node, opened_below, opened_pack}
 
 pub record HasDuals (t : Tree) : Type 0 where
   pub duals_are : (x : ℕ) → IsDual t x → IsPack t (primal t x) × (dual t (primal t x) ≡ Some x) × (level t (home t x) ≡ suc (level t (primal t x)))

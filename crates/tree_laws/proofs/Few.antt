@@ -1,16 +1,14 @@
 -- Where first fit needs at most as many packs as there are processors, level 0 has roots alone.
-use Rattle.std.proofs.Common.{◌≡◌, ℕ, zero, suc, ◌+◌, ◌-◌, ◌*◌, ◌/◌, ◌^◌, ◌<◌, ◌≤◌, Bool, true, false, cond, List, [], ◌∷◌, map, length, get_or, filter, min, max, replicate, sum, None, refl, ap, ap₂, arith, inl, inr, sym, subst, ◌∙◌, mul-le-mul_right}
-use Rattle.std.proofs.lemmas.Bool.{cases_eq, cases_lt, cases_Bool, ltb-true, le-ltb}
-use Rattle.std.proofs.lemmas.List.{length-map, get_or-map, length-replicate}
+use Rattle.std.proofs.Common.{◌≡◌, ℕ, zero, suc, ◌+◌, ◌-◌, ◌*◌, ◌/◌, ◌<◌, ◌≤◌, cond, List, [], ◌∷◌, map, length, filter, min, max, sum, None, refl, ap, ap₂, arith, inl, inr, sym, subst, ◌∙◌, mul-le-mul_right}
+use Rattle.std.proofs.lemmas.Bool.{cases_lt, le-ltb}
+use Rattle.std.proofs.lemmas.List.{length-map, length-replicate}
 use Rattle.std.proofs.Math.Nat.{mul-div_cancel}
 use Rattle.std.specs.List.{AllByRecursion}
-use Rattle.run_tree.specs.Tree.{Tree, rate, level, dual, IsPack}
-use Rattle.sched_base.specs.FirstFit.{first_with_room, with_item, packed_from, idles}
-use Rattle.run_tree.specs.Making.{Making, Item, started, put, last_rates, lower_packs, new_level, dual_items}
-use Rattle.run_tree.specs.Compiled.{pack_items, task_items, put_idles, filled_up, first_level, climb, climb_by, all_levels, level_above, tree_of_rates}
-use Rattle.tree_laws.proofs.Steps.{last_at, IsMaking}
-use Rattle.tree_laws.proofs.Items.{IsPut, put_at, serves_leaf}
-use Rattle.tree_laws.proofs.Levels.{total, IsLevel, is_lower}
+use Rattle.run_tree.specs.Tree.{rate, level, dual, IsPack}
+use Rattle.sched_base.specs.FirstFit.{packed_from, idles}
+use Rattle.run_tree.specs.Making.{Making, started, last_rates}
+use Rattle.run_tree.specs.Compiled.{pack_items, task_items, first_level, all_levels, tree_of_rates}
+use Rattle.tree_laws.proofs.Levels.{total, is_lower}
 use Rattle.tree_laws.proofs.Raised.{climb_none}
 use Rattle.tree_laws.proofs.First.{first_is, filled_in, packed, packed_total, amounts, amounts_total, rates_within, task_rates, same_total}
 

@@ -1,27 +1,24 @@
 -- Level 0 of the tree of a set, and the whole.
-use Rattle.std.proofs.Common.{◌≡◌, ℕ, zero, suc, ◌+◌, ◌-◌, ◌*◌, ◌/◌, ◌<◌, ◌≤◌, ◌≢◌, Bool, true, false, List, [], ◌∷◌, ◌++◌, map, length, get_or, drop, min, max, replicate, sum, refl, ap, arith, ◌⊎◌, inl, inr, sym, subst, subst₂, ap₂, ◌∙◌, mul-le-mul_right}
+use Rattle.std.proofs.Common.{◌≡◌, ℕ, zero, suc, ◌+◌, ◌-◌, ◌*◌, ◌/◌, ◌<◌, ◌≤◌, List, [], ◌∷◌, ◌++◌, map, length, get_or, drop, min, max, replicate, sum, refl, ap, arith, inl, inr, sym, subst, subst₂, ap₂, ◌∙◌, mul-le-mul_right}
 use Rattle.std.proofs.lemmas.Bool.{cases_eq, cases_lt}
-use Rattle.std.proofs.lemmas.List.{length-map, get_or-map}
+use Rattle.std.proofs.lemmas.List.{length-map}
 use Rattle.std.proofs.Math.Nat.{mul-div_cancel}
 use Rattle.std.proofs.lemmas.List.Recursion.{is_sum_by}
 use Rattle.std.specs.List.{AllByRecursion}
-use Rattle.sched_base.specs.FirstFit.{first_with_room, with_item, packed_from, idles}
-use Rattle.sched_base.specs.declared.rows.Leaf.{Leaf}
-use Rattle.sched_base.specs.declared.rows.Leaf.TheVariants.{Task, Wait, Idle, Empty}
+use Rattle.sched_base.specs.FirstFit.{with_item, packed_from, idles}
+use Rattle.sched_base.specs.declared.rows.Leaf.TheVariants.{Idle}
 use Rattle.run_tree.specs.declared.kinds.Kind.{Kind}
 use Rattle.run_tree.specs.declared.kinds.Kind.TheVariants as kind
-use Rattle.run_tree.specs.Tree.{Tree, rate, IsTree}
-use Rattle.run_tree.specs.Making.{Making, Item, started, put, last_rates, lower_packs}
-use Rattle.run_tree.specs.Compiled.{pack_items, task_items, put_idles, filled_up, first_level, climb, all_levels, tree_of_rates}
+use Rattle.run_tree.specs.Tree.{rate}
+use Rattle.run_tree.specs.Making.{Making, Item, started, put, last_rates}
+use Rattle.run_tree.specs.Compiled.{pack_items, task_items, put_idles, first_level}
 use Rattle.std.proofs.lemmas.List.{append_assoc, append-nil}
 use Rattle.tree_laws.proofs.Leafs.{Entry, entries, kind_entry}
-use Rattle.tree_laws.proofs.Joins.{IsMade}
-use Rattle.tree_laws.proofs.Duals.{HasDuals}
 use Rattle.tree_laws.proofs.Steps.{last_at, IsMaking}
-use Rattle.tree_laws.proofs.Rooms.{IsRoom, PairsExceed, all_more}
+use Rattle.tree_laws.proofs.Rooms.{PairsExceed, all_more}
 use Rattle.tree_laws.proofs.Puts.{Filled, leaf_sum}
 use Rattle.tree_laws.proofs.Items.{IsPacked, IsPut, put_at, pack_leaves, parts, serves_leaf, IsLeafItem}
-use Rattle.tree_laws.proofs.Levels.{is_lower, total, AllSome, IsLevel, total_with_item, some_with_item, some_packed, total_packed}
+use Rattle.tree_laws.proofs.Levels.{total, AllSome, IsLevel, total_with_item, some_with_item, some_packed, total_packed}
 
 -- amounts that fit
 abbrev pub Fits : ℕ → List ℕ → List ℕ → Type 0

@@ -1,16 +1,15 @@
 -- Items that go to the homes of first fit are packed by first fit.
-use Rattle.std.proofs.Common.{◌≡◌, ◌⊎◌, inl, inr, ℕ, zero, suc, ◌+◌, ◌-◌, ◌<◌, List, [], ◌∷◌, map, length, get_or, None, refl, ap, ap₂, arith, sym, subst, ◌∙◌}
+use Rattle.std.proofs.Common.{◌≡◌, ℕ, suc, ◌-◌, ◌<◌, List, [], ◌∷◌, map, length, get_or, refl, ap₂, arith, sym, subst, ◌∙◌}
 use Rattle.std.specs.List.{AllByRecursion}
 use Rattle.sched_base.specs.FirstFit.{first_with_room, homes_from}
-use Rattle.run_tree.specs.declared.kinds.Kind.{Kind}
 use Rattle.run_tree.specs.declared.kinds.Kind.TheVariants as kind
 use Rattle.run_tree.specs.Tree.{Tree, rate}
 use Rattle.run_tree.specs.Making.{Making, Item, put, last_rates, dual_items, put_items}
 use Rattle.run_tree.specs.Compiled.{pack_items}
 use Rattle.tree_laws.proofs.NodeParts.{node_id}
-use Rattle.tree_laws.proofs.Steps.{IsMaking, Serves, Among}
+use Rattle.tree_laws.proofs.Steps.{IsMaking}
 use Rattle.tree_laws.proofs.Rooms.{room_is}
-use Rattle.tree_laws.proofs.Puts.{IsNext, Filled}
+use Rattle.tree_laws.proofs.Puts.{Filled}
 use Rattle.tree_laws.proofs.Items.{IsPut, put_first, leaf_next, leaf_serves, dual_next, dual_serves, IsLeafItem}
 
 abbrev pub item_rates : List Item → List ℕ

@@ -1,21 +1,20 @@
 -- The compiled tree holds each task once, and idle leaves with the numbers below their count.
-use Rattle.std.proofs.Common.{◌≡◌, ℕ, zero, suc, ◌+◌, ◌-◌, ◌*◌, ◌<◌, ◌≤◌, Bool, true, false, ◌&&◌, List, [], ◌∷◌, ◌++◌, map, length, get_or, take, refl, ap, arith, ◌⊎◌, inl, inr, sym, subst, ◌∙◌}
+use Rattle.std.proofs.Common.{◌≡◌, ℕ, zero, suc, ◌+◌, ◌<◌, ◌&&◌, List, [], ◌∷◌, ◌++◌, map, length, get_or, take, refl, ap, arith, ◌⊎◌, inl, inr, sym, subst, ◌∙◌}
 use Rattle.std.proofs.lemmas.Bool.{cases_lt}
-use Rattle.std.proofs.lemmas.List.{append_assoc, append-nil, length-map, get_or-map}
+use Rattle.std.proofs.lemmas.List.{length-map, get_or-map}
 use Rattle.sched_base.specs.Counting.{sum_to, bit}
 use Rattle.sched_base.specs.declared.rows.Leaf.{Leaf}
-use Rattle.sched_base.specs.declared.rows.Leaf.TheVariants.{Task, Wait, Idle, Empty}
+use Rattle.sched_base.specs.declared.rows.Leaf.TheVariants.{Task, Idle}
 use Rattle.sched_base.specs.declared.rows.TaskId.{TaskId}
 use Rattle.sched_base.specs.declared.sets.Task as declared
-use Rattle.sched_base.specs.Sets.{task_at}
 use Rattle.sched_base.specs.Scale.{rate_of}
 use Rattle.run_tree.specs.declared.kinds.Kind.{Kind}
 use Rattle.run_tree.specs.declared.kinds.Kind.TheVariants as kind
-use Rattle.run_tree.specs.Tree.{Node, Tree, kind_at, is_leaf, leaf_of, leaf, rate, no_node, IsLeaf}
-use Rattle.run_tree.specs.TreeOfSet.{task_id, is_idle, is_real, idle_count, HoldsTasks, NumbersIdles}
+use Rattle.run_tree.specs.Tree.{Node, Tree, is_leaf, leaf_of, leaf, rate, no_node, IsLeaf}
+use Rattle.run_tree.specs.TreeOfSet.{task_id, is_idle, is_real, HoldsTasks, NumbersIdles}
 use Rattle.run_tree.specs.Compiled.{task_items}
-use Rattle.tree_laws.proofs.SumLemmas.{sum_to_front, sum_to-same}
-use Rattle.tree_laws.proofs.Leafs.{Entry, entries, entry_of, kind_entry, no_entry, entry_at, entry_in, entries_before, leaf_from}
+use Rattle.tree_laws.proofs.SumLemmas.{sum_to_front}
+use Rattle.tree_laws.proofs.Leafs.{Entry, entries, entry_of, kind_entry, no_entry, entry_at, entries_before, leaf_from}
 use Rattle.tree_laws.proofs.Items.{item_entries}
 use Rattle.tree_laws.proofs.First.{idle_entries}
 

@@ -1,6 +1,6 @@
 -- Items packed one after another.
-use Rattle.std.proofs.Common.{◌≡◌, ℕ, zero, suc, ◌+◌, ◌-◌, ◌*◌, ◌<◌, ◌≤◌, ◌≢◌, Bool, true, false, List, [], ◌∷◌, ◌++◌, map, length, get_or, set, Option, Some, None, refl, ap, arith, ◌⊎◌, inl, inr, sym, subst, subst₂, ap₂, ◌∙◌, nat_lt}
-use Rattle.std.proofs.lemmas.Bool.{cases_eq, cases_lt, cases_Bool, both_ways, ltb-true, ltb-false}
+use Rattle.std.proofs.Common.{◌≡◌, ℕ, zero, suc, ◌+◌, ◌-◌, ◌<◌, ◌≤◌, Bool, List, [], ◌∷◌, ◌++◌, map, length, get_or, refl, ap, arith, ◌⊎◌, inl, inr, sym, subst, subst₂, ap₂, ◌∙◌, nat_lt}
+use Rattle.std.proofs.lemmas.Bool.{cases_Bool, ltb-true, ltb-false}
 use Rattle.std.proofs.lemmas.List.{get_or_push, length-append, length-map, get_or-map}
 use Rattle.std.proofs.lemmas.List.{append_assoc, append-nil}
 use Rattle.std.specs.List.{AllByRecursion}
@@ -8,14 +8,14 @@ use Rattle.sched_base.specs.FirstFit.{first_with_room, with_item, packed_from}
 use Rattle.sched_base.specs.declared.rows.Leaf.{Leaf}
 use Rattle.run_tree.specs.declared.kinds.Kind.{Kind}
 use Rattle.run_tree.specs.declared.kinds.Kind.TheVariants as kind
-use Rattle.run_tree.specs.Tree.{Tree, rate, level, dual, IsPack}
+use Rattle.run_tree.specs.Tree.{Tree, rate, level, IsPack}
 use Rattle.run_tree.specs.Making.{Making, Item, opened, joined_at, put, put_in, last_rates, dual_items}
 use Rattle.run_tree.specs.Compiled.{pack_items}
 use Rattle.tree_laws.proofs.NodeParts.{node_rate, node_level, node_id}
 use Rattle.tree_laws.proofs.Leafs.{Entry, entries, kind_entry, entries_any, entries_open, FromPack}
 use Rattle.tree_laws.proofs.Opens.{open_old, open_new, open_long}
-use Rattle.tree_laws.proofs.Steps.{Names, Grows, last_at, Among, IsMaking, Serves, step_open}
-use Rattle.tree_laws.proofs.Rooms.{IsRoom, room_is, with_item_last, PairsExceed, pairs_with_item, with_item_some, with_item_one}
+use Rattle.tree_laws.proofs.Steps.{Grows, last_at, Among, IsMaking, Serves, step_open}
+use Rattle.tree_laws.proofs.Rooms.{IsRoom, room_is, with_item_last, PairsExceed, pairs_with_item}
 use Rattle.tree_laws.proofs.Puts.{IsNext, join_step, next_open, open_rates, join_rates, Filled, join_filled, open_filled, leaf_sum, leaf_part, join_sum, open_sum}
 
 pub record IsPut (m made : Making) (rs : List ℕ) (c : Kind) (r b : ℕ) : Type 0 where

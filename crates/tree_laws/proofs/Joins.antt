@@ -1,11 +1,11 @@
 -- What a new member leaves.
-use Rattle.std.proofs.Common.{◌≡◌, ℕ, zero, suc, ◌+◌, ◌<◌, ◌≤◌, ◌≢◌, Bool, true, false, List, [], ◌∷◌, ◌++◌, length, get_or, set, Option, Some, None, refl, ap, arith, ◌⊎◌, inl, inr, sym, subst, subst₂, ◌∙◌}
+use Rattle.std.proofs.Common.{◌≡◌, ℕ, suc, ◌+◌, ◌<◌, ◌≤◌, ◌≢◌, true, false, List, [], ◌∷◌, ◌++◌, length, get_or, refl, ap, arith, inl, inr, sym, subst, subst₂, ◌∙◌}
 use Rattle.std.proofs.lemmas.Bool.{cases_eq, cases_lt, both_ways}
 use Rattle.std.proofs.lemmas.List.{get_or_append_left, get_or_push, length-append}
 use Rattle.sched_base.specs.Counting.{sum_to}
 use Rattle.run_tree.specs.declared.kinds.Kind.{Kind}
 use Rattle.run_tree.specs.declared.kinds.Kind.TheVariants as kind
-use Rattle.run_tree.specs.Tree.{Node, Tree, node, kind_at, rate, home, place, members, member, level, is_pack, is_leaf, IsPack, IsLeaf, IsMember}
+use Rattle.run_tree.specs.Tree.{Tree, node, kind_at, rate, home, place, members, member, level, is_pack, is_leaf, IsPack, IsLeaf, IsMember}
 use Rattle.run_tree.specs.Making.{member_node}
 use Rattle.tree_laws.proofs.SumLemmas.{sum_to-same}
 use Rattle.tree_laws.proofs.NodeParts.{node_rate, node_home, node_place, is_pack_node, is_leaf_node}

@@ -1,13 +1,13 @@
 -- The leaves of a tree, in the order of their numbers.
-use Rattle.std.proofs.Common.{◌≡◌, ℕ, zero, suc, ◌+◌, ◌-◌, ◌<◌, ◌≤◌, ◌≢◌, Bool, true, false, List, [], ◌∷◌, ◌++◌, length, get_or, set, take, Option, Some, None, refl, ap, arith, ◌⊎◌, inl, inr, sym, subst, ap₂, ◌∙◌, nat_lt}
-use Rattle.std.proofs.lemmas.Bool.{cases_eq, cases_lt, cases_Bool, both_ways}
-use Rattle.std.proofs.lemmas.List.{append_assoc, append-nil, get_or-set_same, length-append, get_or_append_left, get_or_push}
+use Rattle.std.proofs.Common.{◌≡◌, ℕ, zero, suc, ◌+◌, ◌<◌, true, false, List, [], ◌∷◌, ◌++◌, length, get_or, set, take, refl, ap, arith, ◌⊎◌, inl, inr, sym, ap₂, ◌∙◌}
+use Rattle.std.proofs.lemmas.Bool.{both_ways}
+use Rattle.std.proofs.lemmas.List.{append_assoc, append-nil, length-append}
 use Rattle.sched_base.specs.declared.rows.Leaf.{Leaf}
 use Rattle.sched_base.specs.declared.rows.Leaf.TheVariants.{Empty}
 use Rattle.run_tree.specs.declared.kinds.Kind.{Kind}
 use Rattle.run_tree.specs.declared.kinds.Kind.TheVariants as kind
-use Rattle.run_tree.specs.Tree.{Node, Tree, node, kind_at, is_pack, is_leaf, leaf_of, no_node, IsPack}
-use Rattle.run_tree.specs.Making.{member_node, pack_node, joined, with_dual, join, join_member, mark_dual}
+use Rattle.run_tree.specs.Tree.{Node, Tree, node, is_pack, is_leaf, leaf_of, no_node, IsPack}
+use Rattle.run_tree.specs.Making.{pack_node, joined, with_dual, join, join_member}
 use Rattle.tree_laws.proofs.Opens.{open_pack, join_joins}
 
 -- a leaf with its rate

@@ -1,19 +1,14 @@
 -- Level on level, until all packs are roots.
-use Rattle.std.proofs.Common.{◌≡◌, ℕ, zero, suc, ◌+◌, ◌-◌, ◌*◌, ◌<◌, ◌≤◌, ◌≢◌, Bool, true, false, cond, List, [], ◌∷◌, ◌++◌, map, length, get_or, Option, Some, None, refl, ap, arith, ◌⊎◌, inl, inr, sym, subst, subst₂, ap₂, ◌∙◌, nat_lt, filter, mul-le-mul_right}
-use Rattle.std.proofs.lemmas.Bool.{cases_eq, cases_lt, cases_Bool, both_ways, ltb-true, ltb-false, lt-ltb, le-ltb}
+use Rattle.std.proofs.Common.{◌≡◌, ℕ, zero, suc, ◌+◌, ◌*◌, ◌<◌, ◌≤◌, ◌≢◌, Bool, true, cond, List, [], ◌∷◌, length, get_or, None, refl, ap, arith, inl, inr, sym, subst, ◌∙◌, nat_lt, filter}
+use Rattle.std.proofs.lemmas.Bool.{cases_eq, cases_lt, cases_Bool, ltb-true, lt-ltb}
 use Rattle.std.proofs.lemmas.List.{length-map, get_or-map}
 use Rattle.std.specs.List.{AllByRecursion}
-use Rattle.run_tree.specs.Tree.{Tree, rate, level, dual, IsPack, IsTree}
-use Rattle.tree_laws.proofs.SumLemmas.{multiple}
+use Rattle.run_tree.specs.Tree.{rate, level, dual, IsPack}
 use Rattle.sched_base.specs.FirstFit.{first_with_room, with_item, packed_from}
-use Rattle.run_tree.specs.Making.{Making, Item, last_rates, dual_items, lower_packs, new_level}
-use Rattle.run_tree.specs.Compiled.{pack_items, level_above, climb, climb_by}
-use Rattle.tree_laws.proofs.Joins.{IsMade}
-use Rattle.tree_laws.proofs.Duals.{HasDuals}
+use Rattle.run_tree.specs.Making.{Making, last_rates, lower_packs, new_level}
 use Rattle.tree_laws.proofs.Steps.{last_at, Among, IsMaking}
-use Rattle.tree_laws.proofs.Rooms.{IsRoom, room_is, PairsExceed, pairs_at, with_item_one, with_item_some}
-use Rattle.tree_laws.proofs.Puts.{Filled, leaf_sum, leaf_part}
-use Rattle.tree_laws.proofs.Items.{IsPacked, pack_duals, parts}
+use Rattle.tree_laws.proofs.Rooms.{room_is, PairsExceed, pairs_at, with_item_some}
+use Rattle.tree_laws.proofs.Puts.{Filled, leaf_sum}
 
 -- what a filter keeps
 pub kept_in : (f : ℕ → Bool) (ps : List ℕ) (i : ℕ) → i < length (filter f ps) → (j : ℕ) × (j < length ps) × (get_or ps j 0 ≡ get_or (filter f ps) i 0) × (f (get_or (filter f ps) i 0) ≡ true)

@@ -1,21 +1,22 @@
-mod CountingLemmas
-mod SumLemmas
-mod NodeParts
-mod Joins
-mod Opens
-mod Duals
-mod Rooms
-mod Steps
-mod Leafs
-mod Puts
-mod Items
-mod Levels
-mod Ends
-mod Raised
-mod First
-mod Holds
-mod Few
-mod SetRates
-mod Follows
-mod TreeOf
-mod Sizes
+pub mod CountingLemmas
+pub mod SumLemmas
+pub mod NodeParts
+pub mod Joins
+pub mod Opens
+pub mod Duals
+pub mod Rooms
+pub mod Steps
+pub mod Leafs
+pub mod Puts
+pub mod Items
+pub mod Levels
+pub mod Ends
+pub mod Raised
+pub mod First
+pub mod Holds
+pub mod Few
+pub mod SetRates
+pub mod Follows
+pub mod TreeOf
+pub mod Sizes
+mod Examples

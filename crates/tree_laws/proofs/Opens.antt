@@ -1,11 +1,10 @@
 -- What a new pack leaves.
-use Rattle.std.proofs.Common.{◌≡◌, ℕ, zero, suc, ◌+◌, ◌<◌, ◌≤◌, ◌≢◌, Bool, true, false, List, [], ◌∷◌, ◌++◌, length, get_or, set, Option, Some, None, refl, ap, arith, ◌⊎◌, inl, inr, sym, subst, subst₂, ◌∙◌}
-use Rattle.std.proofs.lemmas.Bool.{cases_eq, cases_lt, both_ways}
+use Rattle.std.proofs.Common.{◌≡◌, ℕ, suc, ◌<◌, ◌≢◌, false, List, [], ◌∷◌, ◌++◌, length, get_or, set, refl, ap, arith, inl, inr, sym, subst, subst₂, ◌∙◌}
+use Rattle.std.proofs.lemmas.Bool.{cases_eq, both_ways}
 use Rattle.std.proofs.lemmas.List.{get_or_append_left, get_or_push, length-append, get_or-set_same, get_or-set_other, length-set}
 use Rattle.sched_base.specs.Counting.{sum_to}
 use Rattle.run_tree.specs.declared.kinds.Kind.{Kind}
-use Rattle.run_tree.specs.declared.kinds.Kind.TheVariants as kind
-use Rattle.run_tree.specs.Tree.{Node, Tree, node, kind_at, rate, home, place, members, member, level, is_pack, is_leaf, no_node, IsPack, IsLeaf, IsMember}
+use Rattle.run_tree.specs.Tree.{Node, Tree, node, kind_at, rate, home, place, members, member, level, is_pack, no_node, IsPack, IsMember}
 use Rattle.run_tree.specs.Making.{member_node, pack_node, joined, join, with_nodes}
 use Rattle.tree_laws.proofs.SumLemmas.{sum_to-same}
 use Rattle.tree_laws.proofs.NodeParts.{node_rate, node_home, node_place, node_members, node_level, is_pack_node, is_leaf_node}

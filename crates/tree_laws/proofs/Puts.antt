@@ -1,22 +1,20 @@
 -- A member more, in a pack that stands or in a new one.
-use Rattle.std.proofs.Common.{◌≡◌, ℕ, zero, suc, ◌+◌, ◌-◌, ◌*◌, ◌<◌, ◌≤◌, ◌≢◌, Bool, true, false, List, [], ◌∷◌, ◌++◌, map, length, get_or, set, Option, Some, None, refl, ap, arith, ◌⊎◌, inl, inr, sym, subst, subst₂, ap₂, ◌∙◌, nat_lt}
-use Rattle.std.proofs.lemmas.Bool.{cases_eq, cases_lt, cases_Bool, both_ways, ltb-true, ltb-false}
-use Rattle.std.proofs.lemmas.List.{get_or_append_left, get_or_push, length-append, get_or-set_same, get_or-set_other, length-set, length-map, get_or-map, map-append, ext_get_or}
+use Rattle.std.proofs.Common.{◌≡◌, ℕ, suc, ◌+◌, ◌-◌, ◌*◌, ◌<◌, ◌≤◌, ◌≢◌, true, false, List, [], ◌∷◌, ◌++◌, map, length, get_or, set, None, refl, ap, arith, inl, inr, sym, ap₂, ◌∙◌}
+use Rattle.std.proofs.lemmas.Bool.{cases_eq, both_ways}
+use Rattle.std.proofs.lemmas.List.{length-append, get_or-set_same, get_or-set_other, length-set, length-map, get_or-map, map-append, ext_get_or}
 use Rattle.sched_base.specs.Counting.{sum_to, bit}
 use Rattle.sched_base.specs.FirstFit.{with_item}
-use Rattle.sched_base.specs.declared.rows.Leaf.{Leaf}
 use Rattle.run_tree.specs.declared.kinds.Kind.{Kind}
 use Rattle.run_tree.specs.declared.kinds.Kind.TheVariants as kind
-use Rattle.run_tree.specs.Tree.{Node, Tree, node, kind_at, rate, members, dual, level, is_pack, is_leaf, IsPack}
-use Rattle.run_tree.specs.Making.{member_node, Making, opened, joined_at, last_rates}
-use Rattle.tree_laws.proofs.CountingLemmas.{bit_off}
+use Rattle.run_tree.specs.Tree.{Tree, kind_at, rate, members, dual, level, is_pack, is_leaf, IsPack}
+use Rattle.run_tree.specs.Making.{Making, opened, joined_at, last_rates}
 use Rattle.tree_laws.proofs.SumLemmas.{sum_to-same}
-use Rattle.tree_laws.proofs.NodeParts.{node_rate, node_members, node_level, node_dual, is_pack_node, is_leaf_node, node_id}
-use Rattle.tree_laws.proofs.Joins.{Joins, IsMade, MayStand, old_pack, made}
+use Rattle.tree_laws.proofs.NodeParts.{node_rate, node_members, node_level, node_dual, is_pack_node, is_leaf_node}
+use Rattle.tree_laws.proofs.Joins.{Joins, IsMade, old_pack, made}
 use Rattle.tree_laws.proofs.Opens.{open_pack, open_old, open_new, open_long, opened_below, opened_pack}
-use Rattle.tree_laws.proofs.Duals.{HasDuals, join_duals, lift_duals}
-use Rattle.tree_laws.proofs.Steps.{Names, Grows, leaf_grows, dual_grows, last_at, Among, IsMaking, Serves, step_join, step_open}
-use Rattle.tree_laws.proofs.Rooms.{with_item_old, with_item_new}
+use Rattle.tree_laws.proofs.Duals.{join_duals, lift_duals}
+use Rattle.tree_laws.proofs.Steps.{Grows, leaf_grows, dual_grows, last_at, IsMaking, Serves, step_join}
+use Rattle.tree_laws.proofs.Rooms.{with_item_old}
 
 -- the pack that a dual comes from
 abbrev pub IsNext : Tree → ℕ → Kind → Type 0

@@ -1,8 +1,8 @@
 -- Level on level, until all packs are roots.
-use Rattle.std.proofs.Common.{◌≡◌, ℕ, zero, suc, ◌+◌, ◌-◌, ◌<◌, ◌≤◌, ◌⊎◌, inl, inr, List, [], ◌∷◌, ◌++◌, length, refl, ap, arith, sym, subst, ◌∙◌}
+use Rattle.std.proofs.Common.{◌≡◌, ℕ, zero, suc, ◌+◌, ◌-◌, ◌<◌, ◌≤◌, inl, inr, List, [], ◌∷◌, ◌++◌, length, refl, ap, arith, sym, subst, ◌∙◌}
 use Rattle.std.proofs.lemmas.Bool.{cases_eq, cases_lt}
 use Rattle.std.proofs.lemmas.List.{append-nil}
-use Rattle.run_tree.specs.Tree.{Tree, IsTree}
+use Rattle.run_tree.specs.Tree.{Tree}
 use Rattle.run_tree.specs.Making.{Making, lower_packs, dual_items}
 use Rattle.run_tree.specs.Compiled.{level_above, climb, climb_by, all_levels}
 use Rattle.tree_laws.specs.Raised.{raised, IsRaised}

@@ -1,5 +1,5 @@
 -- How large the compiled tree is.
-use Rattle.std.proofs.Common.{◌≡◌, ℕ, zero, suc, ◌+◌, ◌-◌, ◌*◌, ◌<◌, ◌≤◌, ◌++◌, List, [], ◌∷◌, length, get_or, max, sum, refl, ap, ap₂, arith, sym, subst, ◌∙◌}
+use Rattle.std.proofs.Common.{◌≡◌, ℕ, zero, suc, ◌+◌, ◌<◌, ◌≤◌, ◌++◌, List, [], ◌∷◌, length, get_or, max, sum, refl, ap, arith, ◌∙◌}
 use Rattle.std.proofs.lemmas.List.{length-append}
 use Rattle.std.proofs.lemmas.List.Elements.{All-from_recursion}
 use Rattle.std.specs.List.{AllByRecursion, All}
@@ -7,14 +7,14 @@ use Rattle.sched_base.specs.Counting.{sum_to, bit}
 use Rattle.sched_base.specs.FirstFit.{packed, packed_from}
 use Rattle.run_tree.specs.declared.kinds.Kind.{Kind}
 use Rattle.run_tree.specs.declared.kinds.Kind.TheVariants as kind
-use Rattle.run_tree.specs.Tree.{Node, Tree, is_leaf, no_node}
+use Rattle.run_tree.specs.Tree.{Node, is_leaf, no_node}
 use Rattle.run_tree.specs.Making.{Making, last_rates}
 use Rattle.run_tree.specs.Compiled.{task_items, first_level}
-use Rattle.tree_laws.specs.Raised.{RatesFit, raised, IsRaised, leaf_count}
+use Rattle.tree_laws.specs.Raised.{RatesFit, leaf_count}
 use Rattle.tree_laws.proofs.SumLemmas.{sum_to_front}
 use Rattle.tree_laws.proofs.Leafs.{entries, entry_of, kind_entry}
 use Rattle.tree_laws.proofs.Items.{item_entries}
-use Rattle.tree_laws.proofs.Levels.{IsLevel, AllSome, length_packed, total_packed}
+use Rattle.tree_laws.proofs.Levels.{IsLevel, length_packed, total_packed}
 use Rattle.tree_laws.proofs.First.{same_total, rates_within, filled_in, idle_entries}
 use Rattle.tree_laws.proofs.First as first
 use Rattle.tree_laws.proofs.Few.{amounts_long}

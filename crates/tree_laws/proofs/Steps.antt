@@ -1,11 +1,11 @@
 -- A tree in the making, step by step.
-use Rattle.std.proofs.Common.{◌≡◌, ℕ, zero, suc, ◌+◌, ◌-◌, ◌<◌, ◌≤◌, ◌≢◌, Bool, true, false, List, [], ◌∷◌, ◌++◌, length, get_or, set, Option, Some, None, refl, ap, arith, ◌⊎◌, inl, inr, sym, subst, subst₂, ◌∙◌}
-use Rattle.std.proofs.lemmas.Bool.{cases_eq, cases_lt, both_ways}
+use Rattle.std.proofs.Common.{◌≡◌, ℕ, suc, ◌+◌, ◌-◌, ◌<◌, ◌≢◌, List, [], ◌∷◌, length, get_or, set, Some, None, refl, ap, arith, ◌⊎◌, inl, inr, sym, subst, ◌∙◌}
+use Rattle.std.proofs.lemmas.Bool.{cases_eq, cases_lt}
 use Rattle.std.proofs.lemmas.List.{get_or_append_left, get_or_push, length-append, get_or-set_same, get_or-set_other, length-set}
 use Rattle.sched_base.specs.declared.rows.Leaf.{Leaf}
 use Rattle.run_tree.specs.declared.kinds.Kind.{Kind}
 use Rattle.run_tree.specs.declared.kinds.Kind.TheVariants as kind
-use Rattle.run_tree.specs.Tree.{Node, Tree, node, kind_at, rate, dual, level, is_pack, is_dual, no_node, IsPack}
+use Rattle.run_tree.specs.Tree.{Node, Tree, node, rate, dual, level, no_node, IsPack}
 use Rattle.run_tree.specs.Making.{joined, with_dual, join, join_member, mark_dual, Making, opened}
 use Rattle.tree_laws.proofs.NodeParts.{node_rate, node_home, node_place, node_members, node_dual, node_level, node_primal, is_pack_node, is_leaf_node, is_dual_node, node_id}
 use Rattle.tree_laws.proofs.Joins.{Joins, IsMade, old_pack, new_pack}

@@ -1,5 +1,5 @@
 -- Sums over numbers.
-use Rattle.std.proofs.Common.{◌≡◌, ℕ, zero, suc, ◌+◌, ◌-◌, ◌*◌, ◌<◌, ◌≤◌, ◌⊎◌, inl, inr, refl, ap, arith, mul-le-mul_right, sub-add_cancel, le_of_lt, add-mul}
+use Rattle.std.proofs.Common.{◌≡◌, ℕ, zero, suc, ◌+◌, ◌-◌, ◌*◌, ◌<◌, inl, inr, refl, ap, arith, mul-le-mul_right, sub-add_cancel, le_of_lt, add-mul}
 use Rattle.std.proofs.lemmas.Bool.{cases_lt}
 use Rattle.sched_base.specs.Counting.{sum_to}
 

@@ -1,19 +1,19 @@
 -- The compiled tree, from rates that fit.
-use Rattle.std.proofs.Common.{◌≡◌, ℕ, zero, suc, ◌+◌, ◌-◌, ◌*◌, ◌<◌, ◌≤◌, List, [], ◌∷◌, ◌++◌, map, length, max, sum, None, refl, ap, ap₂, arith, sym, subst, ◌∙◌}
-use Rattle.std.proofs.lemmas.List.Elements.{recursion_from_All, All-from_recursion}
-use Rattle.std.specs.List.{AllByRecursion, All}
+use Rattle.std.proofs.Common.{◌≡◌, ℕ, ◌-◌, ◌*◌, ◌<◌, ◌≤◌, List, [], ◌∷◌, ◌++◌, map, length, max, sum, None, refl, ap, ap₂, arith, sym, subst, ◌∙◌}
+use Rattle.std.proofs.lemmas.List.Elements.{recursion_from_All}
+use Rattle.std.specs.List.{AllByRecursion}
 use Rattle.sched_base.specs.declared.sets.Task.{Task}
 use Rattle.sched_base.specs.FirstFit.{packed, packed_from, homes, homes_from, idles}
 use Rattle.sched_base.specs.Scale.{rate_of}
 use Rattle.run_tree.specs.Tree.{Tree, rate, level, dual, IsPack, IsTree}
 use Rattle.run_tree.specs.TreeOfSet.{HoldsTasks, NumbersIdles}
 use Rattle.run_tree.specs.Making.{Making, started, last_rates, lower_packs, new_level, put_items, lifted, dual_items}
-use Rattle.run_tree.specs.Compiled.{pack_items, task_items, put_idles, first_level, level_above, all_levels, tree_of_rates}
+use Rattle.run_tree.specs.Compiled.{pack_items, task_items, put_idles, first_level, level_above, tree_of_rates}
 use Rattle.tree_laws.specs.Raised.{RatesFit, raised, IsRaised}
 use Rattle.tree_laws.proofs.Leafs.{entries}
 use Rattle.tree_laws.proofs.Levels.{IsLevel, total, begun}
 use Rattle.tree_laws.proofs.Ends.{is_tree, lift_packed}
-use Rattle.tree_laws.proofs.Raised.{IsAbove, all_raised, raised_ends, raised_level, raised_above, raised_levels, raised_few, raised_fewer}
+use Rattle.tree_laws.proofs.Raised.{all_raised, raised_ends, raised_level, raised_above}
 use Rattle.tree_laws.proofs.First.{same_total, first_is, filled_in, amounts, task_rates, task_leaves, idle_entries}
 use Rattle.tree_laws.proofs.First as first
 use Rattle.tree_laws.proofs.Holds as holds

@@ -1,6 +1,5 @@
 use Rattle.std.proofs.Common.{ℕ, List, map, refl, subst, sym}
 use Rattle.sched_base.specs.Scale.{IsScale, rate_of}
-use Rattle.run_tree.specs.Compiled.{tree_of}
 use Rattle.tree_laws.proofs.SetRates.{rates_fit}
 use Rattle.tree_laws.proofs.TreeOf.{tree_is_tree, tree_kept, tree_holds, tree_numbers}
 use Rattle.tree_laws.proofs.laws.tree_law.Goals as goal
