@@ -1,22 +1,17 @@
 -- The duals of packs, as members are added.
-use Rattle.std.proofs.Common.{◌≡◌, ℕ, suc, ◌+◌, ◌<◌, ◌≢◌, true, false, length, Some, None, refl, ap, arith, inl, inr, sym, subst, subst₂, ◌∙◌}
+use Rattle.std.proofs.Common.{◌≡◌, ℕ, suc, ◌+◌, ◌<◌, ◌≢◌, length, Some, None, ap, arith, inl, inr, sym, subst, subst₂, ◌∙◌}
 use Rattle.std.proofs.lemmas.Bool.{cases_eq, both_ways}
 use Rattle.sched_base.specs.declared.rows.Leaf.{Leaf}
-use Rattle.run_tree.specs.declared.kinds.Kind.{Kind}
+use Rattle.run_tree.proofs.KindLemmas.{not_pack}
 use Rattle.run_tree.specs.declared.kinds.Kind.TheVariants as kind
-use Rattle.run_tree.specs.Tree.{Tree, kind_at, rate, home, dual, level, primal, is_pack, is_dual, IsPack, IsDual}
+use Rattle.run_tree.specs.Tree.{Tree, kind_at, rate, home, dual, level, primal, is_dual, IsPack, IsDual}
 use Rattle.tree_laws.proofs.NodeParts.{node_rate, node_home, node_dual, node_level, node_primal, is_pack_node, is_dual_node, node_id}
-use Rattle.tree_laws.proofs.Joins.{Joins, IsMade, old_pack, new_pack, old_member}
-use Rattle.tree_laws.proofs.Opens.{open_pack, open_old, open_long, new_node, opened_below, opened_pack}
+use Rattle.tree_laws.proofs.NewMember.{Joins, IsMade, old_pack, new_pack, old_member}
+use Rattle.tree_laws.proofs.NewPack.{open_pack, open_old, open_long, new_node, opened_below, opened_pack}
 
 pub record HasDuals (t : Tree) : Type 0 where
   pub duals_are : (x : ℕ) → IsDual t x → IsPack t (primal t x) × (dual t (primal t x) ≡ Some x) × (level t (home t x) ≡ suc (level t (primal t x)))
   pub has_dual : (p d : ℕ) → IsPack t p → dual t p ≡ Some d → IsDual t d × (primal t d ≡ p) × (rate t d + rate t p ≡ t.scale) × (rate t p < t.scale)
-
-pub dual_no_pack : (k : Kind) → is_dual k ≡ true → is_pack k ≡ false
-dual_no_pack (kind.Leaf leaf) e = refl
-dual_no_pack (kind.Pack level) e = absurd (both_ways false refl e)
-dual_no_pack (kind.Dual primal) e = refl
 
 -- what else a new member leaves
 pub record Keeps (s t : Tree) : Type 0 where
@@ -30,7 +25,7 @@ open_duals l s h low d = record {
     | inr ne ↦ (let b = opened_below l s h low x i.0 ne in
         let o = open_old l s x b in
         let was = d.duals_are x (b, sym (ap is_dual_node o) ∙ i.1) in
-        let up = h.homes_are x (b, dual_no_pack (kind_at s x) (sym (ap is_dual_node o) ∙ i.1)) in
+        let up = h.homes_are x (b, not_pack (kind_at s x) (sym (ap is_dual_node o) ∙ i.1)) in
         let P : ℕ → ℕ → Type 0 = λ q a. IsPack (open_pack l s) q × (dual (open_pack l s) q ≡ Some x) × (level (open_pack l s) a ≡ suc (level (open_pack l s) q)) in
         subst₂ P (sym (ap node_primal o)) (sym (ap node_home o)) (
           opened_pack l s h low (primal s x) was.0,
@@ -60,7 +55,7 @@ join_duals s t p r leaf j h k same none d = record {
     | inr ne ↦ (let b : x < length s.nodes = (let a = i.0 in let g = j.long in omega (arith, a, g, ne)) in
         let i_s : IsDual s x = (b, sym (k.duals x b) ∙ i.1) in
         let was = d.duals_are x i_s in
-        let up = h.homes_are x (b, dual_no_pack (kind_at s x) i_s.1) in
+        let up = h.homes_are x (b, not_pack (kind_at s x) i_s.1) in
         let P : ℕ → ℕ → Type 0 = λ q a. IsPack t q × (dual t q ≡ Some x) × (level t a ≡ suc (level t q)) in
         subst₂ P (sym (k.primals x b)) (sym (j.homes x b))
         (new_pack s t p r (kind.Leaf leaf) j h (primal s x) was.0, same (primal s x) was.0.0 ∙ was.1, j.levels (home s x) up.0.0 ∙ was.2 ∙ sym (ap suc (j.levels (primal s x) was.0.0))))
@@ -69,7 +64,7 @@ join_duals s t p r leaf j h k same none d = record {
       let is = old_pack s t p r (kind.Leaf leaf) j h q i in
       let was = d.has_dual q y is (sym (same q is.0) ∙ e) in
       let no_p : q ≢ p = (λ f. let z : None ≡ Some y = sym none ∙ ap (dual s) (sym f) ∙ sym (same q is.0) ∙ e in cc) in
-      let o = old_member s t p r (kind.Leaf leaf) j h y (was.0.0, dual_no_pack (kind_at s y) was.0.1) in (
+      let o = old_member s t p r (kind.Leaf leaf) j h y (was.0.0, not_pack (kind_at s y) was.0.1) in (
         (o.0.0, k.duals y was.0.0 ∙ was.0.1),
         k.primals y was.0.0 ∙ was.1,
         (let a = j.rates q is.0 no_p in let g = o.3 in let f = was.2 in let z = j.scale_same in omega (arith, a, g, f, z)),
@@ -90,7 +85,7 @@ lift_duals s t p q r j h k same named none_p none_q is_q apart sum less up d = r
     | inr ne ↦ (let b : x < length s.nodes = (let a = i.0 in let g = j.long in omega (arith, a, g, ne)) in
         let i_s : IsDual s x = (b, sym (k.duals x b) ∙ i.1) in
         let was = d.duals_are x i_s in
-        let home_is = h.homes_are x (b, dual_no_pack (kind_at s x) i_s.1) in
+        let home_is = h.homes_are x (b, not_pack (kind_at s x) i_s.1) in
         let other : primal s x ≢ q = (λ f. let z : None ≡ Some x = sym none_q ∙ ap (dual s) (sym f) ∙ was.1 in cc) in
         let P : ℕ → ℕ → Type 0 = λ y a. IsPack t y × (dual t y ≡ Some x) × (level t a ≡ suc (level t y)) in
         subst₂ P (sym (k.primals x b)) (sym (j.homes x b))
@@ -112,7 +107,7 @@ lift_duals s t p q r j h k same named none_p none_q is_q apart sum less up d = r
         | inr ne ↦
             (let was = d.has_dual y x is (sym (same y is.0 ne) ∙ e) in
             let no_p : y ≢ p = (λ f. let z : None ≡ Some x = sym none_p ∙ ap (dual s) (sym f) ∙ sym (same y is.0 ne) ∙ e in cc) in
-            let o = old_member s t p r (kind.Dual (node_id q)) j h x (was.0.0, dual_no_pack (kind_at s x) was.0.1) in (
+            let o = old_member s t p r (kind.Dual (node_id q)) j h x (was.0.0, not_pack (kind_at s x) was.0.1) in (
               (o.0.0, k.duals x was.0.0 ∙ was.0.1),
               k.primals x was.0.0 ∙ was.1,
               (let a = j.rates y is.0 no_p in let g = o.3 in let f = was.2 in let z = j.scale_same in omega (arith, a, g, f, z)),

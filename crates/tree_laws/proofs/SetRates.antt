@@ -10,8 +10,8 @@ use Rattle.sched_base.specs.declared.sets.Task.{Task}
 use Rattle.sched_base.specs.Sets.{SetContents, IsLawful, IsLawfulTask}
 use Rattle.sched_base.specs.Scale.{PeriodsDivide, IsScale, rate_of, Fits}
 use Rattle.tree_laws.specs.Raised.{RatesFit}
-use Rattle.tree_laws.proofs.Levels.{total}
-use Rattle.tree_laws.proofs.First.{same_total}
+use Rattle.tree_laws.proofs.LastLevel.{total}
+use Rattle.tree_laws.proofs.FirstLevel.{same_total}
 
 -- a task is given a tick at least, and all ticks at most
 pub rate_within : (scale : ℕ) (t : Task) → 1 ≤ scale → IsLawfulTask t → t.period ∣ scale → (1 ≤ rate_of scale t) × (rate_of scale t ≤ scale)

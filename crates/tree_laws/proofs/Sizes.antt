@@ -11,14 +11,14 @@ use Rattle.run_tree.specs.Tree.{Node, is_leaf, no_node}
 use Rattle.run_tree.specs.Making.{Making, last_rates}
 use Rattle.run_tree.specs.Compiled.{task_items, first_level}
 use Rattle.tree_laws.specs.Raised.{RatesFit, leaf_count}
-use Rattle.tree_laws.proofs.SumLemmas.{sum_to_front}
-use Rattle.tree_laws.proofs.Leafs.{entries, entry_of, kind_entry}
-use Rattle.tree_laws.proofs.Items.{item_entries}
-use Rattle.tree_laws.proofs.Levels.{IsLevel, length_packed, total_packed}
-use Rattle.tree_laws.proofs.First.{same_total, rates_within, filled_in, idle_entries}
-use Rattle.tree_laws.proofs.First as first
-use Rattle.tree_laws.proofs.Few.{amounts_long}
-use Rattle.tree_laws.proofs.TreeOf.{each, fit, given}
+use Rattle.sched_base.proofs.SumLemmas.{sum_to_front}
+use Rattle.tree_laws.proofs.LeafEntries.{entries, entry_of, kind_entry}
+use Rattle.tree_laws.proofs.PackItems.{item_entries}
+use Rattle.tree_laws.proofs.LastLevel.{IsLevel, length_packed, total_packed}
+use Rattle.tree_laws.proofs.FirstLevel.{same_total, rates_within, filled_in, idle_entries}
+use Rattle.tree_laws.proofs.FirstLevel as first
+use Rattle.tree_laws.proofs.FewPacks.{amounts_long}
+use Rattle.tree_laws.proofs.CompiledTree.{each, fit, given}
 
 -- ---- first fit alone
 

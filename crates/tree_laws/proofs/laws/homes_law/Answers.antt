@@ -3,8 +3,8 @@ use Rattle.sched_base.specs.FirstFit.{homes, packed}
 use Rattle.run_tree.specs.Making.{Making, lower_packs, lifted}
 use Rattle.run_tree.specs.Compiled.{first_level}
 use Rattle.tree_laws.specs.Raised.{raised, lower_duals}
-use Rattle.tree_laws.proofs.Raised.{raised_level, raised_above}
-use Rattle.tree_laws.proofs.TreeOf.{level_0_is, level_0_kept, tasks_follow, servers_are, idles_follow, level_follows, level_rates}
+use Rattle.tree_laws.proofs.RaisedLevels.{raised_level, raised_above}
+use Rattle.tree_laws.proofs.CompiledTree.{level_0_is, level_0_kept, tasks_follow, servers_are, idles_follow, level_follows, level_rates}
 use Rattle.tree_laws.proofs.Sizes.{servers_sum}
 use Rattle.tree_laws.proofs.laws.homes_law.Goals as goal
 

@@ -1,7 +1,7 @@
 use Rattle.std.proofs.Common.{map}
 use Rattle.sched_base.specs.Scale.{rate_of}
 use Rattle.tree_laws.proofs.SetRates.{rates_fit}
-use Rattle.tree_laws.proofs.TreeOf.{few_roots}
+use Rattle.tree_laws.proofs.CompiledTree.{few_roots}
 use Rattle.tree_laws.proofs.laws.no_migration_premise.Goals as goal
 
 pub returns : goal.returns

@@ -2,8 +2,8 @@ use Rattle.std.proofs.Common.{ℕ, ◌≤◌, All, subst, ◌∙◌, arith}
 use Rattle.run_tree.specs.Making.{last_rates, Making}
 use Rattle.run_tree.specs.Compiled.{first_level}
 use Rattle.tree_laws.specs.Raised.{raised}
-use Rattle.tree_laws.proofs.Raised.{raised_level, raised_above, raised_levels, raised_few, raised_fewer}
-use Rattle.tree_laws.proofs.TreeOf.{level_0_is, level_0_kept, packs_few, last_level}
+use Rattle.tree_laws.proofs.RaisedLevels.{raised_level, raised_above, raised_levels, raised_few, raised_fewer}
+use Rattle.tree_laws.proofs.CompiledTree.{level_0_is, level_0_kept, packs_few, last_level}
 use Rattle.tree_laws.proofs.Sizes.{servers_few, leaves_few, level_rates_fit}
 use Rattle.tree_laws.proofs.laws.sizes_law.Goals as goal
 

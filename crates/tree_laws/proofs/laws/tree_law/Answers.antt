@@ -1,7 +1,7 @@
 use Rattle.std.proofs.Common.{ℕ, List, map, refl, subst, sym}
 use Rattle.sched_base.specs.Scale.{IsScale, rate_of}
 use Rattle.tree_laws.proofs.SetRates.{rates_fit}
-use Rattle.tree_laws.proofs.TreeOf.{tree_is_tree, tree_kept, tree_holds, tree_numbers}
+use Rattle.tree_laws.proofs.CompiledTree.{tree_is_tree, tree_kept, tree_holds, tree_numbers}
 use Rattle.tree_laws.proofs.laws.tree_law.Goals as goal
 
 pub returns-clause-is : goal.returns-clause-is

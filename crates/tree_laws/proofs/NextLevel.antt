@@ -1,15 +1,15 @@
--- The levels end, and the tree is one.
+-- The level above has fewer packs, and a level of roots makes a tree.
 use Rattle.std.proofs.Common.{◌≡◌, ℕ, zero, suc, ◌+◌, ◌-◌, ◌*◌, ◌<◌, ◌≤◌, Bool, cond, List, [], ◌∷◌, map, length, get_or, refl, ap, arith, inl, inr, sym, subst, ap₂, ◌∙◌, filter, mul-le-mul_right}
 use Rattle.std.proofs.lemmas.Bool.{cases_eq, cases_lt, cases_Bool, ltb-true, ltb-false, lt-ltb}
 use Rattle.std.proofs.lemmas.List.{length-map, get_or-map}
 use Rattle.run_tree.specs.Tree.{Tree, rate, level, IsTree}
-use Rattle.tree_laws.proofs.SumLemmas.{multiple}
+use Rattle.sched_base.proofs.UnitLemmas.{multiple}
 use Rattle.sched_base.specs.FirstFit.{packed_from}
 use Rattle.run_tree.specs.Making.{Making, Item, last_rates, dual_items, lower_packs, new_level}
 use Rattle.run_tree.specs.Compiled.{level_above}
-use Rattle.tree_laws.proofs.Steps.{last_at, IsMaking}
-use Rattle.tree_laws.proofs.Items.{IsPacked, pack_duals, parts}
-use Rattle.tree_laws.proofs.Levels.{kept_in, kept_from, total, AllSome, IsLevel, is_lower, pair_last, begun, total_packed, some_packed, packed_keeps, fewer_packs}
+use Rattle.tree_laws.proofs.MakingSteps.{last_at, IsMaking}
+use Rattle.tree_laws.proofs.PackItems.{IsPacked, pack_duals, parts}
+use Rattle.tree_laws.proofs.LastLevel.{kept_in, kept_from, total, AllSome, IsLevel, is_lower, pair_last, begun, total_packed, some_packed, packed_keeps, fewer_packs}
 
 abbrev pub dual_rates : Tree → List ℕ → List ℕ
 dual_rates t qs = map (λ (x : Item). x.rate) (dual_items t qs)

@@ -7,10 +7,10 @@ use Rattle.run_tree.specs.Tree.{Tree, rate}
 use Rattle.run_tree.specs.Making.{Making, Item, put, last_rates, dual_items, put_items}
 use Rattle.run_tree.specs.Compiled.{pack_items}
 use Rattle.tree_laws.proofs.NodeParts.{node_id}
-use Rattle.tree_laws.proofs.Steps.{IsMaking}
-use Rattle.tree_laws.proofs.Rooms.{room_is}
-use Rattle.tree_laws.proofs.Puts.{Filled}
-use Rattle.tree_laws.proofs.Items.{IsPut, put_first, leaf_next, leaf_serves, dual_next, dual_serves, IsLeafItem}
+use Rattle.tree_laws.proofs.MakingSteps.{IsMaking}
+use Rattle.tree_laws.proofs.FirstFitRates.{room_is}
+use Rattle.tree_laws.proofs.PutMember.{Filled}
+use Rattle.tree_laws.proofs.PackItems.{IsPut, put_first, leaf_next, leaf_serves, dual_next, dual_serves, IsLeafItem}
 
 abbrev pub item_rates : List Item → List ℕ
 item_rates items = map (λ (x : Item). x.rate) items

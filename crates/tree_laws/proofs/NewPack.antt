@@ -3,12 +3,13 @@ use Rattle.std.proofs.Common.{◌≡◌, ℕ, suc, ◌<◌, ◌≢◌, false, Li
 use Rattle.std.proofs.lemmas.Bool.{cases_eq, both_ways}
 use Rattle.std.proofs.lemmas.List.{get_or_append_left, get_or_push, length-append, get_or-set_same, get_or-set_other, length-set}
 use Rattle.sched_base.specs.Counting.{sum_to}
+use Rattle.run_tree.proofs.KindLemmas.{not_pack_leaf}
 use Rattle.run_tree.specs.declared.kinds.Kind.{Kind}
 use Rattle.run_tree.specs.Tree.{Node, Tree, node, kind_at, rate, home, place, members, member, level, is_pack, no_node, IsPack, IsMember}
 use Rattle.run_tree.specs.Making.{member_node, pack_node, joined, join, with_nodes}
-use Rattle.tree_laws.proofs.SumLemmas.{sum_to-same}
+use Rattle.sched_base.proofs.SumLemmas.{sum_to-same}
 use Rattle.tree_laws.proofs.NodeParts.{node_rate, node_home, node_place, node_members, node_level, is_pack_node, is_leaf_node}
-use Rattle.tree_laws.proofs.Joins.{Joins, IsMade, leaf_no_pack}
+use Rattle.tree_laws.proofs.NewMember.{Joins, IsMade}
 
 -- one pack more, of level l, with no member yet
 abbrev pub open_pack : ℕ → Tree → Tree
@@ -86,7 +87,7 @@ module _ (l : ℕ) (s : Tree) (h : IsMade s) (low : l < s.levels) where
           ap (λ y. get_or (node_members y) (place s x) 0) (open_old l s (home s x) m.0.0) ∙ m.2,
         ));
     leaves_are = λ x i. (
-        let is = old_member x (i.0, leaf_no_pack (kind_at t x) i.1) in
+        let is = old_member x (i.0, not_pack_leaf (kind_at t x) i.1) in
         let o = open_old l s x is.0 in
         let m = h.leaves_are x (is.0, sym (ap is_leaf_node o) ∙ i.1) in
         let up = h.homes_are x is in

@@ -13,10 +13,10 @@ use Rattle.run_tree.specs.declared.kinds.Kind.TheVariants as kind
 use Rattle.run_tree.specs.Tree.{Node, Tree, is_leaf, leaf_of, leaf, rate, no_node, IsLeaf}
 use Rattle.run_tree.specs.TreeOfSet.{task_id, is_idle, is_real, HoldsTasks, NumbersIdles}
 use Rattle.run_tree.specs.Compiled.{task_items}
-use Rattle.tree_laws.proofs.SumLemmas.{sum_to_front}
-use Rattle.tree_laws.proofs.Leafs.{Entry, entries, entry_of, kind_entry, no_entry, entry_at, entries_before, leaf_from}
-use Rattle.tree_laws.proofs.Items.{item_entries}
-use Rattle.tree_laws.proofs.First.{idle_entries}
+use Rattle.sched_base.proofs.SumLemmas.{sum_to_front}
+use Rattle.tree_laws.proofs.LeafEntries.{Entry, entries, entry_of, kind_entry, no_entry, entry_at, entries_before, leaf_from}
+use Rattle.tree_laws.proofs.PackItems.{item_entries}
+use Rattle.tree_laws.proofs.FirstLevel.{idle_entries}
 
 -- ---- how many entries are idle
 

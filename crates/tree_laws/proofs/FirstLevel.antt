@@ -1,4 +1,4 @@
--- Level 0 of the tree of a set, and the whole.
+-- Level 0: the tasks by first fit, then the idle leaves.
 use Rattle.std.proofs.Common.{◌≡◌, ℕ, zero, suc, ◌+◌, ◌-◌, ◌*◌, ◌/◌, ◌<◌, ◌≤◌, List, [], ◌∷◌, ◌++◌, map, length, get_or, drop, min, max, replicate, sum, refl, ap, arith, inl, inr, sym, subst, subst₂, ap₂, ◌∙◌, mul-le-mul_right}
 use Rattle.std.proofs.lemmas.Bool.{cases_eq, cases_lt}
 use Rattle.std.proofs.lemmas.List.{length-map}
@@ -13,12 +13,12 @@ use Rattle.run_tree.specs.Tree.{rate}
 use Rattle.run_tree.specs.Making.{Making, Item, started, put, last_rates}
 use Rattle.run_tree.specs.Compiled.{pack_items, task_items, put_idles, first_level}
 use Rattle.std.proofs.lemmas.List.{append_assoc, append-nil}
-use Rattle.tree_laws.proofs.Leafs.{Entry, entries, kind_entry}
-use Rattle.tree_laws.proofs.Steps.{last_at, IsMaking}
-use Rattle.tree_laws.proofs.Rooms.{PairsExceed, all_more}
-use Rattle.tree_laws.proofs.Puts.{Filled, leaf_sum}
-use Rattle.tree_laws.proofs.Items.{IsPacked, IsPut, put_at, pack_leaves, parts, serves_leaf, IsLeafItem}
-use Rattle.tree_laws.proofs.Levels.{total, AllSome, IsLevel, total_with_item, some_with_item, some_packed, total_packed}
+use Rattle.tree_laws.proofs.LeafEntries.{Entry, entries, kind_entry}
+use Rattle.tree_laws.proofs.MakingSteps.{last_at, IsMaking}
+use Rattle.tree_laws.proofs.FirstFitRates.{PairsExceed, all_more}
+use Rattle.tree_laws.proofs.PutMember.{Filled, leaf_sum}
+use Rattle.tree_laws.proofs.PackItems.{IsPacked, IsPut, put_at, pack_leaves, parts, serves_leaf, IsLeafItem}
+use Rattle.tree_laws.proofs.LastLevel.{total, AllSome, IsLevel, total_with_item, some_with_item, some_packed, total_packed}
 
 -- amounts that fit
 abbrev pub Fits : ℕ → List ℕ → List ℕ → Type 0

@@ -8,13 +8,13 @@ use Rattle.run_tree.specs.declared.kinds.Kind.{Kind}
 use Rattle.run_tree.specs.declared.kinds.Kind.TheVariants as kind
 use Rattle.run_tree.specs.Tree.{Tree, kind_at, rate, members, dual, level, is_pack, is_leaf, IsPack}
 use Rattle.run_tree.specs.Making.{Making, opened, joined_at, last_rates}
-use Rattle.tree_laws.proofs.SumLemmas.{sum_to-same}
+use Rattle.sched_base.proofs.SumLemmas.{sum_to-same}
 use Rattle.tree_laws.proofs.NodeParts.{node_rate, node_members, node_level, node_dual, is_pack_node, is_leaf_node}
-use Rattle.tree_laws.proofs.Joins.{Joins, IsMade, old_pack, made}
-use Rattle.tree_laws.proofs.Opens.{open_pack, open_old, open_new, open_long, opened_below, opened_pack}
+use Rattle.tree_laws.proofs.NewMember.{Joins, IsMade, old_pack, made}
+use Rattle.tree_laws.proofs.NewPack.{open_pack, open_old, open_new, open_long, opened_below, opened_pack}
 use Rattle.tree_laws.proofs.Duals.{join_duals, lift_duals}
-use Rattle.tree_laws.proofs.Steps.{Grows, leaf_grows, dual_grows, last_at, IsMaking, Serves, step_join}
-use Rattle.tree_laws.proofs.Rooms.{with_item_old}
+use Rattle.tree_laws.proofs.MakingSteps.{Grows, leaf_grows, dual_grows, last_at, IsMaking, Serves, step_join}
+use Rattle.tree_laws.proofs.FirstFitRates.{with_item_old}
 
 -- the pack that a dual comes from
 abbrev pub IsNext : Tree → ℕ → Kind → Type 0

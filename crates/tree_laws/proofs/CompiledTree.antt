@@ -10,15 +10,15 @@ use Rattle.run_tree.specs.TreeOfSet.{HoldsTasks, NumbersIdles}
 use Rattle.run_tree.specs.Making.{Making, started, last_rates, lower_packs, new_level, put_items, lifted, dual_items}
 use Rattle.run_tree.specs.Compiled.{pack_items, task_items, put_idles, first_level, level_above, tree_of_rates}
 use Rattle.tree_laws.specs.Raised.{RatesFit, raised, IsRaised}
-use Rattle.tree_laws.proofs.Leafs.{entries}
-use Rattle.tree_laws.proofs.Levels.{IsLevel, total, begun}
-use Rattle.tree_laws.proofs.Ends.{is_tree, lift_packed}
-use Rattle.tree_laws.proofs.Raised.{all_raised, raised_ends, raised_level, raised_above}
-use Rattle.tree_laws.proofs.First.{same_total, first_is, filled_in, amounts, task_rates, task_leaves, idle_entries}
-use Rattle.tree_laws.proofs.First as first
-use Rattle.tree_laws.proofs.Holds as holds
-use Rattle.tree_laws.proofs.Few.{one_level, first_long}
-use Rattle.tree_laws.proofs.Follows.{leaves_follow, duals_follow, item_rates}
+use Rattle.tree_laws.proofs.LeafEntries.{entries}
+use Rattle.tree_laws.proofs.LastLevel.{IsLevel, total, begun}
+use Rattle.tree_laws.proofs.NextLevel.{is_tree, lift_packed}
+use Rattle.tree_laws.proofs.RaisedLevels.{all_raised, raised_ends, raised_level, raised_above}
+use Rattle.tree_laws.proofs.FirstLevel.{same_total, first_is, filled_in, amounts, task_rates, task_leaves, idle_entries}
+use Rattle.tree_laws.proofs.FirstLevel as first
+use Rattle.tree_laws.proofs.TasksHeld as holds
+use Rattle.tree_laws.proofs.FewPacks.{one_level, first_long}
+use Rattle.tree_laws.proofs.ToldHomes.{leaves_follow, duals_follow, item_rates}
 
 module _ (processors scale : ℕ) (rates : List ℕ) (h : RatesFit processors scale rates) where
   pub each : AllByRecursion (λ r. (0 < r) × (r ≤ scale)) rates

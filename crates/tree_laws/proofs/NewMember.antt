@@ -3,11 +3,12 @@ use Rattle.std.proofs.Common.{◌≡◌, ℕ, suc, ◌+◌, ◌<◌, ◌≤◌, 
 use Rattle.std.proofs.lemmas.Bool.{cases_eq, cases_lt, both_ways}
 use Rattle.std.proofs.lemmas.List.{get_or_append_left, get_or_push, length-append}
 use Rattle.sched_base.specs.Counting.{sum_to}
+use Rattle.run_tree.proofs.KindLemmas.{not_pack_leaf}
 use Rattle.run_tree.specs.declared.kinds.Kind.{Kind}
 use Rattle.run_tree.specs.declared.kinds.Kind.TheVariants as kind
 use Rattle.run_tree.specs.Tree.{Tree, node, kind_at, rate, home, place, members, member, level, is_pack, is_leaf, IsPack, IsLeaf, IsMember}
 use Rattle.run_tree.specs.Making.{member_node}
-use Rattle.tree_laws.proofs.SumLemmas.{sum_to-same}
+use Rattle.sched_base.proofs.SumLemmas.{sum_to-same}
 use Rattle.tree_laws.proofs.NodeParts.{node_rate, node_home, node_place, is_pack_node, is_leaf_node}
 
 -- t is s with one more member, of kind c and rate r, at the end of pack p
@@ -42,11 +43,6 @@ abbrev pub MayStand : Kind → ℕ → Type 0
 MayStand (kind.Leaf leaf) level = level ≡ 0
 MayStand (kind.Pack lvl) level = ⊥
 MayStand (kind.Dual primal) level = Unit {0}
-
-pub leaf_no_pack : (k : Kind) → is_leaf k ≡ true → is_pack k ≡ false
-leaf_no_pack (kind.Leaf leaf) e = refl
-leaf_no_pack (kind.Pack level) e = absurd (both_ways false refl e)
-leaf_no_pack (kind.Dual primal) e = refl
 
 module _ (s t : Tree) (p r : ℕ) (c : Kind) (j : Joins s t p r c) (h : IsMade s) where
   abbrev pub n : ℕ
@@ -185,7 +181,7 @@ module _ (s t : Tree) (p r : ℕ) (c : Kind) (j : Joins s t p r c) (h : IsMade s
             | inr ne ↦
                 (let l : x < n = (let a = i.0 in let b = j.long in omega (arith, a, b, ne)) in
                 let old : IsLeaf s x = (l, sym (j.leaves x l) ∙ i.1) in
-                let member : IsMember s x = (l, leaf_no_pack (kind_at s x) old.1) in
+                let member : IsMember s x = (l, not_pack_leaf (kind_at s x) old.1) in
                 let o = old_member x member in
                 let was = h.leaves_are x old in
                 let m = h.homes_are x member in

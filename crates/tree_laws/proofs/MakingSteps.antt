@@ -8,9 +8,9 @@ use Rattle.run_tree.specs.declared.kinds.Kind.TheVariants as kind
 use Rattle.run_tree.specs.Tree.{Node, Tree, node, rate, dual, level, no_node, IsPack}
 use Rattle.run_tree.specs.Making.{joined, with_dual, join, join_member, mark_dual, Making, opened}
 use Rattle.tree_laws.proofs.NodeParts.{node_rate, node_home, node_place, node_members, node_dual, node_level, node_primal, is_pack_node, is_leaf_node, is_dual_node, node_id}
-use Rattle.tree_laws.proofs.Joins.{Joins, IsMade, old_pack, new_pack}
-use Rattle.tree_laws.proofs.Opens.{open_pack, open_old, open_new, open_long, opened_below, opened_pack, join_joins}
-use Rattle.tree_laws.proofs.Opens as opens
+use Rattle.tree_laws.proofs.NewMember.{Joins, IsMade, old_pack, new_pack}
+use Rattle.tree_laws.proofs.NewPack.{open_pack, open_old, open_new, open_long, opened_below, opened_pack, join_joins}
+use Rattle.tree_laws.proofs.NewPack as opens
 use Rattle.tree_laws.proofs.Duals.{HasDuals, Keeps, open_duals}
 
 -- the pack that a new dual names

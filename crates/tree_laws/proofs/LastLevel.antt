@@ -1,4 +1,4 @@
--- Level on level, until all packs are roots.
+-- A level with all its packs, and how the next one begins.
 use Rattle.std.proofs.Common.{◌≡◌, ℕ, zero, suc, ◌+◌, ◌*◌, ◌<◌, ◌≤◌, ◌≢◌, Bool, true, cond, List, [], ◌∷◌, length, get_or, None, refl, ap, arith, inl, inr, sym, subst, ◌∙◌, nat_lt, filter}
 use Rattle.std.proofs.lemmas.Bool.{cases_eq, cases_lt, cases_Bool, ltb-true, lt-ltb}
 use Rattle.std.proofs.lemmas.List.{length-map, get_or-map}
@@ -6,9 +6,9 @@ use Rattle.std.specs.List.{AllByRecursion}
 use Rattle.run_tree.specs.Tree.{rate, level, dual, IsPack}
 use Rattle.sched_base.specs.FirstFit.{first_with_room, with_item, packed_from}
 use Rattle.run_tree.specs.Making.{Making, last_rates, lower_packs, new_level}
-use Rattle.tree_laws.proofs.Steps.{last_at, Among, IsMaking}
-use Rattle.tree_laws.proofs.Rooms.{room_is, PairsExceed, pairs_at, with_item_some}
-use Rattle.tree_laws.proofs.Puts.{Filled, leaf_sum}
+use Rattle.tree_laws.proofs.MakingSteps.{last_at, Among, IsMaking}
+use Rattle.tree_laws.proofs.FirstFitRates.{room_is, PairsExceed, pairs_at, with_item_some}
+use Rattle.tree_laws.proofs.PutMember.{Filled, leaf_sum}
 
 -- what a filter keeps
 pub kept_in : (f : ℕ → Bool) (ps : List ℕ) (i : ℕ) → i < length (filter f ps) → (j : ℕ) × (j < length ps) × (get_or ps j 0 ≡ get_or (filter f ps) i 0) × (f (get_or (filter f ps) i 0) ≡ true)

@@ -8,7 +8,7 @@ use Rattle.run_tree.specs.declared.kinds.Kind.{Kind}
 use Rattle.run_tree.specs.declared.kinds.Kind.TheVariants as kind
 use Rattle.run_tree.specs.Tree.{Node, Tree, node, is_pack, is_leaf, leaf_of, no_node, IsPack}
 use Rattle.run_tree.specs.Making.{pack_node, joined, with_dual, join, join_member}
-use Rattle.tree_laws.proofs.Opens.{open_pack, join_joins}
+use Rattle.tree_laws.proofs.NewPack.{open_pack, join_joins}
 
 -- a leaf with its rate
 pub record Entry : Type 0 where

@@ -12,11 +12,11 @@ use Rattle.run_tree.specs.Tree.{Tree, rate, level, IsPack}
 use Rattle.run_tree.specs.Making.{Making, Item, opened, joined_at, put, put_in, last_rates, dual_items}
 use Rattle.run_tree.specs.Compiled.{pack_items}
 use Rattle.tree_laws.proofs.NodeParts.{node_rate, node_level, node_id}
-use Rattle.tree_laws.proofs.Leafs.{Entry, entries, kind_entry, entries_any, entries_open, FromPack}
-use Rattle.tree_laws.proofs.Opens.{open_old, open_new, open_long}
-use Rattle.tree_laws.proofs.Steps.{Grows, last_at, Among, IsMaking, Serves, step_open}
-use Rattle.tree_laws.proofs.Rooms.{IsRoom, room_is, with_item_last, PairsExceed, pairs_with_item}
-use Rattle.tree_laws.proofs.Puts.{IsNext, join_step, next_open, open_rates, join_rates, Filled, join_filled, open_filled, leaf_sum, leaf_part, join_sum, open_sum}
+use Rattle.tree_laws.proofs.LeafEntries.{Entry, entries, kind_entry, entries_any, entries_open, FromPack}
+use Rattle.tree_laws.proofs.NewPack.{open_old, open_new, open_long}
+use Rattle.tree_laws.proofs.MakingSteps.{Grows, last_at, Among, IsMaking, Serves, step_open}
+use Rattle.tree_laws.proofs.FirstFitRates.{IsRoom, room_is, with_item_last, PairsExceed, pairs_with_item}
+use Rattle.tree_laws.proofs.PutMember.{IsNext, join_step, next_open, open_rates, join_rates, Filled, join_filled, open_filled, leaf_sum, leaf_part, join_sum, open_sum}
 
 pub record IsPut (m made : Making) (rs : List ℕ) (c : Kind) (r b : ℕ) : Type 0 where
   pub making : IsMaking made rs

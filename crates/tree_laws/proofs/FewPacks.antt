@@ -8,9 +8,9 @@ use Rattle.run_tree.specs.Tree.{rate, level, dual, IsPack}
 use Rattle.sched_base.specs.FirstFit.{packed_from, idles}
 use Rattle.run_tree.specs.Making.{Making, started, last_rates}
 use Rattle.run_tree.specs.Compiled.{pack_items, task_items, first_level, all_levels, tree_of_rates}
-use Rattle.tree_laws.proofs.Levels.{total, is_lower}
-use Rattle.tree_laws.proofs.Raised.{climb_none}
-use Rattle.tree_laws.proofs.First.{first_is, filled_in, packed, packed_total, amounts, amounts_total, rates_within, task_rates, same_total}
+use Rattle.tree_laws.proofs.LastLevel.{total, is_lower}
+use Rattle.tree_laws.proofs.RaisedLevels.{climb_none}
+use Rattle.tree_laws.proofs.FirstLevel.{first_is, filled_in, packed, packed_total, amounts, amounts_total, rates_within, task_rates, same_total}
 
 -- the whole rate on few packs leaves none below the scale
 pub all_full : (scale m : ℕ) (rs : List ℕ) → AllByRecursion (λ r. r ≤ scale) rs → m * scale ≤ total rs → length rs ≤ m → AllByRecursion (λ r. scale ≤ r) rs

@@ -6,10 +6,10 @@ use Rattle.run_tree.specs.Tree.{Tree}
 use Rattle.run_tree.specs.Making.{Making, lower_packs, dual_items}
 use Rattle.run_tree.specs.Compiled.{level_above, climb, climb_by, all_levels}
 use Rattle.tree_laws.specs.Raised.{raised, IsRaised}
-use Rattle.tree_laws.proofs.Leafs.{entries}
-use Rattle.tree_laws.proofs.Items.{item_entries}
-use Rattle.tree_laws.proofs.Levels.{IsLevel, is_lower}
-use Rattle.tree_laws.proofs.Ends.{lift_packed, lift_fewer, lift_level, filter_le}
+use Rattle.tree_laws.proofs.LeafEntries.{entries}
+use Rattle.tree_laws.proofs.PackItems.{item_entries}
+use Rattle.tree_laws.proofs.LastLevel.{IsLevel, is_lower}
+use Rattle.tree_laws.proofs.NextLevel.{lift_packed, lift_fewer, lift_level, filter_le}
 
 -- one level of a climb
 pub climb_by_some : (qs : List ℕ) (m : Making) (higher : Making → Making) → 0 < length qs → climb_by qs m higher ≡ higher (level_above m qs)
