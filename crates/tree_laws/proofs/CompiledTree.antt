@@ -14,7 +14,8 @@ use Rattle.tree_laws.proofs.LeafEntries.{entries}
 use Rattle.tree_laws.proofs.LastLevel.{IsLevel, total, begun}
 use Rattle.tree_laws.proofs.NextLevel.{is_tree, lift_packed}
 use Rattle.tree_laws.proofs.RaisedLevels.{all_raised, raised_ends, raised_level, raised_above}
-use Rattle.tree_laws.proofs.FirstLevel.{same_total, first_is, filled_in, amounts, task_rates, task_leaves, idle_entries}
+use Rattle.tree_laws.proofs.FirstLevel.{same_total, first_is, filled_in, amounts, task_rates, task_leaves}
+use Rattle.tree_laws.proofs.IdleLeaves.{idle_entries}
 use Rattle.tree_laws.proofs.FirstLevel as first
 use Rattle.tree_laws.proofs.TasksHeld as holds
 use Rattle.tree_laws.proofs.FewPacks.{one_level, first_long}
@@ -97,13 +98,17 @@ module _ (processors scale : ℕ) (rates : List ℕ) (h : RatesFit processors sc
   pub servers_total : sum (packed scale rates) ≡ sum rates
   servers_total = ap sum (sym servers_are) ∙ same_total (last_rates tasks_in) ∙ first.packed_total processors scale rates h.some_processors h.some_scale each fit ∙ sym (same_total rates)
 
-  pub idles_follow : put_idles 0 0 (idles scale (processors * scale - sum rates) (packed scale rates)) tasks_in ≡ level_0
-  idles_follow =
+  -- what the idle leaves are asked for
+  pub amounts_are : idles scale (processors * scale - sum rates) (packed scale rates) ≡ given
+  amounts_are =
       let p = first.packed processors scale rates h.some_processors h.some_scale each fit in
       let slack : processors * scale - sum rates ≡ tasks_in.tree.processors * tasks_in.tree.scale - sum (last_rates tasks_in) =
       ap₂ (λ a b. a * b - sum rates) (sym p.processors_same) (sym p.scale_same) ∙ ap (λ a. tasks_in.tree.processors * tasks_in.tree.scale - a) (sym servers_total ∙ ap sum (sym servers_are)) in
-      ap (λ a. put_idles 0 0 (idles scale a (packed scale rates)) tasks_in) slack
-      ∙ ap₂ (λ s ss. put_idles 0 0 (idles s (tasks_in.tree.processors * tasks_in.tree.scale - sum (last_rates tasks_in)) ss) tasks_in) (sym p.scale_same) (sym servers_are)
+      ap (λ a. idles scale a (packed scale rates)) slack
+      ∙ ap₂ (λ s ss. idles s (tasks_in.tree.processors * tasks_in.tree.scale - sum (last_rates tasks_in)) ss) (sym p.scale_same) (sym servers_are)
+
+  pub idles_follow : put_idles 0 0 (idles scale (processors * scale - sum rates) (packed scale rates)) tasks_in ≡ level_0
+  idles_follow = ap (λ xs. put_idles 0 0 xs tasks_in) amounts_are
 
   -- ---- how large it is
 

@@ -10,6 +10,7 @@ pub mod PackItems
 pub mod LastLevel
 pub mod NextLevel
 pub mod RaisedLevels
+pub mod IdleLeaves
 pub mod FirstLevel
 pub mod TasksHeld
 pub mod FewPacks
@@ -17,4 +18,6 @@ pub mod SetRates
 pub mod ToldHomes
 pub mod CompiledTree
 pub mod Sizes
+pub mod TaskSteps
+pub mod IdleSteps
 mod Examples

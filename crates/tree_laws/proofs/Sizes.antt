@@ -15,7 +15,8 @@ use Rattle.sched_base.proofs.SumLemmas.{sum_to_front}
 use Rattle.tree_laws.proofs.LeafEntries.{entries, entry_of, kind_entry}
 use Rattle.tree_laws.proofs.PackItems.{item_entries}
 use Rattle.tree_laws.proofs.LastLevel.{IsLevel, length_packed, total_packed}
-use Rattle.tree_laws.proofs.FirstLevel.{same_total, rates_within, filled_in, idle_entries}
+use Rattle.tree_laws.proofs.FirstLevel.{same_total, rates_within, filled_in}
+use Rattle.tree_laws.proofs.IdleLeaves.{idle_entries}
 use Rattle.tree_laws.proofs.FirstLevel as first
 use Rattle.tree_laws.proofs.FewPacks.{amounts_long}
 use Rattle.tree_laws.proofs.CompiledTree.{each, fit, given}

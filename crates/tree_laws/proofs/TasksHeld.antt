@@ -16,7 +16,7 @@ use Rattle.run_tree.specs.Compiled.{task_items}
 use Rattle.sched_base.proofs.SumLemmas.{sum_to_front}
 use Rattle.tree_laws.proofs.LeafEntries.{Entry, entries, entry_of, kind_entry, no_entry, entry_at, entries_before, leaf_from}
 use Rattle.tree_laws.proofs.PackItems.{item_entries}
-use Rattle.tree_laws.proofs.FirstLevel.{idle_entries}
+use Rattle.tree_laws.proofs.IdleLeaves.{idle_entries}
 
 -- ---- how many entries are idle
 
