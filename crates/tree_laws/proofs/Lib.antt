@@ -17,6 +17,7 @@ pub mod FewPacks
 pub mod SetRates
 pub mod ToldHomes
 pub mod CompiledTree
+pub mod SetTree
 pub mod Sizes
 pub mod TaskSteps
 pub mod IdleSteps
