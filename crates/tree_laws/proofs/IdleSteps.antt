@@ -8,7 +8,8 @@ use Rattle.run_tree.specs.declared.kinds.Kind.TheVariants as kind
 use Rattle.run_tree.specs.Tree.{rate}
 use Rattle.run_tree.specs.Making.{Making, started, put}
 use Rattle.run_tree.specs.Compiled.{pack_items, task_items, put_idles, first_level}
-use Rattle.tree_laws.specs.Raised.{RatesFit, leaf_count}
+use Rattle.run_tree.specs.Maker.{leaf_count}
+use Rattle.tree_laws.specs.Raised.{RatesFit}
 use Rattle.tree_laws.proofs.LeafEntries.{entries}
 use Rattle.tree_laws.proofs.IdleLeaves.{CanFill, fill_none, fill_room, fill_put, fill_some}
 use Rattle.tree_laws.proofs.FirstLevel as first

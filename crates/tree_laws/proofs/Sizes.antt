@@ -10,7 +10,8 @@ use Rattle.run_tree.specs.declared.kinds.Kind.TheVariants as kind
 use Rattle.run_tree.specs.Tree.{Node, is_leaf, no_node}
 use Rattle.run_tree.specs.Making.{Making, last_rates}
 use Rattle.run_tree.specs.Compiled.{task_items, first_level}
-use Rattle.tree_laws.specs.Raised.{RatesFit, leaf_count}
+use Rattle.run_tree.specs.Maker.{leaf_count}
+use Rattle.tree_laws.specs.Raised.{RatesFit}
 use Rattle.sched_base.proofs.SumLemmas.{sum_to_front}
 use Rattle.tree_laws.proofs.LeafEntries.{entries, entry_of, kind_entry}
 use Rattle.tree_laws.proofs.PackItems.{item_entries}

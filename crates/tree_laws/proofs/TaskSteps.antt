@@ -11,7 +11,8 @@ use Rattle.run_tree.specs.Tree.{rate}
 use Rattle.run_tree.specs.TreeOfSet.{task_id}
 use Rattle.run_tree.specs.Making.{Making, Item, started, put, last_rates}
 use Rattle.run_tree.specs.Compiled.{pack_items, task_items}
-use Rattle.tree_laws.specs.Raised.{RatesFit, leaf_count}
+use Rattle.run_tree.specs.Maker.{leaf_count}
+use Rattle.tree_laws.specs.Raised.{RatesFit}
 use Rattle.tree_laws.proofs.FirstFitRates.{room_is}
 use Rattle.tree_laws.proofs.FirstLevel as first
 use Rattle.tree_laws.proofs.CompiledTree.{each, fit, servers_are}

@@ -1,8 +1,7 @@
 -- The compiler's levels, one by one.
 use Rattle.std.specs.Prelude.{ℕ, zero, suc, ◌-◌, ◌*◌, ◌<◌, ◌≤◌, List, length, map, sum}
 use Rattle.std.specs.List.{All}
-use Rattle.sched_base.specs.Counting.{sum_to, bit}
-use Rattle.run_tree.specs.Tree.{Tree, kind_at, is_leaf, rate}
+use Rattle.run_tree.specs.Tree.{rate}
 use Rattle.run_tree.specs.Making.{Making, lower_packs}
 use Rattle.run_tree.specs.Compiled.{level_above}
 
@@ -25,7 +24,3 @@ IsRaised n m = (k : ℕ) → k < n → 0 < length (lower_packs (raised k m))
 -- the rates of the duals of the last level's packs that aren't roots
 abbrev pub lower_duals : Making → List ℕ
 lower_duals m = map (λ p. m.tree.scale - rate m.tree p) (lower_packs m)
-
--- how many leaves a tree has
-abbrev pub leaf_count : Tree → ℕ
-leaf_count t = sum_to (length t.nodes) (λ x. bit (is_leaf (kind_at t x)))

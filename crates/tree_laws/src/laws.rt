@@ -7,7 +7,8 @@ ghost use Rattle.run_tree.specs.Tree.{IsPack, level, dual};
 ghost use Rattle.run_tree.specs.TreeOfSet.{IsTreeOf};
 ghost use Rattle.run_tree.specs.Making.{started, last_rates, lower_packs, put_items, lifted};
 ghost use Rattle.run_tree.specs.Compiled.{pack_items, task_items, put_idles, first_level, tree_of_rates, tree_of};
-ghost use Rattle.tree_laws.specs.Raised.{RatesFit, raised, IsRaised, lower_duals, leaf_count};
+ghost use Rattle.run_tree.specs.Maker.{leaf_count};
+ghost use Rattle.tree_laws.specs.Raised.{RatesFit, raised, IsRaised, lower_duals};
 
 /// The compiled tree of a lawful set that fits is a reduction tree of the set. So its levels end, and the last one has
 /// roots alone.

@@ -1,0 +1,4 @@
+mod HomeLemmas
+mod Level0Lemmas
+mod HigherLemmas
+mod CompilerLemmas

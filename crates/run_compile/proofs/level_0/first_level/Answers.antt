@@ -1,0 +1,61 @@
+use Rattle.std.proofs.Common.{ℕ, ◌≡◌, ◌≤◌, ◌<◌, ◌+◌, length, get_or, ap, arith, ◌∙◌, sym, subst, subst₂, drop}
+use Rattle.sched_base.specs.declared.rows.Leaf.TheVariants.{Idle}
+use Rattle.run_tree.specs.declared.kinds.Kind.TheVariants as kind
+use Rattle.run_tree.specs.Making.{Making, put}
+use Rattle.run_tree.specs.Compiled.{first_level}
+use Rattle.tree_laws.proofs.IdleSteps.{IsFilling, idle_start}
+use Rattle.run_compile.proofs.Level0Lemmas.{asked_of, asked_limit, idles_of, idles_asked, idle_told, idles_long, fill_skip, fill_asks, fill_put, fill_end}
+use Rattle.run_compile.proofs.level_0.first_level.Goals as goal
+
+pub loop-s-init : goal.loop-s-init
+loop-s-init c =
+    let P : Making → Type 0 = λ m. IsFilling (first_level c.args.processors c.args.scale c.args.rates.now) (length c.args.rates.now) 0 0 (asked_of c.args.processors c.args.scale c.args.rates.now) m in
+    subst P (sym c.in_ok-maker.ensures) (idle_start c.args.processors c.args.scale c.args.rates.now c.requires.fit)
+
+pub leaf-requires-clause-few : goal.leaf-requires-clause-few
+leaf-requires-clause-few c =
+    let counted = c.loop-s.invariant.counted in
+    let few = c.loop-s.invariant.few in
+    let told = idles_asked c.args.processors c.args.scale c.args.rates.now c.in_ok-packing.packing.servers c.fill.new.packing.servers c.in_ok-packing.ensures.rates c.in_ok-packing.ensures.sum c.in_ok-fill.ensures.filled in
+    let long = idles_long c.fill.new.packing.servers (asked_of c.args.processors c.args.scale c.args.rates.now) told in
+    let limit = asked_limit c.args.processors c.args.scale c.args.rates.now c.requires.fit c.requires.few_processors c.requires.few_tasks in
+    omega (arith, counted, few, long, limit)
+
+pub leaf-requires-clause-rate_fits : goal.leaf-requires-clause-rate_fits
+leaf-requires-clause-rate_fits c =
+    let told = idles_asked c.args.processors c.args.scale c.args.rates.now c.in_ok-packing.packing.servers c.fill.new.packing.servers c.in_ok-packing.ensures.rates c.in_ok-packing.ensures.sum c.in_ok-fill.ensures.filled in
+    let asked = asked_of c.args.processors c.args.scale c.args.rates.now in
+    let long = idles_long c.fill.new.packing.servers asked told in
+    let is = c.idle-rate.ensures ∙ idle_told c.fill.new.packing.servers asked c.loop-s.s told (omega arith) in
+    (fill_asks (first_level c.args.processors c.args.scale c.args.rates.now) c.loop-s.maker (length c.args.rates.now) c.loop-s.s c.loop-s.number c.idle-rate.result asked c.loop-s.invariant (omega (arith, long)) is (omega arith)).rate_fits
+
+pub leaf-requires-clause-within : goal.leaf-requires-clause-within
+leaf-requires-clause-within c =
+    let told = idles_asked c.args.processors c.args.scale c.args.rates.now c.in_ok-packing.packing.servers c.fill.new.packing.servers c.in_ok-packing.ensures.rates c.in_ok-packing.ensures.sum c.in_ok-fill.ensures.filled in
+    let asked = asked_of c.args.processors c.args.scale c.args.rates.now in
+    let long = idles_long c.fill.new.packing.servers asked told in
+    let is = c.idle-rate.ensures ∙ idle_told c.fill.new.packing.servers asked c.loop-s.s told (omega arith) in
+    (fill_asks (first_level c.args.processors c.args.scale c.args.rates.now) c.loop-s.maker (length c.args.rates.now) c.loop-s.s c.loop-s.number c.idle-rate.result asked c.loop-s.invariant (omega (arith, long)) is (omega arith)).within
+
+pub loop-s-preserved : goal.loop-s-preserved
+loop-s-preserved c =
+    let told = idles_asked c.args.processors c.args.scale c.args.rates.now c.in_ok-packing.packing.servers c.fill.new.packing.servers c.in_ok-packing.ensures.rates c.in_ok-packing.ensures.sum c.in_ok-fill.ensures.filled in
+    let asked = asked_of c.args.processors c.args.scale c.args.rates.now in
+    let long = idles_long c.fill.new.packing.servers asked told in
+    let is = c.idle-rate.ensures ∙ idle_told c.fill.new.packing.servers asked c.loop-s.s told (omega arith) in
+    let whole = first_level c.args.processors c.args.scale c.args.rates.now in
+    let tasks = length c.args.rates.now in
+    let P : Making → ℕ → Type 0 = λ m k. IsFilling whole tasks (c.loop-s.s + 1) k (drop (c.loop-s.s + 1) asked) m in
+    elim c.if-rate-gt0.branch [
+      | goal.then-rate-gt0+in_ok-leaf w ↦
+          subst₂ P (sym (w.maker-is ∙ w.in_ok-leaf.ensures.ok)) (sym w.number-is) (fill_put whole c.loop-s.maker tasks c.loop-s.s c.loop-s.number c.idle-rate.result asked c.loop-s.invariant (omega (arith, long)) is (omega arith))
+      | goal.else-rate-gt0 w ↦
+          subst₂ P (sym w.maker-is) (sym w.number-is) (fill_skip whole c.loop-s.maker tasks c.loop-s.s c.loop-s.number c.idle-rate.result asked c.loop-s.invariant (omega (arith, long)) is (omega arith))
+    ]
+
+pub returns : goal.returns
+returns c =
+    let told = idles_asked c.args.processors c.args.scale c.args.rates.now c.in_ok-packing.packing.servers c.fill.new.packing.servers c.in_ok-packing.ensures.rates c.in_ok-packing.ensures.sum c.in_ok-fill.ensures.filled in
+    let asked = asked_of c.args.processors c.args.scale c.args.rates.now in
+    let long = idles_long c.fill.new.packing.servers asked told in
+    fill_end (first_level c.args.processors c.args.scale c.args.rates.now) c.loop-s.maker (length c.args.rates.now) c.loop-s.s c.loop-s.number asked c.loop-s.invariant (omega (arith, long))

@@ -1,0 +1,57 @@
+//! Sets into plans.
+ghost use Rattle.std.specs.Prelude.{ℕ, ◌≡◌, ◌≤◌, ◌+◌, ◌-◌, ◌^◌, ◌⊎◌, map, IfOk, IfErr};
+ghost use Rattle.sched_base.specs.Scale.{IsScale, Fits, rate_of};
+ghost use Rattle.run_tree.specs.Compiled.{tree_of};
+ghost use Rattle.run_compile.specs.Answers.{HasScale, IsRefused};
+ghost use Rattle.sched_laws.specs.LevelCounts.{duals_of};
+
+use crate::faults::CompileFault;
+use crate::higher;
+use rate_scale::{fits, rate, scale_of, total};
+use run_tree::Plan;
+use sched_base::{NoMemory, TaskSet};
+use std::alloc::Global;
+
+/// Compiles a set: its scale, and the tree that has the tasks by first fit and idle leaves at level 0, and the duals by
+/// first fit at each further level.
+pub fn compile(alloc: Global, set: TaskSet) -> Result<Plan, CompileFault>
+    ensures set { IfOk result (λ plan. plan.set ≡ set) }
+    ensures scale { IfOk result (λ plan. HasScale set plan.tree.scale) }
+    ensures fits { IfOk result (λ plan. Fits plan.tree.scale set) }
+    ensures tree { IfOk result (λ plan. plan.tree ≡ tree_of plan.tree.scale set) }
+    ensures refused { IfErr result (λ fault. IsRefused set fault) }
+{
+    let scale = scale_of(&set)?;
+    if !fits(&set, scale) {
+        let room = u128::from(set.processors()) * scale;
+        return Err(CompileFault::Overload {
+            total: total(&set, scale),
+            room,
+        });
+    }
+    let rates = rates_of(alloc, &set, scale)?;
+    let tree = higher::tree_of(alloc, set.processors(), scale, rates.as_slice())?;
+    Ok(Plan::new(set, scale, tree))
+}
+
+// The rate of each task, in order.
+fn rates_of(alloc: Global, set: &TaskSet, scale: u128) -> Result<Vec<u128>, NoMemory>
+    requires scale { IsScale set.now.tasks scale }
+    requires scale_fits { scale ≤ 2 ^ 94 }
+    ensures { IfOk result (λ rates. rates.items ≡ map (rate_of scale) set.now.tasks) }
+{
+    let mut rates = Vec::new(alloc);
+    for task in set.tasks() {
+        rates.push(rate(task.work, task.period, scale))?;
+    }
+    Ok(rates)
+}
+
+/// The number of levels of a plan's tree, level 0 included.
+pub fn levels(plan: &Plan) -> u32
+    ensures value { result ≡ plan.now.tree.levels }
+    // With p packs of level 0 that aren't roots there are at most log2 (p - 1) levels above it.
+    ensures height { (k : ℕ) → k + 1 ≡ result → (k ≡ 0) ⊎ (2 ^ k ≤ duals_of plan.now.tree 0 - 1) }
+{
+    plan.tree().levels()
+}

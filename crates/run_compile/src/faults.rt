@@ -1,0 +1,42 @@
+//! Why a set isn't compiled.
+use rate_scale::ScaleTooLarge;
+use sched_base::NoMemory;
+
+/// Why a set isn't compiled.
+#[derive(Clone, Copy, Debug, PartialEq, Eq)]
+pub enum CompileFault {
+    /// The scale is past 2^94 ticks per unit.
+    ScaleTooLarge {
+        /// The first task whose period brings the least common multiple of the periods up to it past that limit.
+        at: u32,
+    },
+    /// The tasks ask for more than the processors have, both in ticks per unit.
+    Overload {
+        total: u128,
+        room: u128,
+    },
+    /// Memory was refused.
+    NoMemory,
+}
+
+impl From<ScaleTooLarge> for CompileFault {
+    ghost use Rattle.std.specs.Prelude.{◌≡◌};
+    ghost use Rattle.run_compile.specs.declared.faults.CompileFault.TheVariants as fault;
+
+    ghost from_gives = { λ e f. f ≡ fault.ScaleTooLarge e.at };
+
+    fn from(refusal: ScaleTooLarge) -> Self {
+        CompileFault::ScaleTooLarge { at: refusal.at }
+    }
+}
+
+impl From<NoMemory> for CompileFault {
+    ghost use Rattle.std.specs.Prelude.{◌≡◌};
+    ghost use Rattle.run_compile.specs.declared.faults.CompileFault.TheVariants as fault;
+
+    ghost from_gives = { λ _ f. f ≡ fault.NoMemory };
+
+    fn from(_: NoMemory) -> Self {
+        CompileFault::NoMemory
+    }
+}

@@ -1,0 +1,63 @@
+//! Level 0: the tasks by first fit, then the idle leaves.
+ghost use Rattle.std.specs.Prelude.{◌≡◌, ◌≤◌, ◌^◌, length, IfOk};
+ghost use Rattle.sched_base.specs.FirstFit.{homes};
+ghost use Rattle.run_tree.specs.Making.{started};
+ghost use Rattle.run_tree.specs.Compiled.{pack_items, task_items, first_level as level_0};
+ghost use Rattle.tree_laws.specs.Raised.{RatesFit};
+
+use crate::homes::homes_of;
+use idle_fill::fill;
+use run_tree::TreeMaker;
+use sched_base::{Leaf, NoMemory, TaskId};
+use server_pack::first_fit;
+use std::alloc::Global;
+
+/// Level 0 of the tree of tasks of these rates.
+pub(crate) fn first_level(
+    alloc: Global,
+    processors: u32,
+    scale: u128,
+    rates: &[u128],
+) -> Result<TreeMaker, NoMemory>
+    requires fit { RatesFit processors scale rates.now }
+    requires few_processors { processors ≤ 32 }
+    requires scale_fits { scale ≤ 2 ^ 94 }
+    requires few_tasks { length rates.now ≤ 256 }
+    ensures { IfOk result (λ maker. maker ≡ level_0 processors scale rates.now) }
+{
+    let mut packing = first_fit(alloc, rates, scale)?;
+    let homes = homes_of(alloc, &packing, rates)?;
+    let mut maker = pack_tasks(alloc, processors, scale, rates, homes.as_slice())?;
+    fill(alloc, &mut packing, processors, scale)?;
+    let mut number = 0;
+    for s in 0..packing.servers() {
+        let rate = packing.idle(s);
+        if rate > 0 {
+            maker.leaf(Leaf::Idle(number), rate, s)?;
+            number += 1;
+        }
+    }
+    Ok(maker)
+}
+
+// The tasks of these rates, each in the home that it is told.
+fn pack_tasks(
+    alloc: Global,
+    processors: u32,
+    scale: u128,
+    rates: &[u128],
+    told: &[u32],
+) -> Result<TreeMaker, NoMemory>
+    requires fit { RatesFit processors scale rates.now }
+    requires few_processors { processors ≤ 32 }
+    requires scale_fits { scale ≤ 2 ^ 94 }
+    requires few_tasks { length rates.now ≤ 256 }
+    requires homes { told.now ≡ homes scale rates.now }
+    ensures { IfOk result (λ maker. maker ≡ pack_items (task_items 0 rates.now) (started processors scale)) }
+{
+    let mut maker = TreeMaker::start(alloc, processors, scale);
+    for (j, rate) in rates.iter().enumerate() {
+        maker.leaf(Leaf::Task(TaskId(j as u32)), *rate, told[j])?;
+    }
+    Ok(maker)
+}
