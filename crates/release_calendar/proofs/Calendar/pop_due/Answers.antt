@@ -1,0 +1,30 @@
+use Rattle.std.proofs.Common.{arith, ap, sym, ◌∙◌, ◌&&◌, not, ℕ, List, subst, subst₂, length}
+use Rattle.run_tree.specs.Tree.{kind_at, is_pack}
+use Rattle.run_tree.specs.Plans.{boundary_of}
+use Rattle.release_calendar.specs.Calendars.{CalendarContents, AreReady}
+use Rattle.release_calendar.proofs.TurnLemmas.{belongs_written, ready_next}
+use Rattle.release_calendar.proofs.Calendar.pop_due.Goals as goal
+
+pub returns-clause-belongs : goal.returns-clause-belongs
+returns-clause-belongs c =
+    let early = c.requires.early in
+    let next = ap (λ (s : CalendarContents). s.next) c.self.view_is in
+    let b = ap (λ (s : CalendarContents). length s.begins) c.self.view_is in
+    let e = ap (λ (s : CalendarContents). length s.ends) c.self.view_is in
+    let long = c.requires.belongs.begins_long in
+    let long' = c.requires.belongs.ends_long in
+    let v = ap (λ (xs : List ℕ). length xs) c.deref_mut.ensures.value in
+    let v' = ap (λ (xs : List ℕ). length xs) c.deref_mut-2.ensures.value in
+    let kept = c.turn_marked-next.auto.begins in
+    let kept' = c.turn_marked-next.auto.ends in
+    belongs_written c.args.plan.now c.tree-lawful.ensures.lawful c.self.inside.begins c.self.inside.ends c.turn_marked-next.new.begins c.turn_marked-next.new.ends c.self.inside.next c.turn_marked-next.result (omega (arith, early, next)) (omega (arith, b, long, v, kept)) (omega (arith, e, long', v', kept')) (omega (arith, v, kept)) (omega (arith, v', kept'))
+    c.turn_marked-next.ensures.windows c.turn_marked-next.ensures.next
+
+pub returns-clause-due : goal.returns-clause-due
+returns-clause-due c = λ x l. c.turn_marked-next.ensures.due x l ∙ ap (λ (s : CalendarContents). not (is_pack (kind_at c.args.plan.now.tree x)) && boundary_of c.args.plan.now x s.next) c.self.view_is
+
+pub turn_marked-next-requires-clause-ready : goal.turn_marked-next-requires-clause-ready
+turn_marked-next-requires-clause-ready c =
+    let P : CalendarContents → Type 0 = λ s. AreReady c.args.plan.now s.begins s.ends s.next in
+    let Q : List ℕ → List ℕ → Type 0 = λ b e. AreReady c.args.plan.now b e c.self.inside.next in
+    subst₂ Q (sym c.deref_mut.ensures.value) (sym c.deref_mut-2.ensures.value) (subst P (sym c.self.view_is) (ready_next c.args.plan.now c.tree-lawful.ensures.lawful c.args.self.now c.requires.belongs))

@@ -1,0 +1,61 @@
+-- Calendars, and how they belong to a plan.
+use Rattle.std.specs.Prelude.{◌≡◌, ℕ, ◌<◌, ◌≤◌, ◌^◌, ◌⊎◌, true, false, List, length, slice_index}
+use Rattle.sched_base.specs.declared.sets.Task as declared
+use Rattle.sched_base.specs.Sets.{task_at}
+use Rattle.run_tree.specs.Windows.{window_begin, window_end}
+use Rattle.run_tree.specs.Tree.{Tree, IsLeaf, IsMember}
+use Rattle.run_tree.specs.Boundaries.{task_boundary}
+use Rattle.run_tree.specs.Plans.{PlanContents, boundary_of}
+
+-- the present unit, the next unit with a boundary of a task, and the window of each leaf and dual, by its number
+pub record CalendarContents : Type 0 where
+  pub unit : ℕ
+  pub next : ℕ
+  pub begins : List ℕ
+  pub ends : List ℕ
+
+-- leaf or dual x has its window of unit u
+pub record HasWindow (p : PlanContents) (begins ends : List ℕ) (u x : ℕ) : Type 0 where
+  pub begin : slice_index begins x ≡ window_begin (boundary_of p x) u
+  pub end : slice_index ends x ≡ window_end (boundary_of p x) u
+
+-- d is the least unit above u at which some task has a boundary; 2 ^ 33 where there are no tasks
+pub record IsNext (tasks : List declared.Task) (u d : ℕ) : Type 0 where
+  pub above : u < d
+  pub below : d ≤ 2 ^ 33
+  pub quiet : (j v : ℕ) → j < length tasks → u < v → v < d → task_boundary (task_at tasks j) v ≡ false
+  pub here : (d ≡ 2 ^ 33) ⊎ ((j : ℕ) × (j < length tasks) × (task_boundary (task_at tasks j) d ≡ true))
+
+-- the calendar's windows, and its next unit, are those of the plan at its unit
+pub record BelongsTo (p : PlanContents) (c : CalendarContents) : Type 0 where
+  pub unit_fits : c.unit ≤ p.set.horizon
+  pub begins_long : length c.begins ≡ length p.tree.nodes
+  pub ends_long : length c.ends ≡ length p.tree.nodes
+  pub windows : (x : ℕ) → IsMember p.tree x → HasWindow p c.begins c.ends c.unit x
+  pub next : IsNext p.set.tasks c.unit c.next
+
+-- the ends fit 64 bits
+abbrev pub EndsFit : List ℕ → Type 0
+EndsFit ends = (x : ℕ) → slice_index ends x < 2 ^ 64
+
+-- ---- the steps of a turn
+
+-- leaf or dual x either ends its window at unit u or has its window of unit u
+pub record IsReady (p : PlanContents) (begins ends : List ℕ) (u x : ℕ) : Type 0 where
+  pub due : slice_index ends x ≡ u → boundary_of p x u ≡ true
+  pub other : (slice_index ends x ≡ u → ⊥) → HasWindow p begins ends u x
+
+abbrev pub AreReady : PlanContents → List ℕ → List ℕ → ℕ → Type 0
+AreReady p begins ends u = (x : ℕ) → IsMember p.tree x → IsReady p begins ends u x
+
+-- the leaves and duals below number n have their windows of unit u, and the others what they had before
+pub record AreTurned (p : PlanContents) (begins ends begins' ends' : List ℕ) (u n : ℕ) : Type 0 where
+  pub done : (x : ℕ) → x < n → IsMember p.tree x → HasWindow p begins' ends' u x
+  pub same_begin : (x : ℕ) → (x < n → ⊥) → slice_index begins' x ≡ slice_index begins x
+  pub same_end : (x : ℕ) → (x < n → ⊥) → slice_index ends' x ≡ slice_index ends x
+
+-- the least end of the leaves below number n, or 2 ^ 33 where none is less
+pub record IsFirstEnd (t : Tree) (ends : List ℕ) (n d : ℕ) : Type 0 where
+  pub below : d ≤ 2 ^ 33
+  pub all : (x : ℕ) → x < n → IsLeaf t x → d ≤ slice_index ends x
+  pub one : (d ≡ 2 ^ 33) ⊎ ((x : ℕ) × IsLeaf t x × (d ≡ slice_index ends x))

@@ -1,0 +1,92 @@
+//! The present window of each leaf and dual of a plan, and the next unit at which a task has a boundary.
+#![tactic(auto)]
+
+mod turns;
+
+ghost use Rattle.std.specs.Prelude.{◌≡◌, ℕ, ◌<◌, ◌≤◌, ◌&&◌, not, false, length, slice_index, slice_index_or, IfOk};
+ghost use Rattle.run_tree.specs.Tree.{kind_at, is_pack};
+ghost use Rattle.run_tree.specs.Plans.{boundary_of};
+ghost use Rattle.release_calendar.specs.Calendars.{BelongsTo};
+
+use run_tree::Plan;
+use sched_base::{NoMemory, NodeId};
+use std::alloc::Global;
+use std::marker::Model;
+
+/// A calendar that stands at a unit: the window of each leaf and dual there, and the next unit with a boundary of a task.
+#[derive(Drop)]
+pub struct Calendar {
+    unit: u64,
+    next: u64,
+    begins: Vec<u64>,
+    ends: Vec<u128>,
+}
+
+impl Model for Calendar {
+    ghost use Rattle.std.specs.Prelude.{◌≡◌, length};
+    ghost use Rattle.release_calendar.specs.Calendars.{CalendarContents, EndsFit};
+
+    ghost Value = { CalendarContents };
+
+    ghost view = { λ c. record { unit = c.unit; next = c.next; begins = c.begins.items; ends = c.ends.items } };
+
+    ghost invariant = { λ c. (length c.ends.items ≡ length c.begins.items) × EndsFit c.ends.items };
+}
+
+impl Calendar {
+    /// The calendar of a plan at unit 0.
+    pub fn new(alloc: Global, plan: &Plan) -> Result<Calendar, NoMemory>
+        ensures { IfOk result (λ c. (c.unit ≡ 0) × BelongsTo plan.now c) }
+    {
+        let count = plan.tree().nodes() as usize;
+        let mut begins = turns::first_begins(alloc, count)?;
+        let mut ends = turns::first_ends(alloc, count)?;
+        let next = turns::turn(plan, 0, &mut begins, &mut ends);
+        Ok(Calendar {
+            unit: 0,
+            next,
+            begins,
+            ends,
+        })
+    }
+
+    /// The least unit above the present one at which some task has a boundary, or 2^33 where there are no tasks.
+    pub fn next(&self) -> u64
+        ensures { result ≡ self.now.next }
+    {
+        self.next
+    }
+
+    /// Moves to the next unit, marks exactly the leaves and duals that have a boundary there, and gives each of them its next
+    /// window. It takes no memory.
+    pub fn pop_due(&mut self, plan: &Plan, due: &mut [bool])
+        requires belongs { BelongsTo plan.now self.old }
+        requires early { self.old.next ≤ plan.now.set.horizon }
+        requires due { length due.old ≡ length plan.now.tree.nodes }
+        ensures unit { self.new.unit ≡ self.old.next }
+        ensures belongs { BelongsTo plan.now self.new }
+        ensures due { (x : ℕ) → x < length plan.now.tree.nodes → slice_index_or due.new x false ≡ (not (is_pack (kind_at plan.now.tree x)) && boundary_of plan.now x self.old.next) }
+    {
+        let _lawful = plan.tree();
+        let at = self.next;
+        let next = turns::turn_marked(plan, at, &mut self.begins, &mut self.ends, due);
+        self.unit = at;
+        self.next = next;
+    }
+
+    /// The window of leaf or dual n, in units: its begin, and its end, which is excluded.
+    pub fn window(&self, n: NodeId) -> (u64, u64)
+        requires { n.0 < length self.now.begins }
+        ensures begin { result.0 ≡ slice_index self.now.begins n.0 }
+        ensures end { result.1 ≡ slice_index self.now.ends n.0 }
+    {
+        (self.begins[n.0 as usize], self.ends[n.0 as usize] as u64)
+    }
+
+    /// The end of the window of each leaf and dual, in units.
+    pub fn ends(&self) -> &[u128]
+        ensures { result.now ≡ self.now.ends }
+    {
+        self.ends.as_slice()
+    }
+}
