@@ -1,21 +1,20 @@
 -- The levels above level 0, as they are made.
-use Rattle.std.proofs.Common.{◌≡◌, ℕ, zero, suc, ◌+◌, ◌-◌, ◌*◌, ◌<◌, ◌≤◌, ◌≢◌, Bool, true, false, cond, List, [], ◌∷◌, ◌++◌, filter, map, length, get_or, take, max, nat_lt, refl, ap, ap₂, arith, ◌⊎◌, inl, inr, sym, subst, ◌∙◌}
+use Rattle.std.proofs.Common.{◌≡◌, ℕ, zero, suc, ◌+◌, ◌-◌, ◌<◌, ◌≤◌, true, false, cond, List, [], ◌∷◌, ◌++◌, filter, map, length, get_or, take, nat_lt, refl, ap, arith, inl, inr, sym, subst, ◌∙◌}
 use Rattle.std.proofs.Math.Seq.{take-suc}
 use Rattle.std.proofs.lemmas.Bool.{cases_Bool, cases_lt, ltb-true, lt-ltb, le-ltb}
 use Rattle.std.proofs.lemmas.List.{length-map, get_or-map, append-nil}
 use Rattle.std.proofs.lemmas.List.Elements.{All-from_get_or, filter-append}
 use Rattle.std.specs.List.{All}
-use Rattle.sched_base.specs.FirstFit.{packed, homes}
-use Rattle.run_tree.specs.Tree.{Tree, rate, IsTree}
+use Rattle.sched_base.specs.FirstFit.{homes}
+use Rattle.run_tree.specs.Tree.{rate, IsTree}
 use Rattle.run_tree.specs.Making.{Making, last_rates, lower_packs, lifted}
-use Rattle.run_tree.specs.Compiled.{first_level, level_above, tree_of_rates}
+use Rattle.run_tree.specs.Compiled.{first_level, tree_of_rates}
 use Rattle.tree_laws.specs.Raised.{RatesFit, raised, IsRaised, lower_duals}
-use Rattle.tree_laws.proofs.LastLevel.{IsLevel, is_lower, kept_in}
+use Rattle.tree_laws.proofs.LastLevel.{is_lower, kept_in}
 use Rattle.tree_laws.proofs.NextLevel.{is_tree}
-use Rattle.tree_laws.proofs.RaisedLevels.{IsAbove, raised_level, raised_above, raised_levels, raised_few, raised_fewer, raised_lower}
+use Rattle.tree_laws.proofs.RaisedLevels.{raised_level, raised_above, raised_levels, raised_few, raised_fewer, raised_lower}
 use Rattle.tree_laws.proofs.CompiledTree.{level_0_is, level_0_kept, packs_few, last_level, level_follows}
 use Rattle.tree_laws.proofs.Sizes.{servers_few, level_rates_fit}
-use Rattle.run_compile.proofs.HomeLemmas.{homes_long}
 
 -- ---- the rates of the packs that aren't roots
 

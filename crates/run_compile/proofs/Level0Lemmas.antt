@@ -1,19 +1,19 @@
 -- Level 0 as it is made, leaf by leaf.
-use Rattle.std.proofs.Common.{◌≡◌, ℕ, zero, suc, ◌+◌, ◌-◌, ◌*◌, ◌<◌, ◌≤◌, List, [], ◌∷◌, drop, map, length, get_or, take, min, sum, refl, ap, ap₂, arith, sym, subst, ◌∙◌, add-one}
+use Rattle.std.proofs.Common.{◌≡◌, ℕ, zero, suc, ◌+◌, ◌-◌, ◌*◌, ◌<◌, ◌≤◌, List, [], ◌∷◌, drop, map, length, get_or, take, min, sum, refl, ap, ap₂, arith, sym, subst, ◌∙◌}
 use Rattle.std.proofs.Math.Seq.{drop-cons}
 use Rattle.std.proofs.lemmas.List.{length-map, get_or-map}
 use Rattle.sched_base.specs.FirstFit.{packed, homes, idles}
 use Rattle.sched_base.specs.declared.rows.Leaf.TheVariants.{Task, Idle}
 use Rattle.run_tree.specs.declared.kinds.Kind.TheVariants as kind
 use Rattle.run_tree.specs.Making.{Making, started, put}
-use Rattle.run_tree.specs.Compiled.{pack_items, task_items, first_level}
+use Rattle.run_tree.specs.Compiled.{pack_items, task_items}
 use Rattle.server_pack.specs.declared.packing.Server.{Server}
 use Rattle.server_pack.specs.Servers.{server_at, no_server, rates_of, rate_sum, idle_alone, with_idles}
 use Rattle.run_tree.specs.Maker.{leaf_count}
 use Rattle.tree_laws.specs.Raised.{RatesFit}
 use Rattle.tree_laws.proofs.Sizes.{servers_few}
 use Rattle.tree_laws.proofs.TaskSteps.{MayCome, tasks_counted, task_step, task_may_come}
-use Rattle.tree_laws.proofs.IdleSteps.{IsFilling, idle_skip, idle_may_come, idle_step, asked_few, idle_start}
+use Rattle.tree_laws.proofs.IdleSteps.{IsFilling, idle_skip, idle_may_come, idle_step, asked_few}
 
 -- ---- tasks
 

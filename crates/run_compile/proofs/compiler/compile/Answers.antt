@@ -1,4 +1,4 @@
-use Rattle.std.proofs.Common.{rules, ℕ, ◌≡◌, ap, ◌∙◌, sym, subst}
+use Rattle.std.proofs.Common.{rules, ◌≡◌, ap, ◌∙◌, sym, subst}
 use Rattle.sched_base.specs.Scale.{Fits}
 use Rattle.run_tree.specs.Compiled.{tree_of}
 use Rattle.run_compile.proofs.CompilerLemmas.{set_rates_fit, made_scale, made_tree, made_by_scale, made_fits}

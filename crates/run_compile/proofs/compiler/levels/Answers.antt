@@ -1,4 +1,4 @@
-use Rattle.std.proofs.Common.{◌∙◌, ℕ, ◌≡◌, ap, subst}
+use Rattle.std.proofs.Common.{◌∙◌, ap}
 use Rattle.run_tree.specs.Tree.{Tree}
 use Rattle.sched_laws.proofs.LevelBound.{levels_bound_at}
 use Rattle.run_compile.proofs.compiler.levels.Goals as goal

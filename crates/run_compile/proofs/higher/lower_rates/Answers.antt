@@ -1,6 +1,6 @@
-use Rattle.std.proofs.Common.{ℕ, List, ◌≡◌, ◌++◌, ◌∷◌, [], ap, arith, ◌∙◌, sym}
+use Rattle.std.proofs.Common.{◌++◌, ◌∷◌, [], ap, arith, ◌∙◌, sym}
 use Rattle.run_tree.specs.Making.{last_rates}
-use Rattle.run_compile.proofs.HigherLemmas.{below, below-next, below-skip, below-all, rate_there, last_long}
+use Rattle.run_compile.proofs.HigherLemmas.{below-next, below-skip, below-all, rate_there, last_long}
 use Rattle.run_compile.proofs.higher.lower_rates.Goals as goal
 
 pub loop-i-preserved : goal.loop-i-preserved

@@ -1,7 +1,7 @@
-use Rattle.std.proofs.Common.{ℕ, List, ◌≡◌, length, ap, ap₂, arith, ◌∙◌, sym, subst}
+use Rattle.std.proofs.Common.{ℕ, List, ◌≡◌, length, ap, ap₂, arith, ◌∙◌, subst}
 use Rattle.std.specs.Prelude.{OnOk}
 use Rattle.sched_base.specs.FirstFit.{homes}
-use Rattle.run_tree.specs.Making.{Making, lower_packs, lifted}
+use Rattle.run_tree.specs.Making.{lower_packs, lifted}
 use Rattle.tree_laws.specs.Raised.{lower_duals}
 use Rattle.run_compile.proofs.HomeLemmas.{homes_long}
 use Rattle.run_compile.proofs.HigherLemmas.{lower_range, duals_range, duals_long, duals_are, duals_from}

@@ -1,4 +1,4 @@
-use Rattle.std.proofs.Common.{rules, ℕ, ◌≡◌, ◌<◌, ◌≤◌, length, refl, ap, arith, ◌∙◌, sym}
+use Rattle.std.proofs.Common.{rules, ◌≡◌, ◌<◌, length, refl, ap, arith, ◌∙◌}
 use Rattle.run_tree.specs.Making.{Making}
 use Rattle.tree_laws.proofs.CompiledTree.{level_0_kept}
 use Rattle.run_compile.proofs.HigherLemmas as higher

@@ -1,6 +1,5 @@
-use Rattle.std.proofs.Common.{ℕ, ◌≡◌, ◌<◌, length, get_or, take, drop, ◌++◌, arith, ap, sym, ◌∙◌}
+use Rattle.std.proofs.Common.{◌≡◌, ◌<◌, length, take, drop, ◌++◌, arith, ap, ◌∙◌}
 use Rattle.std.proofs.Math.Seq.{take-append_seam}
-use Rattle.std.proofs.lemmas.List.{length-map}
 use Rattle.std.proofs.lemmas.List.Elements.{All-from_get_or}
 use Rattle.sched_base.specs.FirstFit.{homes}
 use Rattle.run_compile.proofs.HomeLemmas.{all_told, told_apart, told_inside, homes_below, homes_long}

@@ -1,10 +1,8 @@
-use Rattle.std.proofs.Common.{ℕ, ◌≡◌, ◌≤◌, ◌<◌, ◌+◌, length, get_or, ap, arith, ◌∙◌, sym, subst, subst₂, drop}
-use Rattle.sched_base.specs.declared.rows.Leaf.TheVariants.{Idle}
-use Rattle.run_tree.specs.declared.kinds.Kind.TheVariants as kind
-use Rattle.run_tree.specs.Making.{Making, put}
+use Rattle.std.proofs.Common.{ℕ, ◌+◌, length, arith, ◌∙◌, sym, subst, subst₂, drop}
+use Rattle.run_tree.specs.Making.{Making}
 use Rattle.run_tree.specs.Compiled.{first_level}
 use Rattle.tree_laws.proofs.IdleSteps.{IsFilling, idle_start}
-use Rattle.run_compile.proofs.Level0Lemmas.{asked_of, asked_limit, idles_of, idles_asked, idle_told, idles_long, fill_skip, fill_asks, fill_put, fill_end}
+use Rattle.run_compile.proofs.Level0Lemmas.{asked_of, asked_limit, idles_asked, idle_told, idles_long, fill_skip, fill_asks, fill_put, fill_end}
 use Rattle.run_compile.proofs.level_0.first_level.Goals as goal
 
 pub loop-s-init : goal.loop-s-init

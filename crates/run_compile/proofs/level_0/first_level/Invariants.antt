@@ -1,4 +1,4 @@
-use Rattle.std.proofs.Common.{ℕ, List, length, drop, map, sum, ◌-◌, ◌*◌}
+use Rattle.std.proofs.Common.{length, drop, sum, ◌-◌, ◌*◌}
 use Rattle.sched_base.specs.FirstFit.{packed, idles}
 use Rattle.run_tree.specs.Compiled.{first_level}
 use Rattle.tree_laws.proofs.IdleSteps.{IsFilling}

@@ -1,5 +1,4 @@
-use Rattle.std.proofs.Common.{length, ap, arith, ◌∙◌, ◌≡◌}
-use Rattle.sched_base.specs.FirstFit.{homes}
+use Rattle.std.proofs.Common.{length, ap, arith, ◌∙◌}
 use Rattle.run_compile.proofs.HomeLemmas.{homes_long}
 use Rattle.run_compile.proofs.Level0Lemmas.{task_asks, task_count, task_put}
 use Rattle.run_compile.proofs.level_0.pack_tasks.Goals as goal
