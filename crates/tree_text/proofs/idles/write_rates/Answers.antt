@@ -1,0 +1,16 @@
+use Rattle.std.proofs.Common.{arith}
+use Rattle.sched_edges.proofs.Wrote.{number_written, wrote_number}
+use Rattle.tree_text.specs.Text.{idle_line}
+use Rattle.tree_text.proofs.idles.write_rates.Goals as goal
+
+pub returns-in_err-write_all-clause-wrote : goal.returns-in_err-write_all-clause-wrote
+returns-in_err-write_all-clause-wrote g c =
+    let wrote = rw (c.as_slice.ensures.bytes, c.numbers_line-line.ensures, c.idle_rate.ensures, c.from.ensures) at c.in_err-write_all.ensures.wrote in
+    wrote_number (idle_line c.args.tree.now) c.args.count c.loop-k.k _ _ _ _ _ c.loop-k-test.true c.loop-k.invariant.0 wrote c.from_residual.ensures.0
+
+pub loop-k-preserved : goal.loop-k-preserved
+loop-k-preserved g c =
+    let now = rw (c.as_slice.ensures.bytes, c.numbers_line-line.ensures, c.idle_rate.ensures, c.from.ensures) at c.in_ok-write_all.ensures.wrote.ok in
+    let before = c.loop-k.invariant.1 in
+    let later = c.write_all.ensures.cause.later in
+    (number_written (idle_line c.args.tree.now) c.loop-k.k _ _ _ c.loop-k.invariant.0 now, omega (arith, before, later))
