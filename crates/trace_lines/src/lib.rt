@@ -6,3 +6,6 @@ mod versions;
 
 pub use lines::met_line;
 pub use versions::Version;
+
+#[cfg(test)]
+mod tests;

@@ -8,5 +8,7 @@ mod orders;
 mod searches;
 mod supply;
 
+pub use entries::Entry;
 pub use faults::{FaultKind, Verdict};
 pub use judgments::{Judgment, judge};
+pub use orders::{front_len, order_by_task};

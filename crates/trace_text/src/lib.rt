@@ -6,3 +6,6 @@ mod words;
 
 pub use numbers::read_number;
 pub use words::{after_word, cut_space, first_line};
+
+#[cfg(test)]
+mod tests;
