@@ -1,0 +1,10 @@
+pub mod Steps
+pub mod Faults
+pub mod HeadLines
+pub mod TaskLines
+pub mod RowLines
+pub mod RowsRead
+pub mod TailLines
+pub mod Reaches
+pub mod Traces
+pub mod Reading
