@@ -9,7 +9,6 @@ use Rattle.task_reader.specs.Reading.{set_read_from}
 use Rattle.task_reader.specs.declared.refusals.ReadSet.{ReadSet}
 use Rattle.rate_scale.proofs.ScaleLemmas.{same_scale, PassesAt-whole}
 use Rattle.run_tool.specs.declared.words.Command.{Command}
-use Rattle.run_tool.specs.declared.words.Command.TheVariants.{Rate}
 use Rattle.run_tool.specs.declared.refusal.Refusal.{Refusal}
 use Rattle.run_tool.specs.declared.refusal.Refusal.TheVariants as why
 use Rattle.run_tool.specs.declared.status.Status.{Status}
@@ -18,10 +17,6 @@ use Rattle.run_tool.specs.Commands.{limit_of, ReadsSet, Writes, Refuses, Refuses
 use Rattle.run_tool.specs.Refusals.{status_of, set_status}
 use Rattle.run_tool.specs.Ends.{Streams, ErrorStream, IsDone, Stops, IsAnswer, IsAnswered}
 use Rattle.run_tool.specs.Refuse.{IsRefused}
-
--- there is one command
-pub only_rate : (c : Command) → c ≡ Rate
-only_rate Rate = refl
 
 -- a source that tells its bytes gave just these
 same_bytes : (bytes given : List ℕ) (left : Option (List ℕ)) (n : ℕ) → GaveAll (Some bytes) left n given → given ≡ bytes
@@ -58,20 +53,20 @@ no_overload bytes s t scale other total room reads fits reads' over is_total is_
 
 -- no command writes a text for bytes that it refuses
 writes_or_refuses : (c : Command) (bytes text : List ℕ) (refusal : Refusal) → Writes c bytes text → Refuses c bytes refusal → ⊥
-writes_or_refuses Rate bytes text (why.BadSet r) writes refuses = let (s, scale, reads, fits, is_text) = writes in not_both bytes s r reads.read refuses
-writes_or_refuses Rate bytes text (why.ScaleTooLarge task) writes refuses =
+writes_or_refuses c bytes text (why.BadSet r) writes refuses = let (s, scale, reads, fits, is_text) = writes in not_both bytes s r reads.read refuses
+writes_or_refuses c bytes text (why.ScaleTooLarge task) writes refuses =
     let (s, scale, reads, fits, is_text) = writes in
     let (t, read, passes) = refuses in
     no_pass bytes s t scale task reads read passes
-writes_or_refuses Rate bytes text (why.Overload total room) writes refuses =
+writes_or_refuses c bytes text (why.Overload total room) writes refuses =
     let (s, scale, reads, fits, is_text) = writes in
     let (t, other, reads', over, is_total, is_room) = refuses in
     no_overload bytes s t scale other total room reads fits reads' over is_total is_room
-writes_or_refuses Rate bytes text why.Usage writes refuses = refuses
-writes_or_refuses Rate bytes text why.ReadFault writes refuses = refuses
-writes_or_refuses Rate bytes text why.WriteFault writes refuses = refuses
-writes_or_refuses Rate bytes text why.NoMemory writes refuses = refuses
-writes_or_refuses Rate bytes text (why.InputTooLong count) writes refuses = refuses
+writes_or_refuses c bytes text why.Usage writes refuses = refuses
+writes_or_refuses c bytes text why.ReadFault writes refuses = refuses
+writes_or_refuses c bytes text why.WriteFault writes refuses = refuses
+writes_or_refuses c bytes text why.NoMemory writes refuses = refuses
+writes_or_refuses c bytes text (why.InputTooLong count) writes refuses = refuses
 
 -- bytes where a set is wanted are refused with one status
 one_set_status : (bytes : List ℕ) (r q : Refusal) → RefusesSet bytes r → RefusesSet bytes q → status_of r ≡ status_of q
@@ -97,7 +92,7 @@ one_set_status bytes r (why.InputTooLong count) a b = absurd b
 
 -- each command refuses bytes with one status
 one_status : (c : Command) (bytes : List ℕ) (r q : Refusal) → Refuses c bytes r → Refuses c bytes q → status_of r ≡ status_of q
-one_status Rate bytes r q a b = one_set_status bytes r q a b
+one_status c bytes r q a b = one_set_status bytes r q a b
 
 -- the answer, where the command writes a text
 answer_writes : (c : Command) (bytes text : List ℕ) (answer : Status) → length bytes ≤ limit_of c → Writes c bytes text → IsAnswer c bytes answer → Done ≡ answer

@@ -3,6 +3,6 @@ pub mod Words
 pub mod Refusals
 pub mod RateText
 pub mod Commands
-pub mod Rate
+pub mod Input
 pub mod Ends
 pub mod Refuse

@@ -19,12 +19,12 @@ head_text scale s =
     ++ number_line (codes "scale") scale))
 
 -- total, room and the verdict
-abbrev pub end_text : ℕ → SetContents → List ℕ
-end_text scale s =
-    number_line (codes "total") (total_of scale s.tasks)
-    ++ (number_line (codes "room") (room_of scale s)
+abbrev pub end_text : ℕ → ℕ → List ℕ
+end_text total room =
+    number_line (codes "total") total
+    ++ (number_line (codes "room") room
     ++ word_line (codes "verdict fits"))
 
 -- the text of a set of this scale
 abbrev pub rate_text : ℕ → SetContents → List ℕ
-rate_text scale s = head_text scale s ++ (flat_map (rate_line scale) s.tasks ++ end_text scale s)
+rate_text scale s = head_text scale s ++ (flat_map (rate_line scale) s.tasks ++ end_text (total_of scale s.tasks) (room_of scale s))

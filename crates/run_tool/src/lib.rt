@@ -1,12 +1,14 @@
 //! The commands, from the words and the bytes given to the status and the bytes written.
 #![tactic(auto)]
 
+mod input;
 mod rate;
 mod rate_text;
 mod refusal;
 mod refusal_line;
 mod status;
 mod top;
+mod tree;
 mod words;
 
 pub use rate_text::write_rate;

@@ -1,5 +1,4 @@
-//! The command `rate`, from the words and the bytes to the status and the bytes written: worked sets, and faults in
-//! mid-stream.
+//! The commands, from the words and the bytes to the status and the bytes written: worked sets, and faults in mid-stream.
 use crate::{Status, run_still};
 use sched_edges::{MemSink, MemSource};
 use std::alloc::Global;
@@ -139,6 +138,43 @@ fn each_end_has_its_texts(rt: HostRuntime) -> Result<(), Fail> {
         assert_eq!(rt; left.out.as_slice(), out.as_bytes(), "of {input}");
         assert_eq!(rt; left.err.as_slice(), err.as_bytes(), "of {input}");
     }
+    Ok(())
+}
+
+#[test]
+fn trees_of_worked_sets(rt: HostRuntime) -> Result<(), Fail> {
+    let rows = [
+        // One idle leaf takes the slack.
+        (
+            "processors = 2\nhorizon = 5\ntask = [{name = \"a\", work = 3, period = 5}, {name = \"b\", work = 3, period = 5}, {name = \"c\", work = 3, period = 5}]\n",
+            "run-tree 1\nprocessors 2\nhorizon 5\nscale 5\ntasks 3\ntask a 3 5\ntask b 3 5\ntask c 3 5\nidles 1\nidle 0 1\nlevel 0 3\npack 4 a -0\npack 3 b\npack 3 c\nlevel 1 1\npack 5 ~0 ~1 ~2\nlevels 2\n",
+        ),
+        // Two reductions.
+        (
+            "processors = 3\nhorizon = 5\ntask = [{name = \"a\", work = 3, period = 5}, {name = \"b\", work = 3, period = 5}, {name = \"c\", work = 3, period = 5}, {name = \"d\", work = 3, period = 5}, {name = \"e\", work = 3, period = 5}]\n",
+            "run-tree 1\nprocessors 3\nhorizon 5\nscale 5\ntasks 5\ntask a 3 5\ntask b 3 5\ntask c 3 5\ntask d 3 5\ntask e 3 5\nidles 0\nlevel 0 5\npack 3 a\npack 3 b\npack 3 c\npack 3 d\npack 3 e\nlevel 1 3\npack 4 ~0 ~1\npack 4 ~2 ~3\npack 2 ~4\nlevel 2 1\npack 5 ~0 ~1 ~2\nlevels 3\n",
+        ),
+        // Nine tasks of a vehicle, in microseconds.
+        (
+            "processors = 4\nhorizon = 1000000\ntask = [{name = \"control\", work = 600, period = 1000}, {name = \"sense\", work = 1200, period = 2000}, {name = \"fuse\", work = 3000, period = 5000}, {name = \"plan\", work = 6000, period = 10000}, {name = \"video\", work = 12000, period = 20000}, {name = \"log\", work = 10000, period = 50000}, {name = \"net\", work = 30000, period = 100000}, {name = \"store\", work = 60000, period = 200000}, {name = \"health\", work = 200000, period = 1000000}]\n",
+            "run-tree 1\nprocessors 4\nhorizon 1000000\nscale 1000000\ntasks 9\ntask control 600 1000\ntask sense 1200 2000\ntask fuse 3000 5000\ntask plan 6000 10000\ntask video 12000 20000\ntask log 10000 50000\ntask net 30000 100000\ntask store 60000 200000\ntask health 200000 1000000\nidles 0\nlevel 0 5\npack 1000000 control log health\npack 900000 sense net\npack 900000 fuse store\npack 600000 plan\npack 600000 video\nlevel 1 1\npack 1000000 ~1 ~2 ~3 ~4\nlevels 2\n",
+        ),
+    ];
+    for (input, out) in rows {
+        let left = call(rt.alloc(), &["tree"], input.as_bytes(), NONE)?;
+        assert_eq!(rt; left.status, Status::Done);
+        assert_eq!(rt; left.out.as_slice(), out.as_bytes());
+        assert_eq!(rt; left.err.as_slice(), b"".as_slice());
+    }
+    let overload =
+        "processors = 1\nhorizon = 6\ntask = [{name = \"a\", work = 2, period = 3}, {name = \"b\", work = 1, period = 2}]\n";
+    let left = call(rt.alloc(), &["tree"], overload.as_bytes(), NONE)?;
+    assert_eq!(rt; left.status, Status::Overload);
+    assert_eq!(rt; left.out.as_slice(), b"".as_slice());
+    assert_eq!(rt;
+        left.err.as_slice(),
+        b"refused 7 Overload total 7 room 6\n".as_slice()
+    );
     Ok(())
 }
 

@@ -1,13 +1,14 @@
 //! The top call.
-ghost use Rattle.std.specs.Prelude.{◌≡◌, ◌↔◌, map, string_bytes, None, Some};
+ghost use Rattle.std.specs.Prelude.{◌≡◌, ◌↔◌, map, string_bytes, None, Some, OnOk, IfErr};
 ghost use Rattle.run_tool.specs.Words.{command_of};
-ghost use Rattle.run_tool.specs.Ends.{streams, error_stream, IsDone, IsUsage, Ends, IsAnswered};
+ghost use Rattle.run_tool.specs.Ends.{streams, error_stream, IsDone, IsUsage, Stops, Ends, IsAnswered};
 ghost use Rattle.run_tool.specs.declared.words.Command.{Command};
 
 use crate::rate::rate;
 use crate::refusal::Refusal;
 use crate::refusal_line::refuse;
 use crate::status::Status;
+use crate::tree::tree;
 use crate::words::{Command, command_of};
 use sched_edges::{Sink, Source};
 use std::alloc::Global;
@@ -38,9 +39,24 @@ pub fn run_still<R: Source, W: Sink, E: Sink>(
 {
     match command_of(words) {
         None => refuse(alloc, &Refusal::Usage, err),
-        Some(Command::Rate) => match rate(alloc, source, out) {
+        Some(command) => match run_command(alloc, command, source, out) {
             Ok(()) => Status::Done,
             Err(refusal) => refuse(alloc, &refusal, err),
         },
+    }
+}
+
+fn run_command<R: Source, W: Sink>(
+    alloc: Global,
+    command: Command,
+    source: &mut R,
+    out: &mut W,
+) -> Result<(), Refusal>
+    ensures done { OnOk result (IsDone command (streams (R.left source.old) (R.faults source.old) (W.taken out.old) (W.faults out.old)) (streams (R.left source.new) (R.faults source.new) (W.taken out.new) (W.faults out.new))) }
+    ensures stops { IfErr result (Stops command (streams (R.left source.old) (R.faults source.old) (W.taken out.old) (W.faults out.old)) (streams (R.left source.new) (R.faults source.new) (W.taken out.new) (W.faults out.new))) }
+{
+    match command {
+        Command::Rate => rate(alloc, source, out),
+        Command::Tree => tree(alloc, source, out),
     }
 }

@@ -1,20 +1,35 @@
 //! Command lines.
 ghost use Rattle.std.specs.Prelude.{◌≡◌, map, string_bytes};
-ghost use Rattle.run_tool.specs.Words.{command_of};
+ghost use Rattle.run_tool.specs.Words.{command_of, command_named};
 
 /// What a command line asks for.
 #[derive(Clone, Copy, Debug, PartialEq, Eq)]
 pub enum Command {
     /// `rate`: read a task set, and tell its scale, its rates, their total and the room.
     Rate,
+    /// `tree`: read a task set, and tell its tree of servers and duals.
+    Tree,
 }
 
 /// The command that these words are, the words after the program's name; none where they are no command line.
 pub fn command_of(words: &[String]) -> Option<Command>
     ensures { result ≡ command_of (map string_bytes words.now) }
 {
-    if words.len() == 1 && words[0].as_str() == "rate" {
+    if words.len() == 1 {
+        command_named(words[0].as_str())
+    } else {
+        None
+    }
+}
+
+// The command of this name.
+fn command_named(word: &str) -> Option<Command>
+    ensures { result ≡ command_named word.now }
+{
+    if word == "rate" {
         Some(Command::Rate)
+    } else if word == "tree" {
+        Some(Command::Tree)
     } else {
         None
     }

@@ -7,5 +7,5 @@ returns-in_err-write_rates-clause-wrote g c =
     (part_then _ _ _ _ _ c.in_ok-write_head.ensures.wrote.ok (part_cut _ _ _ _ c.in_err-write_rates.ensures.wrote.err))
 
 pub returns-clause-wrote : goal.returns-clause-wrote
-returns-clause-wrote g c =
-    wrote_then _ _ _ _ _ _ _ c.in_ok-write_head.ensures.wrote (wrote_then _ _ _ _ _ _ _ c.in_ok-write_rates.ensures.wrote c.write_end.ensures.wrote)
+returns-clause-wrote g c = rw (← c.requires.total, ← c.requires.room)
+    (wrote_then _ _ _ _ _ _ _ c.in_ok-write_head.ensures.wrote (wrote_then _ _ _ _ _ _ _ c.in_ok-write_rates.ensures.wrote c.write_end.ensures.wrote))

@@ -1,4 +1,4 @@
--- The parts of the command `rate`: reading a set, and telling its rates.
+-- The parts of a command that reads a set: reading it, and writing its text.
 use Rattle.std.specs.Prelude.{◌≡◌, ℕ, ◌+◌, ◌^◌, ◌≤◌, ◌<◌, List, Ok, Err}
 use Rattle.std.specs.declared.option.Option.{Option}
 use Rattle.std.specs.Io.KnownBytes.{Keeps}
@@ -9,7 +9,8 @@ use Rattle.sched_edges.specs.Streams.{GaveAll, GaveCount, TookPart}
 use Rattle.task_reader.specs.Reading.{set_read_from}
 use Rattle.run_tool.specs.declared.refusal.Refusal.{Refusal}
 use Rattle.run_tool.specs.declared.refusal.Refusal.TheVariants.{ReadFault, WriteFault, NoMemory, BadSet, Overload, ScaleTooLarge, InputTooLong}
-use Rattle.run_tool.specs.RateText.{rate_text}
+use Rattle.run_tool.specs.declared.words.Command.{Command}
+use Rattle.run_tool.specs.Commands.{text_of}
 
 -- the source gave all its bytes, at most the limit, and they are this set
 pub record GaveSet (left left' : Option (List ℕ)) (limit : ℕ) (s : SetContents) : Type 0 where
@@ -29,10 +30,11 @@ pub record IsRun (s : SetContents) (scale : ℕ) : Type 0 where
   pub within : scale ≤ 2 ^ 94
   pub fits : Fits scale s
 
--- why a set's rates weren't told, or not all of them
-abbrev pub StopsAtSet : Option (List ℕ) → Option (List ℕ) → ℕ → ℕ → SetContents → Refusal → Type 0
-StopsAtSet out out' faults faults' s WriteFault = (scale : ℕ) × IsRun s scale × TookPart out out' (rate_text scale s) × Rose faults faults'
-StopsAtSet out out' faults faults' s (ScaleTooLarge task) = PassesAt (2 ^ 94) s.tasks task × Keeps out out'
-StopsAtSet out out' faults faults' s (Overload total room) =
+-- why a set's text wasn't written, or not all of it
+abbrev pub StopsAtSet : Command → Option (List ℕ) → Option (List ℕ) → ℕ → ℕ → SetContents → Refusal → Type 0
+StopsAtSet c out out' faults faults' s WriteFault = (scale : ℕ) × IsRun s scale × TookPart out out' (text_of c s scale) × Rose faults faults'
+StopsAtSet c out out' faults faults' s (ScaleTooLarge task) = PassesAt (2 ^ 94) s.tasks task × Keeps out out'
+StopsAtSet c out out' faults faults' s (Overload total room) =
     (scale : ℕ) × IsScale s.tasks scale × (scale ≤ 2 ^ 94) × (room < total) × (total ≡ total_of scale s.tasks) × (room ≡ room_of scale s) × Keeps out out'
-StopsAtSet out out' faults faults' s _ = ⊥
+StopsAtSet c out out' faults faults' s NoMemory = Keeps out out'
+StopsAtSet c out out' faults faults' s _ = ⊥
