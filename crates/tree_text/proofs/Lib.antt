@@ -1,2 +1,3 @@
 pub mod SearchLemmas
 pub mod PieceLemmas
+pub mod Examples

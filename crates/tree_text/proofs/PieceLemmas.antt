@@ -1,15 +1,14 @@
 -- Lines that go out in pieces.
-use Rattle.std.proofs.Common.{◌≡◌, ◌∙◌, ℕ, ◌+◌, ◌<◌, ◌≤◌, List, [], ◌∷◌, ◌++◌, length, take, drop, get_or, map, codes, decimal, Option, Some, None, Result, Ok, Err, refl, ap, sym, arith, append_assoc, append-nil}
+use Rattle.std.proofs.Common.{◌≡◌, ◌∙◌, ℕ, ◌+◌, ◌<◌, ◌≤◌, List, [], ◌∷◌, ◌++◌, length, take, drop, get_or, map, codes, decimal, Option, Some, None, Result, Ok, Err, ap, sym, append_assoc, append-nil}
 use Rattle.std.specs.List.{flat_map}
 use Rattle.std.specs.Io.KnownBytes.{Appends}
-use Rattle.std.specs.Prelude.{IsErr}
 use Rattle.std.proofs.KnownBytes.{Appends-trans}
 use Rattle.std.proofs.lemmas.List.{take_all, take_more, take-append-drop}
 use Rattle.std.proofs.lemmas.List.Concat.{flat_map-append}
 use Rattle.std.proofs.lemmas.List.Folds.{flat_map-map}
 use Rattle.sched_base.specs.declared.rows.NodeId.{NodeId}
 use Rattle.sched_edges.specs.Streams.{Wrote, TookPart}
-use Rattle.sched_edges.proofs.Wrote.{part_then, part_cut, wrote_part, wrote_then}
+use Rattle.sched_edges.proofs.Wrote.{part_then, part_cut}
 use Rattle.sched_edges.proofs.LinesLemmas.{line_end_is, line_of_is}
 use Rattle.run_tree.specs.Tree.{numbers, rate, members}
 use Rattle.run_tree.specs.Plans.{PlanContents}

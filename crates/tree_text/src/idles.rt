@@ -16,13 +16,13 @@ pub(crate) fn write_idles<W: Sink>(tree: &Tree, sink: &mut W) -> Result<(), Fail
     ensures wrote { Wrote (W.taken sink.old) (W.taken sink.new) (idles_text tree.now) result }
     ensures cause { HasCause (W.faults sink.old) (W.faults sink.new) result }
 {
-    let count = idles(tree);
+    let count = count_idles(tree);
     write_all(sink, number_line(b"idles", u128::from(count)).as_slice())?;
     write_rates(tree, count, sink)
 }
 
 // The number of idle leaves.
-fn idles(tree: &Tree) -> u32
+fn count_idles(tree: &Tree) -> u32
     ensures { result ≡ idle_count tree.now }
 {
     let mut count = 0;
@@ -51,7 +51,7 @@ fn write_rates<W: Sink>(tree: &Tree, count: u32, sink: &mut W) -> Result<(), Fai
     Ok(())
 }
 
-// The rate of idle leaf k, and 0 where the tree has none of that number.
+// The rate of idle leaf k. A plan's tree has one of each number below their count; else it would be 0.
 fn idle_rate(tree: &Tree, k: u32) -> u128
     ensures { result ≡ rate tree.now (idle_node tree.now k) }
 {

@@ -8,3 +8,6 @@ mod pieces;
 mod text;
 
 pub use text::write_tree;
+
+#[cfg(test)]
+mod tests;

@@ -50,7 +50,7 @@ fn spaced_dual(tree: &Tree, primal: NodeId) -> Line
     line
 }
 
-// The place of a pack among the packs of its level, where it stands.
+// The place of a pack among the packs of its level, of which it is one: the search ends before the last line.
 fn place_of(tree: &Tree, pack: NodeId) -> u32
     requires { IsPack tree.now pack.0 }
     ensures { result ≡ place_in_level tree.now pack.0 }

@@ -2,14 +2,14 @@ use Rattle.std.proofs.Common.{◌≡◌, ◌<◌, ◌++◌, ◌∙◌, codes, de
 use Rattle.std.proofs.lemmas.List.{get_or_default}
 use Rattle.sched_base.specs.declared.rows.NodeId.{NodeId}
 use Rattle.sched_edges.proofs.Wrote.{wrote_part}
-use Rattle.run_tree.specs.Tree.{Tree, IsMember, members, rate}
+use Rattle.run_tree.specs.Tree.{IsMember, members}
 use Rattle.run_tree.proofs.NodeReads.{length-members, member_at}
 use Rattle.tree_text.proofs.PieceLemmas.{added_none, pack_start, pack_next, pack_cut, pack_done}
 use Rattle.tree_text.proofs.packs.write_pack.Goals as goal
 
 pub loop-member-init : goal.loop-member-init
 loop-member-init g c =
-    let told = c.rate.ensures ∙ ap (λ (t : Tree). rate t c.args.pack.0) c.tree.ensures.value in
+    let told = rw c.tree.ensures.value at c.rate.ensures in
     let line : c.start_of_pack-line.result ≡ pack_start c.args.plan.now c.args.pack.0 = c.start_of_pack-line.ensures ∙ ap (λ r. codes "pack " ++ decimal r) told in
     (rw line (added_none _ (pack_start c.args.plan.now c.args.pack.0)), le_refl _)
 
@@ -17,7 +17,7 @@ pub spaced_word-word-requires : goal.spaced_word-word-requires
 spaced_word-word-requires g c =
     let tree = c.args.plan.now.tree in
     let ids = c.members-member-items.result.now in
-    let all = c.members-member-items.ensures ∙ ap (λ (t : Tree). members t c.args.pack.0) c.tree-2.ensures.value in
+    let all = rw c.tree-2.ensures.value at c.members-member-items.ensures in
     let count = length-members tree c.args.pack.0 ids all in
     let within : c.loop-member.member-index < length (members tree c.args.pack.0) = omega (arith, count, c.loop-member-test.true) in
     let standing = c.tree-2.ensures.lawful.tree.tree.members_are c.args.pack.0 c.loop-member.member-index c.requires within in
@@ -25,7 +25,7 @@ spaced_word-word-requires g c =
 
 pub returns-in_err-add-clause-wrote : goal.returns-in_err-add-clause-wrote
 returns-in_err-add-clause-wrote g c =
-    let all = c.members-member-items.ensures ∙ ap (λ (t : Tree). members t c.args.pack.0) c.tree-2.ensures.value in
+    let all = rw c.tree-2.ensures.value at c.members-member-items.ensures in
     wrote_part _ _ _ _ c.from_residual.ensures.0
     (pack_cut c.args.plan.now c.args.pack.0 c.members-member-items.result.now all c.loop-member.member-index _ _ _ c.loop-member.line c.loop-member.invariant.0 c.in_err-add.ensures.err)
 
@@ -34,7 +34,7 @@ loop-member-preserved g c =
     let ids = c.members-member-items.result.now in
     let none : NodeId = record { 0 = 0 } in
     let x : NodeId = get_or ids c.loop-member.member-index none in
-    let all = c.members-member-items.ensures ∙ ap (λ (t : Tree). members t c.args.pack.0) c.tree-2.ensures.value in
+    let all = rw c.tree-2.ensures.value at c.members-member-items.ensures in
     let at = get_or_default ids c.loop-member.member-index none x c.loop-member-test.true in
     let added = rw (c.as_slice.ensures.bytes, c.spaced_word-word.ensures) at c.in_ok-add.ensures.ok in
     let before = c.loop-member.invariant.1 in
@@ -43,12 +43,12 @@ loop-member-preserved g c =
 
 pub returns-in_err-add-2-clause-wrote : goal.returns-in_err-add-2-clause-wrote
 returns-in_err-add-2-clause-wrote g c =
-    let all = c.members-member-items.ensures ∙ ap (λ (t : Tree). members t c.args.pack.0) c.tree-2.ensures.value in
+    let all = rw c.tree-2.ensures.value at c.members-member-items.ensures in
     wrote_part _ _ _ _ c.from_residual-in_err-add-2.ensures.0
     (pack_cut c.args.plan.now c.args.pack.0 c.members-member-items.result.now all c.loop-member.member-index _ _ _ c.loop-member.line c.loop-member.invariant.0 c.in_err-add-2.ensures.err)
 
 pub returns-clause-wrote : goal.returns-clause-wrote
 returns-clause-wrote g c =
-    let all = c.members-member-items.ensures ∙ ap (λ (t : Tree). members t c.args.pack.0) c.tree-2.ensures.value in
+    let all = rw c.tree-2.ensures.value at c.members-member-items.ensures in
     let wrote = rw c.as_slice-2.ensures.bytes at c.write_all.ensures.wrote in
     pack_done c.args.plan.now c.args.pack.0 c.members-member-items.result.now all c.loop-member.member-index _ _ _ _ c.loop-member.line c.add-2.new.line _ c.loop-member-test.false c.loop-member.invariant.0 c.in_ok-add-2.ensures.ok wrote

@@ -1,7 +1,4 @@
-use Rattle.std.proofs.Common.{◌≤◌, ◌∷◌, ◌++◌, ℕ, take, codes, decimal}
-use Rattle.std.specs.List.{flat_map}
-use Rattle.run_tree.specs.Tree.{rate}
-use Rattle.tree_text.specs.Text.{member_word}
+use Rattle.std.proofs.Common.{◌≤◌, take}
 use Rattle.tree_text.specs.Pieces.{Added}
 use Rattle.tree_text.proofs.PieceLemmas.{pack_start, spaced_words}
 use Rattle.tree_text.proofs.packs.write_pack.Given as goal

@@ -4,8 +4,8 @@ use Rattle.run_tree.specs.declared.kinds.Kind.{Kind}
 use Rattle.run_tree.specs.Tree.{is_leaf, leaf_of}
 use Rattle.run_tree.specs.TreeOfSet.{is_idle}
 use Rattle.tree_text.proofs.SearchLemmas.{idles_next}
-use Rattle.tree_text.proofs.idles.idles.Goals as goal
-use Rattle.tree_text.proofs.idles.idles.Goals.{then-is_idle, else-is_idle}
+use Rattle.tree_text.proofs.idles.count_idles.Goals as goal
+use Rattle.tree_text.proofs.idles.count_idles.Goals.{then-is_idle, else-is_idle}
 
 pub loop-n-preserved : goal.loop-n-preserved
 loop-n-preserved c =
