@@ -243,7 +243,7 @@ fn faults_leave_a_first_part(rt: HostRuntime) -> Result<(), Fail> {
 #[test]
 fn a_set_has_at_most_a_mebibyte(rt: HostRuntime) -> Result<(), Fail> {
     let mut bytes = Vec::from_slice(rt.alloc(), THREE_TASKS.as_bytes())?;
-    while bytes.len() < 1_048_576 {
+    for _ in THREE_TASKS.len()..1_048_576 {
         bytes.push(b'\n')?;
     }
     let left = call(rt.alloc(), &["rate"], &bytes, NONE)?;
