@@ -1,0 +1,10 @@
+pub mod NodeTests
+pub mod FirstLevel
+pub mod WindowsOfCalendar
+pub mod QuietRounds
+pub mod PlaceAgain
+pub mod RoundEnds
+pub mod NextCores
+pub mod RoundsInOrder
+pub mod RowsByLists
+pub mod OneRound

@@ -1,0 +1,5 @@
+pub mod Rounds
+pub mod Cores
+pub mod Steps
+pub mod States
+pub mod Counts
