@@ -1,0 +1,4 @@
+pub mod PlainWindows
+pub mod PlainDues
+pub mod PlainRuns
+pub mod PlainEvents

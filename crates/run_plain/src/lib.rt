@@ -1,0 +1,13 @@
+//! The schedule of a plan by the definitions, tick by tick. This is a reading aid and the oracle of tests: plain and slow.
+#![tactic(auto)]
+
+mod dues;
+mod events;
+mod places;
+mod running;
+mod ticks;
+mod windows;
+
+pub use events::{plain_events, plain_rounds};
+pub use running::plain_running;
+pub use ticks::Tick;
