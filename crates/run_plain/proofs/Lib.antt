@@ -2,3 +2,4 @@ pub mod PlainWindows
 pub mod PlainDues
 pub mod PlainRuns
 pub mod PlainEvents
+pub mod PlainPlaces

@@ -4,10 +4,13 @@
 mod dues;
 mod events;
 mod places;
+mod rows;
 mod running;
 mod ticks;
 mod windows;
 
 pub use events::{plain_events, plain_rounds};
+pub use places::{Places, plain_places};
+pub use rows::plain_schedule;
 pub use running::plain_running;
 pub use ticks::Tick;
