@@ -3,3 +3,4 @@ pub mod PlainDues
 pub mod PlainRuns
 pub mod PlainEvents
 pub mod PlainPlaces
+pub mod PlainRows

@@ -110,3 +110,6 @@ placed_at p n placed x was read = read ∙ ap (λ xs. get_or xs n x) was ∙ get
 
 pub length-placed : (p : PlanContents) (n : ℕ) (placed : List Placing) → placed ≡ map (places_of p) (range_with_len 0 (n + 1)) → length placed ≡ n + 1
 length-placed p n placed was = ap length was ∙ length-map-range_with_len (places_of p) 0 (n + 1)
+
+pub placed_by : (p : PlanContents) (n i : ℕ) (placed : List Placing) (x : Placing) → i ≤ n → placed ≡ map (places_of p) (range_with_len 0 (n + 1)) → x ≡ get_or placed i x → x ≡ places_of p i
+placed_by p n i placed x l was read = read ∙ ap (λ xs. get_or xs i x) was ∙ get_or-map-range_with_len (places_of p) 0 (n + 1) i i x (omega (arith, l)) (zero-add i)

@@ -201,7 +201,7 @@ fn packs_running(alloc: Global, plan: &Plan, tick: &Tick) -> Result<Vec<bool>, N
 /// The places before each tick up to the end of the schedule, and those at its end, where these are all its ticks.
 pub(crate) fn placed_after(alloc: Global, plan: &Plan, past: &[Tick]) -> Result<Vec<Places>, NoMemory>
     requires past { past.now ≡ ticks_of plan.now (stop_of plan.now) }
-    ensures { IfOk result (λ placed. placed.items ≡ map (places_of plan.now) (range_with_len 0 (length past.now + 1))) }
+    ensures { IfOk result (λ placed. placed.items ≡ map (places_of plan.now) (range_with_len 0 (stop_of plan.now + 1))) }
 {
     let mut placed = Vec::new(alloc);
     placed.push(unplaced(alloc, plan)?)?;

@@ -1,5 +1,5 @@
 //! The rows of the schedule, round by round.
-ghost use Rattle.std.specs.Prelude.{◌≡◌, ◌≤◌, ◌<◌, ◌+◌, ◌++◌, ◌^◌, ℕ, length, slice_index, OnOk, IfOk};
+ghost use Rattle.std.specs.Prelude.{◌≡◌, ◌≤◌, ◌<◌, ◌+◌, ◌++◌, ◌^◌, length, slice_index, OnOk, IfOk};
 ghost use Rattle.sched_base.specs.Sets.{task_at};
 ghost use Rattle.run_tree.specs.Tree.{leaf, numbers};
 ghost use Rattle.run_tree.specs.Boundaries.{set_boundary};
@@ -19,7 +19,6 @@ use std::alloc::Global;
 fn leaf_among(plan: &Plan, past: &[Tick], tick: usize, members: &[NodeId]) -> Leaf
     requires past { past.now ≡ ticks_of plan.now (stop_of plan.now) }
     requires tick { tick < length past.now }
-    requires members { (k : ℕ) → k < length members.now → slice_index (numbers members.now) k < length plan.now.tree.nodes }
     ensures { result ≡ leaf_among_at (set_boundary plan.now.set.tasks) plan.now.tree tick (numbers members.now) }
 {
     match members.split_first() {
@@ -36,9 +35,11 @@ fn leaf_among(plan: &Plan, past: &[Tick], tick: usize, members: &[NodeId]) -> Le
 
 /// The leaf that node n is.
 fn leaf_of(plan: &Plan, n: NodeId) -> Leaf
-    requires { n.0 < length plan.now.tree.nodes }
     ensures { result ≡ leaf plan.now.tree n.0 }
 {
+    if n.0 >= plan.tree().nodes() {
+        return Leaf::Empty;
+    }
     match plan.tree().kind(n) {
         Kind::Leaf(leaf) => leaf,
         Kind::Pack(_) | Kind::Dual(_) => Leaf::Empty,
@@ -123,21 +124,30 @@ fn push_round(
     Ok(())
 }
 
+/// The end of round i: the next event, or the end of the schedule.
+fn round_end(events: &[usize], i: usize, stop: usize) -> usize
+    requires { i < length events.now }
+    ensures next { i + 1 < length events.now → result ≡ slice_index events.now (i + 1) }
+    ensures last { length events.now ≤ i + 1 → result ≡ stop }
+{
+    match events.get(i + 1) {
+        Some(next) => *next,
+        None => stop,
+    }
+}
+
 /// The rows of the schedule, round by round, each round's by processor.
 pub fn plain_schedule(alloc: Global, plan: &Plan) -> Result<Vec<Row>, NoMemory>
     requires { IsSmall plan.now }
     ensures { IfOk result (λ rows. rows.items ≡ schedule_of plan.now) }
 {
+    let stop = plan.rounds_end() as usize;
     let past = plain_running(alloc, plan)?;
     let events = events(alloc, plan, &past)?;
     let placed = placed_after(alloc, plan, &past)?;
     let mut rows = Vec::new(alloc);
     for (i, start) in events.iter().enumerate() {
-        let end = if i + 1 < events.len() {
-            events[i + 1]
-        } else {
-            past.len()
-        };
+        let end = round_end(&events, i, stop);
         let places = &placed[*start + 1];
         push_round(plan, &past, *start, end, places.onto(), &mut rows)?;
     }

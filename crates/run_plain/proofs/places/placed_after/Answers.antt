@@ -1,4 +1,5 @@
 use Rattle.std.proofs.Common.{◌≡◌, ◌<◌, ◌∙◌, ◌++◌, ◌∷◌, ◌+◌, [], ℕ, suc, List, Bool, length, get_or, map, false, ap, ap₂, sym, arith}
+use Rattle.std.specs.List.{range_with_len}
 use Rattle.std.proofs.lemmas.List.{get_or_read}
 use Rattle.sched_base.specs.Places.{Placing, place}
 use Rattle.run_tree.specs.Boundaries.{set_boundary}
@@ -22,3 +23,9 @@ loop-n-preserved c =
     let next : c.in_ok-next.next ≡ places_of c.args.plan.now (suc n) =
       c.in_ok-next.ensures ∙ places_next c.args.plan.now n c.index-past-n.result c.deref.result.now c.index.result.now early tick (c.deref.ensures.value ∙ c.in_ok-running.ensures) before in
     c.in_ok-push-2.ensures.items ∙ placed_more c.args.plan.now n c.loop-n.placed.items c.in_ok-next.next c.loop-n.invariant next
+
+pub returns : goal.returns
+returns c =
+    let e = ap length c.requires.past in
+    let n : c.loop-n.n ≡ stop_of c.args.plan.now = omega (arith, e, length-ticks (set_boundary c.args.plan.now.set.tasks) c.args.plan.now.tree (stop_of c.args.plan.now), c.loop-n-test.false, c.loop-n.auto.n-end) in
+    c.loop-n.invariant ∙ ap (λ k. map (places_of c.args.plan.now) (range_with_len 0 (k + 1))) n
