@@ -116,7 +116,7 @@ fn chooses_who_runs_first(rt: HostRuntime) -> Result<(), Fail> {
     Ok(())
 }
 
-/// Moves the calendar on, and tells the window of each node and whether it was due.
+/// Moves the calendar to its next unit, and marks who is due there.
 fn pop(rt: &impl Abort, plan: &Plan, calendar: &mut Calendar, due: &mut [bool])
     requires { BelongsTo plan.now calendar.old }
     ensures { BelongsTo plan.now calendar.new }
