@@ -1,10 +1,10 @@
 -- What is left of dues, and whom packs pick.
-use Rattle.std.proofs.Common.{◌≡◌, ℕ, zero, suc, ◌+◌, ◌-◌, ◌*◌, ◌/◌, ◌<◌, ◌≤◌, ◌&&◌, leb, ltb, nat_lt, nat_le, Bool, List, [], ◌∷◌, true, false, length, map, take, drop, get_or, count_by, Option, Some, None, refl, ap, ap₂, arith, inl, inr, sym, subst, ◌∙◌, le_refl, add-one}
-use Rattle.std.proofs.lemmas.Bool.{cases_Bool, lt-ltb, le-ltb, le-leb, lt-leb, and_from}
+use Rattle.std.proofs.Common.{◌≡◌, ℕ, suc, ◌+◌, ◌-◌, ◌*◌, ◌/◌, ◌<◌, ◌≤◌, ◌&&◌, nat_lt, nat_le, Bool, List, ◌∷◌, true, false, length, map, take, drop, get_or, count_by, Option, Some, None, ap, ap₂, arith, sym, ◌∙◌, le_refl, add-one}
+use Rattle.std.proofs.lemmas.Bool.{lt-ltb, le-ltb, le-leb, lt-leb, and_from}
 use Rattle.std.proofs.lemmas.List.{take_all, length-drop, length-map, get_or-map}
 use Rattle.sched_base.specs.declared.candidates.Candidate.{Candidate}
 use Rattle.sched_base.specs.declared.rows.NodeId.{NodeId}
-use Rattle.sched_base.specs.Candidates.{earliest, earlier_of, candidate_at, no_candidate, is_at}
+use Rattle.sched_base.specs.Candidates.{earliest, earlier_of, candidate_at, no_candidate}
 use Rattle.run_tree.specs.Windows.{window_begin, window_end}
 use Rattle.run_tree.specs.Tree.{rate, numbers}
 use Rattle.run_tree.specs.Plans.{PlanContents, boundary_of}
@@ -64,7 +64,7 @@ module _ (p : PlanContents) (past : List (List Bool)) (members rest : List NodeI
   first_ahead k best l waits sooner =
       let at = ap (λ (c : Candidate). c.end) (candidate_read p past rest k l) in
       sym (ahead (candidate_of p past first.0) (candidates_of p past rest) k (sym best)
-        (and_from (nat_lt 0 (left_of p past first.0)) _ (lt-ltb 0 (left_of p past first.0) waits) (le-leb (end_of p past first.0) _ (omega (arith, sooner, at)))))
+      (and_from (nat_lt 0 (left_of p past first.0)) _ (lt-ltb 0 (left_of p past first.0) waits) (le-leb (end_of p past first.0) _ (omega (arith, sooner, at)))))
       ∙ whole
 
   pub first_done : (k : ℕ) → Some k ≡ earliest (candidates_of p past rest) → left_of p past first.0 ≤ 0 → Some (k + 1) ≡ earliest (candidates_of p past members)
@@ -78,5 +78,5 @@ module _ (p : PlanContents) (past : List (List Bool)) (members rest : List NodeI
       let at = ap (λ (c : Candidate). c.end) (candidate_read p past rest k l) in
       ap Some (add-one k)
       ∙ sym (behind (candidate_of p past first.0) (candidates_of p past rest) k (sym best)
-        (ap₂ (λ (a b : Bool). a && b) (lt-ltb 0 (left_of p past first.0) waits) (lt-leb (end_of p past first.0) (candidate_at (candidates_of p past rest) k).end (omega (arith, later, at)))))
+      (ap₂ (λ (a b : Bool). a && b) (lt-ltb 0 (left_of p past first.0) waits) (lt-leb (end_of p past first.0) (candidate_at (candidates_of p past rest) k).end (omega (arith, later, at)))))
       ∙ whole

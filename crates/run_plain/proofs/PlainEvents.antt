@@ -1,14 +1,13 @@
 -- Events, tick by tick.
-use Rattle.std.proofs.Common.{◌≡◌, ℕ, zero, suc, ◌+◌, ◌-◌, ◌%◌, ◌<◌, ◌≤◌, ◌&&◌, ◌||◌, eqb, not, cond, Bool, List, [], ◌∷◌, ◌++◌, true, false, length, filter, take, get_or, refl, ap, ap₂, arith, inl, inr, sym, subst, ◌∙◌, le_refl, add-one, zero-add}
+use Rattle.std.proofs.Common.{◌≡◌, ℕ, zero, suc, ◌+◌, ◌-◌, ◌%◌, ◌<◌, ◌≤◌, ◌&&◌, ◌||◌, eqb, not, cond, Bool, List, [], ◌∷◌, ◌++◌, true, false, length, filter, take, get_or, refl, ap, ap₂, arith, sym, ◌∙◌, add-one, zero-add}
 use Rattle.std.specs.List.{range_with_len, list_any}
-use Rattle.std.proofs.lemmas.Bool.{cases_Bool, both_ways, eqb-true}
+use Rattle.std.proofs.lemmas.Bool.{both_ways, eqb-true}
 use Rattle.std.proofs.lemmas.List.{get_or_push, append-nil}
-use Rattle.std.proofs.lemmas.List.FromFn.{map-range_with_len_more, filter_of_map_range_with_len_more}
 use Rattle.std.proofs.lemmas.List.Elements.{filter-append}
 use Rattle.run_tree.specs.Tree.{kind_at, is_pack}
 use Rattle.run_tree.specs.Boundaries.{set_boundary}
-use Rattle.run_tree.specs.Runs.{runs, next_tick, ticks_below}
-use Rattle.run_tree.specs.Rounds.{is_event, runs_dry, task_begins, events_below}
+use Rattle.run_tree.specs.Runs.{runs, next_tick}
+use Rattle.run_tree.specs.Rounds.{is_event, runs_dry, task_begins}
 use Rattle.run_tree.specs.Plans.{PlanContents, stop_of}
 use Rattle.run_tree.proofs.RunLemmas.{length-ticks, take-ticks}
 use Rattle.run_plain.specs.Plain.{AreTicks, left_of, ticks_of, event_of, events_of}

@@ -1,19 +1,19 @@
 -- Placing, step by step.
-use Rattle.std.proofs.Common.{◌≡◌, ℕ, zero, suc, ◌+◌, ◌-◌, ◌*◌, ◌<◌, ◌≤◌, ◌≢◌, Bool, List, [], ◌∷◌, ◌++◌, true, false, length, map, filter, find, take, drop, get_or, Option, Some, None, refl, ap, ap₂, arith, inl, inr, sym, subst, ◌∙◌, le_refl, add-one, zero-add}
+use Rattle.std.proofs.Common.{◌≡◌, ℕ, zero, suc, ◌+◌, ◌*◌, ◌<◌, ◌≤◌, Bool, List, [], ◌∷◌, ◌++◌, true, false, length, map, find, take, get_or, Option, Some, None, refl, ap, ap₂, arith, inl, inr, sym, ◌∙◌, le_refl, add-one, zero-add}
 use Rattle.std.specs.List.{range_with_len}
 use Rattle.std.proofs.Math.Nat.{mul-le-mul_right}
 use Rattle.std.proofs.lemmas.Bool.{cases_lt}
-use Rattle.std.proofs.lemmas.List.{take_more, length-take, length-map, get_or-take, get_or_push}
+use Rattle.std.proofs.lemmas.List.{take_more, length-take, get_or-take, get_or_push}
 use Rattle.std.proofs.lemmas.List.FromFn.{map-range_with_len_more, length-map-range_with_len, get_or-map-range_with_len}
 use Rattle.sched_base.specs.Counting.{sum_to, bit}
-use Rattle.sched_base.specs.Places.{Placing, comes_back, returned, last_next, holder_from, onto_next, back_and_filled, kept, filled, waiting, place}
+use Rattle.sched_base.specs.Places.{Placing, comes_back, returned, last_next, onto_next, kept, filled, waiting, place}
 use Rattle.run_tree.specs.declared.kinds.Kind.{Kind}
 use Rattle.run_tree.proofs.KindLemmas.{not_pack_leaf}
-use Rattle.run_tree.specs.Tree.{is_pack, Tree, IsTree, IsLeaf, is_leaf, kind_at, home, level, rate}
+use Rattle.run_tree.specs.Tree.{is_pack, Tree, IsTree, IsLeaf, is_leaf, kind_at, home, rate}
 use Rattle.run_tree.specs.Boundaries.{set_boundary}
-use Rattle.run_tree.specs.Runs.{runs, next_tick, ticks_below}
-use Rattle.run_tree.specs.Schedule.{packs_at, packs_running, places_below}
-use Rattle.run_tree.specs.Plans.{PlanContents, IsPlan, stop_of}
+use Rattle.run_tree.specs.Runs.{runs, next_tick}
+use Rattle.run_tree.specs.Schedule.{packs_at}
+use Rattle.run_tree.specs.Plans.{PlanContents, stop_of}
 use Rattle.run_tree.proofs.RunLemmas.{length-ticks, take-ticks}
 use Rattle.run_plain.specs.Plain.{ticks_of, places_of}
 

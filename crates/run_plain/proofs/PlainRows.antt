@@ -1,18 +1,15 @@
 -- The rows of rounds, one after another.
-use Rattle.std.proofs.Common.{◌≡◌, ℕ, zero, suc, ◌+◌, ◌-◌, ◌<◌, ◌≤◌, ◌⊎◌, Bool, List, [], ◌∷◌, ◌++◌, true, false, length, map, filter, take, drop, get_or, Option, Some, None, refl, ap, ap₂, arith, inl, inr, sym, subst, ◌∙◌, le_refl, add-one, append_assoc, drop-cons, append-nil}
-use Rattle.std.specs.List.{range_with_len}
+use Rattle.std.proofs.Common.{◌≡◌, ℕ, zero, suc, ◌+◌, ◌<◌, ◌≤◌, ◌⊎◌, Bool, List, [], ◌∷◌, ◌++◌, true, false, length, drop, get_or, Option, refl, ap, arith, inl, inr, sym, ◌∙◌, add-one, append_assoc, drop-cons, append-nil}
 use Rattle.std.proofs.lemmas.Bool.{cases_lt}
 use Rattle.sched_base.specs.declared.rows.Leaf.{Leaf}
-use Rattle.sched_base.specs.declared.rows.Leaf.TheVariants.{Empty}
 use Rattle.sched_base.specs.declared.rows.Row.{Row}
 use Rattle.sched_base.specs.declared.rows.NodeId.{NodeId}
-use Rattle.sched_base.specs.declared.sets.Task as declared
 use Rattle.sched_base.specs.Places.{Placing}
 use Rattle.sched_base.proofs.ListLemmas.{first_from}
 use Rattle.run_tree.specs.Tree.{Tree, leaf, numbers, at_level}
 use Rattle.run_tree.specs.Boundaries.{set_boundary}
 use Rattle.run_tree.specs.Runs.{runs}
-use Rattle.run_tree.specs.Schedule.{leaf_among, packs_at, round_rows, rows_from, rows_of, rows_of_events, onto_at, schedule}
+use Rattle.run_tree.specs.Schedule.{leaf_among, packs_at, round_rows, rows_from, rows_of_events, onto_at, schedule}
 use Rattle.run_tree.specs.Plans.{PlanContents, stop_of, schedule_of}
 use Rattle.run_plain.specs.Plain.{ticks_of, events_of, places_of, event_of}
 use Rattle.run_plain.proofs.PlainPlaces.{runs_at}

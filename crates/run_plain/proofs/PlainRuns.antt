@@ -1,16 +1,13 @@
 -- Who runs, tick by tick.
-use Rattle.std.proofs.Common.{◌≡◌, ℕ, zero, suc, ◌+◌, ◌-◌, ◌*◌, ◌<◌, ◌≤◌, ◌&&◌, not, Bool, List, [], ◌∷◌, ◌++◌, true, false, length, map, take, get_or, Option, Some, None, refl, ap, ap₂, arith, inl, inr, sym, subst, ◌∙◌, le_refl, add-one}
-use Rattle.std.specs.List.{range_with_len}
-use Rattle.sched_base.specs.declared.rows.Leaf.{Leaf}
-use Rattle.run_tree.specs.declared.kinds.Kind.{Kind}
+use Rattle.std.proofs.Common.{◌≡◌, ℕ, zero, suc, ◌+◌, ◌-◌, ◌&&◌, not, Bool, List, [], ◌∷◌, ◌++◌, true, false, Some, None, refl, ap, ap₂, arith, sym, ◌∙◌, add-one}
 use Rattle.run_tree.specs.declared.kinds.Kind.TheVariants as kind
-use Rattle.run_tree.specs.Tree.{Tree, IsTree, IsPack, IsMember, kind_at, is_pack, level, level_of, home, dual}
+use Rattle.run_tree.specs.Tree.{Tree, IsTree, IsPack, IsMember, kind_at, is_pack, level, home, dual}
 use Rattle.run_tree.specs.Boundaries.{set_boundary}
-use Rattle.run_tree.specs.Runs.{pack_runs, unless_dual, node_runs, runs_now, is_picked, next_tick, ticks_below}
-use Rattle.run_tree.specs.Plans.{PlanContents, IsPlan}
+use Rattle.run_tree.specs.Runs.{pack_runs, unless_dual, node_runs, runs_now, next_tick}
+use Rattle.run_tree.specs.Plans.{PlanContents}
 use Rattle.run_tree.proofs.KindLemmas.{not_pack}
-use Rattle.run_tree.proofs.RunLemmas.{node_runs_pack, node_runs_member, length-ticks, take-ticks}
-use Rattle.run_plain.specs.Plain.{left_of, end_of, picked_of, runs_of, ticks_of}
+use Rattle.run_tree.proofs.RunLemmas.{node_runs_member}
+use Rattle.run_plain.specs.Plain.{picked_of, runs_of, ticks_of}
 
 pub runs_pack : (p : PlanContents) (past : List (List Bool)) (x l : ℕ) → kind_at p.tree x ≡ kind.Pack l → pack_runs p.tree (picked_of p past) (p.tree.levels - 1 - l) x ≡ runs_of p past x
 unfolding runs_now
@@ -43,5 +40,5 @@ pub runs_by_home : (p : PlanContents) (past : List (List Bool)) (x h top l : ℕ
     home_runs ≡ pack_runs p.tree (picked_of p past) (top - l) h → (home_runs && picked_of p past x) ≡ runs_of p past x
 runs_by_home p past x h top l home_runs e h_is top_is l_is runs =
     ap (λ (b : Bool). b && picked_of p past x)
-      (runs ∙ ap₂ (λ n m. pack_runs p.tree (picked_of p past) (n - m) h) top_is l_is ∙ ap (λ q. pack_runs p.tree (picked_of p past) (p.tree.levels - 1 - level p.tree q) q) h_is)
+    (runs ∙ ap₂ (λ n m. pack_runs p.tree (picked_of p past) (n - m) h) top_is l_is ∙ ap (λ q. pack_runs p.tree (picked_of p past) (p.tree.levels - 1 - level p.tree q) q) h_is)
     ∙ runs_member p past x e

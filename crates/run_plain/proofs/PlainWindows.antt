@@ -1,11 +1,11 @@
 -- Boundaries and windows of a plan's nodes, step by step.
-use Rattle.std.proofs.Common.{◌≡◌, ℕ, zero, suc, ◌+◌, ◌-◌, ◌^◌, ◌<◌, ◌≤◌, Bool, List, true, false, length, refl, ap, ap₂, arith, inl, inr, sym, subst, ◌∙◌, le_refl}
+use Rattle.std.proofs.Common.{◌≡◌, ℕ, zero, suc, ◌-◌, ◌^◌, ◌<◌, Bool, true, false, length, refl, ap, arith, inl, inr, sym, ◌∙◌, le_refl}
 use Rattle.std.proofs.lemmas.Bool.{cases_Bool}
 use Rattle.sched_base.specs.declared.rows.Leaf.{Leaf}
 use Rattle.sched_base.specs.declared.rows.NodeId.{NodeId}
 use Rattle.run_tree.specs.declared.kinds.Kind.TheVariants as kind
 use Rattle.run_tree.specs.Windows.{window_begin, window_end, boundary_within}
-use Rattle.run_tree.specs.Tree.{Tree, IsTree, is_leaf, is_dual, is_pack, kind_at, leaf_of, primal_of, member, members}
+use Rattle.run_tree.specs.Tree.{is_leaf, is_dual, is_pack, kind_at, leaf_of, primal_of, member, members}
 use Rattle.run_tree.specs.Boundaries.{set_boundary}
 use Rattle.run_tree.specs.Plans.{PlanContents, IsPlan, boundary_of}
 use Rattle.run_tree.proofs.BoundaryLemmas.{bound_leaf, bound_dual, bound_member}

@@ -1,7 +1,6 @@
 -- The definitions of running, events, places and rows, of a plan.
-use Rattle.std.specs.Prelude.{ℕ, ◌≤◌, ◌≡◌, ◌^◌, Bool, List, Option, length}
+use Rattle.std.specs.Prelude.{ℕ, ◌≤◌, ◌≡◌, ◌^◌, Bool, List, length}
 use Rattle.sched_base.specs.Places.{Placing}
-use Rattle.run_tree.specs.Tree.{Tree}
 use Rattle.run_tree.specs.Boundaries.{set_boundary}
 use Rattle.run_tree.specs.Runs as definition
 use Rattle.run_tree.specs.Rounds as rounds

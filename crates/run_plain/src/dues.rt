@@ -56,13 +56,7 @@ fn earliest(plan: &Plan, past: &[Tick], members: &[NodeId]) -> Option<usize>
     let (first, rest) = members.split_first()?;
     let waits = due_left(plan, past, *first) > 0;
     match earliest(plan, past, rest) {
-        None => {
-            if waits {
-                Some(0)
-            } else {
-                None
-            }
-        }
+        None => { if waits { Some(0) } else { None } }
         Some(k) => {
             let ends_first = window_end(plan, past, *first) <= window_end(plan, past, rest[k]);
             if waits && ends_first {

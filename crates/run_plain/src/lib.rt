@@ -14,3 +14,6 @@ pub use places::{Places, plain_places};
 pub use rows::plain_schedule;
 pub use running::plain_running;
 pub use ticks::Tick;
+
+#[cfg(test)]
+mod tests;

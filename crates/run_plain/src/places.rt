@@ -55,7 +55,11 @@ fn held(onto: &[Option<usize>], pack: usize) -> bool
 }
 
 /// A pack that runs on keeps its processor.
-fn kept(alloc: Global, running: &[bool], onto: &[Option<usize>]) -> Result<Vec<Option<usize>>, NoMemory>
+fn kept(
+    alloc: Global,
+    running: &[bool],
+    onto: &[Option<usize>],
+) -> Result<Vec<Option<usize>>, NoMemory>
     ensures { IfOk result (λ kept. kept.items ≡ map (kept_at running.now) onto.now) }
 {
     let mut kept = Vec::new(alloc);
@@ -79,21 +83,38 @@ fn last_held(last: &[Option<usize>], pack: usize) -> Option<usize>
 }
 
 /// Whether the pack runs, kept no processor, and held this one last.
-fn comes_back(running: &[bool], last: &[Option<usize>], onto: &[Option<usize>], processor: usize, pack: usize) -> bool
+fn comes_back(
+    running: &[bool],
+    last: &[Option<usize>],
+    onto: &[Option<usize>],
+    processor: usize,
+    pack: usize,
+) -> bool
     ensures { result ≡ comes_back_to running.now last.now onto.now processor pack }
 {
     runs(running, pack) && !held(onto, pack) && last_held(last, pack) == Some(processor)
 }
 
 /// The first pack that comes back to a processor.
-fn first_back(running: &[bool], last: &[Option<usize>], onto: &[Option<usize>], processor: usize) -> Option<usize>
+fn first_back(
+    running: &[bool],
+    last: &[Option<usize>],
+    onto: &[Option<usize>],
+    processor: usize,
+) -> Option<usize>
     ensures { result ≡ find (comes_back_to running.now last.now onto.now processor) (range_with_len 0 (length running.now)) }
 {
     (0..running.len()).find(|pack| comes_back(running, last, onto, processor, *pack))
 }
 
 /// The pack on a processor once each pack that can has come back.
-fn back_on(running: &[bool], last: &[Option<usize>], onto: &[Option<usize>], processor: usize, held: Option<usize>) -> Option<usize>
+fn back_on(
+    running: &[bool],
+    last: &[Option<usize>],
+    onto: &[Option<usize>],
+    processor: usize,
+    held: Option<usize>,
+) -> Option<usize>
     ensures { result ∷ [] ≡ returned_from running.now last.now onto.now processor (held ∷ []) }
 {
     match held {
@@ -103,7 +124,12 @@ fn back_on(running: &[bool], last: &[Option<usize>], onto: &[Option<usize>], pro
 }
 
 /// Each free processor goes to the first pack that comes back to it.
-fn returned(alloc: Global, running: &[bool], last: &[Option<usize>], onto: &[Option<usize>]) -> Result<Vec<Option<usize>>, NoMemory>
+fn returned(
+    alloc: Global,
+    running: &[bool],
+    last: &[Option<usize>],
+    onto: &[Option<usize>],
+) -> Result<Vec<Option<usize>>, NoMemory>
     ensures { IfOk result (λ back. back.items ≡ returned_from running.now last.now onto.now 0 onto.now) }
 {
     let mut back = Vec::new(alloc);
@@ -117,13 +143,19 @@ fn returned(alloc: Global, running: &[bool], last: &[Option<usize>], onto: &[Opt
 fn waiting(alloc: Global, running: &[bool], onto: &[Option<usize>]) -> Result<Vec<usize>, NoMemory>
     ensures { IfOk result (λ packs. packs.items ≡ waiting_of running.now onto.now) }
 {
-    Ok((0..running.len())
-        .filter(|pack| runs(running, *pack) && !held(onto, *pack))
-        .collect(alloc)?)
+    Ok(
+        (0..running.len())
+            .filter(|pack| runs(running, *pack) && !held(onto, *pack))
+            .collect(alloc)?,
+    )
 }
 
 /// The waiting packs take the free processors, the lowest first.
-fn filled(alloc: Global, onto: &[Option<usize>], packs: &[usize]) -> Result<Vec<Option<usize>>, NoMemory>
+fn filled(
+    alloc: Global,
+    onto: &[Option<usize>],
+    packs: &[usize],
+) -> Result<Vec<Option<usize>>, NoMemory>
     ensures { IfOk result (λ full. full.items ≡ filled_with onto.now packs.now) }
 {
     let mut full = Vec::new(alloc);
@@ -154,7 +186,12 @@ fn holder(onto: &[Option<usize>], pack: usize, before: Option<usize>) -> Option<
 }
 
 /// The processor that each of these many packs held last.
-fn last_after(alloc: Global, onto: &[Option<usize>], last: &[Option<usize>], packs: usize) -> Result<Vec<Option<usize>>, NoMemory>
+fn last_after(
+    alloc: Global,
+    onto: &[Option<usize>],
+    last: &[Option<usize>],
+    packs: usize,
+) -> Result<Vec<Option<usize>>, NoMemory>
     ensures { IfOk result (λ held. held.items ≡ last_next onto.now last.now packs) }
 {
     let mut held = Vec::new(alloc);
@@ -199,7 +236,11 @@ fn packs_running(alloc: Global, plan: &Plan, tick: &Tick) -> Result<Vec<bool>, N
 }
 
 /// The places before each tick up to the end of the schedule, and those at its end, where these are all its ticks.
-pub(crate) fn placed_after(alloc: Global, plan: &Plan, past: &[Tick]) -> Result<Vec<Places>, NoMemory>
+pub(crate) fn placed_after(
+    alloc: Global,
+    plan: &Plan,
+    past: &[Tick],
+) -> Result<Vec<Places>, NoMemory>
     requires past { past.now ≡ ticks_of plan.now (stop_of plan.now) }
     ensures { IfOk result (λ placed. placed.items ≡ map (places_of plan.now) (range_with_len 0 (stop_of plan.now + 1))) }
 {

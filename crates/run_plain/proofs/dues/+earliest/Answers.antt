@@ -1,9 +1,8 @@
-use Rattle.std.proofs.Common.{◌≡◌, ◌∙◌, ◌<◌, ◌≤◌, ◌∷◌, ℕ, suc, List, Some, None, length, get_or, ap, subst, sym, arith}
+use Rattle.std.proofs.Common.{◌≡◌, ◌<◌, ◌∷◌, suc, Some, length, get_or, ap, arith}
 use Rattle.std.proofs.lemmas.List.{get_or-map}
 use Rattle.sched_base.specs.declared.rows.NodeId.{NodeId}
 use Rattle.sched_base.specs.Candidates.{earliest as earliest_of}
 use Rattle.run_tree.specs.Tree.{numbers}
-use Rattle.run_plain.specs.Plain.{left_of, end_of}
 use Rattle.run_plain.proofs.PlainDues.{candidates_of, first_ahead, first_done, first_later}
 use Rattle.run_plain.proofs.dues.+earliest.Goals as goal
 use Rattle.run_plain.proofs.dues.+earliest.Goals.{else-waits-2-via-then-waits-2+else-ends_first, else-waits-2-via-else-waits-2}

@@ -1,4 +1,4 @@
-use Rattle.std.proofs.Common.{◌≡◌, ◌∙◌, ◌<◌, ℕ, ap, sym, arith}
+use Rattle.std.proofs.Common.{◌∙◌, ap, arith}
 use Rattle.run_tree.specs.Tree.{Tree, rate}
 use Rattle.run_tree.specs.Plans.{boundary_of}
 use Rattle.run_plain.proofs.PlainWindows.{lt-window_end}

@@ -1,4 +1,4 @@
-use Rattle.std.proofs.Common.{◌≡◌, ◌<◌, ◌≤◌, ◌∙◌, ◌++◌, ◌∷◌, [], ℕ, List, Bool, true, false, length, Vec, Global, ap, sym, arith}
+use Rattle.std.proofs.Common.{◌≡◌, ◌∙◌, ◌++◌, ◌∷◌, [], ℕ, List, length, Vec, Global, ap, sym, arith}
 use Rattle.run_tree.specs.Boundaries.{set_boundary}
 use Rattle.run_tree.proofs.RunLemmas.{length-ticks}
 use Rattle.run_tree.specs.Plans.{stop_of}

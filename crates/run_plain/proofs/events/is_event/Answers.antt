@@ -12,4 +12,4 @@ returns-then-some_boundary c =
 pub returns-else-some_boundary : goal.returns-else-some_boundary
 returns-else-some_boundary c =
     event_by_dry c.args.plan.now (length c.args.past.now) c.some_boundary.result c.some_runs_dry.result (some_of (length c.args.past.now) c.is_empty.result c.is_empty.ensures c.if-is_empty.false) c.if-some_boundary.false c.some_boundary.ensures
-      c.some_runs_dry.ensures
+    c.some_runs_dry.ensures

@@ -1,7 +1,5 @@
-use Rattle.std.proofs.Common.{◌≡◌, length, ap, arith}
+use Rattle.std.proofs.Common.{length, ap, arith}
 use Rattle.run_tree.specs.Schedule.{rounds}
-use Rattle.run_tree.specs.Plans.{stop_of, rounds_of}
-use Rattle.run_plain.specs.Plain.{events_of}
 use Rattle.run_plain.proofs.events.plain_rounds.Goals as goal
 
 pub returns : goal.returns

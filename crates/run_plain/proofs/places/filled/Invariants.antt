@@ -5,5 +5,5 @@ use Rattle.run_plain.proofs.places.filled.Given as goal
 abbrev pub invariant-loop-held : goal.invariant-loop-held
 invariant-loop-held l = record {
   left : l.full.items ++ filled (drop l.held-index l.onto) (drop l.next l.packs) ≡ filled l.onto l.packs;
-  next : l.next ≤ length l.packs
+  next : l.next ≤ length l.packs;
 }

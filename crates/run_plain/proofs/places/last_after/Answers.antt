@@ -1,4 +1,4 @@
-use Rattle.std.proofs.Common.{◌≡◌, ◌∙◌, ◌++◌, ◌∷◌, [], List, Option, None, ℕ, get_or, ap, ap₂, sym, zero-add}
+use Rattle.std.proofs.Common.{◌∙◌, ◌++◌, ◌∷◌, [], List, Option, None, ℕ, get_or, ap, ap₂, sym, zero-add}
 use Rattle.std.proofs.lemmas.List.FromFn.{map-range_with_len_more}
 use Rattle.sched_base.specs.Places.{holder_from}
 use Rattle.run_plain.proofs.places.last_after.Goals as goal

@@ -1,4 +1,4 @@
-use Rattle.std.proofs.Common.{◌<◌, ap, arith}
+use Rattle.std.proofs.Common.{ap, arith}
 use Rattle.run_tree.specs.Tree.{Tree}
 use Rattle.run_plain.proofs.PlainPlaces.{some_level}
 use Rattle.run_plain.proofs.places.packs_running.Goals as goal

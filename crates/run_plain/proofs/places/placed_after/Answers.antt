@@ -1,7 +1,6 @@
-use Rattle.std.proofs.Common.{◌≡◌, ◌<◌, ◌∙◌, ◌++◌, ◌∷◌, ◌+◌, [], ℕ, suc, List, Bool, length, get_or, map, false, ap, ap₂, sym, arith}
+use Rattle.std.proofs.Common.{◌≡◌, ◌<◌, ◌∙◌, ◌+◌, [], ℕ, suc, length, get_or, map, ap, arith}
 use Rattle.std.specs.List.{range_with_len}
 use Rattle.std.proofs.lemmas.List.{get_or_read}
-use Rattle.sched_base.specs.Places.{Placing, place}
 use Rattle.run_tree.specs.Boundaries.{set_boundary}
 use Rattle.run_tree.specs.Plans.{stop_of}
 use Rattle.run_tree.proofs.RunLemmas.{length-ticks}
@@ -21,7 +20,7 @@ loop-n-preserved c =
     let r = c.in_ok-running.ensures in
     let d = c.deref.ensures.value in
     let next : c.in_ok-next.next ≡ places_of c.args.plan.now (suc n) =
-      c.in_ok-next.ensures ∙ places_next c.args.plan.now n c.index-past-n.result c.deref.result.now c.index.result.now early tick (c.deref.ensures.value ∙ c.in_ok-running.ensures) before in
+    c.in_ok-next.ensures ∙ places_next c.args.plan.now n c.index-past-n.result c.deref.result.now c.index.result.now early tick (c.deref.ensures.value ∙ c.in_ok-running.ensures) before in
     c.in_ok-push-2.ensures.items ∙ placed_more c.args.plan.now n c.loop-n.placed.items c.in_ok-next.next c.loop-n.invariant next
 
 pub returns : goal.returns

@@ -1,4 +1,4 @@
-use Rattle.std.proofs.Common.{◌≡◌, ◌∙◌, ◌++◌, ◌∷◌, [], List, Option, ℕ, ap, sym}
+use Rattle.std.proofs.Common.{◌∙◌, ◌++◌, ◌∷◌, [], List, Option, ℕ, ap}
 use Rattle.run_plain.proofs.PlainPlaces.{returned_more}
 use Rattle.run_plain.proofs.places.returned.Goals as goal
 

@@ -1,11 +1,9 @@
-use Rattle.std.proofs.Common.{◌≡◌, ◌<◌, ◌≤◌, ◌+◌, ◌∙◌, ◌++◌, ℕ, suc, List, Bool, length, get_or, map, ap, ap₂, sym, refl, arith, add-one}
-use Rattle.std.specs.List.{range_with_len}
-use Rattle.std.proofs.lemmas.List.{get_or_read}
+use Rattle.std.proofs.Common.{◌≡◌, ◌<◌, ◌≤◌, ◌+◌, ◌∙◌, ◌++◌, ℕ, suc, List, length, get_or, ap, refl, arith, add-one}
 use Rattle.sched_base.specs.declared.rows.Row.{Row}
 use Rattle.sched_base.specs.Places.{Placing}
 use Rattle.run_tree.specs.Boundaries.{set_boundary}
 use Rattle.run_tree.specs.Plans.{stop_of}
-use Rattle.run_tree.specs.Schedule.{round_rows, rows_from, rows_of_events}
+use Rattle.run_tree.specs.Schedule.{rows_from, rows_of_events}
 use Rattle.run_tree.proofs.RunLemmas.{length-ticks}
 use Rattle.run_tree.proofs.ScheduleLemmas.{length-places}
 use Rattle.run_plain.specs.Plain.{ticks_of, events_of, places_of}
@@ -59,7 +57,7 @@ loop-i-preserved c =
     let round = round_is c.args.plan.now (get_or es c.loop-i.i 0) c.round_end-end.result c.onto.result.now c.index-places.result.now (places ∙ ap (places_of c.args.plan.now) start_is) c.onto.ensures in
     let made = c.in_ok-push_round.ensures in
     rows_more c.args.plan.now es c.loop-i.i c.round_end-end.result c.loop-i.rows.items c.push_round.new.rows.items (rows_of_events c.args.plan.now.set.tasks c.args.plan.now.tree (stop_of c.args.plan.now) es) (omega (arith, c.loop-i-test.true, ap length told)) next last c.loop-i.invariant
-      (made ∙ ap (λ n. c.loop-i.rows.items ++ rows_from c.args.plan.now.set.tasks c.args.plan.now.tree n c.round_end-end.result 0 c.onto.result.now) start ∙ ap (λ (xs : List Row). c.loop-i.rows.items ++ xs) round)
+    (made ∙ ap (λ n. c.loop-i.rows.items ++ rows_from c.args.plan.now.set.tasks c.args.plan.now.tree n c.round_end-end.result 0 c.onto.result.now) start ∙ ap (λ (xs : List Row). c.loop-i.rows.items ++ xs) round)
 
 pub returns : goal.returns
 returns c =

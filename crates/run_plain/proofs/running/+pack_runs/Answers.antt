@@ -1,4 +1,4 @@
-use Rattle.std.proofs.Common.{◌≡◌, ◌∙◌, ◌<◌, ◌-◌, ◌&&◌, not, Bool, Some, None, length, ap, ap₂, subst, sym, arith}
+use Rattle.std.proofs.Common.{◌≡◌, ◌∙◌, ◌-◌, ◌&&◌, not, Bool, Some, length, ap, ap₂, sym, arith}
 use Rattle.run_tree.specs.Tree.{Tree, dual, home}
 use Rattle.run_tree.specs.Runs.{pack_runs}
 use Rattle.run_plain.specs.Plain.{picked_of}
@@ -20,7 +20,7 @@ returns-after-home_runs t c =
     let e : dual c.args.plan.now.tree c.args.pack.0 ≡ Some c.in-Some.dual.0 = sym (c.in-Some.ensures ∙ ap (λ (x : Tree). dual x c.args.pack.0) c.tree.ensures.value) in
     let h : c.home.result.0 ≡ home c.args.plan.now.tree c.in-Some.dual.0 = c.home.ensures ∙ ap (λ (x : Tree). home x c.in-Some.dual.0) c.tree-in-Some.ensures.value in
     let runs : c.pack_runs-home_runs.result ≡ pack_runs c.args.plan.now.tree (picked_of c.args.plan.now c.args.past.now) (c.args.above - 1) (home c.args.plan.now.tree c.in-Some.dual.0) =
-      c.pack_runs-home_runs.ensures ∙ ap (pack_runs c.args.plan.now.tree (picked_of c.args.plan.now c.args.past.now) (c.args.above - 1)) h in
+    c.pack_runs-home_runs.ensures ∙ ap (pack_runs c.args.plan.now.tree (picked_of c.args.plan.now c.args.past.now) (c.args.above - 1)) h in
     let both : c.if-home_runs.result ≡ (c.pack_runs-home_runs.result && c.is_picked-picked.result) = elim c.if-home_runs.branch [
       | then-home_runs w ↦ w.result-is ∙ ap (λ (b : Bool). b && c.is_picked-picked.result) (sym w.if-home_runs.true)
       | else-home_runs w ↦ w.result-is ∙ w.if-home_runs.false ∙ ap (λ (b : Bool). b && c.is_picked-picked.result) (sym w.if-home_runs.false)

@@ -1,8 +1,8 @@
-use Rattle.std.proofs.Common.{rules, ◌≡◌, ◌∙◌, ◌<◌, ◌-◌, ◌&&◌, not, Bool, false, Some, None, length, ap, ap₂, subst, sym, arith}
-use Rattle.run_tree.specs.Tree.{Tree, is_pack, kind_at, home, level}
+use Rattle.std.proofs.Common.{rules, ◌≡◌, ◌∙◌, ◌-◌, ◌&&◌, Bool, false, ap, sym}
+use Rattle.run_tree.specs.Tree.{Tree, is_pack, kind_at, home}
 use Rattle.run_tree.specs.declared.kinds.Kind.TheVariants as kind
 use Rattle.run_tree.specs.Runs.{pack_runs}
-use Rattle.run_plain.specs.Plain.{picked_of, runs_of}
+use Rattle.run_plain.specs.Plain.{picked_of}
 use Rattle.run_plain.proofs.PlainRuns.{runs_pack, runs_by_home}
 use Rattle.run_plain.proofs.running.node_runs.Goals as goal
 

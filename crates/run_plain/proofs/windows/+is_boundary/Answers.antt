@@ -1,4 +1,4 @@
-use Rattle.std.proofs.Common.{◌≡◌, ◌<◌, ◌+◌, ◌∙◌, ℕ, Bool, true, false, length, get_or, ap, sym, subst, arith, below_more}
+use Rattle.std.proofs.Common.{◌≡◌, ◌<◌, ◌∙◌, false, length, ap, sym, arith, below_more}
 use Rattle.sched_base.specs.Sets.{SetContents}
 use Rattle.run_tree.specs.declared.kinds.Kind.TheVariants as kind
 use Rattle.run_tree.specs.Tree.{Tree, kind_at, is_pack, members, member, numbers}
@@ -32,14 +32,14 @@ returns-then-is_boundary t c =
     let x = member_at c.args.plan.now.tree c.args.n.0 c.loop-member.member-index c.members-member-items.result.now all in
     let k : c.loop-member.member-index < length (members c.args.plan.now.tree c.args.n.0) = omega (arith, c.loop-member-test.true, length-members c.args.plan.now.tree c.args.n.0 c.members-member-items.result.now all) in
     sym (pack_has_one c.args.plan.now c.tree.ensures.lawful c.args.n.0 c.in-Pack.field-0 c.loop-member.member-index c.args.unit c.requires is k
-      (ap (λ y. boundary_of c.args.plan.now y c.args.unit) (sym x) ∙ sym c.is_boundary-in-loop-member.ensures ∙ c.if-is_boundary.true))
+    (ap (λ y. boundary_of c.args.plan.now y c.args.unit) (sym x) ∙ sym c.is_boundary-in-loop-member.ensures ∙ c.if-is_boundary.true))
 
 pub loop-member-preserved : goal.loop-member-preserved
 loop-member-preserved t c =
     let all : numbers c.members-member-items.result.now ≡ members c.args.plan.now.tree c.args.n.0 = c.members-member-items.ensures ∙ ap (λ (x : Tree). members x c.args.n.0) c.tree-in-Pack.ensures.value in
     let x = member_at c.args.plan.now.tree c.args.n.0 c.loop-member.member-index c.members-member-items.result.now all in
     below_more (λ k. boundary_of c.args.plan.now (member c.args.plan.now.tree c.args.n.0 k) c.args.unit ≡ false) c.loop-member.member-index c.loop-member.invariant
-      (ap (λ y. boundary_of c.args.plan.now y c.args.unit) (sym x) ∙ sym c.is_boundary-in-loop-member.ensures ∙ c.if-is_boundary.false)
+    (ap (λ y. boundary_of c.args.plan.now y c.args.unit) (sym x) ∙ sym c.is_boundary-in-loop-member.ensures ∙ c.if-is_boundary.false)
 
 pub returns-in-Leaf : goal.returns-in-Leaf
 returns-in-Leaf t c =
@@ -56,4 +56,4 @@ returns-after-loop-member t c =
     let is : kind_at c.args.plan.now.tree c.args.n.0 ≡ kind.Pack c.in-Pack.field-0 = sym (c.in-Pack.ensures ∙ ap (λ (x : Tree). kind_at x c.args.n.0) c.tree.ensures.value) in
     let all : numbers c.members-member-items.result.now ≡ members c.args.plan.now.tree c.args.n.0 = c.members-member-items.ensures ∙ ap (λ (x : Tree). members x c.args.n.0) c.tree-in-Pack.ensures.value in
     sym (pack_has_none c.args.plan.now c.tree.ensures.lawful c.args.n.0 c.in-Pack.field-0 c.args.unit c.requires is
-      (λ k l. c.loop-member.invariant k (omega (arith, l, c.loop-member-test.false, length-members c.args.plan.now.tree c.args.n.0 c.members-member-items.result.now all))))
+    (λ k l. c.loop-member.invariant k (omega (arith, l, c.loop-member-test.false, length-members c.args.plan.now.tree c.args.n.0 c.members-member-items.result.now all))))

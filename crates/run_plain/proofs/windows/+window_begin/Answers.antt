@@ -1,4 +1,4 @@
-use Rattle.std.proofs.Common.{◌≡◌, ◌∙◌, ◌-◌, ℕ, sym, arith}
+use Rattle.std.proofs.Common.{◌∙◌, sym}
 use Rattle.run_tree.specs.Plans.{boundary_of}
 use Rattle.run_plain.proofs.PlainWindows.{begin_here, begin_earlier}
 use Rattle.run_plain.proofs.windows.+window_begin.Goals as goal

@@ -1,0 +1,208 @@
+//! The schedules of worked sets, round by round. Each expected row comes from the rules by hand.
+use super::*;
+use run_compile::compile;
+use run_tree::Plan;
+use sched_base::{Leaf, Row, TaskId, TaskSet, lawful_name};
+use std::alloc::Global;
+use std::process::Abort;
+use std::test::Fail;
+
+/// A task's name, work, period and offset.
+type Told<'a> = (&'a str, u64, u64, u64);
+
+/// A round's start and end, and what each processor runs, a letter each: a task by its name, as a capital where it waits
+/// for its offset, and an idle leaf by its number.
+type Round<'a> = (u128, u128, &'a str);
+
+/// The leaf of a letter.
+fn leaf_of(letter: u8) -> Leaf {
+    match letter {
+        b'a'..=b'z' => Leaf::Task(TaskId(u32::from(letter - b'a'))),
+        b'A'..=b'Z' => Leaf::Wait(TaskId(u32::from(letter - b'A'))),
+        b'0'..=b'9' => Leaf::Idle(u32::from(letter - b'0')),
+        _ => Leaf::Empty,
+    }
+}
+
+/// The plan of these tasks.
+fn plan_of(
+    rt: &impl Abort,
+    alloc: Global,
+    processors: u32,
+    horizon: u64,
+    tasks: &[Told],
+) -> Result<Plan, Fail> {
+    assert!(rt; 1 <= processors && processors <= 32);
+    assert!(rt; 1 <= horizon && horizon < 1 << 32);
+    let mut set = TaskSet::start(alloc, processors, horizon);
+    for (name, work, period, offset) in tasks {
+        add(rt, &mut set, name.as_bytes(), *work, *period, *offset)?;
+    }
+    Ok(compile(alloc, set)?)
+}
+
+fn add(
+    rt: &impl Abort,
+    set: &mut TaskSet,
+    name: &[u8],
+    work: u64,
+    period: u64,
+    offset: u64,
+) -> Result<(), Fail> {
+    assert!(rt; lawful_name(name));
+    assert!(rt; set.find(name).is_none());
+    assert!(rt; set.count() < 256);
+    assert!(rt; 1 <= work && work <= period && period < 1 << 32);
+    assert!(rt; offset < 1 << 32);
+    set.add_late(name, work, period, offset)?;
+    Ok(())
+}
+
+/// Whether these rounds are the schedule.
+fn expect_rounds(
+    rt: &impl Abort,
+    alloc: Global,
+    name: &str,
+    plan: &Plan,
+    rounds: &[Round],
+) -> Result<(), Fail> {
+    assert!(rt; plan.rounds_end() <= 1 << 32, "{name}");
+    let rows = plain_schedule(alloc, plan)?;
+    let mut at = 0;
+    for (start, end, leaves) in rounds {
+        for (processor, letter) in leaves.as_bytes().iter().enumerate() {
+            assert!(rt; at < rows.len(), "{name}, from {start}");
+            assert!(rt; processor < 32, "{name}");
+            let row = Row {
+                processor: processor as u32,
+                start: *start,
+                end: *end,
+                leaf: leaf_of(*letter),
+            };
+            assert_eq!(rt; rows[at], row, "{name}");
+            at += 1;
+        }
+    }
+    assert_eq!(rt; rows.len(), at, "{name}");
+    assert_eq!(rt; plain_rounds(alloc, plan)?, rounds.len(), "{name}");
+    Ok(())
+}
+
+#[test]
+fn schedules_worked_sets(rt: HostRuntime) -> Result<(), Fail> {
+    let three_of_two: &[Told] = &[("a", 2, 3, 0), ("b", 2, 3, 0), ("c", 2, 3, 0)];
+    let cases: [(&str, u32, u64, &[Told], &[Round]); 6] = [
+        (
+            "three tasks",
+            2,
+            3,
+            three_of_two,
+            &[(0, 3, "bc"), (3, 6, "ac"), (6, 9, "ab")],
+        ),
+        (
+            "no migration",
+            2,
+            4,
+            &[("a", 1, 2, 0), ("b", 1, 2, 0), ("c", 1, 4, 0)],
+            &[(0, 4, "ac"), (4, 8, "b0"), (8, 12, "a0"), (12, 16, "b0")],
+        ),
+        (
+            // at 20 the due of a runs out while b runs on
+            "one idle leaf",
+            2,
+            5,
+            &[("a", 3, 5, 0), ("b", 3, 5, 0), ("c", 3, 5, 0)],
+            &[(0, 5, "bc"), (5, 15, "ac"), (15, 20, "ab"), (20, 25, "0b")],
+        ),
+        (
+            "two reductions",
+            3,
+            5,
+            &[
+                ("a", 3, 5, 0),
+                ("b", 3, 5, 0),
+                ("c", 3, 5, 0),
+                ("d", 3, 5, 0),
+                ("e", 3, 5, 0),
+            ],
+            &[
+                (0, 5, "abd"),
+                (5, 10, "cbd"),
+                (10, 15, "ebd"),
+                (15, 25, "eac"),
+            ],
+        ),
+        ("no tasks", 2, 1, &[], &[(0, 1, "01")]),
+        (
+            "full rate",
+            1,
+            3,
+            &[("a", 1, 1, 0)],
+            &[(0, 1, "a"), (1, 2, "a"), (2, 3, "a")],
+        ),
+    ];
+    for (name, processors, horizon, tasks, rounds) in cases {
+        let plan = plan_of(&rt, rt.alloc(), processors, horizon, tasks)?;
+        expect_rounds(&rt, rt.alloc(), name, &plan, rounds)?;
+    }
+    Ok(())
+}
+
+#[test]
+fn schedules_small_sets(rt: HostRuntime) -> Result<(), Fail> {
+    let cases: [(&str, u32, u64, &[Told], &[Round]); 5] = [
+        (
+            "a tie goes to the lower position",
+            1,
+            2,
+            &[("a", 1, 2, 0), ("b", 1, 2, 0)],
+            &[(0, 2, "a"), (2, 4, "b")],
+        ),
+        (
+            // at 8 b finds its processor 0 free; at 12 a doesn't, since b is there
+            "a pack comes back",
+            2,
+            4,
+            &[("a", 1, 2, 0), ("b", 3, 4, 0), ("c", 3, 4, 0)],
+            &[(0, 4, "bc"), (4, 8, "ac"), (8, 12, "bc"), (12, 16, "ba")],
+        ),
+        (
+            // at 2 the due of b runs out in the window of a
+            "a due runs out",
+            1,
+            4,
+            &[("a", 1, 4, 0), ("b", 1, 2, 0)],
+            &[(0, 4, "b"), (4, 8, "a"), (8, 12, "b"), (12, 16, "0")],
+        ),
+        (
+            "an offset of one",
+            1,
+            5,
+            &[("a", 1, 2, 1), ("b", 1, 2, 0)],
+            &[
+                (0, 1, "A"),
+                (1, 2, "b"),
+                (2, 3, "b"),
+                (3, 4, "a"),
+                (4, 5, "a"),
+                (5, 6, "b"),
+                (6, 7, "b"),
+                (7, 8, "a"),
+                (8, 9, "a"),
+                (9, 10, "b"),
+            ],
+        ),
+        (
+            "an offset beyond the horizon",
+            1,
+            2,
+            &[("a", 1, 2, 5), ("b", 1, 2, 0)],
+            &[(0, 2, "b"), (2, 4, "A")],
+        ),
+    ];
+    for (name, processors, horizon, tasks, rounds) in cases {
+        let plan = plan_of(&rt, rt.alloc(), processors, horizon, tasks)?;
+        expect_rounds(&rt, rt.alloc(), name, &plan, rounds)?;
+    }
+    Ok(())
+}
