@@ -1,4 +1,4 @@
-//! Tests alone: sets whose rounds are known, compiled and run round by round.
+//! Tests alone: sets whose rounds are known, compiled, run round by round and put into tables.
 #![tactic(auto)]
 
 #[cfg(test)]

@@ -10,6 +10,8 @@ use std::alloc::{AllocError, Global};
 use std::process::Abort;
 use std::test::Fail;
 
+mod tables;
+
 /// The plan of a set of tasks, each told by its name, work, period and offset.
 fn plan_of(
     rt: &impl Abort,
