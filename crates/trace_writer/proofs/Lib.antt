@@ -1,0 +1,4 @@
+pub mod MergeLemmas
+pub mod TotalLemmas
+pub mod LaneLemmas
+pub mod TextLemmas

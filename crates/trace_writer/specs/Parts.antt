@@ -1,0 +1,17 @@
+-- The parts of a trace text that both versions have up to the totals.
+use Rattle.std.specs.Prelude.{ℕ, List, ◌++◌}
+use Rattle.std.specs.List.{flat_map}
+use Rattle.sched_base.specs.declared.rows.Row.{Row}
+use Rattle.sched_base.specs.Sets.{SetContents}
+use Rattle.trace_lines.specs.declared.versions.Version.{Version}
+use Rattle.trace_lines.specs.Lines.{task_line, row_line}
+use Rattle.trace_lines.specs.Text.{head_lines, total_lines}
+
+-- these lines, one after the other
+abbrev pub text_of : List (List ℕ) → List ℕ
+text_of lines = flat_map (λ line. line) lines
+
+-- the text from the first line up to the last total
+abbrev pub body_text : Version → SetContents → ℕ → List Row → List ℕ
+body_text version s scale rows =
+    text_of (head_lines version s scale) ++ (flat_map (task_line version) s.tasks ++ (flat_map (row_line s.tasks) rows ++ text_of (total_lines s rows)))

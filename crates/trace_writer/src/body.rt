@@ -1,0 +1,97 @@
+//! A trace text from its first line up to its totals.
+ghost use Rattle.std.specs.Prelude.{◌≡◌, ◌≤◌, ◌*◌, length, IfOk};
+ghost use Rattle.std.specs.List.{AllByRecursion, flat_map};
+ghost use Rattle.sched_base.specs.Tables.{rounds_of};
+ghost use Rattle.sched_edges.specs.Causes.{HasCause};
+ghost use Rattle.sched_edges.specs.Streams.{Wrote};
+ghost use Rattle.trace_lines.specs.Lines.{task_line, version_number};
+ghost use Rattle.trace_lines.specs.Merging.{merged_lanes};
+ghost use Rattle.trace_lines.specs.Text.{head_lines, total_lines};
+ghost use Rattle.trace_writer.specs.Conditions.{NameTasks, totals_of};
+ghost use Rattle.trace_writer.specs.Parts.{text_of, body_text};
+
+use crate::lines::line_of_task;
+use crate::rows::write_rows;
+use sched_base::{RowTable, TaskSet};
+use sched_edges::{Failed, Sink, named_line, number_line, write_all, write_lines};
+use trace_lines::Version;
+
+/// Writes the text up to the last total, and says how many lines of rows it has.
+pub(crate) fn write_body<W: Sink>(
+    sink: &mut W,
+    version: Version,
+    set: &TaskSet,
+    scale: u128,
+    table: &RowTable,
+    totals: &[u128],
+) -> Result<u64, Failed>
+    requires names { AllByRecursion (NameTasks set.now.tasks) table.now.lanes }
+    requires few { length table.now.lanes * rounds_of table.now.lanes ≤ 2_097_152 }
+    requires totals { totals.now ≡ totals_of set.now.tasks table.now.lanes }
+    ensures wrote { Wrote (W.taken sink.old) (W.taken sink.new) (body_text version set.now scale (merged_lanes table.now.lanes)) result }
+    ensures count { IfOk result (λ n. n ≡ length (merged_lanes table.now.lanes)) }
+    ensures cause { HasCause (W.faults sink.old) (W.faults sink.new) result }
+{
+    write_head(sink, version, set, scale)?;
+    write_tasks(sink, version, set)?;
+    let rows = write_rows(sink, set, table)?;
+    write_totals(sink, set, table, totals)?;
+    Ok(rows)
+}
+
+fn write_head<W: Sink>(
+    sink: &mut W,
+    version: Version,
+    set: &TaskSet,
+    scale: u128,
+) -> Result<(), Failed>
+    ensures wrote { Wrote (W.taken sink.old) (W.taken sink.new) (text_of (head_lines version set.now scale)) result }
+    ensures cause { HasCause (W.faults sink.old) (W.faults sink.new) result }
+{
+    let lines = [
+        number_line(b"run-trace", version_number(version)),
+        number_line(b"processors", u128::from(set.processors())),
+        number_line(b"horizon", u128::from(set.horizon())),
+        number_line(b"scale", scale),
+        number_line(b"tasks", u128::from(set.count())),
+    ];
+    write_lines(sink, &lines)
+}
+
+fn version_number(version: Version) -> u128
+    ensures { result ≡ version_number version }
+{
+    match version {
+        Version::One => 1,
+        Version::Two => 2,
+    }
+}
+
+fn write_tasks<W: Sink>(sink: &mut W, version: Version, set: &TaskSet) -> Result<(), Failed>
+    ensures wrote { Wrote (W.taken sink.old) (W.taken sink.new) (flat_map (task_line version) set.now.tasks) result }
+    ensures cause { HasCause (W.faults sink.old) (W.faults sink.new) result }
+{
+    for task in set.tasks() {
+        write_all(sink, line_of_task(version, task).as_slice())?;
+    }
+    Ok(())
+}
+
+// The table is only spoken of: its rows have these totals, merged or not.
+fn write_totals<W: Sink>(
+    sink: &mut W,
+    set: &TaskSet,
+    table: &RowTable,
+    totals: &[u128],
+) -> Result<(), Failed>
+    requires totals { totals.now ≡ totals_of set.now.tasks table.now.lanes }
+    ensures wrote { Wrote (W.taken sink.old) (W.taken sink.new) (text_of (total_lines set.now (merged_lanes table.now.lanes))) result }
+    ensures cause { HasCause (W.faults sink.old) (W.faults sink.new) result }
+{
+    let _processors = table.processors();
+    for (i, task) in set.tasks().iter().enumerate() {
+        let line = named_line(b"total", task.name.as_slice(), totals[i]);
+        write_all(sink, line.as_slice())?;
+    }
+    Ok(())
+}

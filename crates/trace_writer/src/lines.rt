@@ -1,0 +1,74 @@
+//! The lines of tasks and rows.
+ghost use Rattle.std.specs.Prelude.{◌≡◌, ◌≤◌, ◌++◌, ◌∷◌, codes, decimal, length};
+ghost use Rattle.trace_lines.specs.Lines.{leaf_name, task_line, row_line};
+ghost use Rattle.trace_writer.specs.Conditions.{IsAmong};
+
+use sched_base::{Leaf, Row, Task, TaskSet};
+use sched_edges::Line;
+use trace_lines::Version;
+
+/// The line of a task.
+#[tactic(auto, unfolding(trace_lines::specs::Lines::task_line, sched_edges::specs::Lines::line_of))]
+pub(crate) fn line_of_task(version: Version, task: &Task) -> Line
+    ensures { result ≡ task_line version task.now }
+{
+    let mut line = start_of_task(task);
+    match version {
+        Version::One => {
+            line.end();
+            line
+        }
+        Version::Two => {
+            line.space();
+            line.number(u128::from(task.offset));
+            line.end();
+            line
+        }
+    }
+}
+
+// The line of a task up to its period.
+fn start_of_task(task: &Task) -> Line
+    ensures text { result ≡ codes "task " ++ (task.now.name ++ (32 ∷ (decimal task.now.work ++ (32 ∷ decimal task.now.period)))) }
+    ensures short { length result ≤ 128 }
+{
+    let mut line = Line::new();
+    line.text(b"task ");
+    line.text(task.name.as_slice());
+    line.space();
+    line.number(u128::from(task.work));
+    line.space();
+    line.number(u128::from(task.period));
+    line
+}
+
+/// The line of a row.
+#[tactic(auto, unfolding(trace_lines::specs::Lines::row_line, sched_edges::specs::Lines::line_of))]
+pub(crate) fn line_of_row(set: &TaskSet, row: &Row) -> Line
+    requires { IsAmong (length set.now.tasks) row.now.leaf }
+    ensures { result ≡ row_line set.now.tasks row.now }
+{
+    let mut line = Line::new();
+    line.text(b"row ");
+    line.number(u128::from(row.processor));
+    line.space();
+    line.number(row.start);
+    line.space();
+    line.number(row.end);
+    line.space();
+    line.text(name_of(set, row.leaf));
+    line.end();
+    line
+}
+
+// The name that a row's line gives its leaf.
+fn name_of(set: &TaskSet, leaf: Leaf) -> &[u8]
+    requires { IsAmong (length set.now.tasks) leaf }
+    ensures name { result.now ≡ leaf_name set.now.tasks leaf }
+    ensures short { length result.now ≤ 32 }
+{
+    match leaf {
+        Leaf::Task(id) => set.tasks()[id.0 as usize].name.as_slice(),
+        Leaf::Idle(_) | Leaf::Wait(_) | Leaf::Empty => b"-".as_slice(),
+    }
+}

@@ -1,0 +1,40 @@
+//! The whole text.
+ghost use Rattle.std.specs.Prelude.{◌≡◌, ◌≤◌, ◌*◌, ◌^◌, length};
+ghost use Rattle.std.specs.List.{AllByRecursion};
+ghost use Rattle.sched_base.specs.Scale.{IsScale};
+ghost use Rattle.sched_base.specs.Tables.{rounds_of};
+ghost use Rattle.sched_edges.specs.Causes.{HasCause};
+ghost use Rattle.sched_edges.specs.Streams.{Wrote};
+ghost use Rattle.trace_lines.specs.declared.versions.Version.TheVariants.{One};
+ghost use Rattle.trace_lines.specs.Merging.{merged_lanes};
+ghost use Rattle.trace_lines.specs.Text.{trace_text};
+ghost use Rattle.trace_writer.specs.Conditions.{NameTasks, AreOnTime, totals_of};
+
+use crate::body::write_body;
+use sched_base::{RowTable, TaskSet};
+use sched_edges::{Failed, Sink, number_line, write_all};
+use trace_lines::Version;
+
+/// Writes the trace text of a table's rows, of version 1: neighbouring rows of a processor under one name make one line.
+///
+/// `scale` is in ticks per unit, `totals` has the ticks of each task's rows. Each line goes out as one piece. Where the
+/// sink fails, it has taken a first part of the text.
+pub fn write_trace<W: Sink>(
+    sink: &mut W,
+    set: &TaskSet,
+    scale: u128,
+    table: &RowTable,
+    totals: &[u128],
+) -> Result<(), Failed>
+    requires on_time { AreOnTime set.now.tasks }
+    requires processors { length table.now.lanes ≡ set.now.processors }
+    requires names { AllByRecursion (NameTasks set.now.tasks) table.now.lanes }
+    requires few { length table.now.lanes * rounds_of table.now.lanes ≤ 2_097_152 }
+    requires totals { totals.now ≡ totals_of set.now.tasks table.now.lanes }
+    ensures wrote { Wrote (W.taken sink.old) (W.taken sink.new) (trace_text One set.now scale (merged_lanes table.now.lanes)) result }
+    ensures cause { HasCause (W.faults sink.old) (W.faults sink.new) result }
+{
+    let rows = write_body(sink, Version::One, set, scale, table, totals)?;
+    let line = number_line(b"rows", u128::from(rows));
+    write_all(sink, line.as_slice())
+}
