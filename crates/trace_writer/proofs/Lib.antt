@@ -2,3 +2,4 @@ pub mod MergeLemmas
 pub mod TotalLemmas
 pub mod LaneLemmas
 pub mod TextLemmas
+pub mod FinishLemmas

@@ -11,6 +11,7 @@ use Rattle.sched_base.specs.declared.rows.Row.{Row}
 use Rattle.sched_base.specs.Rows.{is_of_task}
 use Rattle.sched_base.specs.Tables.{RowAt, IsTable, all_rows, row_ticks, ticks_in}
 use Rattle.trace_lines.specs.Merging.{shown, lengthened, merge_onto, merged, merged_lanes}
+use Rattle.trace_writer.specs.Conditions.{RunForward}
 use Rattle.trace_lines.specs.Finishes.{ticks_of}
 
 -- the second row begins where the first ends, under the same name
@@ -85,25 +86,22 @@ shown_same j leaves.Empty q e = sym (shown_none j q (sym e))
 
 -- ---- rows that don't run backwards
 
-abbrev pub Forward : List Row → Type 0
-Forward rows = AllByRecursion (λ r. r.start ≤ r.end) rows
-
-forward_lane : (rows : List Row) → ((k : ℕ) (r : Row) → slice_get rows k ≡ Some r → (r.start < r.end) × (r.end < 2 ^ 127)) → Forward rows
+forward_lane : (rows : List Row) → ((k : ℕ) (r : Row) → slice_get rows k ≡ Some r → (r.start < r.end) × (r.end < 2 ^ 127)) → RunForward rows
 forward_lane [] h = tt
 forward_lane (r ∷ rows) h =
     let less = (h 0 r refl).0 in
     let within : r.start ≤ r.end = omega (arith, less) in
     (within, forward_lane rows (λ k. h (suc k)))
 
-forward_from : (lanes : List (List Row)) → ((p k : ℕ) (r : Row) → RowAt lanes p k r → (r.start < r.end) × (r.end < 2 ^ 127)) → AllByRecursion Forward lanes
+forward_from : (lanes : List (List Row)) → ((p k : ℕ) (r : Row) → RowAt lanes p k r → (r.start < r.end) × (r.end < 2 ^ 127)) → AllByRecursion RunForward lanes
 forward_from [] h = tt
 forward_from (lane ∷ lanes) h = (forward_lane lane (h 0), forward_from lanes (λ p. h (suc p)))
 
 -- the rows of a table
-pub forward_lanes : (lanes : List (List Row)) → IsTable lanes → AllByRecursion Forward lanes
+pub forward_lanes : (lanes : List (List Row)) → IsTable lanes → AllByRecursion RunForward lanes
 forward_lanes lanes table = forward_from lanes table.forward
 
-forward_onto : (r : Row) (rows : List Row) → r.start ≤ r.end → Forward rows → Forward (merge_onto r rows)
+forward_onto : (r : Row) (rows : List Row) → r.start ≤ r.end → RunForward rows → RunForward (merge_onto r rows)
 forward_onto r [] own rest = (own, tt)
 forward_onto r (q ∷ rows) own rest =
     elim (cases_Bool (goes_on r q)) [
@@ -112,11 +110,11 @@ forward_onto r (q ∷ rows) own rest =
           let joint = eqb-true _ _ (and_parts (eqb r.end q.start) (eqb (shown r.leaf) (shown q.leaf)) t).0 in
           let next = rest.0 in
           let long : r.start ≤ q.end = omega (arith, own, joint, next) in
-          subst Forward (sym e) (long, rest.1))
-      | inr f ↦ (let e : merge_onto r (q ∷ rows) ≡ r ∷ (q ∷ rows) = cond-false _ _ _ f in subst Forward (sym e) (own, rest))
+          subst RunForward (sym e) (long, rest.1))
+      | inr f ↦ (let e : merge_onto r (q ∷ rows) ≡ r ∷ (q ∷ rows) = cond-false _ _ _ f in subst RunForward (sym e) (own, rest))
     ]
 
-pub forward_merged : (rows : List Row) → Forward rows → Forward (merged rows)
+pub forward_merged : (rows : List Row) → RunForward rows → RunForward (merged rows)
 forward_merged [] f = tt
 forward_merged (r ∷ rows) f = forward_onto r (merged rows) f.0 (forward_merged rows f.1)
 
@@ -126,7 +124,7 @@ joined_ticks : (b : Bool) (a m z : ℕ) → a ≤ m → m ≤ z → bit b * (z -
 joined_ticks true a m z low high = omega (arith, low, high)
 joined_ticks false a m z low high = omega (arith, low, high)
 
-ticks_onto : (j : ℕ) (r : Row) (rows : List Row) → r.start ≤ r.end → Forward rows → ticks_of (merge_onto r rows) j ≡ row_ticks j r + ticks_of rows j
+ticks_onto : (j : ℕ) (r : Row) (rows : List Row) → r.start ≤ r.end → RunForward rows → ticks_of (merge_onto r rows) j ≡ row_ticks j r + ticks_of rows j
 ticks_onto j r [] own rest = sum_by-cons (row_ticks j) r []
 ticks_onto j r (q ∷ rows) own rest =
     elim (cases_Bool (goes_on r q)) [
@@ -145,7 +143,7 @@ ticks_onto j r (q ∷ rows) own rest =
       | inr f ↦ ap (λ l. ticks_of l j) (cond-false _ (lengthened r q.end ∷ rows) (r ∷ (q ∷ rows)) f) ∙ sum_by-cons (row_ticks j) r (q ∷ rows)
     ]
 
-ticks_merged : (j : ℕ) (rows : List Row) → Forward rows → ticks_of (merged rows) j ≡ ticks_in j rows
+ticks_merged : (j : ℕ) (rows : List Row) → RunForward rows → ticks_of (merged rows) j ≡ ticks_in j rows
 ticks_merged j [] f = refl
 ticks_merged j (r ∷ rows) f = ticks_onto j r (merged rows) f.0 (forward_merged rows f.1) ∙ ap (λ n. row_ticks j r + n) (ticks_merged j rows f.1)
 
@@ -157,7 +155,7 @@ ticks_in-append j [] ys = omega arith
 ticks_in-append j (x ∷ xs) ys = let rest = ticks_in-append j xs ys in omega (arith, rest)
 
 -- the merged rows give each task the ticks of the rows
-pub ticks_merged_lanes : (j : ℕ) (lanes : List (List Row)) → AllByRecursion Forward lanes → ticks_of (merged_lanes lanes) j ≡ ticks_in j (all_rows lanes)
+pub ticks_merged_lanes : (j : ℕ) (lanes : List (List Row)) → AllByRecursion RunForward lanes → ticks_of (merged_lanes lanes) j ≡ ticks_in j (all_rows lanes)
 ticks_merged_lanes j [] f = refl
 ticks_merged_lanes j (lane ∷ lanes) f =
     let first = ticks_of-append j (merged lane) (merged_lanes lanes) in

@@ -2,8 +2,13 @@
 #![tactic(auto)]
 
 mod body;
+mod finishes;
 mod lines;
+mod mets;
 mod rows;
 mod text;
 
-pub use text::write_trace;
+pub use text::{write_met, write_trace};
+
+#[cfg(test)]
+mod tests;

@@ -5,12 +5,13 @@ ghost use Rattle.sched_base.specs.Scale.{IsScale};
 ghost use Rattle.sched_base.specs.Tables.{rounds_of};
 ghost use Rattle.sched_edges.specs.Causes.{HasCause};
 ghost use Rattle.sched_edges.specs.Streams.{Wrote};
-ghost use Rattle.trace_lines.specs.declared.versions.Version.TheVariants.{One};
+ghost use Rattle.trace_lines.specs.declared.versions.Version.TheVariants.{One, Two};
 ghost use Rattle.trace_lines.specs.Merging.{merged_lanes};
 ghost use Rattle.trace_lines.specs.Text.{trace_text};
 ghost use Rattle.trace_writer.specs.Conditions.{NameTasks, AreOnTime, totals_of};
 
 use crate::body::write_body;
+use crate::mets::write_mets;
 use sched_base::{RowTable, TaskSet};
 use sched_edges::{Failed, Sink, number_line, write_all};
 use trace_lines::Version;
@@ -35,6 +36,32 @@ pub fn write_trace<W: Sink>(
     ensures cause { HasCause (W.faults sink.old) (W.faults sink.new) result }
 {
     let rows = write_body(sink, Version::One, set, scale, table, totals)?;
+    let line = number_line(b"rows", u128::from(rows));
+    write_all(sink, line.as_slice())
+}
+
+/// The same of version 2: each task's line has its offset, and after the totals stands for each period that ends by the
+/// horizon when it was done.
+///
+/// It takes no memory: for each such period it goes through the table's rows, so that its time is that of the periods times
+/// the rows.
+pub fn write_met<W: Sink>(
+    sink: &mut W,
+    set: &TaskSet,
+    scale: u128,
+    table: &RowTable,
+    totals: &[u128],
+) -> Result<(), Failed>
+    requires scale { scale ≤ 2 ^ 94 }
+    requires processors { length table.now.lanes ≡ set.now.processors }
+    requires names { AllByRecursion (NameTasks set.now.tasks) table.now.lanes }
+    requires few { length table.now.lanes * rounds_of table.now.lanes ≤ 2_097_152 }
+    requires totals { totals.now ≡ totals_of set.now.tasks table.now.lanes }
+    ensures wrote { Wrote (W.taken sink.old) (W.taken sink.new) (trace_text Two set.now scale (merged_lanes table.now.lanes)) result }
+    ensures cause { HasCause (W.faults sink.old) (W.faults sink.new) result }
+{
+    let rows = write_body(sink, Version::Two, set, scale, table, totals)?;
+    write_mets(sink, set, scale, table)?;
     let line = number_line(b"rows", u128::from(rows));
     write_all(sink, line.as_slice())
 }

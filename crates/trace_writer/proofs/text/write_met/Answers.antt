@@ -1,0 +1,23 @@
+use Rattle.sched_edges.proofs.Wrote.{wrote_then, wrote_cut}
+use Rattle.trace_lines.specs.declared.versions.Version.TheVariants.{Two}
+use Rattle.trace_lines.specs.Merging.{merged_lanes}
+use Rattle.trace_writer.proofs.TextLemmas.{trace_parts}
+use Rattle.trace_writer.proofs.text.write_met.Goals as goal
+
+pub returns-in_err-rows-clause-wrote : goal.returns-in_err-rows-clause-wrote
+returns-in_err-rows-clause-wrote g c =
+    rw (trace_parts Two c.args.set.now c.args.scale (merged_lanes c.args.table.now.lanes))
+    (wrote_cut _ _ _ _ _ _ c.in_err-rows.ensures.wrote c.from_residual.ensures.0)
+
+pub returns-in_err-write_mets-clause-wrote : goal.returns-in_err-write_mets-clause-wrote
+returns-in_err-write_mets-clause-wrote g c =
+    rw (trace_parts Two c.args.set.now c.args.scale (merged_lanes c.args.table.now.lanes))
+    (wrote_then _ _ _ _ _ _ _ c.in_ok-rows.ensures.wrote
+    (wrote_cut _ _ _ _ _ _ c.in_err-write_mets.ensures.wrote c.from_residual-in_err-write_mets.ensures.0))
+
+pub returns-clause-wrote : goal.returns-clause-wrote
+returns-clause-wrote g c =
+    let end = rw (c.as_slice.ensures.bytes, c.number_line-line.ensures, c.from.ensures, c.in_ok-rows.ensures.count) at c.write_all.ensures.wrote in
+    rw (trace_parts Two c.args.set.now c.args.scale (merged_lanes c.args.table.now.lanes))
+    (wrote_then _ _ _ _ _ _ _ c.in_ok-rows.ensures.wrote
+    (wrote_then _ _ _ _ _ _ _ c.in_ok-write_mets.ensures.wrote end))
