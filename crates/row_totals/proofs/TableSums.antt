@@ -1,5 +1,5 @@
 -- A whole table gives each task less than 2^127 ticks.
-use Rattle.std.proofs.Common.{ℕ, zero, suc, ◌^◌, ◌<◌, ◌≤◌, ◌≡◌, List, [], ◌∷◌, Some, length, take, sym, ap, refl, arith}
+use Rattle.std.proofs.Common.{ℕ, zero, suc, ◌^◌, ◌<◌, ◌≡◌, List, [], ◌∷◌, length, take, sym, ap, refl, arith}
 use Rattle.std.proofs.lemmas.List.{take_all}
 use Rattle.sched_base.specs.declared.rows.Row.{Row}
 use Rattle.sched_base.specs.Tables.{lane_of, rounds_of, end_after, end_of, IsTable, all_rows, ticks_in, ticks_before}

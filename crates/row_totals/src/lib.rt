@@ -1,7 +1,7 @@
 //! The sums of a table's rows: how many ticks each task was given.
 #![tactic(auto)]
 
-ghost use Rattle.std.specs.Prelude.{◌≡◌, ◌≤◌, length, replicate, IfOk};
+ghost use Rattle.std.specs.Prelude.{◌≡◌, ◌<◌, ◌^◌, length, replicate, IfOk};
 ghost use Rattle.std.specs.List.{AllByRecursion};
 ghost use Rattle.row_totals.specs.Sums.{NamesAmong, totals_of};
 
@@ -14,8 +14,7 @@ use std::alloc::Global;
 /// For each of the first `tasks` tasks, in order, the ticks that the rows of the table give to it. Rows of waiting tasks and
 /// of idle leaves count for no task. The only error is want of memory.
 pub fn totals_of(alloc: Global, table: &RowTable, tasks: u32) -> Result<Totals, NoMemory>
-    requires names { AllByRecursion (NamesAmong tasks) table.now.lanes }
-    requires few { tasks ≤ 256 }
+    requires { AllByRecursion (NamesAmong tasks) table.now.lanes }
     ensures { IfOk result (λ t. t.ticks ≡ totals_of tasks table.now.lanes) }
 {
     let mut sums = no_ticks(alloc, tasks)?;
@@ -30,7 +29,7 @@ fn no_ticks(alloc: Global, tasks: u32) -> Result<Vec<u128>, NoMemory>
 }
 
 fn totals_from(alloc: Global, sums: &[u128]) -> Result<Totals, NoMemory>
-    requires few { length sums.now ≤ 256 }
+    requires few { length sums.now < 2 ^ 32 }
     ensures { IfOk result (λ t. t.ticks ≡ sums.now) }
 {
     let mut totals = Totals::with_room(alloc, sums.len() as u32)?;
