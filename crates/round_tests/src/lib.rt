@@ -1,5 +1,13 @@
-//! Tests of the parts of a round on the plans of worked sets: budgets, windows, and who runs.
+//! Tests that cross crates: the parts of a round, whole schedules, and trees, each against what is known from outside.
 #![tactic(auto)]
 
 #[cfg(test)]
+mod compared;
+#[cfg(test)]
+mod drawn;
+#[cfg(test)]
+mod packed;
+#[cfg(test)]
 mod tests;
+#[cfg(test)]
+mod valid;
