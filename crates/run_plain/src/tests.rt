@@ -1,8 +1,8 @@
 //! The schedules of worked sets, round by round. Each expected row comes from the rules by hand.
 use super::*;
 use run_compile::compile;
-use run_tree::Plan;
-use sched_base::{Leaf, Row, TaskId, TaskSet, lawful_name};
+use run_tree::{Plan, next_boundary};
+use sched_base::{Leaf, NodeId, Row, TaskId, TaskSet, lawful_name};
 use std::alloc::Global;
 use std::process::Abort;
 use std::test::Fail;
@@ -85,6 +85,53 @@ fn expect_rounds(
     }
     assert_eq!(rt; rows.len(), at, "{name}");
     assert_eq!(rt; plain_rounds(alloc, plan)?, rounds.len(), "{name}");
+    Ok(())
+}
+
+/// The next boundary of a node.
+fn next(rt: &impl Abort, plan: &Plan, n: u32, after: u64) -> u64 {
+    assert!(rt; n < plan.tree().nodes());
+    assert!(rt; after <= plan.set().horizon());
+    next_boundary(plan, NodeId(n), after)
+}
+
+#[test]
+fn tells_next_boundaries(rt: HostRuntime) -> Result<(), Fail> {
+    // node 0 is the pack of a and b, the nodes 1 and 2
+    let late: &[Told] = &[("a", 1, 2, 1), ("b", 1, 2, 0)];
+    let late = plan_of(&rt, rt.alloc(), 1, 5, late)?.copy()?;
+    for (n, after, want) in [
+        (1, 0, 1),
+        (1, 1, 3),
+        (1, 2, 3),
+        (2, 0, 2),
+        (2, 1, 2),
+        (2, 2, 4),
+        (0, 0, 1),
+        (0, 1, 2),
+        (0, 2, 3),
+        (0, 3, 4),
+    ] {
+        assert_eq!(rt; next(&rt, &late, n, after), want, "of {n} after {after}");
+    }
+    // a and the idle leaf 6 are in the pack 0, b in 2, c in 4; the pack 7 above has their duals 8, 9 and 10
+    let tasks: &[Told] = &[("a", 3, 5, 0), ("b", 3, 6, 0), ("c", 3, 5, 0)];
+    let plan = plan_of(&rt, rt.alloc(), 2, 12, tasks)?;
+    for (n, after, want) in [
+        (0, 0, 5),
+        (2, 0, 6),
+        (3, 6, 12),
+        (6, 0, 8_589_934_592),
+        (8, 0, 5),
+        (9, 0, 6),
+        (9, 6, 12),
+        (7, 0, 5),
+        (7, 5, 6),
+        (7, 6, 10),
+        (7, 10, 12),
+    ] {
+        assert_eq!(rt; next(&rt, &plan, n, after), want, "of {n} after {after}");
+    }
     Ok(())
 }
 
