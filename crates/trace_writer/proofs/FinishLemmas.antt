@@ -1,8 +1,7 @@
 -- When a period was done: by merged rows as by the rows themselves, and row by row.
-use Rattle.std.proofs.Common.{ℕ, zero, suc, ◌+◌, ◌-◌, ◌*◌, ◌^◌, ◌<◌, ◌≤◌, ◌≡◌, inl, inr, min, max, eqb, ltb, Bool, true, false, ◌&&◌, List, [], ◌∷◌, ◌++◌, cond, length, take, get_or, sym, refl, ap, ◌∙◌, subst, arith}
-use Rattle.std.specs.List.{AllByRecursion}
-use Rattle.std.proofs.lemmas.Bool.{cases_Bool, cases_lt, and_parts, cond-true, cond-false, eqb-true, lt-ltb, le-ltb, ltb-true, ltb-false}
-use Rattle.std.proofs.lemmas.List.{take_more, take_all}
+use Rattle.std.proofs.Common.{ℕ, ◌+◌, ◌-◌, ◌*◌, ◌^◌, ◌<◌, ◌≤◌, ◌≡◌, inl, inr, min, max, eqb, ltb, true, false, ◌&&◌, List, [], ◌∷◌, ◌++◌, cond, length, take, get_or, sym, refl, ap, ◌∙◌, arith}
+use Rattle.std.proofs.lemmas.Bool.{cases_Bool, cases_lt, and_parts, cond-true, cond-false, eqb-true, lt-ltb, le-ltb, ltb-false}
+use Rattle.std.proofs.lemmas.List.{take_more}
 use Rattle.std.proofs.lemmas.List.Concat.{flat_map-append}
 use Rattle.std.proofs.Math.Nat.{mul-le-mul_right, le-div_iff_mul-le}
 use Rattle.sched_base.specs.declared.rows.Row.{Row}
@@ -56,7 +55,7 @@ finish-append (x ∷ xs) ys j a b =
 reach_early : (r : Row) (j a b most : ℕ) → is_of_task j r.leaf ≡ true → r.start < b → a ≤ most → max (reach r j a b) most ≡ max (min r.end b) most
 reach_early r j a b most own early above =
     let step : reach r j a b ≡ cond (ltb a r.end) (min r.end b) a =
-        ap (λ t. cond (t && (ltb r.start b && ltb a r.end)) (min r.end b) a) own ∙ ap (λ t. cond (t && ltb a r.end) (min r.end b) a) (lt-ltb r.start b early) in
+    ap (λ t. cond (t && (ltb r.start b && ltb a r.end)) (min r.end b) a) own ∙ ap (λ t. cond (t && ltb a r.end) (min r.end b) a) (lt-ltb r.start b early) in
     elim (cases_Bool (ltb a r.end)) [
       | inl t ↦ (let e = cond-true (ltb a r.end) (min r.end b) a t in omega (arith, step, e))
       | inr f ↦ (let e = cond-false (ltb a r.end) (min r.end b) a f in let low = ltb-false a r.end f in omega (arith, step, e, low, above))
@@ -65,7 +64,7 @@ reach_early r j a b most own early above =
 reach_late : (r : Row) (j a b most : ℕ) → is_of_task j r.leaf ≡ true → b ≤ r.start → a ≤ most → max (reach r j a b) most ≡ most
 reach_late r j a b most own late above =
     let step : reach r j a b ≡ a =
-        ap (λ t. cond (t && (ltb r.start b && ltb a r.end)) (min r.end b) a) own ∙ ap (λ t. cond (t && ltb a r.end) (min r.end b) a) (le-ltb r.start b late) in
+    ap (λ t. cond (t && (ltb r.start b && ltb a r.end)) (min r.end b) a) own ∙ ap (λ t. cond (t && ltb a r.end) (min r.end b) a) (le-ltb r.start b late) in
     omega (arith, step, above)
 
 reach_other : (r : Row) (j a b : ℕ) → is_of_task j r.leaf ≡ false → reach r j a b ≡ a
@@ -109,7 +108,7 @@ finish_onto r (q ∷ rows) j a b own rest =
           let joint : r.end ≡ q.start = eqb-true _ _ parts.0 in
           let same = shown_same j r.leaf q.leaf (eqb-true _ _ parts.1) in
           let e : finish_between (merge_onto r (q ∷ rows)) j a b ≡ finish_between (lengthened r q.end ∷ rows) j a b =
-              ap (λ l. finish_between l j a b) (cond-true _ (lengthened r q.end ∷ rows) (r ∷ (q ∷ rows)) t) in
+          ap (λ l. finish_between l j a b) (cond-true _ (lengthened r q.end ∷ rows) (r ∷ (q ∷ rows)) t) in
           let whole = finish_cons (lengthened r q.end) rows j a b in
           let second = finish_cons q rows j a b in
           let joined = reach_joined r q j a b (finish_between rows j a b) same joint own rest.0 (finish_least rows j a b) in
@@ -140,11 +139,11 @@ pub finish_lane : (lanes : List (List Row)) (p : ℕ) (lane : List Row) (j a b :
     → finish_between (merged_lanes (take (p + 1) lanes)) j a b ≡ max (finish_between (merged_lanes (take p lanes)) j a b) (finish_between (merged lane) j a b)
 finish_lane lanes p lane j a b within at =
     let split : finish_between (merged_lanes (take p lanes ++ lane ∷ [])) j a b ≡ finish_between (merged_lanes (take p lanes) ++ (merged lane ++ [])) j a b =
-        ap (λ l. finish_between l j a b) (flat_map-append merged (take p lanes) (lane ∷ [])) in
+    ap (λ l. finish_between l j a b) (flat_map-append merged (take p lanes) (lane ∷ [])) in
     let both = finish-append (merged_lanes (take p lanes)) (merged lane ++ []) j a b in
     let none = finish-append (merged lane) [] j a b in
     let one : finish_between (merged_lanes (take p lanes ++ lane ∷ [])) j a b ≡ max (finish_between (merged_lanes (take p lanes)) j a b) (finish_between (merged lane) j a b) =
-        omega (arith, split, both, none, finish_least (merged lane) j a b) in
+    omega (arith, split, both, none, finish_least (merged lane) j a b) in
     rw (take_more lanes p lane within, ← at) one
 
 -- ---- periods

@@ -10,7 +10,7 @@ use Rattle.sched_base.specs.declared.rows.Row.{Row}
 use Rattle.sched_base.specs.declared.sets.Task.{Task}
 use Rattle.sched_base.specs.Tables.{IsTable, lane_of, rounds_of}
 use Rattle.sched_edges.specs.Streams.{Wrote}
-use Rattle.sched_edges.proofs.Wrote.{part_then, part_cut, wrote_part, wrote_then}
+use Rattle.sched_edges.proofs.Wrote.{part_then, part_cut, wrote_part}
 use Rattle.trace_lines.specs.Lines.{row_line}
 use Rattle.trace_lines.specs.Merging.{lengthened, merge_onto, merged, merged_lanes}
 use Rattle.trace_writer.proofs.MergeLemmas.{goes_on, merge_join, merge_apart}
@@ -36,7 +36,7 @@ pub held_join : (tasks : List Task) (a b : Option (List ℕ)) (first : Row) (row
 held_join tasks a b first rows i held r count within at on so_far =
     let (written, all, took, counted) = so_far.parts in
     let left : merge_onto held (merged (drop i rows)) ≡ merge_onto (lengthened held r.end) (merged (drop (i + 1) rows)) =
-        ap (merge_onto held) (left_from rows i r within at) ∙ merge_join held r (merged (drop (i + 1) rows)) on in
+    ap (merge_onto held) (left_from rows i r within at) ∙ merge_join held r (merged (drop (i + 1) rows)) on in
     record { parts = (written, all ∙ ap (λ rs. written ++ rs) left, took, counted) }
 
 -- one that does not: the held row stands before what is left
@@ -50,7 +50,7 @@ held_apart tasks a b c first rows i held r count within at off so_far now =
     let (written, all, took, counted) = so_far.parts in
     let left = apart_left rows i held r within at off in
     let one : flat_map (row_line tasks) (written ++ held ∷ []) ≡ flat_map (row_line tasks) written ++ row_line tasks held =
-        flat_map-append (row_line tasks) written (held ∷ []) ∙ ap (λ text. flat_map (row_line tasks) written ++ text) (append-nil (row_line tasks held)) in
+    flat_map-append (row_line tasks) written (held ∷ []) ∙ ap (λ text. flat_map (row_line tasks) written ++ text) (append-nil (row_line tasks held)) in
     record {
       parts = (
         written ++ held ∷ [],
@@ -65,7 +65,7 @@ cut_before : {T U E F : Type 0} (tasks : List Task) (a b c : Option (List ℕ)) 
     → Appends a b (flat_map (row_line tasks) written) → Wrote {T = U} b c (row_line tasks held) (Err e) → IsErr r → Wrote a c (flat_map (row_line tasks) all) r
 cut_before tasks a b c written left all held e r parts took wrote failed =
     let text : flat_map (row_line tasks) all ≡ flat_map (row_line tasks) written ++ (row_line tasks held ++ flat_map (row_line tasks) left) =
-        ap (flat_map (row_line tasks)) parts ∙ flat_map-append (row_line tasks) written (held ∷ left) in
+    ap (flat_map (row_line tasks)) parts ∙ flat_map-append (row_line tasks) written (held ∷ left) in
     wrote_part a c _ r failed (rw text (part_then a b c _ _ took (part_cut b c (row_line tasks held) (flat_map (row_line tasks) left) wrote.err)))
 
 pub held_cut : {T U E F : Type 0} (tasks : List Task) (a b c : Option (List ℕ)) (first : Row) (rows : List Row) (i : ℕ) (held r : Row) (count : ℕ) (e : F) (result : Result T E)
@@ -94,7 +94,7 @@ last_written tasks a b c first rows i held count v past so_far now =
     let (written, all, took, counted) = so_far.parts in
     let whole = all ∙ ap (λ rs. written ++ rs) (last_left rows i held past) in
     let text : flat_map (row_line tasks) (merge_onto first (merged rows)) ≡ flat_map (row_line tasks) written ++ row_line tasks held =
-        ap (flat_map (row_line tasks)) whole ∙ flat_map-append (row_line tasks) written (held ∷ []) ∙ ap (λ t. flat_map (row_line tasks) written ++ t) (append-nil (row_line tasks held)) in
+    ap (flat_map (row_line tasks)) whole ∙ flat_map-append (row_line tasks) written (held ∷ []) ∙ ap (λ t. flat_map (row_line tasks) written ++ t) (append-nil (row_line tasks held)) in
     let number = ap length whole in
     (record { ok = subst (Appends a c) (sym text) (Appends-trans a b c _ _ took now); err = tt }, omega (arith, counted, number, length-append written (held ∷ [])))
 

@@ -1,6 +1,6 @@
 -- Merging row by row, with one row held back; and merging changes no sum of ticks.
-use Rattle.std.proofs.Common.{ℕ, suc, zero, ◌+◌, ◌-◌, ◌*◌, ◌^◌, ◌<◌, ◌≤◌, ◌≡◌, inl, inr, Bool, true, false, List, [], ◌∷◌, ◌++◌, Some, length, slice_get, ◌&&◌, cond, eqb, sym, refl, ap, subst, ◌∙◌, arith}
-use Rattle.std.specs.List.{AllByRecursion, flat_map, sum_by}
+use Rattle.std.proofs.Common.{ℕ, suc, ◌+◌, ◌-◌, ◌*◌, ◌^◌, ◌<◌, ◌≤◌, ◌≡◌, inl, inr, Bool, true, false, List, [], ◌∷◌, ◌++◌, Some, length, slice_get, ◌&&◌, eqb, sym, refl, ap, subst, ◌∙◌, arith}
+use Rattle.std.specs.List.{AllByRecursion}
 use Rattle.std.proofs.lemmas.Bool.{cases_Bool, both_ways, and_parts, and_from, cond-true, cond-false, eqb-true, eq-eqb, false_from_ne_true}
 use Rattle.std.proofs.lemmas.List.Sums.{sum_by-cons, sum_by-append}
 use Rattle.std.specs.Prelude.{nat_eq}
@@ -137,7 +137,7 @@ ticks_onto j r (q ∷ rows) own rest =
           let whole = joined_ticks (is_of_task j r.leaf) r.start r.end q.end own on in
           let second : row_ticks j q ≡ bit (is_of_task j r.leaf) * (q.end - r.end) = ap (λ b. bit b * (q.end - q.start)) same ∙ ap (λ n. bit (is_of_task j r.leaf) * (q.end - n)) (sym joint) in
           let e : ticks_of (merge_onto r (q ∷ rows)) j ≡ row_ticks j (lengthened r q.end) + ticks_of rows j =
-              ap (λ l. ticks_of l j) (cond-true _ (lengthened r q.end ∷ rows) (r ∷ (q ∷ rows)) t) ∙ sum_by-cons (row_ticks j) (lengthened r q.end) rows in
+          ap (λ l. ticks_of l j) (cond-true _ (lengthened r q.end ∷ rows) (r ∷ (q ∷ rows)) t) ∙ sum_by-cons (row_ticks j) (lengthened r q.end) rows in
           let parts_of : ticks_of (q ∷ rows) j ≡ row_ticks j q + ticks_of rows j = sum_by-cons (row_ticks j) q rows in
           omega (arith, e, whole, second, parts_of))
       | inr f ↦ ap (λ l. ticks_of l j) (cond-false _ (lengthened r q.end ∷ rows) (r ∷ (q ∷ rows)) f) ∙ sum_by-cons (row_ticks j) r (q ∷ rows)

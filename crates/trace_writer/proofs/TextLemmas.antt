@@ -39,7 +39,7 @@ trace_parts version s scale rows =
     let mets = met_lines version scale s rows in
     let a : text_of (mets ++ end ∷ []) ≡ text_of mets ++ end = text_append mets (end ∷ []) ∙ ap (λ t. text_of mets ++ t) (append-nil end) in
     let b : text_of (total_lines s rows ++ (mets ++ end ∷ [])) ≡ text_of (total_lines s rows) ++ (text_of mets ++ end) =
-        text_append (total_lines s rows) (mets ++ end ∷ []) ∙ ap (λ t. text_of (total_lines s rows) ++ t) a in
+    text_append (total_lines s rows) (mets ++ end ∷ []) ∙ ap (λ t. text_of (total_lines s rows) ++ t) a in
     let c = text_map (row_line s.tasks) rows (total_lines s rows ++ (mets ++ end ∷ [])) _ b in
     let d = text_map (task_line version) s.tasks (map (row_line s.tasks) rows ++ (total_lines s rows ++ (mets ++ end ∷ []))) _ c in
     text_append (head_lines version s scale) (map (task_line version) s.tasks ++ (map (row_line s.tasks) rows ++ (total_lines s rows ++ (mets ++ end ∷ []))))

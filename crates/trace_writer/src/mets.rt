@@ -48,7 +48,11 @@ fn write_mets_of_task<W: Sink>(
     for k in 0..ended_count(set, task) {
         let begin = period_start(task, scale, k);
         let end = period_start(task, scale, k + 1);
-        let line = met_line(task.name.as_slice(), k, finish_between(table, number, begin, end));
+        let line = met_line(
+            task.name.as_slice(),
+            k,
+            finish_between(table, number, begin, end),
+        );
         write_all(sink, line.as_slice())?;
     }
     Ok(())

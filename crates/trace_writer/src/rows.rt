@@ -47,12 +47,7 @@ fn write_lane<W: Sink>(sink: &mut W, set: &TaskSet, lane: &[Row]) -> Result<u64,
 }
 
 // Writes a row and those that follow it on its processor. One row is held back, since the next may go on with it.
-fn write_from<W: Sink>(
-    sink: &mut W,
-    set: &TaskSet,
-    first: Row,
-    rest: &[Row],
-) -> Result<u64, Failed>
+fn write_from<W: Sink>(sink: &mut W, set: &TaskSet, first: Row, rest: &[Row]) -> Result<u64, Failed>
     requires first { IsAmong (length set.now.tasks) first.leaf }
     requires names { NameTasks set.now.tasks rest.now }
     requires few { length rest.now < 2_097_152 }

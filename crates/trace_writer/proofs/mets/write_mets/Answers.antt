@@ -1,8 +1,7 @@
-use Rattle.std.proofs.Common.{◌≡◌, ◌<◌, ◌≤◌, ◌∙◌, length, get_or, ap, arith}
+use Rattle.std.proofs.Common.{◌<◌, ◌≤◌, length, ap, arith}
 use Rattle.std.specs.List.{enumerate_from}
 use Rattle.std.proofs.lemmas.List.{take_all}
 use Rattle.std.proofs.lemmas.List.FromFn.{length-enumerate_from}
-use Rattle.sched_base.specs.declared.sets.Task.{Task}
 use Rattle.sched_edges.proofs.Wrote.{item_written, wrote_item}
 use Rattle.trace_lines.specs.Merging.{merged_lanes}
 use Rattle.trace_lines.specs.Text.{mets_of_task}

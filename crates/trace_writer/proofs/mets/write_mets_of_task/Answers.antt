@@ -1,9 +1,6 @@
-use Rattle.std.proofs.Common.{◌≡◌, ◌<◌, ◌≤◌, ◌+◌, ◌∙◌, sym, ap, subst, arith}
-use Rattle.std.specs.List.{flat_map, range_with_len}
-use Rattle.std.specs.Io.KnownBytes.{Appends}
-use Rattle.sched_base.specs.Valid.{period_start}
+use Rattle.std.proofs.Common.{◌≡◌, ◌<◌, arith}
 use Rattle.sched_edges.proofs.Wrote.{number_written, wrote_number}
-use Rattle.trace_lines.specs.Finishes.{ended_count, finish, finish_between}
+use Rattle.trace_lines.specs.Finishes.{ended_count}
 use Rattle.trace_lines.specs.Merging.{merged_lanes}
 use Rattle.trace_writer.proofs.FinishLemmas.{finish_is}
 use Rattle.trace_writer.proofs.TextLemmas.{met_of, mets_are}

@@ -1,12 +1,12 @@
-use Rattle.std.proofs.Common.{◌≡◌, ◌<◌, ◌≤◌, ◌∙◌, [], List, length, get_or, ap, arith}
+use Rattle.std.proofs.Common.{◌<◌, ◌≤◌, [], List, length, arith}
 use Rattle.std.specs.List.{flat_map}
 use Rattle.std.proofs.lemmas.List.{get_or_default, take_all}
 use Rattle.sched_base.specs.declared.rows.Row.{Row}
 use Rattle.sched_base.specs.Tables.{lane_of}
-use Rattle.sched_edges.proofs.Wrote.{item_written, wrote_item}
+use Rattle.sched_edges.proofs.Wrote.{wrote_item}
 use Rattle.trace_lines.specs.Lines.{row_line}
 use Rattle.trace_lines.specs.Merging.{merged}
-use Rattle.trace_writer.proofs.LaneLemmas.{lanes_text, count_next, lane_has, lane_few}
+use Rattle.trace_writer.proofs.LaneLemmas.{lanes_text}
 use Rattle.trace_writer.proofs.rows.write_rows.Goals as goal
 
 pub returns-in_err-count-clause-wrote : goal.returns-in_err-count-clause-wrote

@@ -1,4 +1,3 @@
-use Rattle.std.proofs.Common.{codes, length}
 use Rattle.sched_edges.proofs.Wrote.{wrote_then, wrote_cut}
 use Rattle.trace_lines.specs.declared.versions.Version.TheVariants.{One}
 use Rattle.trace_lines.specs.Merging.{merged_lanes}
