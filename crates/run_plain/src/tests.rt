@@ -85,6 +85,11 @@ fn expect_rounds(
     }
     assert_eq!(rt; rows.len(), at, "{name}");
     assert_eq!(rt; plain_rounds(alloc, plan)?, rounds.len(), "{name}");
+    assert_eq!(rt;
+        plain_places(alloc, plan)?.len(),
+        plan.rounds_end() as usize + 1,
+        "{name}"
+    );
     Ok(())
 }
 
