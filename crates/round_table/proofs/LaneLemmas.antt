@@ -12,10 +12,10 @@ use Rattle.round_table.specs.Lanes.{rows_on, lanes_of}
 -- ---- the rows of one processor in a round
 
 -- the first of the rows is left out where it is another processor's
-rows_on-other : (p : ℕ) (r : Row) (rows : List Row) → (r.processor ≡ p → ⊥) → rows_on p (r ∷ rows) ≡ rows_on p rows
+pub rows_on-other : (p : ℕ) (r : Row) (rows : List Row) → (r.processor ≡ p → ⊥) → rows_on p (r ∷ rows) ≡ rows_on p rows
 rows_on-other p r rows other = cond-false (r.processor == p) (r ∷ rows_on p rows) (rows_on p rows) (ne_eqb r.processor p other)
 
-rows_on-own : (p : ℕ) (r : Row) (rows : List Row) → r.processor ≡ p → rows_on p (r ∷ rows) ≡ r ∷ rows_on p rows
+pub rows_on-own : (p : ℕ) (r : Row) (rows : List Row) → r.processor ≡ p → rows_on p (r ∷ rows) ≡ r ∷ rows_on p rows
 rows_on-own p r rows own = cond-true (r.processor == p) (r ∷ rows_on p rows) (rows_on p rows) (eq-eqb r.processor p own)
 
 -- rows in the order of their processors, of which the first one's is a
@@ -48,7 +48,7 @@ rows_on-one a (s ∷ rows) o (suc k) r at =
 -- ---- lanes
 
 -- the lanes of n processors from a on
-abbrev lanes_from : ℕ → ℕ → List Row → List (List Row)
+abbrev pub lanes_from : ℕ → ℕ → List Row → List (List Row)
 lanes_from a n rows = map (λ p. rows_on p rows) (range_with_len a n)
 
 lanes_from-none : (a n : ℕ) → lanes_from a n [] ≡ replicate n []

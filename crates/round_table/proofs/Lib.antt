@@ -1,3 +1,4 @@
 pub mod LaneLemmas
 pub mod PlanRounds
 pub mod RowNames
+pub mod TableRows

@@ -1,7 +1,8 @@
 //! The table of a plan's rounds.
 ghost use Rattle.std.specs.Prelude.{◌≡◌, [], length, replicate, IfOk, vec_len};
-ghost use Rattle.sched_base.specs.Tables.{rounds_of as rounds_in};
-ghost use Rattle.run_tree.specs.Plans.{rounds_of, schedule_of};
+ghost use Rattle.sched_base.specs.Tables.{all_rows, rounds_of as rounds_in};
+ghost use Rattle.sched_base.specs.Valid.{IsValid};
+ghost use Rattle.run_tree.specs.Plans.{rounds_of, schedule_of, stop_of};
 ghost use Rattle.event_core.specs.Cores.{IsCoreOf};
 ghost use Rattle.round_table.specs.Lanes.{lanes_of};
 
@@ -41,16 +42,19 @@ fn push_rounds(plan: &Plan, core: &mut Core, rows: &mut [Row], table: &mut RowTa
     }
 }
 
-/// The table of a plan's rounds, where `rounds` is their number. It goes over each round once.
+/// The table of a plan's rounds, where `rounds` is their number. It goes over each round once. Its rows, lane after lane,
+/// are a valid schedule of the plan's set up to its horizon.
 pub fn table_of(alloc: Global, plan: &Plan, rounds: u64) -> Result<RowTable, NoMemory>
     requires rounds { rounds ≡ rounds_of plan.now }
     ensures lanes { IfOk result (λ t. t.lanes ≡ lanes_of plan.now.tree.processors (schedule_of plan.now)) }
     ensures rounds { IfOk result (λ t. rounds_in t.lanes ≡ rounds) }
     ensures full { IfOk result (λ t. t.room ≡ 0) }
+    ensures valid { IfOk result (λ t. IsValid plan.now.set plan.now.tree.scale (stop_of plan.now) (stop_of plan.now) (all_rows t.lanes)) }
 {
     let mut table = RowTable::new(alloc, plan.tree().processors(), rounds)?;
     let mut rows = blank_rows(alloc, plan)?;
     let mut core = Core::new(alloc, plan)?;
     push_rounds(plan, &mut core, &mut rows, &mut table);
+    let _whole = table.processors();
     Ok(table)
 }

@@ -1,10 +1,10 @@
-use Rattle.std.proofs.Common.{arith, ◌∙◌, ◌<◌, ◌≤◌}
-use Rattle.run_tree.specs.Plans.{schedule_of, stop_of}
-use Rattle.sched_base.proofs.RowLemmas.{AllByRecursion-by}
+use Rattle.std.proofs.Common.{◌∙◌}
+use Rattle.run_tree.specs.Plans.{schedule_of}
 use Rattle.sched_laws.proofs.ValidRows.{set_valid}
 use Rattle.round_table.specs.Lanes.{NamesOneOf}
 use Rattle.round_table.proofs.LaneLemmas.{lane_of-lanes_of, lanes_of-all, length-lanes_of}
 use Rattle.round_table.proofs.RowNames.{schedule_names}
+use Rattle.round_table.proofs.TableRows.{schedule_within}
 use Rattle.round_table.proofs.laws.table_law.Goals as goal
 
 pub returns-clause-valid : goal.returns-clause-valid
@@ -14,10 +14,7 @@ pub returns-clause-processors : goal.returns-clause-processors
 returns-clause-processors c = λ p h. length-lanes_of p.tree.processors (schedule_of p) ∙ h.tree.processors
 
 pub returns-clause-placed : goal.returns-clause-placed
-returns-clause-placed c = λ p h.
-    let same = h.tree.processors in
-    AllByRecursion-by (λ r. (r.processor < p.set.processors) × (r.end ≤ stop_of p)) (λ r. r.processor < p.tree.processors) (schedule_of p)
-    (λ r both. omega (arith, both.0, same)) (set_valid p.set h.lawful p.tree h.tree).bounded
+returns-clause-placed c = λ p h. schedule_within p h
 
 pub returns-clause-lane : goal.returns-clause-lane
 returns-clause-lane c = λ p q l. lane_of-lanes_of p.tree.processors (schedule_of p) q l
