@@ -12,8 +12,10 @@ use Rattle.run_tool.specs.declared.words.Command.{Command}
 use Rattle.run_tool.specs.declared.refusal.Refusal.{Refusal}
 use Rattle.run_tool.specs.declared.refusal.Refusal.TheVariants as why
 use Rattle.run_tool.specs.declared.status.Status.{Status}
-use Rattle.run_tool.specs.declared.status.Status.TheVariants.{Done, Usage, ReadFault, WriteFault, NoMemory, BadInput, Overload, ScaleTooLarge, InputTooLong}
-use Rattle.run_tool.specs.Commands.{limit_of, ReadsSet, Writes, Refuses, RefusesSet}
+use Rattle.run_tool.specs.declared.status.Status.TheVariants.{Done, Usage, ReadFault, WriteFault, NoMemory, BadInput, Overload, ScaleTooLarge, TooLong, InputTooLong}
+use Rattle.run_tool.specs.declared.words.Command.TheVariants.{Rate, Tree, Trace, TraceMet}
+use Rattle.event_core.specs.Rounds.{row_limit}
+use Rattle.run_tool.specs.Commands.{limit_of, ReadsSet, plan_of, rows_of, HasRoom, HasTooManyRows, HasNoRoom, Writes, Refuses, RefusesSet}
 use Rattle.run_tool.specs.Refusals.{status_of, set_status}
 use Rattle.run_tool.specs.Ends.{Streams, ErrorStream, IsDone, Stops, IsAnswer, IsAnswered}
 use Rattle.run_tool.specs.Refuse.{IsRefused}
@@ -51,22 +53,67 @@ no_overload bytes s t scale other total room reads fits reads' over is_total is_
     let fits' : total_of other t.tasks ≤ room_of other t = rw (same, one) fits in
     absurd (omega (arith, fits', over, is_total, is_room))
 
--- no command writes a text for bytes that it refuses
-writes_or_refuses : (c : Command) (bytes text : List ℕ) (refusal : Refusal) → Writes c bytes text → Refuses c bytes refusal → ⊥
-writes_or_refuses c bytes text (why.BadSet r) writes refuses = let (s, scale, reads, fits, is_text) = writes in not_both bytes s r reads.read refuses
-writes_or_refuses c bytes text (why.ScaleTooLarge task) writes refuses =
-    let (s, scale, reads, fits, is_text) = writes in
+-- a set that fits isn't refused as a set
+fits_not_refused : (bytes : List ℕ) (s : SetContents) (scale : ℕ) (r : Refusal) → ReadsSet bytes s scale → Fits scale s → RefusesSet bytes r → ⊥
+fits_not_refused bytes s scale (why.BadSet r) reads fits refuses = not_both bytes s r reads.read refuses
+fits_not_refused bytes s scale (why.ScaleTooLarge task) reads fits refuses =
     let (t, read, passes) = refuses in
     no_pass bytes s t scale task reads read passes
-writes_or_refuses c bytes text (why.Overload total room) writes refuses =
-    let (s, scale, reads, fits, is_text) = writes in
+fits_not_refused bytes s scale (why.Overload total room) reads fits refuses =
     let (t, other, reads', over, is_total, is_room) = refuses in
     no_overload bytes s t scale other total room reads fits reads' over is_total is_room
-writes_or_refuses c bytes text why.Usage writes refuses = refuses
-writes_or_refuses c bytes text why.ReadFault writes refuses = refuses
-writes_or_refuses c bytes text why.WriteFault writes refuses = refuses
-writes_or_refuses c bytes text why.NoMemory writes refuses = refuses
-writes_or_refuses c bytes text (why.InputTooLong count) writes refuses = refuses
+fits_not_refused bytes s scale why.Usage reads fits refuses = refuses
+fits_not_refused bytes s scale why.ReadFault reads fits refuses = refuses
+fits_not_refused bytes s scale why.WriteFault reads fits refuses = refuses
+fits_not_refused bytes s scale why.NoMemory reads fits refuses = refuses
+fits_not_refused bytes s scale (why.TooLong rows) reads fits refuses = refuses
+fits_not_refused bytes s scale (why.InputTooLong count) reads fits refuses = refuses
+
+-- a schedule that has room hasn't too many rows
+not_too_many : (bytes : List ℕ) (s : SetContents) (scale rows : ℕ) → ReadsSet bytes s scale → rows_of (plan_of s scale) ≤ row_limit → HasTooManyRows bytes rows → ⊥
+not_too_many bytes s scale rows reads room many =
+    let (t, other, reads', fits, over, is_rows) = many in
+    let same : t ≡ s = same_set bytes t s reads'.read reads.read in
+    let scale' : IsScale s.tasks other = subst (λ (x : SetContents). IsScale x.tasks other) same reads'.is_scale in
+    let one : other ≡ scale = same_scale s.tasks other scale scale' reads.is_scale in
+    let over' : row_limit < rows_of (plan_of s scale) = subst (λ (n : ℕ). row_limit < rows_of (plan_of s n)) one (subst (λ (x : SetContents). row_limit < rows_of (plan_of x other)) same over) in
+    absurd (omega (arith, room, over'))
+
+not_without_room : (c : Command) (bytes : List ℕ) (s : SetContents) (scale rows : ℕ) → ReadsSet bytes s scale → HasRoom c s scale → HasNoRoom c bytes rows → ⊥
+not_without_room Rate bytes s scale rows reads room none = none
+not_without_room Tree bytes s scale rows reads room none = none
+not_without_room Trace bytes s scale rows reads room none = not_too_many bytes s scale rows reads room none
+not_without_room TraceMet bytes s scale rows reads room none = not_too_many bytes s scale rows reads room none
+
+too_many : (c : Command) (bytes : List ℕ) (rows : ℕ) → HasNoRoom c bytes rows → HasTooManyRows bytes rows
+too_many Rate bytes rows none = absurd none
+too_many Tree bytes rows none = absurd none
+too_many Trace bytes rows none = none
+too_many TraceMet bytes rows none = none
+
+-- bytes are refused as a set, or their schedule has too many rows
+abbrev AsSet : Command → List ℕ → Refusal → Type 0
+AsSet c bytes r = RefusesSet bytes r ⊎ ((rows : ℕ) × HasNoRoom c bytes rows × (status_of r ≡ TooLong))
+
+as_set : (c : Command) (bytes : List ℕ) (r : Refusal) → Refuses c bytes r → AsSet c bytes r
+as_set c bytes (why.BadSet r) refuses = inl refuses
+as_set c bytes (why.ScaleTooLarge task) refuses = inl refuses
+as_set c bytes (why.Overload total room) refuses = inl refuses
+as_set c bytes why.Usage refuses = absurd refuses
+as_set c bytes why.ReadFault refuses = absurd refuses
+as_set c bytes why.WriteFault refuses = absurd refuses
+as_set c bytes why.NoMemory refuses = absurd refuses
+as_set c bytes (why.TooLong rows) refuses = inr (rows, refuses, refl)
+as_set c bytes (why.InputTooLong count) refuses = absurd refuses
+
+-- no command writes a text for bytes that it refuses
+writes_or_refuses : (c : Command) (bytes text : List ℕ) (refusal : Refusal) → Writes c bytes text → Refuses c bytes refusal → ⊥
+writes_or_refuses c bytes text r writes refuses =
+    let (s, scale, reads, fits, room, is_text) = writes in
+    elim (as_set c bytes r refuses) [
+      | inl set ↦ fits_not_refused bytes s scale r reads fits set
+      | inr long ↦ not_without_room c bytes s scale long.0 reads room long.1
+    ]
 
 -- bytes where a set is wanted are refused with one status
 one_set_status : (bytes : List ℕ) (r q : Refusal) → RefusesSet bytes r → RefusesSet bytes q → status_of r ≡ status_of q
@@ -83,16 +130,34 @@ one_set_status bytes why.Usage q a b = absurd a
 one_set_status bytes why.ReadFault q a b = absurd a
 one_set_status bytes why.WriteFault q a b = absurd a
 one_set_status bytes why.NoMemory q a b = absurd a
+one_set_status bytes (why.TooLong rows) q a b = absurd a
 one_set_status bytes (why.InputTooLong count) q a b = absurd a
 one_set_status bytes r why.Usage a b = absurd b
 one_set_status bytes r why.ReadFault a b = absurd b
 one_set_status bytes r why.WriteFault a b = absurd b
 one_set_status bytes r why.NoMemory a b = absurd b
+one_set_status bytes r (why.TooLong rows) a b = absurd b
 one_set_status bytes r (why.InputTooLong count) a b = absurd b
+
+-- a set whose schedule has too many rows isn't refused as a set
+long_not_refused : (c : Command) (bytes : List ℕ) (rows : ℕ) (r : Refusal) → HasNoRoom c bytes rows → RefusesSet bytes r → ⊥
+long_not_refused c bytes rows r none refuses =
+    let (s, scale, reads, fits, over, is_rows) = too_many c bytes rows none in
+    fits_not_refused bytes s scale r reads fits refuses
 
 -- each command refuses bytes with one status
 one_status : (c : Command) (bytes : List ℕ) (r q : Refusal) → Refuses c bytes r → Refuses c bytes q → status_of r ≡ status_of q
-one_status c bytes r q a b = one_set_status bytes r q a b
+one_status c bytes r q a b =
+    elim (as_set c bytes r a) [
+      | inl set ↦ elim (as_set c bytes q b) [
+        | inl other ↦ one_set_status bytes r q set other
+        | inr long ↦ absurd (long_not_refused c bytes long.0 r long.1 set)
+      ]
+      | inr long ↦ elim (as_set c bytes q b) [
+        | inl set ↦ absurd (long_not_refused c bytes long.0 q long.1 set)
+        | inr other ↦ long.2 ∙ sym other.2
+      ]
+    ]
 
 -- the answer, where the command writes a text
 answer_writes : (c : Command) (bytes text : List ℕ) (answer : Status) → length bytes ≤ limit_of c → Writes c bytes text → IsAnswer c bytes answer → Done ≡ answer
@@ -101,6 +166,7 @@ answer_writes c bytes text InputTooLong within writes is = absurd (omega (arith,
 answer_writes c bytes text BadInput within writes is = absurd (writes_or_refuses c bytes text is.1.0 writes is.1.2)
 answer_writes c bytes text Overload within writes is = absurd (writes_or_refuses c bytes text is.1.0 writes is.1.2)
 answer_writes c bytes text ScaleTooLarge within writes is = absurd (writes_or_refuses c bytes text is.1.0 writes is.1.2)
+answer_writes c bytes text TooLong within writes is = absurd (writes_or_refuses c bytes text is.1.0 writes is.1.2)
 answer_writes c bytes text Usage within writes is = absurd is
 answer_writes c bytes text ReadFault within writes is = absurd is
 answer_writes c bytes text WriteFault within writes is = absurd is
@@ -113,6 +179,7 @@ answer_refuses c bytes r InputTooLong within refuses is = absurd (omega (arith, 
 answer_refuses c bytes r BadInput within refuses is = one_status c bytes r is.1.0 refuses is.1.2 ∙ is.1.1
 answer_refuses c bytes r Overload within refuses is = one_status c bytes r is.1.0 refuses is.1.2 ∙ is.1.1
 answer_refuses c bytes r ScaleTooLarge within refuses is = one_status c bytes r is.1.0 refuses is.1.2 ∙ is.1.1
+answer_refuses c bytes r TooLong within refuses is = one_status c bytes r is.1.0 refuses is.1.2 ∙ is.1.1
 answer_refuses c bytes r Usage within refuses is = absurd is
 answer_refuses c bytes r ReadFault within refuses is = absurd is
 answer_refuses c bytes r WriteFault within refuses is = absurd is
@@ -125,6 +192,7 @@ answer_too_long c bytes Done over is = let within = is.0 in absurd (omega (arith
 answer_too_long c bytes BadInput over is = let within = is.0 in absurd (omega (arith, within, over))
 answer_too_long c bytes Overload over is = let within = is.0 in absurd (omega (arith, within, over))
 answer_too_long c bytes ScaleTooLarge over is = let within = is.0 in absurd (omega (arith, within, over))
+answer_too_long c bytes TooLong over is = let within = is.0 in absurd (omega (arith, within, over))
 answer_too_long c bytes Usage over is = absurd is
 answer_too_long c bytes ReadFault over is = absurd is
 answer_too_long c bytes WriteFault over is = absurd is
@@ -163,6 +231,8 @@ stop_answered c bytes old new (why.BadSet r) answer e stops unread unwritten is 
     inl (refused_by c bytes stops.0 new.left (why.BadSet r) answer (subst (λ (l : Option (List ℕ)). GaveAll l new.left (limit_of c) stops.0) e stops.1) stops.2 is)
 stop_answered c bytes old new (why.Overload total room) answer e stops unread unwritten is =
     inl (refused_by c bytes stops.0 new.left (why.Overload total room) answer (subst (λ (l : Option (List ℕ)). GaveAll l new.left (limit_of c) stops.0) e stops.1) stops.2 is)
+stop_answered c bytes old new (why.TooLong rows) answer e stops unread unwritten is =
+    inl (refused_by c bytes stops.0 new.left (why.TooLong rows) answer (subst (λ (l : Option (List ℕ)). GaveAll l new.left (limit_of c) stops.0) e stops.1) stops.2 is)
 stop_answered c bytes old new (why.ScaleTooLarge task) answer e stops unread unwritten is =
     inl (refused_by c bytes stops.0 new.left (why.ScaleTooLarge task) answer (subst (λ (l : Option (List ℕ)). GaveAll l new.left (limit_of c) stops.0) e stops.1) stops.2 is)
 

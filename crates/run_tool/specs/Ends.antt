@@ -8,8 +8,10 @@ use Rattle.run_tool.specs.declared.words.Command.{Command}
 use Rattle.run_tool.specs.declared.refusal.Refusal.{Refusal}
 use Rattle.run_tool.specs.declared.refusal.Refusal.TheVariants as why
 use Rattle.run_tool.specs.declared.status.Status.{Status}
-use Rattle.run_tool.specs.declared.status.Status.TheVariants.{Done, NoMemory, BadInput, Overload, ScaleTooLarge, InputTooLong}
-use Rattle.run_tool.specs.Commands.{limit_of, Writes, Refuses}
+use Rattle.run_tool.specs.declared.status.Status.TheVariants.{Done, NoMemory, BadInput, Overload, ScaleTooLarge, TooLong, InputTooLong}
+use Rattle.sched_base.specs.Sets.{SetContents}
+use Rattle.sched_base.specs.Scale.{Fits}
+use Rattle.run_tool.specs.Commands.{limit_of, ReadsSet, Writes, Refuses, IsSound}
 use Rattle.run_tool.specs.Refusals.{status_of, refusal_line}
 
 -- the source and `out` at one moment; content is None where a stream doesn't tell it
@@ -60,6 +62,10 @@ Read c old new bytes = GaveAll old.left new.left (limit_of c) bytes
 pub record IsDone (c : Command) (old new : Streams) : Type 0 where
   pub done : (bytes text : List ℕ) × Read c old new bytes × Writes c bytes text × Appends old.out new.out text
 
+-- what a command tells of each set that fits is sound
+abbrev pub TellsTruth : Command → Type 0
+TellsTruth c = (bytes : List ℕ) (s : SetContents) (scale : ℕ) → ReadsSet bytes s scale → Fits scale s → IsSound c s scale
+
 -- why a command stopped, and what `out` took of its text
 abbrev pub Stops : Command → Streams → Streams → Refusal → Type 0
 Stops c old new why.Usage = ⊥
@@ -92,6 +98,7 @@ IsAnswer c bytes InputTooLong = limit_of c < length bytes
 IsAnswer c bytes BadInput = Refused c bytes BadInput
 IsAnswer c bytes Overload = Refused c bytes Overload
 IsAnswer c bytes ScaleTooLarge = Refused c bytes ScaleTooLarge
+IsAnswer c bytes TooLong = Refused c bytes TooLong
 IsAnswer c bytes _ = ⊥
 
 -- where the source tells its bytes and nothing fails, their answer is given, or memory was refused

@@ -1,16 +1,18 @@
 -- The parts of a command that reads a set: reading it, and writing its text.
-use Rattle.std.specs.Prelude.{◌≡◌, ℕ, ◌+◌, ◌^◌, ◌≤◌, ◌<◌, List, Ok, Err}
+use Rattle.std.specs.Prelude.{◌≡◌, ℕ, ◌+◌, ◌*◌, ◌/◌, ◌^◌, ◌≤◌, ◌<◌, List, Ok, Err}
 use Rattle.std.specs.declared.option.Option.{Option}
-use Rattle.std.specs.Io.KnownBytes.{Keeps}
+use Rattle.std.specs.Io.KnownBytes.{Appends, Keeps}
 use Rattle.sched_base.specs.Sets.{SetContents}
 use Rattle.sched_base.specs.Scale.{IsScale, PassesAt, total_of, room_of, Fits}
 use Rattle.sched_edges.specs.Causes.{Rose}
 use Rattle.sched_edges.specs.Streams.{GaveAll, GaveCount, TookPart}
 use Rattle.task_reader.specs.Reading.{set_read_from}
 use Rattle.run_tool.specs.declared.refusal.Refusal.{Refusal}
-use Rattle.run_tool.specs.declared.refusal.Refusal.TheVariants.{ReadFault, WriteFault, NoMemory, BadSet, Overload, ScaleTooLarge, InputTooLong}
+use Rattle.run_tool.specs.declared.refusal.Refusal.TheVariants.{ReadFault, WriteFault, NoMemory, BadSet, Overload, ScaleTooLarge, TooLong, InputTooLong}
 use Rattle.run_tool.specs.declared.words.Command.{Command}
-use Rattle.run_tool.specs.Commands.{text_of}
+use Rattle.run_tool.specs.declared.words.Command.TheVariants.{Rate, Tree, Trace, TraceMet}
+use Rattle.event_core.specs.Rounds.{row_limit}
+use Rattle.run_tool.specs.Commands.{text_of, plan_of, rows_of, HasRoom}
 
 -- the source gave all its bytes, at most the limit, and they are this set
 pub record GaveSet (left left' : Option (List ℕ)) (limit : ℕ) (s : SetContents) : Type 0 where
@@ -30,11 +32,32 @@ pub record IsRun (s : SetContents) (scale : ℕ) : Type 0 where
   pub within : scale ≤ 2 ^ 94
   pub fits : Fits scale s
 
+-- why a set isn't told of at all
+abbrev pub IsRefusedSet : SetContents → Refusal → Type 0
+IsRefusedSet s (ScaleTooLarge task) = PassesAt (2 ^ 94) s.tasks task
+IsRefusedSet s (Overload total room) = (scale : ℕ) × IsScale s.tasks scale × (scale ≤ 2 ^ 94) × (room < total) × (total ≡ total_of scale s.tasks) × (room ≡ room_of scale s)
+IsRefusedSet s NoMemory = Unit {0}
+IsRefusedSet s _ = ⊥
+
+-- the schedule of a set that fits has too many rows; `rows` is the least multiple of the processors above the limit
+abbrev pub IsTooLongPlan : SetContents → ℕ → Type 0
+IsTooLongPlan s rows =
+    (scale : ℕ) × IsRun s scale × (row_limit < rows_of (plan_of s scale))
+    × (rows ≡ (row_limit / (plan_of s scale).tree.processors + 1) * (plan_of s scale).tree.processors)
+
+-- the schedule has too many rows, as the command tells it
+abbrev pub IsTooLongSet : Command → SetContents → ℕ → Type 0
+IsTooLongSet Rate s rows = ⊥
+IsTooLongSet Tree s rows = ⊥
+IsTooLongSet Trace s rows = IsTooLongPlan s rows
+IsTooLongSet TraceMet s rows = IsTooLongPlan s rows
+
 -- why a set's text wasn't written, or not all of it
 abbrev pub StopsAtSet : Command → Option (List ℕ) → Option (List ℕ) → ℕ → ℕ → SetContents → Refusal → Type 0
-StopsAtSet c out out' faults faults' s WriteFault = (scale : ℕ) × IsRun s scale × TookPart out out' (text_of c s scale) × Rose faults faults'
-StopsAtSet c out out' faults faults' s (ScaleTooLarge task) = PassesAt (2 ^ 94) s.tasks task × Keeps out out'
-StopsAtSet c out out' faults faults' s (Overload total room) =
-    (scale : ℕ) × IsScale s.tasks scale × (scale ≤ 2 ^ 94) × (room < total) × (total ≡ total_of scale s.tasks) × (room ≡ room_of scale s) × Keeps out out'
-StopsAtSet c out out' faults faults' s NoMemory = Keeps out out'
-StopsAtSet c out out' faults faults' s _ = ⊥
+StopsAtSet c out out' faults faults' s WriteFault = (scale : ℕ) × IsRun s scale × HasRoom c s scale × TookPart out out' (text_of c s scale) × Rose faults faults'
+StopsAtSet c out out' faults faults' s (TooLong rows) = IsTooLongSet c s rows × Keeps out out'
+StopsAtSet c out out' faults faults' s refusal = IsRefusedSet s refusal × Keeps out out'
+
+-- a set's text was written
+abbrev pub WroteSet : Command → Option (List ℕ) → Option (List ℕ) → SetContents → Type 0
+WroteSet c out out' s = (scale : ℕ) × IsRun s scale × HasRoom c s scale × Appends out out' (text_of c s scale)

@@ -4,5 +4,6 @@ pub mod Refusals
 pub mod RateText
 pub mod Commands
 pub mod Input
+pub mod Traces
 pub mod Ends
 pub mod Refuse

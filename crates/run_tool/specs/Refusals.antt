@@ -8,7 +8,7 @@ use Rattle.task_reader.specs.declared.refusals.ReadSet.{ReadSet}
 use Rattle.task_reader.specs.declared.refusals.ReadSet.TheVariants as set
 use Rattle.task_reader.specs.Keys.{key_text}
 use Rattle.run_tool.specs.declared.refusal.Refusal.{Refusal}
-use Rattle.run_tool.specs.declared.refusal.Refusal.TheVariants.{Usage, ReadFault, WriteFault, NoMemory, BadSet, Overload, ScaleTooLarge, InputTooLong}
+use Rattle.run_tool.specs.declared.refusal.Refusal.TheVariants.{Usage, ReadFault, WriteFault, NoMemory, BadSet, Overload, ScaleTooLarge, TooLong, InputTooLong}
 use Rattle.run_tool.specs.declared.status.Status.{Status}
 use Rattle.run_tool.specs.declared.status.Status.TheVariants as status
 use Rattle.run_tool.specs.Status.{code_of}
@@ -27,6 +27,7 @@ status_of NoMemory = status.NoMemory
 status_of (BadSet refusal) = set_status refusal
 status_of (Overload total room) = status.Overload
 status_of (ScaleTooLarge task) = status.ScaleTooLarge
+status_of (TooLong rows) = status.TooLong
 status_of (InputTooLong count) = status.InputTooLong
 
 -- a byte of an unknown key as it is printed: `?` for one that isn't from 33 to 126
@@ -68,6 +69,7 @@ refusal_words NoMemory = codes "NoMemory" ∷ []
 refusal_words (BadSet refusal) = set_words refusal
 refusal_words (Overload total room) = codes "Overload" ∷ codes "total" ∷ decimal total ∷ codes "room" ∷ decimal room ∷ []
 refusal_words (ScaleTooLarge task) = codes "ScaleTooLarge" ∷ codes "task" ∷ decimal task ∷ []
+refusal_words (TooLong rows) = codes "TooLong" ∷ codes "rows" ∷ decimal rows ∷ []
 refusal_words (InputTooLong count) = codes "InputTooLong" ∷ decimal count ∷ []
 
 -- the line of a refusal: `refused`, the status, and why

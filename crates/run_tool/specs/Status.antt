@@ -1,7 +1,7 @@
 -- The numbers of statuses.
 use Rattle.std.specs.Prelude.{ℕ}
 use Rattle.run_tool.specs.declared.status.Status.{Status}
-use Rattle.run_tool.specs.declared.status.Status.TheVariants.{Done, Usage, ReadFault, WriteFault, NoMemory, BadInput, Overload, ScaleTooLarge, InputTooLong}
+use Rattle.run_tool.specs.declared.status.Status.TheVariants.{Done, Usage, ReadFault, WriteFault, NoMemory, BadInput, Overload, ScaleTooLarge, TooLong, InputTooLong}
 
 -- the exit status of the program
 abbrev pub code_of : Status → ℕ
@@ -13,4 +13,5 @@ code_of NoMemory = 5
 code_of BadInput = 6
 code_of Overload = 7
 code_of ScaleTooLarge = 8
+code_of TooLong = 9
 code_of InputTooLong = 12

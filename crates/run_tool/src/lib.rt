@@ -2,17 +2,21 @@
 #![tactic(auto)]
 
 mod input;
+mod plan;
 mod rate;
 mod rate_text;
 mod refusal;
 mod refusal_line;
+mod sound;
 mod status;
 mod top;
+mod trace;
 mod tree;
 mod words;
 
 pub use rate_text::write_rate;
 pub use refusal::Refusal;
+pub use sound::sound_law;
 pub use status::Status;
 pub use top::run_still;
 pub use words::{Command, command_of};

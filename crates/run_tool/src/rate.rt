@@ -1,9 +1,7 @@
 //! The command `rate`.
-ghost use Rattle.std.specs.Prelude.{ℕ, OnOk, IfErr};
-ghost use Rattle.std.specs.Io.KnownBytes.{Appends};
-ghost use Rattle.run_tool.specs.Commands.{text_of};
+ghost use Rattle.std.specs.Prelude.{OnOk, IfErr};
 ghost use Rattle.run_tool.specs.Ends.{streams, IsDone, Stops};
-ghost use Rattle.run_tool.specs.Input.{IsRun, StopsAtSet};
+ghost use Rattle.run_tool.specs.Input.{WroteSet, StopsAtSet};
 ghost use Rattle.run_tool.specs.declared.words.Command.TheVariants.{Rate};
 
 use crate::input::read_input;
@@ -31,7 +29,7 @@ pub(crate) fn rate<R: Source, W: Sink>(
 
 // Writes the rates of a set, where it fits.
 fn write_set<W: Sink>(set: &TaskSet, out: &mut W) -> Result<(), Refusal>
-    ensures done { OnOk result ((scale : ℕ) × IsRun set.now scale × Appends (W.taken out.old) (W.taken out.new) (text_of Rate set.now scale)) }
+    ensures done { OnOk result (WroteSet Rate (W.taken out.old) (W.taken out.new) set.now) }
     ensures stops { IfErr result (StopsAtSet Rate (W.taken out.old) (W.taken out.new) (W.faults out.old) (W.faults out.new) set.now) }
 {
     let scale = match scale_of(set) {

@@ -22,6 +22,8 @@ pub enum Refusal {
     Overload { total: u128, room: u128 },
     /// This task's period brings the scale past 2^94.
     ScaleTooLarge { task: u32 },
+    /// The schedule has more rows than may be written; this is the least multiple of the number of processors above that.
+    TooLong { rows: u64 },
     /// The source gave that many bytes, one more than the command reads.
     InputTooLong { count: u64 },
 }
@@ -40,6 +42,7 @@ impl Refusal {
             Refusal::BadSet(_) => Status::BadInput,
             Refusal::Overload { .. } => Status::Overload,
             Refusal::ScaleTooLarge { .. } => Status::ScaleTooLarge,
+            Refusal::TooLong { .. } => Status::TooLong,
             Refusal::InputTooLong { .. } => Status::InputTooLong,
         }
     }

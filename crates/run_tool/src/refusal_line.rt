@@ -8,7 +8,7 @@ ghost use Rattle.run_tool.specs.Status.{code_of};
 ghost use Rattle.run_tool.specs.Ends.{error_stream, Tells};
 ghost use Rattle.run_tool.specs.Refuse.{IsRefused};
 ghost use Rattle.run_tool.specs.declared.status.Status.TheVariants.{BadInput};
-ghost use Rattle.run_tool.specs.declared.refusal.Refusal.TheVariants.{BadSet, Overload, ScaleTooLarge};
+ghost use Rattle.run_tool.specs.declared.refusal.Refusal.TheVariants.{BadSet, Overload, ScaleTooLarge, TooLong};
 ghost use Rattle.task_reader.specs.declared.refusals.ReadSet.TheVariants.{UnknownKey};
 
 use crate::refusal::Refusal;
@@ -59,6 +59,7 @@ fn line_of(refusal: &Refusal) -> Line
         Refusal::BadSet(refusal) => set_line(refusal),
         Refusal::Overload { total, room } => overload_line(*total, *room),
         Refusal::ScaleTooLarge { task } => scale_line(*task),
+        Refusal::TooLong { rows } => rows_line(*rows),
         Refusal::InputTooLong { count } => {
             number_line(Status::InputTooLong, b"InputTooLong", u128::from(*count))
         }
@@ -196,6 +197,17 @@ fn index_line(why: &[u8], index: u32) -> Line
     ensures { result ≡ line_of (codes "refused") (decimal (code_of BadInput) ∷ why.now ∷ decimal index ∷ []) }
 {
     number_line(Status::BadInput, why, u128::from(index))
+}
+
+// The line of a schedule with too many rows.
+#[tactic(auto, unfolding(crate::specs::Refusals::refusal_line, sched_edges::specs::Lines::line_of))]
+fn rows_line(rows: u64) -> Line
+    ensures { result ≡ refusal_line (TooLong rows) }
+{
+    let mut line = begin(Status::TooLong, b"TooLong");
+    add_number(&mut line, b"rows", u128::from(rows));
+    line.end();
+    line
 }
 
 // Adds a word and a number.

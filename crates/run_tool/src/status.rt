@@ -21,6 +21,8 @@ pub enum Status {
     Overload,
     /// The scale exceeds 2^94.
     ScaleTooLarge,
+    /// The schedule has more than 2,097,152 rows.
+    TooLong,
     /// The source gave more bytes than the command reads.
     InputTooLong,
 }
@@ -39,6 +41,7 @@ impl Status {
             Status::BadInput => 6,
             Status::Overload => 7,
             Status::ScaleTooLarge => 8,
+            Status::TooLong => 9,
             Status::InputTooLong => 12,
         }
     }

@@ -1,4 +1,6 @@
 //! The commands, from the words and the bytes to the status and the bytes written: worked sets, and faults in mid-stream.
+mod traces;
+
 use crate::{Status, run_still};
 use sched_edges::{MemSink, MemSource};
 use std::alloc::Global;
@@ -34,7 +36,7 @@ const NONE: Fails = Fails {
 
 fn call(alloc: Global, words: &[&str], input: &[u8], fails: Fails) -> Result<Left, Fail> {
     let mut source = MemSource::new(alloc, input, fails.source)?;
-    let mut out = MemSink::new(alloc, 4096, fails.out)?;
+    let mut out = MemSink::new(alloc, 1_048_576, fails.out)?;
     let mut err = MemSink::new(alloc, 4096, fails.err)?;
     let mut owned = Vec::new(alloc);
     for word in words {
@@ -180,11 +182,17 @@ fn trees_of_worked_sets(rt: HostRuntime) -> Result<(), Fail> {
 
 #[test]
 fn other_words_are_no_line(rt: HostRuntime) -> Result<(), Fail> {
-    let rows: [&[&str]; 6] = [
+    let rows: [&[&str]; 12] = [
         &[],
         &["run"],
         &["rate", "x"],
         &["rate", "rate"],
+        &["rate", "--met"],
+        &["trace", "trace"],
+        &["--met", "trace"],
+        &["trace", "--met", "--met"],
+        &["trace", "--met="],
+        &["--"],
         &["--help"],
         &["Rate"],
     ];

@@ -1,13 +1,15 @@
 //! The top call.
 ghost use Rattle.std.specs.Prelude.{◌≡◌, ◌↔◌, map, string_bytes, None, Some, OnOk, IfErr};
 ghost use Rattle.run_tool.specs.Words.{command_of};
-ghost use Rattle.run_tool.specs.Ends.{streams, error_stream, IsDone, IsUsage, Stops, Ends, IsAnswered};
+ghost use Rattle.run_tool.specs.Ends.{streams, error_stream, IsDone, IsUsage, Stops, Ends, IsAnswered, TellsTruth};
 ghost use Rattle.run_tool.specs.declared.words.Command.{Command};
 
 use crate::rate::rate;
 use crate::refusal::Refusal;
 use crate::refusal_line::refuse;
+use crate::sound::sound_law;
 use crate::status::Status;
+use crate::trace::trace;
 use crate::tree::tree;
 use crate::words::{Command, command_of};
 use sched_edges::{Sink, Source};
@@ -31,12 +33,16 @@ pub fn run_still<R: Source, W: Sink, E: Sink>(
     // Done: `out` took exactly the text that the command writes for the bytes that the source gave.
     ensures done { result ≡ Status.Done → (c : Command) × (command_of (map string_bytes words.now) ≡ Some c) × IsDone c (streams (R.left source.old) (R.faults source.old) (W.taken out.old) (W.faults out.old)) (streams (R.left source.new) (R.faults source.new) (W.taken out.new) (W.faults out.new)) }
 
+    // What was told is sound: a tree is a reduction tree of the set, and a schedule is valid.
+    ensures sound { (c : Command) → TellsTruth c }
+
     // Each status comes only for its reason, and `err` took its line.
     ensures ends { (c : Command) → command_of (map string_bytes words.now) ≡ Some c → Ends c (streams (R.left source.old) (R.faults source.old) (W.taken out.old) (W.faults out.old)) (streams (R.left source.new) (R.faults source.new) (W.taken out.new) (W.faults out.new)) (error_stream (E.taken err.old) (E.faults err.old)) (error_stream (E.taken err.new) (E.faults err.new)) result }
 
     // Where nothing fails, the answer for the bytes is given.
     ensures answered { IsAnswered (command_of (map string_bytes words.now)) (R.left source.old) (streams (R.left source.old) (R.faults source.old) (W.taken out.old) (W.faults out.old)) (streams (R.left source.new) (R.faults source.new) (W.taken out.new) (W.faults out.new)) result }
 {
+    sound_law();
     match command_of(words) {
         None => refuse(alloc, &Refusal::Usage, err),
         Some(command) => match run_command(alloc, command, source, out) {
@@ -58,5 +64,7 @@ fn run_command<R: Source, W: Sink>(
     match command {
         Command::Rate => rate(alloc, source, out),
         Command::Tree => tree(alloc, source, out),
+        Command::Trace => trace(alloc, source, false, out),
+        Command::TraceMet => trace(alloc, source, true, out),
     }
 }

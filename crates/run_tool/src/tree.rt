@@ -1,14 +1,12 @@
 //! The command `tree`.
-ghost use Rattle.std.specs.Prelude.{ℕ, OnOk, IfErr};
+ghost use Rattle.std.specs.Prelude.{OnOk, IfErr};
 ghost use Rattle.run_tool.specs.Ends.{streams, IsDone, Stops};
-ghost use Rattle.std.specs.Io.KnownBytes.{Appends};
-ghost use Rattle.run_tool.specs.Commands.{text_of};
-ghost use Rattle.run_tool.specs.Input.{IsRun, StopsAtSet};
+ghost use Rattle.run_tool.specs.Input.{WroteSet, StopsAtSet};
 ghost use Rattle.run_tool.specs.declared.words.Command.TheVariants.{Tree};
 
 use crate::input::read_input;
+use crate::plan::plan_of;
 use crate::refusal::Refusal;
-use run_compile::{CompileFault, compile};
 use sched_base::TaskSet;
 use sched_edges::{Sink, Source};
 use std::alloc::Global;
@@ -31,18 +29,12 @@ pub(crate) fn tree<R: Source, W: Sink>(
 
 // Writes the compiled tree of a set, where it fits.
 fn write_set<W: Sink>(alloc: Global, set: TaskSet, out: &mut W) -> Result<(), Refusal>
-    ensures done { OnOk result ((scale : ℕ) × IsRun set scale × Appends (W.taken out.old) (W.taken out.new) (text_of Tree set scale)) }
+    ensures done { OnOk result (WroteSet Tree (W.taken out.old) (W.taken out.new) set) }
     ensures stops { IfErr result (StopsAtSet Tree (W.taken out.old) (W.taken out.new) (W.faults out.old) (W.faults out.new) set) }
 {
-    let plan = match compile(alloc, set) {
+    let plan = match plan_of(alloc, set) {
         Ok(plan) => plan,
-        Err(CompileFault::ScaleTooLarge { at }) => {
-            return Err(Refusal::ScaleTooLarge { task: at });
-        }
-        Err(CompileFault::Overload { total, room }) => {
-            return Err(Refusal::Overload { total, room });
-        }
-        Err(CompileFault::NoMemory) => return Err(Refusal::NoMemory),
+        Err(refusal) => return Err(refusal),
     };
     match write_tree(&plan, out) {
         Ok(()) => Ok(()),

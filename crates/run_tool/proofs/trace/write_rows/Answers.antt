@@ -1,0 +1,9 @@
+use Rattle.std.proofs.Common.{sym, ◌∙◌}
+use Rattle.run_tool.proofs.TraceLemmas.{among_lanes, on_time_unless}
+use Rattle.run_tool.proofs.trace.write_rows.Goals as goal
+
+pub write_trace-requires-clause-on_time : goal.write_trace-requires-clause-on_time
+write_trace-requires-clause-on_time g c = on_time_unless c.args.met _ (sym c.wants_met.ensures ∙ c.if-wants_met.false)
+
+pub write_trace-requires-clause-names : goal.write_trace-requires-clause-names
+write_trace-requires-clause-names g c = rw (c.requires.lanes, c.set-set.ensures.value) (among_lanes _ _ (c.table_law.ensures.lanes c.args.plan.now c.set-set.ensures.lawful))

@@ -1,0 +1,25 @@
+//! Plans of the sets that fit.
+ghost use Rattle.std.specs.Prelude.{◌≡◌, IfOk, IfErr};
+ghost use Rattle.run_tree.specs.Compiled.{tree_of};
+ghost use Rattle.run_tool.specs.Input.{IsRun, IsRefusedSet};
+
+use crate::refusal::Refusal;
+use run_compile::{CompileFault, compile};
+use run_tree::Plan;
+use sched_base::TaskSet;
+use std::alloc::Global;
+
+/// The plan of a set, where it fits.
+pub(crate) fn plan_of(alloc: Global, set: TaskSet) -> Result<Plan, Refusal>
+    ensures set { IfOk result (λ plan. plan.set ≡ set) }
+    ensures run { IfOk result (λ plan. IsRun set plan.tree.scale) }
+    ensures tree { IfOk result (λ plan. plan.tree ≡ tree_of plan.tree.scale set) }
+    ensures refused { IfErr result (IsRefusedSet set) }
+{
+    match compile(alloc, set) {
+        Ok(plan) => Ok(plan),
+        Err(CompileFault::ScaleTooLarge { at }) => Err(Refusal::ScaleTooLarge { task: at }),
+        Err(CompileFault::Overload { total, room }) => Err(Refusal::Overload { total, room }),
+        Err(CompileFault::NoMemory) => Err(Refusal::NoMemory),
+    }
+}

@@ -1,0 +1,115 @@
+//! The command `trace`.
+ghost use Rattle.std.specs.Prelude.{◌≡◌, ◌≤◌, ◌*◌, ◌||◌, length, OnOk, IfErr, IfOk};
+ghost use Rattle.sched_base.specs.Tables.{rounds_of as rounds_in};
+ghost use Rattle.sched_edges.specs.Causes.{HasCause};
+ghost use Rattle.sched_edges.specs.Streams.{Wrote};
+ghost use Rattle.run_tree.specs.Plans.{rounds_of, schedule_of};
+ghost use Rattle.event_core.specs.Rounds.{row_limit};
+ghost use Rattle.round_table.specs.Lanes.{lanes_of};
+ghost use Rattle.trace_writer.specs.Conditions.{totals_of};
+ghost use Rattle.run_tool.specs.Commands.{schedule_text, some_late};
+ghost use Rattle.run_tool.specs.Ends.{streams, IsDone, Stops};
+ghost use Rattle.run_tool.specs.Input.{WroteSet, StopsAtSet};
+ghost use Rattle.run_tool.specs.Traces.{trace_command};
+
+use crate::input::read_input;
+use crate::plan::plan_of;
+use crate::refusal::Refusal;
+use event_core::{CountFault, count_rounds};
+use round_table::{table_law, table_of};
+use row_totals::totals_of;
+use run_tree::Plan;
+use sched_base::{NoMemory, RowTable, Task, TaskSet, Totals};
+use sched_edges::{Failed, Sink, Source};
+use std::alloc::Global;
+use trace_writer::{write_met, write_trace};
+
+/// Reads a task set, and writes its schedule; in version 2 where `met` is asked for or some task is released late.
+pub(crate) fn trace<R: Source, W: Sink>(
+    alloc: Global,
+    source: &mut R,
+    met: bool,
+    out: &mut W,
+) -> Result<(), Refusal>
+    ensures done { OnOk result (IsDone (trace_command met) (streams (R.left source.old) (R.faults source.old) (W.taken out.old) (W.faults out.old)) (streams (R.left source.new) (R.faults source.new) (W.taken out.new) (W.faults out.new))) }
+    ensures stops { IfErr result (Stops (trace_command met) (streams (R.left source.old) (R.faults source.old) (W.taken out.old) (W.faults out.old)) (streams (R.left source.new) (R.faults source.new) (W.taken out.new) (W.faults out.new))) }
+{
+    match read_input(alloc, source) {
+        Ok(set) => write_set(alloc, set, met, out),
+        Err(refusal) => Err(refusal),
+    }
+}
+
+// Writes the schedule of a set, where it fits.
+fn write_set<W: Sink>(alloc: Global, set: TaskSet, met: bool, out: &mut W) -> Result<(), Refusal>
+    ensures done { OnOk result (WroteSet (trace_command met) (W.taken out.old) (W.taken out.new) set) }
+    ensures stops { IfErr result (StopsAtSet (trace_command met) (W.taken out.old) (W.taken out.new) (W.faults out.old) (W.faults out.new) set) }
+{
+    let plan = match plan_of(alloc, set) {
+        Ok(plan) => plan,
+        Err(refusal) => return Err(refusal),
+    };
+    let rounds = match count_rounds(alloc, &plan) {
+        Ok(rounds) => rounds,
+        Err(CountFault::TooLong { rows }) => return Err(Refusal::TooLong { rows }),
+        Err(CountFault::NoMemory) => return Err(Refusal::NoMemory),
+    };
+    let (table, totals) = match rows_of(alloc, &plan, rounds) {
+        Ok(made) => made,
+        Err(_) => return Err(Refusal::NoMemory),
+    };
+    match write_rows(&plan, &table, totals.as_slice(), met, out) {
+        Ok(()) => Ok(()),
+        Err(_) => Err(Refusal::WriteFault),
+    }
+}
+
+// The rows of a plan, and the ticks of each task in them.
+fn rows_of(alloc: Global, plan: &Plan, rounds: u64) -> Result<(RowTable, Totals), NoMemory>
+    requires rounds { rounds ≡ rounds_of plan.now }
+    requires few { rounds * plan.now.tree.processors ≤ row_limit }
+    ensures lanes { IfOk result (λ made. made.0.lanes ≡ lanes_of plan.now.tree.processors (schedule_of plan.now)) }
+    ensures few { IfOk result (λ made. length made.0.lanes * rounds_in made.0.lanes ≤ row_limit) }
+    ensures totals { IfOk result (λ made. made.1.ticks ≡ totals_of plan.now.set.tasks made.0.lanes) }
+{
+    table_law();
+    let table = table_of(alloc, plan, rounds)?;
+    let totals = totals_of(alloc, &table, plan.set().count())?;
+    Ok((table, totals))
+}
+
+// Writes the rows of a plan.
+fn write_rows<W: Sink>(
+    plan: &Plan,
+    table: &RowTable,
+    totals: &[u128],
+    met: bool,
+    out: &mut W,
+) -> Result<(), Failed>
+    requires lanes { table.now.lanes ≡ lanes_of plan.now.tree.processors (schedule_of plan.now) }
+    requires few { length table.now.lanes * rounds_in table.now.lanes ≤ row_limit }
+    requires totals { totals.now ≡ totals_of plan.now.set.tasks table.now.lanes }
+    ensures wrote { Wrote (W.taken out.old) (W.taken out.new) (schedule_text met plan.now) result }
+    ensures cause { HasCause (W.faults out.old) (W.faults out.new) result }
+{
+    table_law();
+    let set = plan.set();
+    if wants_met(set, met) {
+        write_met(out, set, plan.scale(), table, totals)
+    } else {
+        write_trace(out, set, plan.scale(), table, totals)
+    }
+}
+
+// Whether `met` lines are asked for, or some task is first released after unit 0.
+fn wants_met(set: &TaskSet, met: bool) -> bool
+    ensures { result ≡ (met || some_late set.now.tasks) }
+{
+    met || is_late(set.tasks())
+}
+
+fn is_late(tasks: &[Task]) -> bool
+    ensures { result ≡ some_late tasks.now }
+{
+    tasks.iter().any(|task| task.offset != 0)
+}
