@@ -11,7 +11,7 @@ use Rattle.run_tree.specs.Schedule.{schedule}
 use Rattle.task_reader.specs.Reading.{set_read_from}
 use Rattle.run_tool.specs.declared.words.Command.{Command}
 use Rattle.run_tool.specs.declared.words.Command.TheVariants.{Rate, Tree as TreeCommand, Trace, TraceMet}
-use Rattle.run_tool.specs.Commands.{plan_of, IsSound}
+use Rattle.run_tool.specs.Commands.{plan_of}
 use Rattle.run_tool.specs.Ends.{TellsTruth}
 
 module _

@@ -1,5 +1,5 @@
 -- What the rows of a plan are, as its trace text asks for.
-use Rattle.std.proofs.Common.{◌≡◌, ℕ, ◌||◌, not, eqb, Bool, true, false, List, [], ◌∷◌, length, ap, sym, ◌∙◌, inl, inr}
+use Rattle.std.proofs.Common.{◌≡◌, ◌||◌, not, eqb, Bool, true, false, List, [], ◌∷◌, length, ap, sym, ◌∙◌, inl, inr}
 use Rattle.std.proofs.lemmas.Bool.{cases_Bool, eqb-true}
 use Rattle.std.specs.List.{AllByRecursion}
 use Rattle.sched_base.specs.declared.rows.Leaf.{Leaf}

@@ -12,7 +12,7 @@ use Rattle.run_tool.specs.declared.refusal.Refusal.TheVariants.{BadSet, Overload
 use Rattle.sched_base.specs.Valid.{IsValid}
 use Rattle.run_tree.specs.Compiled.{tree_of}
 use Rattle.run_tree.specs.TreeOfSet.{IsTreeOf}
-use Rattle.run_tree.specs.Plans.{PlanContents, stop_of, schedule_of, rounds_of}
+use Rattle.run_tree.specs.Plans.{PlanContents, schedule_of, rounds_of}
 use Rattle.event_core.specs.Rounds.{row_limit}
 use Rattle.round_table.specs.Lanes.{lanes_of}
 use Rattle.trace_lines.specs.declared.versions.Version.{Version}

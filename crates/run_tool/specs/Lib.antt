@@ -7,3 +7,4 @@ pub mod Input
 pub mod Traces
 pub mod Ends
 pub mod Refuse
+pub mod Closing

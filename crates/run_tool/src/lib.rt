@@ -1,6 +1,7 @@
 //! The commands, from the words and the bytes given to the status and the bytes written.
 #![tactic(auto)]
 
+mod closing;
 mod input;
 mod plan;
 mod rate;
@@ -14,6 +15,7 @@ mod trace;
 mod tree;
 mod words;
 
+pub use closing::close_run;
 pub use rate_text::write_rate;
 pub use refusal::Refusal;
 pub use sound::sound_law;

@@ -1,8 +1,8 @@
 //! The commands, from the words and the bytes to the status and the bytes written: worked sets, and faults in mid-stream.
 mod traces;
 
-use crate::{Status, run_still};
-use sched_edges::{MemSink, MemSource};
+use crate::{Status, close_run, run_still};
+use sched_edges::{Failed, MemSink, MemSource};
 use std::alloc::Global;
 use std::test::Fail;
 
@@ -244,6 +244,29 @@ fn faults_leave_a_first_part(rt: HostRuntime) -> Result<(), Fail> {
         assert_eq!(rt; left.status, status);
         assert_eq!(rt; left.out.as_slice(), out.as_bytes());
         assert_eq!(rt; left.err.as_slice(), err.as_bytes());
+    }
+    Ok(())
+}
+
+#[test]
+fn a_text_kept_back_is_not_lost_silently(rt: HostRuntime) -> Result<(), Fail> {
+    let rows = [
+        (Status::Done, Ok(()), Status::Done, ""),
+        (
+            Status::Done,
+            Err(Failed),
+            Status::WriteFault,
+            "refused 4 WriteFault\n",
+        ),
+        // Why it ended was told already.
+        (Status::WriteFault, Err(Failed), Status::WriteFault, ""),
+        (Status::Overload, Err(Failed), Status::Overload, ""),
+    ];
+    for (status, flushed, at_the_end, line) in rows {
+        let mut err = MemSink::new(rt.alloc(), 64, &[])?;
+        let closed = close_run(rt.alloc(), status, flushed, &mut err);
+        assert_eq!(rt; closed, at_the_end);
+        assert_eq!(rt; err.taken(), line.as_bytes());
     }
     Ok(())
 }
