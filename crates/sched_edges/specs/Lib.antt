@@ -3,3 +3,5 @@ pub mod Streams
 pub mod Memory
 pub mod StdStreams
 pub mod Lines
+pub mod Gates
+pub mod Jobs

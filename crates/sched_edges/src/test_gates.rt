@@ -1,0 +1,152 @@
+//! Gates for tests: one with a list, of which stated calls fail, and one that never fails.
+ghost use Rattle.std.specs.Prelude.{◌≡◌, ◌⊎◌, ◌↔◌, true, [], ◌∷◌, Some, None, OnOk, OnErr, IsOk, IsErr, IfOk};
+ghost use Rattle.sched_edges.specs.Causes.{HasCause};
+ghost use Rattle.sched_edges.specs.Memory.{next_call, is_listed};
+ghost use Rattle.sched_edges.specs.Gates.{grown, rows_left};
+
+use crate::gates::Gate;
+use crate::streams::{Failed, fault};
+use sched_base::{NoMemory, Row};
+use std::alloc::Global;
+use std::marker::Model;
+
+/// A gate that lists the rows it ran, with a stated room, which is set aside when it is made. A row that finds no room
+/// left is a fault.
+#[derive(Drop)]
+pub struct ListGate {
+    rows: Vec<Row>,
+    room: usize,
+    fails: Vec<u64>,
+    calls: u64,
+    faults: u64,
+}
+
+impl Model for ListGate {
+    ghost use Rattle.std.specs.Prelude.{◌≤◌, vec_len, vec_capacity};
+    ghost use Rattle.sched_edges.specs.Gates.{GateHeld};
+
+    ghost Value = { GateHeld };
+
+    ghost view = { λ g. record { ran = g.rows.items; room = g.room; fails = g.fails.items; calls = g.calls; faults = g.faults } };
+
+    ghost invariant = { λ g. (vec_len g.rows ≤ g.room) × (g.room ≤ vec_capacity g.rows) };
+}
+
+impl ListGate {
+    /// A gate that ran nothing yet, with room for that many rows. The calls of these numbers, counted from 1, fail.
+    pub fn new(alloc: Global, room: usize, fails: &[u64]) -> Result<ListGate, NoMemory>
+        ensures ran { IfOk result (λ g. g.ran ≡ []) }
+        ensures room { IfOk result (λ g. g.room ≡ room) }
+        ensures fails { IfOk result (λ g. g.fails ≡ fails.now) }
+        ensures calls { IfOk result (λ g. g.calls ≡ 0) }
+        ensures faults { IfOk result (λ g. g.faults ≡ 0) }
+    {
+        Ok(ListGate {
+            rows: Vec::with_capacity(alloc, room)?,
+            room,
+            fails: Vec::from_slice(alloc, fails)?,
+            calls: 0,
+            faults: 0,
+        })
+    }
+
+    /// The rows run so far.
+    pub fn ran(&self) -> &[Row]
+        ensures { result.now ≡ self.now.ran }
+    {
+        self.rows.as_slice()
+    }
+}
+
+impl Gate for ListGate {
+    ghost ran = { λ g. Some g.ran };
+
+    ghost faults = { λ g. g.faults };
+
+    fn run(&mut self, row: &Row) -> Result<(), Failed>
+        ensures ok { OnOk result (Some self.new.ran ≡ grown (Some self.old.ran) (row.now ∷ [])) }
+        ensures err { OnErr result (Some self.new.ran ≡ Some self.old.ran) }
+        ensures count { OnOk result (self.new.faults ≡ self.old.faults) }
+        ensures cause { HasCause self.old.faults self.new.faults result }
+        ensures failed { IsErr result ↔ ((is_listed self.old.fails self.new.calls ≡ true) ⊎ (rows_left self.old ≡ 0)) }
+        ensures calls { self.new.calls ≡ next_call self.old.calls }
+        ensures fails { self.new.fails ≡ self.old.fails }
+        ensures room { self.new.room ≡ self.old.room }
+    {
+        self.calls = self.calls.saturating_add(1);
+        if self.fails.contains(&self.calls) {
+            return Err(fault(&mut self.faults));
+        }
+        if self.rows.len() >= self.room {
+            return Err(fault(&mut self.faults));
+        }
+        self.rows.push_reserved(*row);
+        Ok(())
+    }
+}
+
+/// A gate that keeps nothing and never fails.
+#[derive(Clone, Copy, Debug)]
+pub struct SureGate;
+
+impl SureGate {
+    /// A gate.
+    pub fn new() -> SureGate {
+        SureGate
+    }
+}
+
+impl Gate for SureGate {
+    ghost ran = { λ _. None };
+
+    ghost faults = { λ _. 0 };
+
+    fn run(&mut self, row: &Row) -> Result<(), Failed>
+        ensures { IsOk result }
+    {
+        let _ = row;
+        Ok(())
+    }
+}
+
+#[cfg(test)]
+mod tests {
+    use super::{ListGate, SureGate};
+    use crate::gates::Gate;
+    use sched_base::{Leaf, NoMemory, Row, TaskId};
+
+    fn row(start: u128) -> Row {
+        Row {
+            processor: 0,
+            start,
+            end: start.saturating_add(3),
+            leaf: Leaf::Task(TaskId(1)),
+        }
+    }
+
+    #[test]
+    fn runs_rows_until_it_fails(rt: HostRuntime) -> Result<(), NoMemory> {
+        let rows = [row(0), row(3), row(6)];
+        // Which calls fail, the room, and whether each of the three rows is run.
+        for (fails, room, want) in [
+            ([].as_slice(), 3, [true, true, true]),
+            (&[1, 3], 3, [false, true, false]),
+            (&[4], 2, [true, true, false]),
+            (&[2], 1, [true, false, false]),
+            (&[], 0, [false, false, false]),
+        ] {
+            let mut gate = ListGate::new(rt.alloc(), room, fails)?;
+            let mut count = 0;
+            for (row, ran) in rows.iter().zip(want) {
+                assert_eq!(rt; gate.run(row).is_ok(), ran);
+                if ran {
+                    assert_eq!(rt; gate.ran().get(count), Some(row));
+                    count += 1;
+                }
+            }
+            assert_eq!(rt; gate.ran().len(), count);
+        }
+        assert_eq!(rt; SureGate::new().run(&rows[0]), Ok(()));
+        Ok(())
+    }
+}
