@@ -1,0 +1,3 @@
+pub mod DrillLemmas
+pub mod NameLemmas
+pub mod WordLemmas
