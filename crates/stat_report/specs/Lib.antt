@@ -1,0 +1,4 @@
+pub mod Report
+pub mod Chart
+pub mod Text
+pub mod Walk

@@ -1,0 +1,15 @@
+//! The report of a valid trace: how often jobs were set aside or moved, how long they took, and a chart of the first units.
+#![tactic(auto)]
+
+mod charts;
+mod interruptions;
+mod periods;
+mod responses;
+mod text;
+
+pub use interruptions::{migrations, preemptions};
+pub use responses::response;
+pub use text::write_report;
+
+#[cfg(test)]
+mod tests;
