@@ -17,16 +17,16 @@ const PROCESSORS: usize = 32;
 
 /// The charts of all processors, for the first 64 units.
 ///
-/// Each row draws the units whose first ticks it holds. The rows draw from the last to the first, so that the first row that holds a tick has the
-/// last word.
+/// Each row draws the units whose first ticks it holds, at most 64 of them, and no two rows of a processor draw the same.
 pub(crate) fn charts_of(trace: &ReadTrace) -> [[u8; WIDTH]; PROCESSORS]
     requires { IsValidTrace trace.now }
     ensures { (p j : ℕ) → p < 32 → j < 64 → slice_index (slice_index_or result p []) j ≡ letter_at trace.now.set.tasks trace.now.scale trace.now.rows p j }
 {
+    let rows = trace.rows();
     let set = trace.set();
     let scale = trace.scale();
     let mut charts = [[b'.'; WIDTH]; PROCESSORS];
-    for row in trace.rows().iter().rev() {
+    for row in rows {
         draw(
             &mut charts[row.processor as usize],
             first_unit(row.start, scale),
@@ -49,7 +49,8 @@ fn first_unit(tick: u128, scale: u128) -> usize
 
 // Draws the units from one up to another.
 fn draw(chart: &mut [u8; WIDTH], from: usize, to: usize, letter: u8)
-    requires { to ≤ 64 }
+    requires ordered { from ≤ to }
+    requires limit { to ≤ 64 }
     ensures { (j : ℕ) → j < 64 → slice_index chart.new j ≡ drawn from to letter (slice_index chart.old j) j }
 {
     for j in from..to {

@@ -53,8 +53,9 @@ fn interruptions_of(trace: &ReadTrace, kind: Interruption, task: u32) -> u64
     ensures count { result ≡ task_pairs (stands_between kind) trace.now.set trace.now.scale trace.now.rows task }
     ensures few { result < 2 ^ 32 }
 {
+    let rows = trace.rows();
     let periods = periods_of(&trace.set().tasks()[task as usize], trace.scale());
-    interruptions_among(kind, &periods, trace.rows(), trace.by_task(task))
+    interruptions_among(kind, &periods, rows, trace.by_task(task))
 }
 
 // The rows at the places are those of a task, in the order of time. Of two neighbours only the last tick of the first and

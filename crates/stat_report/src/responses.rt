@@ -3,7 +3,7 @@ ghost use Rattle.std.specs.Prelude.{◌≡◌, ◌<◌, ◌≤◌, ◌^◌, leng
 ghost use Rattle.trace_rows.specs.Faults.{row_at};
 ghost use Rattle.trace_lines.specs.Finishes.{ended_count};
 ghost use Rattle.stat_report.specs.Report.{response, IsValidTrace};
-ghost use Rattle.stat_report.specs.Walk.{row_response, greatest_response, AreInPeriods};
+ghost use Rattle.stat_report.specs.Walk.{row_response, greatest_of, AreInPeriods};
 
 use crate::periods::{Periods, periods_of};
 use sched_base::{Row, Task, TaskSet};
@@ -16,14 +16,12 @@ pub fn response(trace: &ReadTrace, task: u32) -> u128
     requires task { task < length trace.now.set.tasks }
     ensures { result ≡ response trace.now.set trace.now.scale trace.now.rows task }
 {
+    let rows = trace.rows();
     let set = trace.set();
-    let task_of_set = &set.tasks()[task as usize];
-    greatest_response(
-        &periods_of(task_of_set, trace.scale()),
-        u128::from(ended_count(set, task_of_set)),
-        trace.rows(),
-        trace.by_task(task),
-    )
+    let of_set = &set.tasks()[task as usize];
+    let periods = periods_of(of_set, trace.scale());
+    let ended = u128::from(ended_count(set, of_set));
+    greatest_response(&periods, ended, rows, trace.by_task(task))
 }
 
 // How many periods of the task end by the horizon.
@@ -37,7 +35,7 @@ fn ended_count(set: &TaskSet, task: &Task) -> u64
 fn greatest_response(periods: &Periods, ended: u128, rows: &[Row], places: &[u32]) -> u128
     requires rows { AreInPeriods periods.now rows.now places.now }
     requires some { 0 < periods.now.length }
-    ensures { result ≡ greatest_response periods.now ended (map (row_at rows.now) places.now) }
+    ensures { result ≡ greatest_of (row_response periods.now ended) (map (row_at rows.now) places.now) }
 {
     let mut greatest = 0;
     for place in places {

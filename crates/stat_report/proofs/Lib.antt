@@ -1,0 +1,7 @@
+pub mod JoinLemmas
+pub mod TimeLemmas
+pub mod PairLemmas
+pub mod ResponseLemmas
+pub mod PlaceLemmas
+pub mod TaskLemmas
+pub mod TextLemmas
