@@ -5,3 +5,4 @@ pub mod ResponseLemmas
 pub mod PlaceLemmas
 pub mod TaskLemmas
 pub mod TextLemmas
+pub mod ChartLemmas

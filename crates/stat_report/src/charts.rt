@@ -19,7 +19,8 @@ const PROCESSORS: usize = 32;
 ///
 /// Each row draws the units whose first ticks it holds, at most 64 of them, and no two rows of a processor draw the same.
 pub(crate) fn charts_of(trace: &ReadTrace) -> [[u8; WIDTH]; PROCESSORS]
-    requires { IsValidTrace trace.now }
+    requires valid { IsValidTrace trace.now }
+    requires few { trace.now.set.processors ≤ 32 }
     ensures { (p j : ℕ) → p < 32 → j < 64 → slice_index (slice_index_or result p []) j ≡ letter_at trace.now.set.tasks trace.now.scale trace.now.rows p j }
 {
     let rows = trace.rows();

@@ -62,9 +62,10 @@ fn write_charts<W: Sink>(sink: &mut W, trace: &ReadTrace) -> Result<(), Failed>
     ensures wrote { Wrote (W.taken sink.old) (W.taken sink.new) (concat (chart_lines trace.now.set trace.now.scale trace.now.rows)) result }
     ensures cause { HasCause (W.faults sink.old) (W.faults sink.new) result }
 {
-    let charts = charts_of(trace);
+    let processors = trace.set().processors();
     let units = trace.set().horizon().min(WIDTH as u64) as usize;
-    for p in 0..trace.set().processors() {
+    let charts = charts_of(trace);
+    for p in 0..processors {
         let line = chart_line(p, &charts[p as usize][..units]);
         write_all(sink, line.as_slice())?;
     }

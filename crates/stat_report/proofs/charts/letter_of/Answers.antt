@@ -14,6 +14,6 @@ bounds-tasks-id c =
 pub returns-in-Task : goal.returns-in-Task
 returns-in-Task c =
     let known : c.in-Task.id.0 < length c.args.set.now.tasks = c.requires c.in-Task.id.0 (rw c.in-Task.is (eq-eqb c.in-Task.id.0 c.in-Task.id.0 refl)) in
-    let item = rw c.tasks.ensures.value at c.index-tasks-id.is in
+    let bytes = rw c.tasks.ensures.value at c.as_slice.ensures.bytes in
     let same = get_or_default c.args.set.now.tasks c.in-Task.id.0 c.index-tasks-id.result no_task known in
-    ?
+    ap (λ l. get_or l 0 0) (bytes ∙ ap (λ t. t.name) same) ∙ sym (ap (λ leaf. get_or (leaf_name c.args.set.now.tasks leaf) 0 0) c.in-Task.is)
