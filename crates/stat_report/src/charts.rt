@@ -21,7 +21,8 @@ const PROCESSORS: usize = 32;
 pub(crate) fn charts_of(trace: &ReadTrace) -> [[u8; WIDTH]; PROCESSORS]
     requires valid { IsValidTrace trace.now }
     requires few { trace.now.set.processors ≤ 32 }
-    ensures { (p j : ℕ) → p < 32 → j < 64 → slice_index (slice_index_or result p []) j ≡ letter_at trace.now.set.tasks trace.now.scale trace.now.rows p j }
+    ensures width { (p : ℕ) → p < 32 → length (slice_index_or result p []) ≡ 64 }
+    ensures letters { (p j : ℕ) → p < 32 → j < 64 → slice_index (slice_index_or result p []) j ≡ letter_at trace.now.set.tasks trace.now.scale trace.now.rows p j }
 {
     let rows = trace.rows();
     let set = trace.set();
@@ -49,10 +50,10 @@ fn first_unit(tick: u128, scale: u128) -> usize
 }
 
 // Draws the units from one up to another.
-fn draw(chart: &mut [u8; WIDTH], from: usize, to: usize, letter: u8)
+fn draw(chart: &mut [u8], from: usize, to: usize, letter: u8)
     requires ordered { from ≤ to }
-    requires limit { to ≤ 64 }
-    ensures { (j : ℕ) → j < 64 → slice_index chart.new j ≡ drawn from to letter (slice_index chart.old j) j }
+    requires within { to ≤ length chart.old }
+    ensures { (j : ℕ) → j < length chart.old → slice_index chart.new j ≡ drawn from to letter (slice_index chart.old j) j }
 {
     for j in from..to {
         chart[j] = letter;
