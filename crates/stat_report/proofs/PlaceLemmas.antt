@@ -165,9 +165,12 @@ follow_listed s scale rows stop x [] all f = tt
 follow_listed s scale rows stop x (e ∷ es) all f =
     let same = all.0.start in
     let same' = all.0.end in
-    let ends : e.end ≤ stop = all_end e.end es f.2 in
-    (omega (arith, same, f.0), omega (arith, same, same', f.1), omega (arith, same', ends),
-    subst (λ w. Follow stop w (map (row_at rows) (places es))) same' (follow_listed s scale rows stop e.end es all.1 f.2))
+    let ends : e.end ≤ stop = all_end e.end es f.2 in (
+      omega (arith, same, f.0),
+      omega (arith, same, same', f.1),
+      omega (arith, same', ends),
+      subst (λ w. Follow stop w (map (row_at rows) (places es))) same' (follow_listed s scale rows stop e.end es all.1 f.2),
+    )
   where
     all_end : (y : ℕ) (fs : List Entry) → Follows stop y fs → y ≤ stop
     all_end y [] g = g

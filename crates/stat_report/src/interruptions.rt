@@ -60,12 +60,7 @@ fn interruptions_of(trace: &ReadTrace, kind: Interruption, task: u32) -> u64
 
 // The rows at the places are those of a task, in the order of time. Of two neighbours only the last tick of the first and
 // the first tick of the second can lie in one period.
-fn interruptions_among(
-    kind: Interruption,
-    periods: &Periods,
-    rows: &[Row],
-    places: &[u32],
-) -> u64
+fn interruptions_among(kind: Interruption, periods: &Periods, rows: &[Row], places: &[u32]) -> u64
     requires rows { AreInPeriods periods.now rows.now places.now }
     requires some { 0 < periods.now.length }
     requires few { length places.now < 2 ^ 32 }

@@ -47,11 +47,7 @@ fn write_responses<W: Sink>(sink: &mut W, trace: &ReadTrace) -> Result<(), Faile
     ensures cause { HasCause (W.faults sink.old) (W.faults sink.new) result }
 {
     for (i, task) in trace.set().tasks().iter().enumerate() {
-        let line = named_line(
-            b"response",
-            task.name.as_slice(),
-            response(trace, i as u32),
-        );
+        let line = named_line(b"response", task.name.as_slice(), response(trace, i as u32));
         write_all(sink, line.as_slice())?;
     }
     Ok(())

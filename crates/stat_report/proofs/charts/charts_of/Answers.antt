@@ -11,8 +11,12 @@ use Rattle.stat_report.proofs.ChartLemmas.{letter_drawn, letter_kept}
 use Rattle.stat_report.proofs.charts.charts_of.Goals as goal
 
 pub loop-row-init : goal.loop-row-init
-loop-row-init c = (refl, (λ p in_p. ap length (get_or-replicate 32 p (replicate 64 46) [] in_p)), (λ p j in_p in_j.
-    ap (λ l. get_or l j 0) (get_or-replicate 32 p (replicate 64 46) [] in_p) ∙ get_or-replicate 64 j 46 0 in_j))
+loop-row-init c = (
+  refl,
+  (λ p in_p. ap length (get_or-replicate 32 p (replicate 64 46) [] in_p)),
+  (λ p j in_p in_j.
+      ap (λ l. get_or l j 0) (get_or-replicate 32 p (replicate 64 46) [] in_p) ∙ get_or-replicate 64 j 46 0 in_j),
+)
 
 pub bounds-charts-row : goal.bounds-charts-row
 bounds-charts-row c =
@@ -35,8 +39,7 @@ loop-row-preserved c =
     let rows : List Row = c.rows-rows.result.now in
     let charts : List (List ℕ) = c.loop-row.charts in
     let i = c.loop-row.row-index in
-    let r : Row = row_at rows i in
-    (
+    let r : Row = row_at rows i in (
       length-set charts r.processor c.draw.new.chart ∙ c.loop-row.invariant.0,
       (λ p in_p. elim (cases_eq p r.processor) [
         | inl own ↦ (
@@ -46,21 +49,21 @@ loop-row-preserved c =
         | inr other ↦ ap length (get_or-set_other charts r.processor p c.draw.new.chart [] other) ∙ c.loop-row.invariant.1 p in_p
       ]),
       (λ p j in_p in_j. (
-      let apart = subst (AllApart (λ r q. r.processor ≡ q.processor → DontOverlap r q)) (sym c.rows-rows.ensures.value) c.requires.valid.processors_apart in
-      let before = c.loop-row.invariant.2 p j in_p in_j in
-      elim (cases_eq p r.processor) [
-        | inl own ↦ (
-            let bound : r.processor < length charts = omega (arith, own, in_p, c.loop-row.invariant.0) in
-            let wide = c.loop-row.invariant.1 r.processor (omega (arith, own, in_p)) in
-            let name = c.letter_of.ensures ∙ ap (λ s. get_or (leaf_name s.tasks r.leaf) 0 0) c.set-set.ensures in
-            let was = ap (λ w. get_or (get_or charts w []) j 0) (sym own) ∙ before in
-            ap (λ w. get_or (get_or (set charts r.processor c.draw.new.chart) w []) j 0) own
-            ∙ ap (λ l. get_or l j 0) (get_or-set_same charts r.processor c.draw.new.chart [] bound)
-            ∙ c.draw.ensures j (omega (arith, wide, in_j))
-            ∙ letter_drawn c.args.trace.now.set.tasks c.args.trace.now.scale rows p j i c.first_unit.result c.first_unit-in-loop-row.result c.letter_of.result _ r apart c.loop-row-test.true refl (sym own) name was
-            (rw c.scale-scale.ensures at (c.first_unit.ensures.begins j in_j)) (rw c.scale-scale.ensures at (c.first_unit.ensures.least j))
-            (rw c.scale-scale.ensures at (c.first_unit-in-loop-row.ensures.begins j in_j)) (rw c.scale-scale.ensures at (c.first_unit-in-loop-row.ensures.least j)))
-        | inr other ↦ ap (λ l. get_or l j 0) (get_or-set_other charts r.processor p c.draw.new.chart [] other)
-            ∙ (before ∙ sym (letter_kept c.args.trace.now.set.tasks c.args.trace.now.scale rows p j i r apart c.loop-row-test.true refl other))
-      ])),
+          let apart = subst (AllApart (λ r q. r.processor ≡ q.processor → DontOverlap r q)) (sym c.rows-rows.ensures.value) c.requires.valid.processors_apart in
+          let before = c.loop-row.invariant.2 p j in_p in_j in
+          elim (cases_eq p r.processor) [
+            | inl own ↦ (
+                let bound : r.processor < length charts = omega (arith, own, in_p, c.loop-row.invariant.0) in
+                let wide = c.loop-row.invariant.1 r.processor (omega (arith, own, in_p)) in
+                let name = c.letter_of.ensures ∙ ap (λ s. get_or (leaf_name s.tasks r.leaf) 0 0) c.set-set.ensures in
+                let was = ap (λ w. get_or (get_or charts w []) j 0) (sym own) ∙ before in
+                ap (λ w. get_or (get_or (set charts r.processor c.draw.new.chart) w []) j 0) own
+                ∙ ap (λ l. get_or l j 0) (get_or-set_same charts r.processor c.draw.new.chart [] bound)
+                ∙ c.draw.ensures j (omega (arith, wide, in_j))
+                ∙ letter_drawn c.args.trace.now.set.tasks c.args.trace.now.scale rows p j i c.first_unit.result c.first_unit-in-loop-row.result c.letter_of.result _ r apart c.loop-row-test.true refl (sym own) name was
+                (rw c.scale-scale.ensures at (c.first_unit.ensures.begins j in_j)) (rw c.scale-scale.ensures at (c.first_unit.ensures.least j))
+                (rw c.scale-scale.ensures at (c.first_unit-in-loop-row.ensures.begins j in_j)) (rw c.scale-scale.ensures at (c.first_unit-in-loop-row.ensures.least j)))
+            | inr other ↦ ap (λ l. get_or l j 0) (get_or-set_other charts r.processor p c.draw.new.chart [] other)
+                ∙ (before ∙ sym (letter_kept c.args.trace.now.set.tasks c.args.trace.now.scale rows p j i r apart c.loop-row-test.true refl other))
+          ])),
     )
