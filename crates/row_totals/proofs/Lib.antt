@@ -1,2 +1,2 @@
 mod SumLemmas
-mod TableSums
+pub mod TableSums

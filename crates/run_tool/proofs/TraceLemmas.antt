@@ -7,7 +7,7 @@ use Rattle.sched_base.specs.declared.rows.Leaf.TheVariants.{Task, Wait, Idle, Em
 use Rattle.sched_base.specs.declared.rows.Row.{Row}
 use Rattle.sched_base.specs.declared.sets.Task as declared
 use Rattle.round_table.specs.Lanes.{NamesOneOf}
-use Rattle.trace_writer.specs.Conditions.{IsAmong, NameTasks, AreOnTime}
+use Rattle.trace_lines.specs.Conditions.{IsAmong, NameTasks, AreOnTime}
 use Rattle.run_tool.specs.Commands.{some_late}
 
 among_leaf : (tasks : List declared.Task) (leaf : Leaf) → NamesOneOf tasks leaf → IsAmong (length tasks) leaf

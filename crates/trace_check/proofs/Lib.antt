@@ -6,3 +6,10 @@ pub mod OrderLemmas
 pub mod ReachLemmas
 pub mod MetLemmas
 pub mod ReadingLemmas
+pub mod WordLemmas
+pub mod HeadTripLemmas
+pub mod TaskTripLemmas
+pub mod RowTripLemmas
+pub mod TailTripLemmas
+pub mod TripLemmas
+pub mod TableLemmas

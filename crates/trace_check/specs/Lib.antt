@@ -7,4 +7,5 @@ pub mod RowsRead
 pub mod TailLines
 pub mod Reaches
 pub mod Traces
+pub mod RoundTrip
 pub mod Reading

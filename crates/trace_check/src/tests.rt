@@ -1,6 +1,11 @@
-//! Worked rows on trace texts, and texts at the edges of the format.
-use crate::{FaultKind, TraceFault, Verdict, check_trace, read_trace};
+//! Worked rows on trace texts and tables, and texts at the edges of the format.
+ghost use Rattle.std.specs.Prelude.{◌≡◌};
+
+use crate::{FaultKind, ReadTrace, TraceFault, Verdict, check_trace, read_trace};
+use rate_scale::scale_of;
+use sched_base::{Leaf, Row, RowTable, TaskId, TaskSet};
 use std::alloc::Global;
+use std::test::Fail;
 
 /// What comes of a text.
 #[derive(Clone, Copy, Debug, PartialEq, Eq)]
@@ -131,4 +136,65 @@ fn a_trace_tells_its_rows_in_order(rt: HostRuntime) {
         }
         Err(_) => assert!(rt; false, "the text is right"),
     }
+}
+
+const A: Leaf = Leaf::Task(TaskId(0));
+
+const B: Leaf = Leaf::Task(TaskId(1));
+
+const C: Leaf = Leaf::Task(TaskId(2));
+
+fn row(processor: u32, start: u128, end: u128, leaf: Leaf) -> Row
+    ensures { result ≡ record { processor = processor; start = start; end = end; leaf = leaf } }
+{
+    Row {
+        processor,
+        start,
+        end,
+        leaf,
+    }
+}
+
+#[test]
+fn a_table_has_the_trace_of_its_text(rt: HostRuntime) -> Result<(), Fail> {
+    let mut set = TaskSet::start(rt.alloc(), 2, 3);
+    set.add(b"a", 2, 3)?;
+    set.add(b"b", 2, 3)?;
+    set.add(b"c", 2, 3)?;
+    let mut table = RowTable::new(rt.alloc(), 2, 3)?;
+    table.push_round(&[row(0, 0, 3, B), row(1, 0, 3, C)]);
+    table.push_round(&[row(0, 3, 6, A), row(1, 3, 6, C)]);
+    table.push_round(&[row(0, 6, 9, A), row(1, 6, 9, B)]);
+    let scale = scale_of(&set).expect(&rt, "the scale is 3");
+    let trace = ReadTrace::of_table(rt.alloc(), &set, scale, &table)?;
+    let rows = [
+        row(0, 0, 3, B),
+        row(0, 3, 9, A),
+        row(1, 0, 6, C),
+        row(1, 6, 9, B),
+    ];
+    assert_eq!(rt; trace.rows(), rows.as_slice());
+    assert!(rt; check_trace(&trace) == Verdict::Valid);
+    let text = three_tasks(rt.alloc(), b"row 1 6 9 b\ntotal a 6\ntotal b 6\n")?;
+    match read_trace(rt.alloc(), &text) {
+        Ok(read) => assert_eq!(rt; read.rows(), trace.rows()),
+        Err(_) => assert!(rt; false, "the text is right"),
+    }
+    Ok(())
+}
+
+#[test]
+fn rows_of_no_task_are_one_idle_row(rt: HostRuntime) -> Result<(), Fail> {
+    let mut set = TaskSet::start(rt.alloc(), 1, 4);
+    set.add_late(b"a", 1, 1, 3)?;
+    let mut table = RowTable::new(rt.alloc(), 1, 4)?;
+    table.push_round(&[row(0, 0, 1, Leaf::Wait(TaskId(0)))]);
+    table.push_round(&[row(0, 1, 2, Leaf::Idle(7))]);
+    table.push_round(&[row(0, 2, 3, Leaf::Empty)]);
+    table.push_round(&[row(0, 3, 4, A)]);
+    let scale = scale_of(&set).expect(&rt, "the scale is 1");
+    let trace = ReadTrace::of_table(rt.alloc(), &set, scale, &table)?;
+    assert_eq!(rt; trace.rows(), [row(0, 0, 3, Leaf::Idle(0)), row(0, 3, 4, A)].as_slice());
+    assert!(rt; check_trace(&trace) == Verdict::Valid);
+    Ok(())
 }

@@ -11,8 +11,9 @@ use Rattle.sched_base.specs.Sets.{SetContents, task_at}
 use Rattle.sched_base.specs.Valid.{period_start}
 use Rattle.trace_lines.specs.Finishes.{ended_count, finish, finish_between}
 use Rattle.trace_lines.specs.Merging.{shown, lengthened, merge_onto, merged, merged_lanes}
-use Rattle.trace_writer.specs.Conditions.{RunForward, serves}
-use Rattle.trace_writer.proofs.MergeLemmas.{goes_on, shown_same, forward_merged}
+use Rattle.trace_lines.specs.Conditions.{RunForward}
+use Rattle.trace_writer.specs.Conditions.{serves}
+use Rattle.trace_lines.proofs.MergeLemmas.{goes_on, shown_same, forward_merged}
 
 -- how far a row reaches into the ticks from a up to b for task j, or a
 abbrev pub reach : Row → ℕ → ℕ → ℕ → ℕ

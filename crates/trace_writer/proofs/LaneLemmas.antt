@@ -1,102 +1,84 @@
--- The lines of one processor's rows, with one row held back.
-use Rattle.std.proofs.Common.{ℕ, zero, suc, ◌+◌, ◌*◌, ◌<◌, ◌≤◌, ◌≡◌, true, false, List, [], ◌∷◌, ◌++◌, length, take, drop, get_or, Option, Some, None, Result, Ok, Err, sym, refl, ap, ◌∙◌, subst, arith, append_assoc, append-nil, length-append}
+-- The lines of the rows, processor by processor.
+use Rattle.std.proofs.Common.{ℕ, zero, suc, ◌+◌, ◌*◌, ◌<◌, ◌≤◌, ◌≡◌, inl, inr, List, [], ◌∷◌, ◌++◌, length, take, get_or, Option, Some, None, Result, Ok, Err, sym, refl, ap, ◌∙◌, subst, arith, append_assoc, append-nil, length-append}
 use Rattle.std.specs.Prelude.{IsErr}
 use Rattle.std.specs.List.{AllByRecursion, flat_map}
 use Rattle.std.specs.Io.KnownBytes.{Appends}
 use Rattle.std.proofs.KnownBytes.{Appends-trans}
-use Rattle.std.proofs.lemmas.List.{drop_more, drop_all, take_more}
+use Rattle.std.proofs.lemmas.Bool.{cases_Bool, cond-true, cond-false}
+use Rattle.std.proofs.lemmas.List.{take_more}
 use Rattle.std.proofs.lemmas.List.Concat.{flat_map-append}
 use Rattle.sched_base.specs.declared.rows.Row.{Row}
 use Rattle.sched_base.specs.declared.sets.Task.{Task}
 use Rattle.sched_base.specs.Tables.{IsTable, lane_of, rounds_of}
 use Rattle.sched_edges.specs.Streams.{Wrote}
 use Rattle.sched_edges.proofs.Wrote.{part_then, part_cut, wrote_part}
+use Rattle.trace_lines.specs.Conditions.{IsAmong, NameTasks}
 use Rattle.trace_lines.specs.Lines.{row_line}
 use Rattle.trace_lines.specs.Merging.{lengthened, merge_onto, merged, merged_lanes}
-use Rattle.trace_writer.proofs.MergeLemmas.{goes_on, merge_join, merge_apart}
+use Rattle.trace_lines.proofs.MergeLemmas.{goes_on}
 
--- of a first row and those that follow it the lines up to a held row were written; it and the rows from place i on are left
-pub record Held (tasks : List Task) (a b : Option (List ℕ)) (first : Row) (rows : List Row) (i : ℕ) (held : Row) (count : ℕ) : Type 0 where
-  pub parts : (written : List Row) × (merge_onto first (merged rows) ≡ written ++ merge_onto held (merged (drop i rows))) × Appends a b (flat_map (row_line tasks) written) × (count ≡ length written + 1)
+-- ---- one processor
+
+-- of a processor's rows the lines of so many merged ones were written, and these rows are left
+pub record Written (tasks : List Task) (a b : Option (List ℕ)) (rows left : List Row) (count : ℕ) : Type 0 where
+  pub parts : (written : List Row) × (merged rows ≡ written ++ merged left) × Appends a b (flat_map (row_line tasks) written) × (count ≡ length written)
 
 took_none : (a : Option (List ℕ)) → Appends a a []
 took_none None = tt
 took_none (Some xs) = sym (append-nil xs)
 
-pub held_first : (tasks : List Task) (a : Option (List ℕ)) (first : Row) (rows : List Row) → Held tasks a a first rows 0 first 1
-held_first tasks a first rows = record { parts = ([], refl, took_none a, refl) }
+pub written_none : (tasks : List Task) (a : Option (List ℕ)) (rows : List Row) → Written tasks a a rows rows 0
+written_none tasks a rows = record { parts = ([], refl, took_none a, refl) }
 
--- the next row at the front of those that are left
-left_from : (rows : List Row) (i : ℕ) (r : Row) → i < length rows → r ≡ get_or rows i r → merged (drop i rows) ≡ merge_onto r (merged (drop (i + 1) rows))
-left_from rows i r within at = ap merged (drop_more rows i r within ∙ ap (λ q. q ∷ drop (i + 1) rows) (sym at))
-
--- a row that goes on
-pub held_join : (tasks : List Task) (a b : Option (List ℕ)) (first : Row) (rows : List Row) (i : ℕ) (held r : Row) (count : ℕ) → i < length rows → r ≡ get_or rows i r → goes_on held r ≡ true
-    → Held tasks a b first rows i held count → Held tasks a b first rows (i + 1) (lengthened held r.end) count
-held_join tasks a b first rows i held r count within at on so_far =
+-- one merged row more
+pub written_more : (tasks : List Task) (a b c : Option (List ℕ)) (rows left later : List Row) (r : Row) (count : ℕ) → merged left ≡ r ∷ merged later
+    → Written tasks a b rows left count → Appends b c (row_line tasks r) → Written tasks a c rows later (count + 1)
+written_more tasks a b c rows left later r count first so_far now =
     let (written, all, took, counted) = so_far.parts in
-    let left : merge_onto held (merged (drop i rows)) ≡ merge_onto (lengthened held r.end) (merged (drop (i + 1) rows)) =
-    ap (merge_onto held) (left_from rows i r within at) ∙ merge_join held r (merged (drop (i + 1) rows)) on in
-    record { parts = (written, all ∙ ap (λ rs. written ++ rs) left, took, counted) }
-
--- one that does not: the held row stands before what is left
-apart_left : (rows : List Row) (i : ℕ) (held r : Row) → i < length rows → r ≡ get_or rows i r → goes_on held r ≡ false
-    → merge_onto held (merged (drop i rows)) ≡ held ∷ merge_onto r (merged (drop (i + 1) rows))
-apart_left rows i held r within at off = ap (merge_onto held) (left_from rows i r within at) ∙ merge_apart held r (merged (drop (i + 1) rows)) off
-
-pub held_apart : (tasks : List Task) (a b c : Option (List ℕ)) (first : Row) (rows : List Row) (i : ℕ) (held r : Row) (count : ℕ) → i < length rows → r ≡ get_or rows i r → goes_on held r ≡ false
-    → Held tasks a b first rows i held count → Appends b c (row_line tasks held) → Held tasks a c first rows (i + 1) r (count + 1)
-held_apart tasks a b c first rows i held r count within at off so_far now =
-    let (written, all, took, counted) = so_far.parts in
-    let left = apart_left rows i held r within at off in
-    let one : flat_map (row_line tasks) (written ++ held ∷ []) ≡ flat_map (row_line tasks) written ++ row_line tasks held =
-    flat_map-append (row_line tasks) written (held ∷ []) ∙ ap (λ text. flat_map (row_line tasks) written ++ text) (append-nil (row_line tasks held)) in
+    let one : flat_map (row_line tasks) (written ++ r ∷ []) ≡ flat_map (row_line tasks) written ++ row_line tasks r =
+    flat_map-append (row_line tasks) written (r ∷ []) ∙ ap (λ text. flat_map (row_line tasks) written ++ text) (append-nil (row_line tasks r)) in
     record {
       parts = (
-        written ++ held ∷ [],
-        all ∙ ap (λ rs. written ++ rs) left ∙ sym (append_assoc written (held ∷ []) (merge_onto r (merged (drop (i + 1) rows)))),
+        written ++ r ∷ [],
+        all ∙ ap (λ rs. written ++ rs) first ∙ sym (append_assoc written (r ∷ []) (merged later)),
         subst (Appends a c) (sym one) (Appends-trans a b c _ _ took now),
-        omega (arith, counted, length-append written (held ∷ [])),
+        omega (arith, counted, length-append written (r ∷ [])),
       );
     }
 
--- a write of the held row that failed, where these rows are left after it
-cut_before : {T U E F : Type 0} (tasks : List Task) (a b c : Option (List ℕ)) (written left all : List Row) (held : Row) (e : F) (r : Result T E) → all ≡ written ++ held ∷ left
-    → Appends a b (flat_map (row_line tasks) written) → Wrote {T = U} b c (row_line tasks held) (Err e) → IsErr r → Wrote a c (flat_map (row_line tasks) all) r
-cut_before tasks a b c written left all held e r parts took wrote failed =
-    let text : flat_map (row_line tasks) all ≡ flat_map (row_line tasks) written ++ (row_line tasks held ++ flat_map (row_line tasks) left) =
-    ap (flat_map (row_line tasks)) parts ∙ flat_map-append (row_line tasks) written (held ∷ left) in
-    wrote_part a c _ r failed (rw text (part_then a b c _ _ took (part_cut b c (row_line tasks held) (flat_map (row_line tasks) left) wrote.err)))
-
-pub held_cut : {T U E F : Type 0} (tasks : List Task) (a b c : Option (List ℕ)) (first : Row) (rows : List Row) (i : ℕ) (held r : Row) (count : ℕ) (e : F) (result : Result T E)
-    → i < length rows → r ≡ get_or rows i r → goes_on held r ≡ false → Held tasks a b first rows i held count → Wrote {T = U} b c (row_line tasks held) (Err e) → IsErr result
-    → Wrote a c (flat_map (row_line tasks) (merge_onto first (merged rows))) result
-held_cut tasks a b c first rows i held r count e result within at off so_far wrote failed =
+-- a write of the next one that failed
+pub written_cut : {T U E F : Type 0} (tasks : List Task) (a b c : Option (List ℕ)) (rows left later : List Row) (r : Row) (count : ℕ) (e : F) (result : Result T E) → merged left ≡ r ∷ merged later
+    → Written tasks a b rows left count → Wrote {T = U} b c (row_line tasks r) (Err e) → IsErr result → Wrote a c (flat_map (row_line tasks) (merged rows)) result
+written_cut tasks a b c rows left later r count e result first so_far wrote failed =
     let (written, all, took, counted) = so_far.parts in
-    let left = apart_left rows i held r within at off in
-    cut_before tasks a b c written (merge_onto r (merged (drop (i + 1) rows))) _ held e result (all ∙ ap (λ rs. written ++ rs) left) took wrote failed
+    let text : flat_map (row_line tasks) (merged rows) ≡ flat_map (row_line tasks) written ++ (row_line tasks r ++ flat_map (row_line tasks) (merged later)) =
+    ap (flat_map (row_line tasks)) (all ∙ ap (λ rs. written ++ rs) first) ∙ flat_map-append (row_line tasks) written (r ∷ merged later) in
+    wrote_part a c _ result failed (rw text (part_then a b c _ _ took (part_cut b c (row_line tasks r) (flat_map (row_line tasks) (merged later)) wrote.err)))
 
--- the held row is the last
-last_left : (rows : List Row) (i : ℕ) (held : Row) → length rows ≤ i → merge_onto held (merged (drop i rows)) ≡ held ∷ []
-last_left rows i held past = ap (λ rs. merge_onto held (merged rs)) (drop_all i rows past)
-
-pub last_cut : {T U E F : Type 0} (tasks : List Task) (a b c : Option (List ℕ)) (first : Row) (rows : List Row) (i : ℕ) (held : Row) (count : ℕ) (e : F) (result : Result T E)
-    → length rows ≤ i → Held tasks a b first rows i held count → Wrote {T = U} b c (row_line tasks held) (Err e) → IsErr result
-    → Wrote a c (flat_map (row_line tasks) (merge_onto first (merged rows))) result
-last_cut tasks a b c first rows i held count e result past so_far wrote failed =
+-- none is left
+pub written_all : {T E : Type 0} (tasks : List Task) (a b : Option (List ℕ)) (rows left : List Row) (count : ℕ) (v : T) → left ≡ [] → Written tasks a b rows left count
+    → Wrote {E = E} a b (flat_map (row_line tasks) (merged rows)) (Ok v) × (count ≡ length (merged rows))
+written_all tasks a b rows left count v none so_far =
     let (written, all, took, counted) = so_far.parts in
-    cut_before tasks a b c written [] _ held e result (all ∙ ap (λ rs. written ++ rs) (last_left rows i held past)) took wrote failed
+    let whole : merged rows ≡ written = all ∙ ap (λ rs. written ++ merged rs) none ∙ append-nil written in
+    (record { ok = subst (Appends a b) (ap (flat_map (row_line tasks)) (sym whole)) took; err = tt }, counted ∙ ap length (sym whole))
 
-pub last_written : {T E : Type 0} (tasks : List Task) (a b c : Option (List ℕ)) (first : Row) (rows : List Row) (i : ℕ) (held : Row) (count : ℕ) (v : T)
-    → length rows ≤ i → Held tasks a b first rows i held count → Appends b c (row_line tasks held)
-    → Wrote {E = E} a c (flat_map (row_line tasks) (merge_onto first (merged rows))) (Ok v) × (count ≡ length (merge_onto first (merged rows)))
-last_written tasks a b c first rows i held count v past so_far now =
-    let (written, all, took, counted) = so_far.parts in
-    let whole = all ∙ ap (λ rs. written ++ rs) (last_left rows i held past) in
-    let text : flat_map (row_line tasks) (merge_onto first (merged rows)) ≡ flat_map (row_line tasks) written ++ row_line tasks held =
-    ap (flat_map (row_line tasks)) whole ∙ flat_map-append (row_line tasks) written (held ∷ []) ∙ ap (λ t. flat_map (row_line tasks) written ++ t) (append-nil (row_line tasks held)) in
-    let number = ap length whole in
-    (record { ok = subst (Appends a c) (sym text) (Appends-trans a b c _ _ took now); err = tt }, omega (arith, counted, number, length-append written (held ∷ [])))
+names_onto : (tasks : List Task) (r : Row) (rows : List Row) → IsAmong (length tasks) r.leaf → NameTasks tasks rows → NameTasks tasks (merge_onto r rows)
+names_onto tasks r [] own rest = (own, tt)
+names_onto tasks r (q ∷ rows) own rest =
+    elim (cases_Bool (goes_on r q)) [
+      | inl t ↦ (let e : merge_onto r (q ∷ rows) ≡ lengthened r q.end ∷ rows = cond-true _ _ _ t in subst (NameTasks tasks) (sym e) (own, rest.1))
+      | inr f ↦ (let e : merge_onto r (q ∷ rows) ≡ r ∷ (q ∷ rows) = cond-false _ _ _ f in subst (NameTasks tasks) (sym e) (own, rest))
+    ]
+
+-- merged rows name tasks of the set alone, where the rows do
+pub names_merged : (tasks : List Task) (rows : List Row) → NameTasks tasks rows → NameTasks tasks (merged rows)
+names_merged tasks [] names = tt
+names_merged tasks (r ∷ rows) names = names_onto tasks r (merged rows) names.0 (names_merged tasks rows names.1)
+
+-- the next of them does, and so do those after it
+pub names_next : (tasks : List Task) (left later : List Row) (r : Row) → merged left ≡ r ∷ merged later → NameTasks tasks (merged left) → IsAmong (length tasks) r.leaf × NameTasks tasks (merged later)
+names_next tasks left later r first names = subst (NameTasks tasks) first names
 
 -- ---- all processors
 

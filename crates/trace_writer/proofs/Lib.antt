@@ -1,4 +1,3 @@
-pub mod MergeLemmas
 pub mod TotalLemmas
 pub mod LaneLemmas
 pub mod TextLemmas

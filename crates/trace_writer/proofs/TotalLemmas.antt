@@ -13,7 +13,7 @@ use Rattle.trace_lines.specs.Merging.{merged_lanes}
 use Rattle.trace_lines.specs.Text.{total_lines}
 use Rattle.trace_writer.specs.Conditions.{totals_of}
 use Rattle.trace_writer.specs.Parts.{text_of}
-use Rattle.trace_writer.proofs.MergeLemmas.{forward_lanes, ticks_merged_lanes}
+use Rattle.trace_lines.proofs.MergeLemmas.{forward_lanes, ticks_merged_lanes}
 
 -- the line of one task's total
 abbrev pub total_line : List Row → ℕ × Task → List ℕ

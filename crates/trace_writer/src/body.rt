@@ -4,10 +4,11 @@ ghost use Rattle.std.specs.List.{AllByRecursion, flat_map};
 ghost use Rattle.sched_base.specs.Tables.{rounds_of};
 ghost use Rattle.sched_edges.specs.Causes.{HasCause};
 ghost use Rattle.sched_edges.specs.Streams.{Wrote};
+ghost use Rattle.trace_lines.specs.Conditions.{NameTasks};
 ghost use Rattle.trace_lines.specs.Lines.{task_line, version_number};
 ghost use Rattle.trace_lines.specs.Merging.{merged_lanes};
 ghost use Rattle.trace_lines.specs.Text.{head_lines, total_lines};
-ghost use Rattle.trace_writer.specs.Conditions.{NameTasks, totals_of};
+ghost use Rattle.trace_writer.specs.Conditions.{totals_of};
 ghost use Rattle.trace_writer.specs.Parts.{text_of, body_text};
 
 use crate::lines::line_of_task;

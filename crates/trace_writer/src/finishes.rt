@@ -2,9 +2,10 @@
 ghost use Rattle.std.specs.Prelude.{◌≡◌, ◌≤◌, ◌<◌, ◌+◌, ◌^◌, length, max};
 ghost use Rattle.sched_base.specs.Rows.{is_of_task};
 ghost use Rattle.sched_base.specs.Valid.{period_start};
+ghost use Rattle.trace_lines.specs.Conditions.{RunForward};
 ghost use Rattle.trace_lines.specs.Finishes.{ended_count, finish_between};
 ghost use Rattle.trace_lines.specs.Merging.{merged, merged_lanes};
-ghost use Rattle.trace_writer.specs.Conditions.{RunForward, serves};
+ghost use Rattle.trace_writer.specs.Conditions.{serves};
 
 use sched_base::{Leaf, Row, RowTable, Task, TaskSet};
 

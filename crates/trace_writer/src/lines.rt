@@ -1,7 +1,7 @@
 //! The lines of tasks and rows.
 ghost use Rattle.std.specs.Prelude.{◌≡◌, ◌≤◌, ◌++◌, ◌∷◌, codes, decimal, length};
+ghost use Rattle.trace_lines.specs.Conditions.{IsAmong};
 ghost use Rattle.trace_lines.specs.Lines.{leaf_name, task_line, row_line};
-ghost use Rattle.trace_writer.specs.Conditions.{IsAmong};
 
 use sched_base::{Leaf, Row, Task, TaskSet};
 use sched_edges::Line;

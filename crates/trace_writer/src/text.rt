@@ -6,9 +6,10 @@ ghost use Rattle.sched_base.specs.Tables.{rounds_of};
 ghost use Rattle.sched_edges.specs.Causes.{HasCause};
 ghost use Rattle.sched_edges.specs.Streams.{Wrote};
 ghost use Rattle.trace_lines.specs.declared.versions.Version.TheVariants.{One, Two};
+ghost use Rattle.trace_lines.specs.Conditions.{NameTasks, AreOnTime};
 ghost use Rattle.trace_lines.specs.Merging.{merged_lanes};
 ghost use Rattle.trace_lines.specs.Text.{trace_text};
-ghost use Rattle.trace_writer.specs.Conditions.{NameTasks, AreOnTime, totals_of};
+ghost use Rattle.trace_writer.specs.Conditions.{totals_of};
 
 use crate::body::write_body;
 use crate::mets::write_mets;

@@ -1,4 +1,4 @@
--- Merging row by row, with one row held back; and merging changes no sum of ticks.
+-- Merging makes no more rows, and changes no sum of ticks.
 use Rattle.std.proofs.Common.{ℕ, suc, ◌+◌, ◌-◌, ◌*◌, ◌^◌, ◌<◌, ◌≤◌, ◌≡◌, inl, inr, Bool, true, false, List, [], ◌∷◌, ◌++◌, Some, length, slice_get, ◌&&◌, eqb, sym, refl, ap, subst, ◌∙◌, arith}
 use Rattle.std.specs.List.{AllByRecursion}
 use Rattle.std.proofs.lemmas.Bool.{cases_Bool, both_ways, and_parts, and_from, cond-true, cond-false, eqb-true, eq-eqb, false_from_ne_true}
@@ -11,43 +11,12 @@ use Rattle.sched_base.specs.declared.rows.Row.{Row}
 use Rattle.sched_base.specs.Rows.{is_of_task}
 use Rattle.sched_base.specs.Tables.{RowAt, IsTable, all_rows, row_ticks, ticks_in}
 use Rattle.trace_lines.specs.Merging.{shown, lengthened, merge_onto, merged, merged_lanes}
-use Rattle.trace_writer.specs.Conditions.{RunForward}
+use Rattle.trace_lines.specs.Conditions.{RunForward}
 use Rattle.trace_lines.specs.Finishes.{ticks_of}
 
 -- the second row begins where the first ends, under the same name
 abbrev pub goes_on : Row → Row → Bool
 goes_on p q = eqb p.end q.start && eqb (shown p.leaf) (shown q.leaf)
-
--- a row that goes on is taken into the one held back
-pub merge_join : (p q : Row) (qs : List Row) → goes_on p q ≡ true → merge_onto p (merge_onto q qs) ≡ merge_onto (lengthened p q.end) qs
-merge_join p q [] h = cond-true _ _ _ h
-merge_join p q (r ∷ qs) h =
-    elim (cases_Bool (goes_on q r)) [
-      | inl t ↦ (
-          let a : merge_onto q (r ∷ qs) ≡ lengthened q r.end ∷ qs = cond-true _ _ _ t in
-          let w = and_parts (eqb p.end q.start) (eqb (shown p.leaf) (shown q.leaf)) h in
-          let v = and_parts (eqb q.end r.start) (eqb (shown q.leaf) (shown r.leaf)) t in
-          let b : goes_on (lengthened p q.end) r ≡ true = and_from _ _ v.0 (eq-eqb _ _ (eqb-true _ _ w.1 ∙ eqb-true _ _ v.1)) in
-          ap (merge_onto p) a ∙ (cond-true (goes_on p (lengthened q r.end)) _ _ h ∙ sym (cond-true (goes_on (lengthened p q.end) r) _ _ b)))
-      | inr f ↦ (
-          let a : merge_onto q (r ∷ qs) ≡ q ∷ (r ∷ qs) = cond-false _ _ _ f in
-          let w = and_parts (eqb p.end q.start) (eqb (shown p.leaf) (shown q.leaf)) h in
-          let b : goes_on (lengthened p q.end) r ≡ false = false_from_ne_true _ (λ t. (
-          let v = and_parts (eqb q.end r.start) (eqb (shown p.leaf) (shown r.leaf)) t in
-          both_ways _ f (and_from _ _ v.0 (eq-eqb _ _ (sym (eqb-true _ _ w.1) ∙ eqb-true _ _ v.1))))) in
-          ap (merge_onto p) a ∙ (cond-true (goes_on p q) _ _ h ∙ sym (cond-false (goes_on (lengthened p q.end) r) _ _ b)))
-    ]
-
--- one that does not go on is held back in its place
-pub merge_apart : (p q : Row) (qs : List Row) → goes_on p q ≡ false → merge_onto p (merge_onto q qs) ≡ p ∷ merge_onto q qs
-merge_apart p q [] h = cond-false _ _ _ h
-merge_apart p q (r ∷ qs) h =
-    elim (cases_Bool (goes_on q r)) [
-      | inl t ↦ (let a : merge_onto q (r ∷ qs) ≡ lengthened q r.end ∷ qs = cond-true _ _ _ t in
-          ap (merge_onto p) a ∙ (cond-false (goes_on p (lengthened q r.end)) _ _ h ∙ ap (λ x. p ∷ x) (sym a)))
-      | inr f ↦ (let a : merge_onto q (r ∷ qs) ≡ q ∷ (r ∷ qs) = cond-false _ _ _ f in
-          ap (merge_onto p) a ∙ (cond-false (goes_on p q) _ _ h ∙ ap (λ x. p ∷ x) (sym a)))
-    ]
 
 -- merging makes no more rows
 pub few_merged_onto : (r : Row) (rows : List Row) → length (merge_onto r rows) ≤ suc (length rows)
