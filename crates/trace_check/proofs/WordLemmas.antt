@@ -1,12 +1,12 @@
 -- Lines that are written are read again, word by word.
-use Rattle.std.proofs.Common.{zero, suc, ℕ, ◌+◌, ◌^◌, ◌<◌, ◌≤◌, ◌≡◌, ◌≢◌, ◌&&◌, ◌||◌, inl, inr, eqb, leb, not, Bool, true, false, List, [], ◌∷◌, ◌++◌, length, codes, decimal, Some, option_and_then, Ok, sym, refl, ap, ◌∙◌, subst, arith, append_assoc, append-nil}
+use Rattle.std.proofs.Common.{ℕ, ◌^◌, ◌<◌, ◌≤◌, ◌≡◌, ◌≢◌, ◌&&◌, ◌||◌, inl, inr, eqb, leb, not, Bool, true, List, [], ◌∷◌, ◌++◌, length, decimal, Some, option_and_then, Ok, sym, refl, ap, ◌∙◌, arith, append_assoc, append-nil}
 use Rattle.std.specs.Char.{is_ascii_digit}
 use Rattle.std.specs.List.{AllByRecursion, flat_map, list_all}
 use Rattle.std.specs.Str.{bytes_eq}
 use Rattle.std.proofs.lemmas.Slice.Eq.{bytes_eq-Decides}
 use Rattle.std.proofs.lemmas.Bool.{and_parts, and_from, or_cases, leb-true, le-leb, eqb-true, eq-eqb, both_ways, not-true, cond-true}
 use Rattle.sched_base.specs.Names.{is_letter, is_digit, starts_name, continues_name, is_lawful_name}
-use Rattle.sched_edges.specs.Lines.{line_end, line_of, number_line, named_line}
+use Rattle.sched_edges.specs.Lines.{line_end, line_of, number_line}
 use Rattle.trace_text.specs.Words.{lines_of, cut_space, after_word, behind, number_of}
 use Rattle.trace_text.proofs.RoundTrip.{cut_spaced, line_written, number_of_decimal, writes_decimal}
 use Rattle.trace_lines.specs.Lines.{idle_name}
@@ -65,16 +65,16 @@ continues_past : (b : ℕ) → continues_name b ≡ true → 45 ≤ b
 continues_past b h =
     elim (or_cases (is_letter b || is_digit b) ((eqb b 95 || eqb b 46) || eqb b 45) h) [
       | inl l ↦ (elim (or_cases (is_letter b) (is_digit b) l) [
-          | inl a ↦ (let low = letter_past b a in omega (arith, low))
-          | inr d ↦ (let low : 48 ≤ b = leb-true _ _ (and_parts (leb 48 b) (leb b 57) d).0 in omega (arith, low))
-        ])
+        | inl a ↦ (let low = letter_past b a in omega (arith, low))
+        | inr d ↦ (let low : 48 ≤ b = leb-true _ _ (and_parts (leb 48 b) (leb b 57) d).0 in omega (arith, low))
+      ])
       | inr s ↦ (elim (or_cases (eqb b 95 || eqb b 46) (eqb b 45) s) [
-          | inl a ↦ (elim (or_cases (eqb b 95) (eqb b 46) a) [
-              | inl x ↦ (let e : b ≡ 95 = eqb-true _ _ x in omega (arith, e))
-              | inr y ↦ (let e : b ≡ 46 = eqb-true _ _ y in omega (arith, e))
-            ])
-          | inr m ↦ (let e : b ≡ 45 = eqb-true _ _ m in omega (arith, e))
+        | inl a ↦ (elim (or_cases (eqb b 95) (eqb b 46) a) [
+          | inl x ↦ (let e : b ≡ 95 = eqb-true _ _ x in omega (arith, e))
+          | inr y ↦ (let e : b ≡ 46 = eqb-true _ _ y in omega (arith, e))
         ])
+        | inr m ↦ (let e : b ≡ 45 = eqb-true _ _ m in omega (arith, e))
+      ])
     ]
 
 continued_word : (bs : List ℕ) → list_all continues_name bs ≡ true → IsWord bs

@@ -1,4 +1,4 @@
-use Rattle.std.proofs.Common.{◌≤◌, ◌+◌, length, arith}
+use Rattle.std.proofs.Common.{arith}
 use Rattle.trace_writer.proofs.LaneLemmas.{written_none, written_more, written_cut, names_merged, names_next}
 use Rattle.trace_writer.proofs.rows.write_lane.Goals as goal
 
