@@ -253,3 +253,12 @@ pub stops_answered : (asked : Option Command) (c : Command) (old new : Streams) 
     → IsAnswered asked old.left old new status
 stops_answered asked c old new err err' r status e stops told =
     subst (λ (a : Option Command). IsAnswered a old.left old new status) e (stops_asked c old.left old new err err' r status refl stops told)
+
+wanting_asked : (c : Command) (left : Option (List ℕ)) (old new : Streams) (err err' : ErrorStream) (status : Status) → IsRefused why.NoMemory err err' status → IsAnswered (Some c) left old new status
+wanting_asked c None old new err err' status told = tt
+wanting_asked c (Some bytes) old new err err' status told = λ unread unwritten answer is. inr (elim (told.told) [ inl own ↦ own.0 | inr wanting ↦ wanting.1 ])
+
+-- where there was no memory to read the words, that is told
+pub unread_answered : (asked : Option Command) (old new : Streams) (err err' : ErrorStream) (status : Status) → IsRefused why.NoMemory err err' status → IsAnswered asked old.left old new status
+unread_answered None old new err err' status told = tt
+unread_answered (Some c) old new err err' status told = wanting_asked c old.left old new err err' status told

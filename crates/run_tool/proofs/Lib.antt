@@ -2,3 +2,4 @@ pub mod AnswerLemmas
 pub mod LineLemmas
 pub mod TraceLemmas
 pub mod SoundLemmas
+pub mod CommandLineLemmas

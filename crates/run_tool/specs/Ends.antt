@@ -8,7 +8,7 @@ use Rattle.run_tool.specs.declared.words.Command.{Command}
 use Rattle.run_tool.specs.declared.refusal.Refusal.{Refusal}
 use Rattle.run_tool.specs.declared.refusal.Refusal.TheVariants as why
 use Rattle.run_tool.specs.declared.status.Status.{Status}
-use Rattle.run_tool.specs.declared.status.Status.TheVariants.{Done, NoMemory, BadInput, Overload, ScaleTooLarge, TooLong, InputTooLong}
+use Rattle.run_tool.specs.declared.status.Status.TheVariants.{Done, Usage, NoMemory, BadInput, Overload, ScaleTooLarge, TooLong, InputTooLong}
 use Rattle.sched_base.specs.Sets.{SetContents}
 use Rattle.sched_base.specs.Scale.{Fits}
 use Rattle.run_tool.specs.Commands.{limit_of, ReadsSet, Writes, Refuses, IsSound}
@@ -80,12 +80,12 @@ abbrev pub Ends : Command → Streams → Streams → ErrorStream → ErrorStrea
 Ends c old new err err' Done = IsDone c old new × IsQuiet err err'
 Ends c old new err err' status = (refusal : Refusal) × (status_of refusal ≡ status) × Stops c old new refusal × Tells err err' (refusal_line refusal)
 
--- words that are no command line: nothing was read or written, and `err` took the line that says so
-pub record IsUsage (old new : Streams) (err err' : ErrorStream) : Type 0 where
+-- words that are no command line: nothing was read or written, and `err` took the line that says so, or that there was no memory to read the words
+pub record IsUsage (old new : Streams) (err err' : ErrorStream) (status : Status) : Type 0 where
   pub unread : IsUnread old new
   pub out : Keeps old.out new.out
   pub out_faults : new.out_faults ≡ old.out_faults
-  pub line : Tells err err' (refusal_line why.Usage)
+  pub line : ((status ≡ Usage) × Tells err err' (refusal_line why.Usage)) ⊎ ((status ≡ NoMemory) × Tells err err' (refusal_line why.NoMemory))
 
 -- the command refuses these bytes with this status
 abbrev pub Refused : Command → List ℕ → Status → Type 0

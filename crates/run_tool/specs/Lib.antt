@@ -1,5 +1,6 @@
 pub mod Status
 pub mod Words
+pub mod CommandLine
 pub mod Refusals
 pub mod RateText
 pub mod Commands

@@ -2,6 +2,7 @@
 #![tactic(auto)]
 
 mod closing;
+mod command_line;
 mod input;
 mod plan;
 mod rate;

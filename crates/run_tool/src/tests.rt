@@ -182,19 +182,35 @@ fn trees_of_worked_sets(rt: HostRuntime) -> Result<(), Fail> {
 
 #[test]
 fn other_words_are_no_line(rt: HostRuntime) -> Result<(), Fail> {
-    let rows: [&[&str]; 12] = [
+    let rows: [&[&str]; 27] = [
         &[],
         &["run"],
         &["rate", "x"],
         &["rate", "rate"],
         &["rate", "--met"],
+        &["drill", "07"],
+        &["drill", "-1"],
         &["trace", "trace"],
         &["--met", "trace"],
         &["trace", "--met", "--met"],
         &["trace", "--met="],
-        &["--"],
-        &["--help"],
+        &["trace", "--met=true"],
+        &["trace", "--me"],
+        &["trace", "-m"],
+        &["trace", "--met", "--"],
+        &["--", "trace"],
+        &["trace", ""],
+        &[""],
         &["Rate"],
+        // No word asks for help, and `--` is no word of a line.
+        &["--"],
+        &["rate", "--"],
+        &["help"],
+        &["help", "rate"],
+        &["--help"],
+        &["rate", "-h"],
+        &["--version"],
+        &["furnacelime", "rate"],
     ];
     for words in rows {
         let left = call(rt.alloc(), words, THREE_TASKS.as_bytes(), NONE)?;

@@ -1,5 +1,5 @@
 //! The top call.
-ghost use Rattle.std.specs.Prelude.{◌≡◌, ◌↔◌, map, string_bytes, None, Some, OnOk, IfErr};
+ghost use Rattle.std.specs.Prelude.{◌≡◌, ◌≢◌, ◌↔◌, map, string_bytes, None, Some, OnOk, IfErr};
 ghost use Rattle.run_tool.specs.Words.{command_of};
 ghost use Rattle.run_tool.specs.Ends.{streams, error_stream, IsDone, IsUsage, Stops, Ends, IsAnswered, TellsTruth};
 ghost use Rattle.run_tool.specs.declared.words.Command.{Command};
@@ -26,9 +26,9 @@ pub fn run_still<R: Source, W: Sink, E: Sink>(
     out: &mut W,
     err: &mut E,
 ) -> Status
-    // Words that are no command line leave all as it was.
-    ensures usage { (result ≡ Status.Usage) ↔ (command_of (map string_bytes words.now) ≡ None) }
-    ensures unread { result ≡ Status.Usage → IsUsage (streams (R.left source.old) (R.faults source.old) (W.taken out.old) (W.faults out.old)) (streams (R.left source.new) (R.faults source.new) (W.taken out.new) (W.faults out.new)) (error_stream (E.taken err.old) (E.faults err.old)) (error_stream (E.taken err.new) (E.faults err.new)) }
+    // Usage comes exactly where the words are no command line, want of memory aside. All else is left as it was.
+    ensures usage { result ≢ Status.NoMemory → ((result ≡ Status.Usage) ↔ (command_of (map string_bytes words.now) ≡ None)) }
+    ensures unread { command_of (map string_bytes words.now) ≡ None → IsUsage (streams (R.left source.old) (R.faults source.old) (W.taken out.old) (W.faults out.old)) (streams (R.left source.new) (R.faults source.new) (W.taken out.new) (W.faults out.new)) (error_stream (E.taken err.old) (E.faults err.old)) (error_stream (E.taken err.new) (E.faults err.new)) result }
 
     // Done: `out` took exactly the text that the command writes for the bytes that the source gave.
     ensures done { result ≡ Status.Done → (c : Command) × (command_of (map string_bytes words.now) ≡ Some c) × IsDone c (streams (R.left source.old) (R.faults source.old) (W.taken out.old) (W.faults out.old)) (streams (R.left source.new) (R.faults source.new) (W.taken out.new) (W.faults out.new)) }
@@ -43,9 +43,10 @@ pub fn run_still<R: Source, W: Sink, E: Sink>(
     ensures answered { IsAnswered (command_of (map string_bytes words.now)) (R.left source.old) (streams (R.left source.old) (R.faults source.old) (W.taken out.old) (W.faults out.old)) (streams (R.left source.new) (R.faults source.new) (W.taken out.new) (W.faults out.new)) result }
 {
     sound_law();
-    match command_of(words) {
-        None => refuse(alloc, &Refusal::Usage, err),
-        Some(command) => match run_command(alloc, command, source, out) {
+    match command_of(alloc, words) {
+        Err(_) => refuse(alloc, &Refusal::NoMemory, err),
+        Ok(None) => refuse(alloc, &Refusal::Usage, err),
+        Ok(Some(command)) => match run_command(alloc, command, source, out) {
             Ok(()) => Status::Done,
             Err(refusal) => refuse(alloc, &refusal, err),
         },

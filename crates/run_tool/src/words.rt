@@ -1,6 +1,10 @@
 //! Command lines.
-ghost use Rattle.std.specs.Prelude.{◌≡◌, map, string_bytes};
+ghost use Rattle.std.specs.Prelude.{◌≡◌, ◌↔◌, map, string_bytes, Some, IfOk, IsTrue};
 ghost use Rattle.run_tool.specs.Words.{command_of, command_named, command_with};
+
+use crate::command_line::read_line;
+use sched_base::NoMemory;
+use std::alloc::Global;
 
 /// What a command line asks for.
 #[derive(Clone, Copy, Debug, PartialEq, Eq)]
@@ -16,38 +20,47 @@ pub enum Command {
 }
 
 /// The command that these words are, the words after the program's name; none where they are no command line.
-pub fn command_of(words: &[String]) -> Option<Command>
-    ensures { result ≡ command_of (map string_bytes words.now) }
+///
+/// The words are read by `clap`, which knows further spellings. So the command that was read is spelled again by the table of
+/// lines, and words that aren't this spelling are no command line.
+pub fn command_of(alloc: Global, words: &[String]) -> Result<Option<Command>, NoMemory>
+    ensures { IfOk result (λ command. command ≡ command_of (map string_bytes words.now)) }
+{
+    match read_line(alloc, words)? {
+        Some(command) if is_spelled(command, words) => Ok(Some(command)),
+        _ => Ok(None),
+    }
+}
+
+// Whether the words are the line of this command.
+fn is_spelled(command: Command, words: &[String]) -> bool
+    ensures { IsTrue result ↔ (command_of (map string_bytes words.now) ≡ Some command) }
 {
     match words.len() {
-        1 => command_named(words[0].as_str()),
-        2 => command_with(words[0].as_str(), words[1].as_str()),
-        _ => None,
+        1 => is_name(command, words[0].as_str()),
+        2 => is_name_with(command, words[0].as_str(), words[1].as_str()),
+        _ => false,
     }
 }
 
-// The command of this name.
-fn command_named(word: &str) -> Option<Command>
-    ensures { result ≡ command_named word.now }
+// Whether this word alone is the line of this command.
+fn is_name(command: Command, word: &str) -> bool
+    ensures { IsTrue result ↔ (command_named word.now ≡ Some command) }
 {
-    if word == "rate" {
-        Some(Command::Rate)
-    } else if word == "tree" {
-        Some(Command::Tree)
-    } else if word == "trace" {
-        Some(Command::Trace)
-    } else {
-        None
+    match command {
+        Command::Rate => word == "rate",
+        Command::Tree => word == "tree",
+        Command::Trace => word == "trace",
+        Command::TraceMet => false,
     }
 }
 
-// The command of this name with this option.
-fn command_with(word: &str, option: &str) -> Option<Command>
-    ensures { result ≡ command_with word.now option.now }
+// Whether this word with this option is the line of this command.
+fn is_name_with(command: Command, word: &str, option: &str) -> bool
+    ensures { IsTrue result ↔ (command_with word.now option.now ≡ Some command) }
 {
-    if word == "trace" && option == "--met" {
-        Some(Command::TraceMet)
-    } else {
-        None
+    match command {
+        Command::TraceMet => word == "trace" && option == "--met",
+        _ => false,
     }
 }
