@@ -1,6 +1,6 @@
 -- The places of a task's rows give its rows in the order of time.
-use Rattle.std.proofs.Common.{length-append, zero, suc, ℕ, ◌+◌, ◌*◌, ◌^◌, ◌<◌, ◌≤◌, ◌≡◌, inl, inr, Bool, true, List, [], ◌∷◌, ◌++◌, cond, eqb, leb, filter, map, length, get_or, Option, Some, None, sym, refl, subst, ap, ◌∙◌, arith}
-use Rattle.std.specs.List.{AllByRecursion, IsDistinct}
+use Rattle.std.proofs.Common.{zero, suc, ℕ, ◌+◌, ◌*◌, ◌^◌, ◌<◌, ◌≤◌, ◌≡◌, inl, inr, Bool, true, List, [], ◌∷◌, eqb, leb, filter, map, length, get_or, Option, Some, None, sym, refl, subst, ap, arith}
+use Rattle.std.specs.List.{AllByRecursion}
 use Rattle.std.proofs.lemmas.Bool.{cases_Bool, cases_lt, both_ways, cond-true, cond-false, eqb-true, eq-eqb, false_from_ne_true}
 use Rattle.std.proofs.lemmas.List.Sorted.{All-permutation, IsPermutation-sym, length_permutation}
 use Rattle.std.proofs.lemmas.List.Elements.{All-from_recursion, recursion_from_All}
@@ -10,9 +10,8 @@ use Rattle.sched_base.specs.Sets.{SetContents, task_at}
 use Rattle.sched_base.specs.Valid.{IsValid}
 use Rattle.trace_rows.specs.declared.entries.Entry.{Entry}
 use Rattle.trace_rows.specs.Orders.{task_key, entry_of, entries_from, part, places, IsOrder, IsOrderOfTask}
-use Rattle.trace_rows.specs.Overlaps.{clash}
 use Rattle.trace_rows.specs.Faults.{row_at, IsTraceRow, IsTrace}
-use Rattle.trace_rows.specs.Searches.{hits, IsWithin, IsAllWithin}
+use Rattle.trace_rows.specs.Searches.{IsWithin, IsAllWithin}
 use Rattle.trace_rows.specs.Supply.{Follows}
 use Rattle.trace_rows.proofs.EntryLemmas.{AllByRecursion-front, AllByRecursion-back}
 use Rattle.trace_rows.proofs.HitLemmas.{key_of_task, task_of_key, task_hit, not_both}
