@@ -1,0 +1,4 @@
+pub mod NumberChecks
+pub mod TreeChecks
+pub mod HeldChecks
+pub mod ByHandLemmas

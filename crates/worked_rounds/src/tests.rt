@@ -1,5 +1,5 @@
 //! The rounds of worked sets.
-ghost use Rattle.std.specs.Prelude.{◌≡◌, length, vec_len, IfOk};
+ghost use Rattle.std.specs.Prelude.{◌≡◌, [], ◌∷◌, ◌++◌, length, vec_len, IfOk, OnOk};
 ghost use Rattle.event_core.specs.Cores.{IsCoreOf};
 
 use event_core::{Core, CountFault, count_rounds};
@@ -10,6 +10,7 @@ use std::alloc::{AllocError, Global};
 use std::process::Abort;
 use std::test::Fail;
 
+mod by_hand;
 mod tables;
 
 /// The plan of a set of tasks, each told by its name, work, period and offset.
@@ -36,7 +37,9 @@ fn add(
     work: u64,
     period: u64,
     offset: u64,
-) -> Result<(), Fail> {
+) -> Result<(), Fail>
+    ensures { OnOk result (set.new ≡ record set.old { tasks = set.old.tasks ++ (record { name = name.now; work = work; period = period; offset = offset }) ∷ [] }) }
+{
     assert!(rt; lawful_name(name));
     assert!(rt; set.find(name).is_none());
     assert!(rt; set.count() < 256);
