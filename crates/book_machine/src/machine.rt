@@ -1,6 +1,6 @@
 //! The state of the machine, and its steps.
 ghost use Rattle.std.specs.Prelude.{◌≡◌, ◌≤◌, ◌<◌, ◌+◌, ◌↔◌, ℕ, length, true, IsTrue, IfOk, IfSome, IfNone};
-ghost use Rattle.book_machine.specs.Machine.{IsLegal, MayTake, IsReady, WaitsFor, IsOut, IsStuck, after, start, posted_at, horizon_of};
+ghost use Rattle.book_machine.specs.Machine.{IsLegal, MayTake, IsReady, WaitsFor, IsOut, IsStuck, after, start, posted_at, least_posted as least_count, horizon_of};
 ghost use Rattle.sched_base.specs.declared.rows.Row.{Row};
 ghost use Rattle.sched_base.specs.Tables.{rounds_of};
 
@@ -111,6 +111,13 @@ impl MachineState {
         self.lanes[p as usize].out
     }
 
+    /// The least posted count.
+    pub fn least(&self) -> u64
+        ensures { result ≡ least_count self.now }
+    {
+        least_posted(self.lanes.as_slice())
+    }
+
     /// Whether a row has failed.
     pub fn is_halted(&self) -> bool
         ensures { IsTrue result ↔ (self.now.halted ≡ true) }
@@ -148,10 +155,10 @@ impl MachineState {
 
     /// The lane for which lane p waits before it may take its next row, whatever is out and halted: where the window is the
     /// reason, the lowest lane with the least posted count; else the lowest lane with an unposted earlier row of that row's
-    /// leaf.
+    /// leaf. The table needs to hold the lane's next round only where the window isn't the reason.
     pub fn waits_for(&self, table: &RowTable, window: u32, p: u32) -> Option<u32>
         requires lanes { length self.now.lanes ≡ length table.now.lanes }
-        requires round { posted_at self.now p < rounds_of table.now.lanes }
+        requires round { posted_at self.now p < least_count self.now + window → posted_at self.now p < rounds_of table.now.lanes }
         requires lane { p < length self.now.lanes }
         ensures some { IfSome result (λ q. WaitsFor table.now.lanes window self.now p q) }
         ensures none { IfNone result (IsReady table.now.lanes window self.now p) }

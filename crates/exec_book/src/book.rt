@@ -1,0 +1,232 @@
+//! The book, how it begins, and what it tells.
+ghost use Rattle.std.specs.Prelude.{◌≡◌, ◌<◌, ◌≤◌, ◌+◌, ◌*◌, ◌↔◌, vec_capacity, ℕ, [], Some, length, replicate, IfOk, IfErr, IsTrue, true};
+ghost use Rattle.sched_base.specs.declared.rows.Row.{Row};
+ghost use Rattle.sched_base.specs.Rows.{is_of_task};
+ghost use Rattle.sched_base.specs.Tables.{IsTable, rounds_of as rounds_in};
+ghost use Rattle.sched_edges.specs.Jobs.{FaultsAre};
+ghost use Rattle.run_tree.specs.Plans.{IsPlan, rounds_of};
+ghost use Rattle.event_core.specs.Rounds.{row_limit};
+ghost use Rattle.book_machine.specs.Machine.{IsOut, lane_at, posted_at, least_posted, start};
+ghost use Rattle.book_machine.specs.Reached.{OutRow};
+ghost use Rattle.book_machine.specs.Rounds.{AreFirstRounds};
+ghost use Rattle.exec_book.specs.PlanRows.{plan_rows};
+ghost use Rattle.exec_book.specs.Jobs.{AllAtHome, posted_ticks};
+ghost use Rattle.exec_book.specs.Books.{IsDismissed, AreParts};
+ghost use Rattle.exec_book.specs.Laws.{FollowsPlan};
+
+use crate::jobs::{JobDesk, no_notes};
+use crate::rounds::Rounds;
+use book_machine::{Event, LaneState, MachineState};
+use run_tree::Plan;
+use sched_base::{NoMemory, RowTable};
+use sched_edges::{Job, JobList};
+use std::alloc::Global;
+use std::marker::Model;
+use unit_ledger::{BookSide, PostLedger};
+
+/// The book of a run: which rows of a plan's schedule are out and which are posted.
+///
+/// Rounds are computed on demand: its table holds the first rounds of the schedule, and never one past the window.
+#[derive(Drop)]
+pub struct Book<Q: PostLedger, J: Job> {
+    pub(crate) plan: Plan,
+    pub(crate) rounds: u64,
+    pub(crate) window: u32,
+    pub(crate) state: MachineState,
+    pub(crate) log: Vec<Event>,
+    pub(crate) held: Option<Held<Q, J>>,
+}
+
+/// What a book holds until it is dismissed.
+#[derive(Drop)]
+pub(crate) struct Held<Q: PostLedger, J: Job> {
+    pub(crate) rounds: Rounds,
+    pub(crate) desk: JobDesk<J>,
+    pub(crate) side: BookSide<Q>,
+}
+
+impl<Q: PostLedger, J: Job> Model for Book<Q, J> {
+    ghost use Rattle.std.specs.Prelude.{option_map, vec_capacity};
+    ghost use Rattle.exec_book.specs.Books.{BookContents, RowsPart, LogPart, PostsPart, JobsPart, table_in, jobs_in};
+
+    ghost Value = { BookContents J };
+
+    ghost view = { λ b. record { plan = b.plan; window = b.window; state = b.state; log = b.log.items; table = table_in (option_map (λ h. h.rounds) b.held); jobs = jobs_in (option_map (λ h. h.desk) b.held); side = option_map (λ h. h.side) b.held } };
+
+    ghost invariant = { λ b. record {
+      rows : RowsPart b.plan b.rounds b.window b.state (option_map (λ h. h.rounds) b.held);
+      log : LogPart b.plan b.window b.state b.log.items (vec_capacity b.log);
+      posts : PostsPart b.state (option_map (λ h. h.side) b.held);
+      jobs : JobsPart J.id J.used J.made Q.made b.plan b.state (option_map (λ h. h.desk) b.held);
+    } };
+}
+
+/// Memory was refused, and these are the jobs.
+#[derive(Drop)]
+pub struct JobsBack<J> {
+    pub jobs: JobList<J>,
+}
+
+impl<Q: PostLedger, J: Job> Book<Q, J> {
+    /// The book before the first event, for a plan with this number of rounds and a window of 1 to 1,024 rounds. All memory
+    /// is taken here: the room for all rows, and for two events of each row. No round is computed yet.
+    pub fn new(
+        alloc: Global,
+        plan: Plan,
+        rounds: u64,
+        window: u32,
+        side: BookSide<Q>,
+        jobs: JobList<J>,
+    ) -> Result<Book<Q, J>, JobsBack<J>>
+        requires rounds { rounds ≡ rounds_of plan }
+        requires few { rounds * plan.tree.processors ≤ row_limit }
+        requires some_window { 1 ≤ window }
+        requires small_window { window ≤ 1024 }
+        requires side { side ≡ 0 }
+        requires jobs { AllAtHome J.id J.used J.made Q.made (length plan.set.tasks) (λ t. 0) jobs.places }
+        ensures book { IfOk result (λ b. b ≡ record { plan = plan; window = window; state = start plan.tree.processors; log = []; table = record { lanes = replicate plan.tree.processors []; room = rounds }; jobs = jobs; side = Some 0 }) }
+        ensures back { IfErr result (λ e. e.jobs ≡ jobs) }
+    {
+        let Ok(parts) = Parts::new(alloc, &plan, rounds) else {
+            return Err(JobsBack { jobs });
+        };
+        let Parts {
+            computed,
+            state,
+            log,
+            handed,
+        } = parts;
+        let held = Held {
+            rounds: computed,
+            desk: JobDesk::new(jobs, handed),
+            side,
+        };
+        Ok(Book {
+            plan,
+            rounds,
+            window,
+            state,
+            log,
+            held: Some(held),
+        })
+    }
+
+    /// The plan.
+    pub fn plan(&self) -> &Plan
+        ensures value { result.now ≡ self.now.plan }
+        ensures lawful { IsPlan self.now.plan }
+        ensures lanes { length self.now.state.lanes ≡ self.now.plan.tree.processors }
+    {
+        let _lawful = self.plan.scale();
+        &self.plan
+    }
+
+    /// The window, in rounds.
+    pub fn window(&self) -> u32
+        ensures value { result ≡ self.now.window }
+        ensures some { 1 ≤ result }
+        ensures small { result ≤ 1024 }
+    {
+        self.window
+    }
+
+    /// The events so far. They lead to a front of the plan's schedule, which is valid.
+    pub fn log(&self) -> &[Event]
+        ensures value { result.now ≡ self.now.log }
+        ensures follows { FollowsPlan self.now.plan self.now.window self.now.log self.now.state }
+    {
+        let _lawful = self.plan.scale();
+        self.log.as_slice()
+    }
+
+    /// How many rows lane p has posted, and whether its next one is out.
+    pub fn lane(&self, p: u32) -> LaneState
+        requires { p < length self.now.state.lanes }
+        ensures { result ≡ lane_at self.now.state.lanes p }
+    {
+        LaneState {
+            posted: self.state.posted(p),
+            out: self.state.is_out(p),
+        }
+    }
+
+    /// Whether a row has failed.
+    pub fn halted(&self) -> bool
+        ensures { IsTrue result ↔ (self.now.state.halted ≡ true) }
+    {
+        self.state.is_halted()
+    }
+
+    /// Whether the book is dismissed. Then no row is out.
+    pub fn dismissed(&self) -> bool
+        ensures value { IsTrue result ↔ IsDismissed self.now }
+        ensures none_out { IsDismissed self.now → (p : ℕ) → ¬ (IsOut self.now.state p) }
+    {
+        self.held.is_none()
+    }
+
+    /// The rounds computed so far.
+    pub fn table(&self) -> &RowTable
+        requires { ¬ (IsDismissed self.now) }
+        ensures value { result.now ≡ self.now.table }
+        ensures first { AreFirstRounds self.now.table.lanes (plan_rows self.now.plan) }
+        ensures posted { (p : ℕ) → posted_at self.now.state p ≤ rounds_in self.now.table.lanes }
+        ensures out { (p : ℕ) → IsOut self.now.state p → posted_at self.now.state p < rounds_in self.now.table.lanes }
+        ensures in_window { rounds_in self.now.table.lanes ≤ least_posted self.now.state + self.now.window }
+    {
+        let Some(held) = &self.held else {
+            unreachable!()
+        };
+        let _lawful = self.plan.scale();
+        held.rounds.table()
+    }
+
+    /// Whether each task's job that is at home has its given count of faults.
+    pub fn faults_are(&self, counts: &[u64]) -> bool
+        requires open { ¬ (IsDismissed self.now) }
+        requires each { length counts.now ≡ length self.now.plan.set.tasks }
+        ensures { IsTrue result ↔ FaultsAre J.faults self.now.jobs.places counts.now }
+    {
+        let Some(held) = &self.held else {
+            unreachable!()
+        };
+        held.desk.faults_are(counts)
+    }
+
+    /// What the job that went with the row that is out on lane p had used then: the ticks of its task's posted rows.
+    pub fn handed(&self, p: u32) -> u128
+        requires { (r : Row) × (t : ℕ) × OutRow (plan_rows self.now.plan) self.now.state p r × (is_of_task t r.leaf ≡ true) }
+        ensures { (r : Row) (t : ℕ) → OutRow (plan_rows self.now.plan) self.now.state p r → is_of_task t r.leaf ≡ true → result ≡ posted_ticks (plan_rows self.now.plan) self.now.state t }
+    {
+        let Some(held) = &self.held else {
+            unreachable!()
+        };
+        held.desk.handed(p)
+    }
+}
+
+// What a book needs memory for.
+#[derive(Drop)]
+struct Parts {
+    computed: Rounds,
+    state: MachineState,
+    log: Vec<Event>,
+    handed: Vec<u128>,
+}
+
+impl Parts {
+    fn new(alloc: Global, plan: &Plan, rounds: u64) -> Result<Parts, NoMemory>
+        requires rounds { rounds ≡ rounds_of plan.now }
+        requires few { rounds * plan.now.tree.processors ≤ row_limit }
+        ensures { IfOk result (λ q. AreParts plan.now q.computed q.state q.log.items (vec_capacity q.log) q.handed.items) }
+    {
+        let lanes = plan.tree().processors();
+        let events = 2 * (rounds * u64::from(lanes));
+        Ok(Parts {
+            computed: Rounds::new(alloc, plan, rounds)?,
+            state: MachineState::new(alloc, lanes)?,
+            log: Vec::with_capacity(alloc, events as usize)?,
+            handed: no_notes(alloc, lanes)?,
+        })
+    }
+}
