@@ -9,7 +9,7 @@ ghost use Rattle.event_core.specs.Rounds.{row_limit};
 ghost use Rattle.book_machine.specs.Machine.{IsOut, lane_at, posted_at, least_posted, start};
 ghost use Rattle.book_machine.specs.Reached.{OutRow};
 ghost use Rattle.book_machine.specs.Rounds.{AreFirstRounds};
-ghost use Rattle.exec_book.specs.PlanRows.{plan_rows};
+ghost use Rattle.exec_book.specs.PlanRows.{IsCompiled, plan_rows};
 ghost use Rattle.exec_book.specs.Jobs.{AllAtHome, posted_ticks};
 ghost use Rattle.exec_book.specs.Books.{IsDismissed, AreParts};
 ghost use Rattle.exec_book.specs.Laws.{FollowsPlan};
@@ -78,6 +78,7 @@ impl<Q: PostLedger, J: Job> Book<Q, J> {
         side: BookSide<Q>,
         jobs: JobList<J>,
     ) -> Result<Book<Q, J>, JobsBack<J>>
+        requires compiled { IsCompiled plan }
         requires rounds { rounds ≡ rounds_of plan }
         requires few { rounds * plan.tree.processors ≤ row_limit }
         requires some_window { 1 ≤ window }
@@ -115,6 +116,7 @@ impl<Q: PostLedger, J: Job> Book<Q, J> {
     pub fn plan(&self) -> &Plan
         ensures value { result.now ≡ self.now.plan }
         ensures lawful { IsPlan self.now.plan }
+        ensures compiled { IsCompiled self.now.plan }
         ensures lanes { length self.now.state.lanes ≡ self.now.plan.tree.processors }
     {
         let _lawful = self.plan.scale();
