@@ -1,2 +1,6 @@
 pub mod RoundLemmas
 pub mod FrontLemmas
+pub mod RowLemmas
+pub mod LogLemmas
+pub mod PostLemmas
+pub mod JobLemmas

@@ -8,7 +8,7 @@ use Rattle.std.proofs.lemmas.List.{append-nil, get_or_past}
 use Rattle.std.proofs.lemmas.List.Elements.{filter-append}
 use Rattle.sched_base.specs.declared.rows.Leaf.{Leaf}
 use Rattle.sched_base.specs.declared.rows.Row.{Row}
-use Rattle.sched_base.specs.Tables.{IsRound, IsTable, RowAt, lane_of, end_of, rounds_of as rounds_in, with_round}
+use Rattle.sched_base.specs.Tables.{IsRound, IsTable, Table, RowAt, lane_of, end_of, rounds_of as rounds_in, with_round}
 use Rattle.sched_base.specs.Rows.{is_of_task}
 use Rattle.sched_base.proofs.TableLemmas.{IsTable-none, IsTable-with_round, lane_within}
 use Rattle.sched_base.proofs.RowLemmas.{AllByRecursion-get}
@@ -16,6 +16,7 @@ use Rattle.sched_base.proofs.TickLemmas.{task_from_is_of_task}
 use Rattle.sched_laws.proofs.WholeRounds.{length-round}
 use Rattle.run_tree.specs.Plans.{PlanContents, IsPlan, schedule_of, rounds_of, stop_of}
 use Rattle.event_core.specs.Rounds.{IsRoundStart, IsRoundUpTo, event_at, rows_before, rounds_before, rows_of_round}
+use Rattle.event_core.specs.Cores.{CoreContents, IsCoreOf}
 use Rattle.event_core.proofs.NextCores.{event_first}
 use Rattle.event_core.proofs.RoundsInOrder.{next_rows, next_rounds, no_rows, no_rounds}
 use Rattle.round_table.specs.Lanes.{lanes_of, rows_on, NamesOneOf}
@@ -144,6 +145,41 @@ module _ (p : PlanContents) (h : IsPlan p) where
               )
         ];
       }
+
+  -- ---- one round more
+
+  up_to : (r : RoundsContents) → AreRoundsOf p r → IsTableUpTo p r.core.tick
+  up_to r are = record {
+    table = subst (λ (lanes : List (List Row)). IsTable lanes) are.lanes are.table;
+    ends = sym (ap end_of are.lanes) ∙ are.ends;
+    count = sym (ap rounds_in are.lanes) ∙ are.count;
+  }
+
+  rounds_at : (core : CoreContents) (width : ℕ) (table : Table) → IsCoreOf p core → width ≡ p.tree.processors → table.lanes ≡ lanes_at p core.tick → IsTableUpTo p core.tick → table.room + rounds_before p core.tick ≡ rounds_of p
+      → AreRoundsOf p (record { core = core; width = width; table = table })
+  rounds_at core width table belongs wide lanes t room = record {
+    core = belongs;
+    width = wide;
+    table = subst (λ (ls : List (List Row)). IsTable ls) (sym lanes) t.table;
+    lanes = lanes;
+    ends = ap end_of lanes ∙ t.ends;
+    count = ap rounds_in lanes ∙ t.count;
+    room = let count = ap rounds_in lanes ∙ t.count in omega (arith, room, count);
+  }
+
+  -- before the first
+  pub AreRoundsOf-first : (core : CoreContents) (width : ℕ) (table : Table) → IsCoreOf p core → core.tick ≡ 0 → width ≡ p.tree.processors → table.lanes ≡ replicate p.tree.processors [] → table.room ≡ rounds_of p
+      → AreRoundsOf p (record { core = core; width = width; table = table })
+  AreRoundsOf-first core width table belongs begin wide none room =
+      rounds_at core width table belongs wide (none ∙ sym no_lanes ∙ ap (lanes_at p) (sym begin)) (subst (IsTableUpTo p) (sym begin) table_first)
+      (let before = ap (rounds_before p) begin ∙ no_rounds p in omega (arith, before, room))
+
+  -- after one more
+  pub AreRoundsOf-next : (r : RoundsContents) → AreRoundsOf p r → (core : CoreContents) (width : ℕ) (table : Table) → IsCoreOf p core → IsRoundUpTo p r.core.tick core.tick → width ≡ r.width
+      → table.lanes ≡ with_round r.table.lanes (rows_of_round p r.core.tick core.tick) → table.room + 1 ≡ r.table.room → AreRoundsOf p (record { core = core; width = width; table = table })
+  AreRoundsOf-next r are core width table belongs round wide lanes less =
+      rounds_at core width table belongs (wide ∙ are.width) (lanes ∙ ap (λ ls. with_round ls (rows_of_round p r.core.tick core.tick)) are.lanes ∙ sym (next_lanes p h r.core.tick core.tick round)) (table_next r.core.tick core.tick round (up_to r are))
+      (let one = next_rounds p r.core.tick core.tick round in let room = are.room in let count = are.count in omega (arith, one, room, count, less))
 
   -- ---- the tasks that the rows name
 
