@@ -2,7 +2,7 @@
 use Rattle.std.proofs.Common.{◌≡◌, ℕ, zero, suc, ◌+◌, ◌-◌, ◌*◌, ◌<◌, ◌≤◌, Bool, true, false, List, [], ◌∷◌, ◌++◌, length, set, replicate, refl, sym, ap, ◌∙◌, subst, arith}
 use Rattle.std.proofs.Math.Nat.{mul-suc}
 use Rattle.std.specs.Prelude.{sum_by}
-use Rattle.std.proofs.lemmas.List.Sums.{sum_by-set}
+use Rattle.std.proofs.lemmas.List.Sums.{sum_by-cons, sum_by-set}
 use Rattle.sched_base.specs.declared.rows.Row.{Row}
 use Rattle.sched_base.specs.Counting.{bit}
 use Rattle.sched_base.specs.Tables.{IsTable, rounds_of as rounds_in}
@@ -32,7 +32,7 @@ bit_is : (b c : Bool) → b ≡ c → bit b ≡ bit c
 bit_is b c e = ap bit e
 
 left-more : (halted : Bool) (rounds : ℕ) (lane : LaneState) (lanes : List LaneState) → left_of halted rounds (lane ∷ lanes) ≡ lane_left halted rounds lane + left_of halted rounds lanes
-left-more halted rounds lane lanes = refl
+left-more halted rounds lane lanes = sum_by-cons (lane_left halted rounds) lane lanes
 
 -- once halted no more is left than before
 halted_left : (rounds : ℕ) (lanes : List LaneState) → ((p : ℕ) → (lane_at lanes p).out ≡ true → (lane_at lanes p).posted < rounds) → left_of true rounds lanes ≤ left_of false rounds lanes
@@ -121,3 +121,13 @@ module _ (p : PlanContents) (h : IsPlan p) (window : ℕ) (s : State) (log : Lis
     reached = IsReached-after (plan_rows p) window (plan_table p h) s event part.reached legal;
     room = let room = part.room in omega (arith, room, enough);
   }
+
+-- before the first event
+pub LogPart-start : (p : PlanContents) → IsPlan p → (window : ℕ) (s : State) (log : List Event) (capacity : ℕ) → s ≡ start p.tree.processors → log ≡ [] → 2 * (rounds_of p * p.tree.processors) ≤ capacity → LogPart p window s log capacity
+LogPart-start p h window s log capacity begins none room =
+    let same : start (length (plan_rows p)) ≡ s = ap start (plan_lanes p h) ∙ sym begins in
+    record {
+      replays = subst (λ (es : List Event). Replays (plan_rows p) window (start (length (plan_rows p))) es s) (sym none) same;
+      reached = subst (λ (u : State). IsReached (plan_rows p) window u) same (IsReached-start (plan_rows p) window);
+      room = room;
+    }

@@ -3,9 +3,9 @@ use Rattle.std.proofs.Common.{◌≡◌, ℕ, zero, suc, ◌+◌, ◌*◌, ◌<�
 use Rattle.std.proofs.Math.Nat.{mul-suc}
 use Rattle.std.specs.Prelude.{sum, slice_index, replicate}
 use Rattle.std.proofs.lemmas.List.{length-map, map-set}
-use Rattle.std.proofs.lemmas.List.Sums.{sum_by-set}
+use Rattle.std.proofs.lemmas.List.Sums.{sum_by-cons, sum_by-set}
 use Rattle.book_machine.specs.declared.machine.LaneState.{LaneState}
-use Rattle.book_machine.specs.Machine.{State, at_start, lane_at, posted_at, IsOut}
+use Rattle.book_machine.specs.Machine.{State, at_start, lane_at, posted_at, IsOut, start}
 use Rattle.book_machine.specs.Reached.{counts_of}
 use Rattle.book_machine.proofs.PostedTicks.{counts_of-at}
 use Rattle.exec_book.specs.Books.{PostsPart}
@@ -32,7 +32,7 @@ sum-post lanes p lane within next =
     omega (arith, write, here, all, next)
 
 sum-more : (lane : LaneState) (lanes : List LaneState) → sum (counts_of (lane ∷ lanes)) ≡ lane.posted + sum (counts_of lanes)
-sum-more lane lanes = refl
+sum-more lane lanes = sum_by-cons (λ x. x) lane.posted (counts_of lanes)
 
 -- no more rows are posted than there are
 posts_within : (lanes : List LaneState) (rounds : ℕ) → ((q : ℕ) → (lane_at lanes q).posted ≤ rounds) → sum (counts_of lanes) ≤ rounds * length lanes
@@ -69,4 +69,7 @@ posts_of_lane (lane ∷ lanes) (suc p) = let here : (lane_at (lane ∷ lanes) (s
 -- before the first event there is none
 pub no_posts : (m : ℕ) → sum (counts_of (replicate m at_start)) ≡ 0
 no_posts zero = refl
-no_posts (suc m) = no_posts m
+no_posts (suc m) = let all = sum-more at_start (replicate m at_start) in let rest = no_posts m in omega (arith, all, rest)
+
+pub PostsPart-start : (m : ℕ) (s : State) (n : ℕ) → s ≡ start m → n ≡ 0 → PostsPart s (Some n)
+PostsPart-start m s n begins none = PostsPart-some s n (none ∙ sym (no_posts m) ∙ ap (λ (u : State). sum (counts_of u.lanes)) (sym begins))

@@ -1,16 +1,17 @@
 -- What an event keeps of the rows, and the machine over the rounds computed so far.
-use Rattle.std.proofs.Common.{◌≡◌, ◌≢◌, ◌⊎◌, inl, inr, ℕ, ◌+◌, ◌<◌, ◌≤◌, Bool, true, false, List, Option, None, Some, IfSome, IfNone, length, set, sym, ap, ◌∙◌, subst, arith}
+use Rattle.std.proofs.Common.{◌≡◌, ◌≢◌, ◌⊎◌, inl, inr, ℕ, ◌+◌, ◌<◌, ◌≤◌, Bool, true, false, zero, suc, List, [], Option, replicate, refl, ◌*◌, None, Some, IfSome, IfNone, length, set, sym, ap, ◌∙◌, subst, arith}
 use Rattle.sched_base.specs.declared.rows.Row.{Row}
 use Rattle.sched_base.specs.declared.rows.Leaf.{Leaf}
 use Rattle.sched_base.specs.Tables.{RowAt, IsTable, rounds_of as rounds_in}
 use Rattle.sched_base.proofs.TableLemmas.{row_within}
 use Rattle.run_tree.specs.Plans.{PlanContents, IsPlan, rounds_of}
+use Rattle.event_core.specs.Rounds.{row_limit}
 use Rattle.book_machine.specs.declared.machine.LaneState.{LaneState}
-use Rattle.book_machine.specs.Machine.{State, lane_at, posted_at, least_posted, EarlierPosted, IsReady, IsWaitedFor, MayTake, PostedBefore, WaitsFor}
+use Rattle.book_machine.specs.Machine.{State, at_start, start, lane_at, posted_at, least_posted, EarlierPosted, IsReady, IsWaitedFor, MayTake, PostedBefore, WaitsFor}
 use Rattle.book_machine.specs.Rounds.{AreFirstRounds}
-use Rattle.book_machine.proofs.Lanes.{each_lane-set, least-set}
+use Rattle.book_machine.proofs.Lanes.{each_lane-set, lane_at-start, least-set}
 use Rattle.book_machine.proofs.RoundLemmas.{row_of_all, row_of_first}
-use Rattle.exec_book.specs.PlanRows.{RoundsContents, AreRoundsOf}
+use Rattle.exec_book.specs.PlanRows.{IsCompiled, RoundsContents, AreRoundsOf}
 use Rattle.exec_book.specs.Books.{RowsKept, RowsPart}
 
 -- ---- what an event keeps
@@ -39,6 +40,30 @@ module _ (p : PlanContents) (window : ℕ) (s : State) (q : ℕ) (lane : LaneSta
     small_window = part.small_window;
     kept = RowsKept-set r part.kept within grows held out;
   }
+
+-- before the first event
+no_rounds_in : (m : ℕ) → rounds_in (replicate m []) ≡ 0
+no_rounds_in zero = refl
+no_rounds_in (suc m) = refl
+
+pub RowsPart-start : (p : PlanContents) (count window : ℕ) (s : State) (r : RoundsContents) → IsCompiled p → count ≡ rounds_of p → rounds_of p * p.tree.processors ≤ row_limit → 1 ≤ window → window ≤ 1024
+    → AreRoundsOf p r → r.table.lanes ≡ replicate p.tree.processors [] → s ≡ start p.tree.processors → RowsPart p count window s (Some r)
+RowsPart-start p count window s r compiled all few some small are none begins = record {
+  compiled = compiled;
+  all = all;
+  few = few;
+  some_window = some;
+  small_window = small;
+  kept = record {
+    rounds = are;
+    posted = λ q. let at = at_start_of q in let zero_posted = ap (λ (l : LaneState). l.posted) at in omega (arith, zero_posted);
+    out = λ q out. let at = ap (λ (l : LaneState). l.out) (at_start_of q) in let both : true ≡ false = sym out ∙ at in absurd (cc);
+    in_window = let no = ap rounds_in none ∙ no_rounds_in p.tree.processors in omega (arith, no);
+  };
+}
+  where
+    at_start_of : (q : ℕ) → lane_at s.lanes q ≡ at_start
+    at_start_of q = ap (λ (u : State). lane_at u.lanes q) begins ∙ lane_at-start p.tree.processors q
 
 -- one round more
 pub RowsPart-more : (p : PlanContents) (count window : ℕ) (s : State) (r more : RoundsContents) → RowsPart p count window s (Some r) → AreRoundsOf p more → rounds_in more.table.lanes ≡ rounds_in r.table.lanes + 1
