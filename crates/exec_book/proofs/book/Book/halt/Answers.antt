@@ -1,27 +1,24 @@
-use Rattle.std.proofs.Common.{rules, ◌≡◌, ◌≢◌, ◌<◌, ◌≤◌, ◌+◌, ◌-◌, ◌*◌, ◌^◌, ◌∙◌, ℕ, Bool, true, false, List, [], ◌∷◌, ◌++◌, Option, None, Some, IfSome, IfNone, length, set, replicate, get_or, refl, sym, ap, subst, arith, inl, inr}
+use Rattle.std.proofs.Common.{◌≡◌, ◌<◌, ◌∙◌, true, false, List, Some, length, refl, sym, ap, arith}
 use Rattle.std.specs.Prelude.{sum}
 use Rattle.sched_base.specs.declared.rows.Row.{Row}
-use Rattle.sched_base.specs.declared.rows.TaskId.{TaskId}
-use Rattle.sched_base.specs.Rows.{is_of_task}
-use Rattle.sched_base.specs.Tables.{RowAt, rounds_of as rounds_in}
-use Rattle.run_tree.specs.Plans.{PlanContents, IsPlan, rounds_of}
+use Rattle.sched_base.specs.Tables.{RowAt}
+use Rattle.run_tree.specs.Plans.{PlanContents, IsPlan}
 use Rattle.book_machine.specs.declared.machine.LaneState.{LaneState}
-use Rattle.book_machine.specs.declared.events.Event.{Event}
-use Rattle.book_machine.specs.declared.events.Event.TheVariants.{Take, Post, Halt}
-use Rattle.book_machine.specs.Machine.{State, lane_at, posted_at, least_posted, IsOut, IsReady, MayTake}
+use Rattle.book_machine.specs.declared.events.Event.TheVariants.{Halt}
+use Rattle.book_machine.specs.Machine.{State, posted_at, IsOut}
 use Rattle.book_machine.specs.Reached.{OutRow, counts_of}
 use Rattle.book_machine.specs.Rounds.{AreFirstRounds}
-use Rattle.book_machine.proofs.Lanes.{least_le, out_within}
+use Rattle.book_machine.proofs.Lanes.{out_within}
 use Rattle.book_machine.proofs.PostedTicks.{counts_of-same}
-use Rattle.book_machine.proofs.RoundLemmas.{row_of_all, MayTake-first}
-use Rattle.exec_book.specs.PlanRows.{RoundsContents, plan_rows}
-use Rattle.exec_book.specs.Jobs.{AllAtHome, DeskContents, IsJobOf, JobsKept, posted_ticks}
-use Rattle.exec_book.specs.Books.{PostsPart, RowsPart, processor}
-use Rattle.exec_book.proofs.RoundLemmas.{first_rounds, names_task, plan_count, plan_lanes, plan_table}
-use Rattle.exec_book.proofs.RowLemmas.{RowsPart-more, RowsPart-none, RowsPart-set, ready_may_take}
+use Rattle.book_machine.proofs.RoundLemmas.{row_of_all}
+use Rattle.exec_book.specs.PlanRows.{plan_rows}
+use Rattle.exec_book.specs.Jobs.{IsJobOf, JobsKept, posted_ticks}
+use Rattle.exec_book.specs.Books.{RowsPart, processor}
+use Rattle.exec_book.proofs.RoundLemmas.{first_rounds, plan_table}
+use Rattle.exec_book.proofs.RowLemmas.{RowsPart-set}
 use Rattle.exec_book.proofs.LogLemmas.{LogPart-push, room_for}
-use Rattle.exec_book.proofs.PostLemmas.{PostsPart-some, posts_below, posts_of_lane, sum-post}
-use Rattle.exec_book.proofs.JobLemmas.{IsJobOf-by, JobsKept-back, JobsKept-take, all_home, away_for, is_task, job_of_task, ready_job, there_for, ticks_halt, ticks_post, ticks_post_other}
+use Rattle.exec_book.proofs.PostLemmas.{PostsPart-some}
+use Rattle.exec_book.proofs.JobLemmas.{IsJobOf-by, JobsKept-back, away_for, is_task, job_of_task, ticks_halt}
 use Rattle.exec_book.proofs.book.Book.halt.Goals.{After-row-row}
 use Rattle.exec_book.proofs.book.Book.halt.Goals as goal
 

@@ -1,4 +1,4 @@
-use Rattle.std.proofs.Common.{rules, ◌≡◌, ◌≢◌, ◌<◌, ◌≤◌, ◌+◌, ◌-◌, ◌*◌, ◌^◌, ◌∙◌, ℕ, Bool, true, false, List, [], ◌∷◌, ◌++◌, Option, None, Some, IfSome, IfNone, length, set, replicate, get_or, refl, sym, ap, subst, arith, inl, inr}
+use Rattle.std.proofs.Common.{◌*◌, length, ap, subst, arith}
 use Rattle.sched_base.specs.Tables.{Table}
 use Rattle.run_tree.specs.Plans.{IsPlan}
 use Rattle.exec_book.specs.PlanRows.{plan_rows}
