@@ -1,5 +1,5 @@
 -- Where nothing fails, the answer for the bytes is given.
-use Rattle.std.proofs.Common.{◌≡◌, ◌⊎◌, inl, inr, ℕ, ◌+◌, ◌^◌, ◌≤◌, ◌<◌, List, ◌++◌, length, Result, Ok, Err, Option, Some, None, refl, sym, ◌∙◌, ap, subst, arith, append-nil}
+use Rattle.std.proofs.Common.{◌≡◌, ◌⊎◌, inl, inr, true, false, ℕ, ◌+◌, ◌^◌, ◌≤◌, ◌<◌, List, ◌++◌, length, Result, Ok, Err, Option, Some, None, refl, sym, ◌∙◌, ap, subst, arith, append-nil}
 use Rattle.sched_base.specs.Sets.{SetContents}
 use Rattle.sched_base.specs.Scale.{IsScale, PassesAt, total_of, room_of, Fits}
 use Rattle.sched_edges.specs.Causes.{Rose}
@@ -7,15 +7,19 @@ use Rattle.sched_edges.specs.Streams.{GaveAll, GaveCount}
 use Rattle.sched_edges.proofs.Pieces.{holds_more}
 use Rattle.task_reader.specs.Reading.{set_read_from}
 use Rattle.task_reader.specs.declared.refusals.ReadSet.{ReadSet}
+use Rattle.trace_check.specs.Traces.{Trace as TraceRead}
+use Rattle.trace_check.specs.Reading.{reading}
+use Rattle.stat_report.specs.Report.{IsValidTrace}
 use Rattle.rate_scale.proofs.ScaleLemmas.{same_scale, PassesAt-whole}
 use Rattle.run_tool.specs.declared.words.Command.{Command}
 use Rattle.run_tool.specs.declared.refusal.Refusal.{Refusal}
 use Rattle.run_tool.specs.declared.refusal.Refusal.TheVariants as why
 use Rattle.run_tool.specs.declared.status.Status.{Status}
-use Rattle.run_tool.specs.declared.status.Status.TheVariants.{Done, Usage, ReadFault, WriteFault, NoMemory, BadInput, Overload, ScaleTooLarge, TooLong, InputTooLong}
-use Rattle.run_tool.specs.declared.words.Command.TheVariants.{Rate, Tree, Trace, TraceMet}
+use Rattle.run_tool.specs.declared.status.Status.TheVariants.{Done, Invalid, Usage, ReadFault, WriteFault, NoMemory, BadInput, Overload, ScaleTooLarge, TooLong, InputTooLong}
+use Rattle.run_tool.specs.declared.words.Command.TheVariants.{Rate, Tree, Trace, TraceMet, Check}
 use Rattle.event_core.specs.Rounds.{row_limit}
-use Rattle.run_tool.specs.Commands.{limit_of, ReadsSet, plan_of, rows_of, HasRoom, HasTooManyRows, HasNoRoom, Writes, Refuses, RefusesSet}
+use Rattle.run_tool.specs.Commands.{SetText, rates, server_tree, schedule_rows, limit_of, ReadsSet, plan_of, rows_of, HasRoom, HasTooManyRows, HasNoRoom, WritesSet, Writes, CallsFor, RefusesSet, RefusesText, Refuses}
+use Rattle.run_tool.specs.Checks.{TellsTrace, Judges, RefusesTrace}
 use Rattle.run_tool.specs.Refusals.{status_of, set_status}
 use Rattle.run_tool.specs.Ends.{Streams, ErrorStream, IsDone, Stops, IsAnswer, IsAnswered}
 use Rattle.run_tool.specs.Refuse.{IsRefused}
@@ -62,6 +66,7 @@ fits_not_refused bytes s scale (why.ScaleTooLarge task) reads fits refuses =
 fits_not_refused bytes s scale (why.Overload total room) reads fits refuses =
     let (t, other, reads', over, is_total, is_room) = refuses in
     no_overload bytes s t scale other total room reads fits reads' over is_total is_room
+fits_not_refused bytes s scale (why.BadLine line) reads fits refuses = refuses
 fits_not_refused bytes s scale why.Usage reads fits refuses = refuses
 fits_not_refused bytes s scale why.ReadFault reads fits refuses = refuses
 fits_not_refused bytes s scale why.WriteFault reads fits refuses = refuses
@@ -79,40 +84,39 @@ not_too_many bytes s scale rows reads room many =
     let over' : row_limit < rows_of (plan_of s scale) = subst (λ (n : ℕ). row_limit < rows_of (plan_of s n)) one (subst (λ (x : SetContents). row_limit < rows_of (plan_of x other)) same over) in
     absurd (omega (arith, room, over'))
 
-not_without_room : (c : Command) (bytes : List ℕ) (s : SetContents) (scale rows : ℕ) → ReadsSet bytes s scale → HasRoom c s scale → HasNoRoom c bytes rows → ⊥
-not_without_room Rate bytes s scale rows reads room none = none
-not_without_room Tree bytes s scale rows reads room none = none
-not_without_room Trace bytes s scale rows reads room none = not_too_many bytes s scale rows reads room none
-not_without_room TraceMet bytes s scale rows reads room none = not_too_many bytes s scale rows reads room none
+not_without_room : (what : SetText) (bytes : List ℕ) (s : SetContents) (scale rows : ℕ) → ReadsSet bytes s scale → HasRoom what s scale → HasNoRoom what bytes rows → ⊥
+not_without_room rates bytes s scale rows reads room none = none
+not_without_room server_tree bytes s scale rows reads room none = none
+not_without_room (schedule_rows met) bytes s scale rows reads room none = not_too_many bytes s scale rows reads room none
 
-too_many : (c : Command) (bytes : List ℕ) (rows : ℕ) → HasNoRoom c bytes rows → HasTooManyRows bytes rows
-too_many Rate bytes rows none = absurd none
-too_many Tree bytes rows none = absurd none
-too_many Trace bytes rows none = none
-too_many TraceMet bytes rows none = none
+too_many : (what : SetText) (bytes : List ℕ) (rows : ℕ) → HasNoRoom what bytes rows → HasTooManyRows bytes rows
+too_many rates bytes rows none = absurd none
+too_many server_tree bytes rows none = absurd none
+too_many (schedule_rows met) bytes rows none = none
 
 -- bytes are refused as a set, or their schedule has too many rows
-abbrev AsSet : Command → List ℕ → Refusal → Type 0
-AsSet c bytes r = RefusesSet bytes r ⊎ ((rows : ℕ) × HasNoRoom c bytes rows × (status_of r ≡ TooLong))
+abbrev AsSet : SetText → List ℕ → Refusal → Type 0
+AsSet what bytes r = RefusesSet bytes r ⊎ ((rows : ℕ) × HasNoRoom what bytes rows × (status_of r ≡ TooLong))
 
-as_set : (c : Command) (bytes : List ℕ) (r : Refusal) → Refuses c bytes r → AsSet c bytes r
-as_set c bytes (why.BadSet r) refuses = inl refuses
-as_set c bytes (why.ScaleTooLarge task) refuses = inl refuses
-as_set c bytes (why.Overload total room) refuses = inl refuses
-as_set c bytes why.Usage refuses = absurd refuses
-as_set c bytes why.ReadFault refuses = absurd refuses
-as_set c bytes why.WriteFault refuses = absurd refuses
-as_set c bytes why.NoMemory refuses = absurd refuses
-as_set c bytes (why.TooLong rows) refuses = inr (rows, refuses, refl)
-as_set c bytes (why.InputTooLong count) refuses = absurd refuses
+as_set : (what : SetText) (bytes : List ℕ) (r : Refusal) → RefusesText what bytes r → AsSet what bytes r
+as_set what bytes (why.BadSet r) refuses = inl refuses
+as_set what bytes (why.ScaleTooLarge task) refuses = inl refuses
+as_set what bytes (why.Overload total room) refuses = inl refuses
+as_set what bytes (why.BadLine line) refuses = absurd refuses
+as_set what bytes why.Usage refuses = absurd refuses
+as_set what bytes why.ReadFault refuses = absurd refuses
+as_set what bytes why.WriteFault refuses = absurd refuses
+as_set what bytes why.NoMemory refuses = absurd refuses
+as_set what bytes (why.TooLong rows) refuses = inr (rows, refuses, refl)
+as_set what bytes (why.InputTooLong count) refuses = absurd refuses
 
--- no command writes a text for bytes that it refuses
-writes_or_refuses : (c : Command) (bytes text : List ℕ) (refusal : Refusal) → Writes c bytes text → Refuses c bytes refusal → ⊥
-writes_or_refuses c bytes text r writes refuses =
-    let (s, scale, reads, fits, room, is_text) = writes in
-    elim (as_set c bytes r refuses) [
+-- no text of a set is written for bytes that are refused where it is wanted
+set_writes_or_refuses : (what : SetText) (bytes text : List ℕ) (status : Status) (r : Refusal) → WritesSet what bytes status text → RefusesText what bytes r → ⊥
+set_writes_or_refuses what bytes text status r writes refuses =
+    let (s, scale, reads, fits, room, is_text) = writes.1 in
+    elim (as_set what bytes r refuses) [
       | inl set ↦ fits_not_refused bytes s scale r reads fits set
-      | inr long ↦ not_without_room c bytes s scale long.0 reads room long.1
+      | inr long ↦ not_without_room what bytes s scale long.0 reads room long.1
     ]
 
 -- bytes where a set is wanted are refused with one status
@@ -126,12 +130,14 @@ one_set_status bytes (why.ScaleTooLarge task) (why.Overload total room) a b = ab
 one_set_status bytes (why.Overload total room) (why.BadSet q) a b = absurd (not_both bytes a.0 q a.2.read b)
 one_set_status bytes (why.Overload total room) (why.ScaleTooLarge task) a b = absurd (no_pass bytes a.0 b.0 a.1 task a.2 b.1 b.2)
 one_set_status bytes (why.Overload total room) (why.Overload other more) a b = refl
+one_set_status bytes (why.BadLine line) q a b = absurd a
 one_set_status bytes why.Usage q a b = absurd a
 one_set_status bytes why.ReadFault q a b = absurd a
 one_set_status bytes why.WriteFault q a b = absurd a
 one_set_status bytes why.NoMemory q a b = absurd a
 one_set_status bytes (why.TooLong rows) q a b = absurd a
 one_set_status bytes (why.InputTooLong count) q a b = absurd a
+one_set_status bytes r (why.BadLine line) a b = absurd b
 one_set_status bytes r why.Usage a b = absurd b
 one_set_status bytes r why.ReadFault a b = absurd b
 one_set_status bytes r why.WriteFault a b = absurd b
@@ -140,41 +146,114 @@ one_set_status bytes r (why.TooLong rows) a b = absurd b
 one_set_status bytes r (why.InputTooLong count) a b = absurd b
 
 -- a set whose schedule has too many rows isn't refused as a set
-long_not_refused : (c : Command) (bytes : List ℕ) (rows : ℕ) (r : Refusal) → HasNoRoom c bytes rows → RefusesSet bytes r → ⊥
-long_not_refused c bytes rows r none refuses =
-    let (s, scale, reads, fits, over, is_rows) = too_many c bytes rows none in
+long_not_refused : (what : SetText) (bytes : List ℕ) (rows : ℕ) (r : Refusal) → HasNoRoom what bytes rows → RefusesSet bytes r → ⊥
+long_not_refused what bytes rows r none refuses =
+    let (s, scale, reads, fits, over, is_rows) = too_many what bytes rows none in
     fits_not_refused bytes s scale r reads fits refuses
 
--- each command refuses bytes with one status
-one_status : (c : Command) (bytes : List ℕ) (r q : Refusal) → Refuses c bytes r → Refuses c bytes q → status_of r ≡ status_of q
-one_status c bytes r q a b =
-    elim (as_set c bytes r a) [
-      | inl set ↦ elim (as_set c bytes q b) [
+-- bytes where a text of a set is wanted are refused with one status
+one_text_status : (what : SetText) (bytes : List ℕ) (r q : Refusal) → RefusesText what bytes r → RefusesText what bytes q → status_of r ≡ status_of q
+one_text_status what bytes r q a b =
+    elim (as_set what bytes r a) [
+      | inl set ↦ elim (as_set what bytes q b) [
         | inl other ↦ one_set_status bytes r q set other
-        | inr long ↦ absurd (long_not_refused c bytes long.0 r long.1 set)
+        | inr long ↦ absurd (long_not_refused what bytes long.0 r long.1 set)
       ]
-      | inr long ↦ elim (as_set c bytes q b) [
-        | inl set ↦ absurd (long_not_refused c bytes long.0 q long.1 set)
+      | inr long ↦ elim (as_set what bytes q b) [
+        | inl set ↦ absurd (long_not_refused what bytes long.0 q long.1 set)
         | inr other ↦ long.2 ∙ sym other.2
       ]
     ]
 
--- the answer, where the command writes a text
-answer_writes : (c : Command) (bytes text : List ℕ) (answer : Status) → length bytes ≤ limit_of c → Writes c bytes text → IsAnswer c bytes answer → Done ≡ answer
-answer_writes c bytes text Done within writes is = refl
-answer_writes c bytes text InputTooLong within writes is = absurd (omega (arith, within, is))
-answer_writes c bytes text BadInput within writes is = absurd (writes_or_refuses c bytes text is.1.0 writes is.1.2)
-answer_writes c bytes text Overload within writes is = absurd (writes_or_refuses c bytes text is.1.0 writes is.1.2)
-answer_writes c bytes text ScaleTooLarge within writes is = absurd (writes_or_refuses c bytes text is.1.0 writes is.1.2)
-answer_writes c bytes text TooLong within writes is = absurd (writes_or_refuses c bytes text is.1.0 writes is.1.2)
-answer_writes c bytes text Usage within writes is = absurd is
-answer_writes c bytes text ReadFault within writes is = absurd is
-answer_writes c bytes text WriteFault within writes is = absurd is
-answer_writes c bytes text NoMemory within writes is = absurd is
+-- the trace of the bytes that are judged
+judged : (bytes : List ℕ) (status : Status) → Judges bytes status → (t : TraceRead) × (reading bytes ≡ Ok t)
+judged bytes Done is = (is.0, is.1)
+judged bytes Invalid is = (is.0, is.1)
+judged bytes _ is = absurd is
+
+-- the line of bytes that are refused as a trace
+refused_line : (bytes : List ℕ) (r : Refusal) → RefusesTrace bytes r → ((line : ℕ) × (reading bytes ≡ Err line)) × (status_of r ≡ BadInput)
+refused_line bytes (why.BadLine line) is = ((line, is), refl)
+refused_line bytes _ is = absurd is
+
+not_both_traces : (bytes : List ℕ) (t : TraceRead) (line : ℕ) → reading bytes ≡ Ok t → reading bytes ≡ Err line → ⊥
+not_both_traces bytes t line a b = let e : ◌≡◌ {A = Result TraceRead ℕ} (Ok t) (Err line) = sym a ∙ b in cc
+
+judged_or_refused : (bytes : List ℕ) (status : Status) (r : Refusal) → Judges bytes status → RefusesTrace bytes r → ⊥
+judged_or_refused bytes status r is refuses =
+    let read = judged bytes status is in
+    let line = refused_line bytes r refuses in
+    not_both_traces bytes read.0 line.0.0 read.1 line.0.1
+
+same_trace : (bytes : List ℕ) (t u : TraceRead) → reading bytes ≡ Ok t → reading bytes ≡ Ok u → t ≡ u
+same_trace bytes t u a b = let e : ◌≡◌ {A = Result TraceRead ℕ} (Ok t) (Ok u) = sym a ∙ b in cc
+
+-- a trace isn't both
+one_judgment : (bytes : List ℕ) (a b : Status) → Judges bytes a → Judges bytes b → a ≡ b
+one_judgment bytes Done Done x y = refl
+one_judgment bytes Invalid Invalid x y = refl
+one_judgment bytes Done Invalid x y = absurd (y.2 (subst IsValidTrace (same_trace bytes x.0 y.0 x.1 y.1) x.2))
+one_judgment bytes Invalid Done x y = absurd (x.2 (subst IsValidTrace (same_trace bytes y.0 x.0 y.1 x.1) y.2))
+one_judgment bytes Done _ x y = absurd y
+one_judgment bytes Invalid _ x y = absurd y
+one_judgment bytes _ b x y = absurd x
+
+-- what is told of a trace is by its judgment
+told_trace : (bytes text : List ℕ) (status : Status) (t : TraceRead) → reading bytes ≡ Ok t → TellsTrace t status text → Judges bytes status
+told_trace bytes text Done t read told = (t, read, told.0)
+told_trace bytes text Invalid t read told = (t, read, told.0)
+told_trace bytes text _ t read told = absurd told
+
+-- no command tells of bytes that it refuses
+told_or_refused : (c : Command) (bytes : List ℕ) (status : Status) (r : Refusal) → CallsFor c bytes status → Refuses c bytes r → ⊥
+told_or_refused Rate bytes status r is refuses = set_writes_or_refuses rates bytes is.0 status r is.1 refuses
+told_or_refused Tree bytes status r is refuses = set_writes_or_refuses server_tree bytes is.0 status r is.1 refuses
+told_or_refused Trace bytes status r is refuses = set_writes_or_refuses (schedule_rows false) bytes is.0 status r is.1 refuses
+told_or_refused TraceMet bytes status r is refuses = set_writes_or_refuses (schedule_rows true) bytes is.0 status r is.1 refuses
+told_or_refused Check bytes status r is refuses = judged_or_refused bytes status r is refuses
+
+-- each command tells of bytes with one status
+one_telling : (c : Command) (bytes : List ℕ) (a b : Status) → CallsFor c bytes a → CallsFor c bytes b → a ≡ b
+one_telling Rate bytes a b x y = x.1.0 ∙ sym y.1.0
+one_telling Tree bytes a b x y = x.1.0 ∙ sym y.1.0
+one_telling Trace bytes a b x y = x.1.0 ∙ sym y.1.0
+one_telling TraceMet bytes a b x y = x.1.0 ∙ sym y.1.0
+one_telling Check bytes a b x y = one_judgment bytes a b x y
+
+-- each command refuses bytes with one status
+one_status : (c : Command) (bytes : List ℕ) (r q : Refusal) → Refuses c bytes r → Refuses c bytes q → status_of r ≡ status_of q
+one_status Rate bytes r q a b = one_text_status rates bytes r q a b
+one_status Tree bytes r q a b = one_text_status server_tree bytes r q a b
+one_status Trace bytes r q a b = one_text_status (schedule_rows false) bytes r q a b
+one_status TraceMet bytes r q a b = one_text_status (schedule_rows true) bytes r q a b
+one_status Check bytes r q a b = (refused_line bytes r a).1 ∙ sym (refused_line bytes q b).1
+
+-- bytes call for the status with which their text is written
+called_for : (c : Command) (bytes text : List ℕ) (status : Status) → Writes c bytes status text → CallsFor c bytes status
+called_for Rate bytes text status writes = (text, writes)
+called_for Tree bytes text status writes = (text, writes)
+called_for Trace bytes text status writes = (text, writes)
+called_for TraceMet bytes text status writes = (text, writes)
+called_for Check bytes text status writes = told_trace bytes text status writes.0 writes.1 writes.2
+
+-- the answer, where the bytes call for a status
+answer_called_for : (c : Command) (bytes : List ℕ) (status answer : Status) → length bytes ≤ limit_of c → CallsFor c bytes status → IsAnswer c bytes answer → status ≡ answer
+answer_called_for c bytes status Done within called is = one_telling c bytes status Done called is.1
+answer_called_for c bytes status Invalid within called is = one_telling c bytes status Invalid called is.1
+answer_called_for c bytes status InputTooLong within called is = absurd (omega (arith, within, is))
+answer_called_for c bytes status BadInput within called is = absurd (told_or_refused c bytes status is.1.0 called is.1.2)
+answer_called_for c bytes status Overload within called is = absurd (told_or_refused c bytes status is.1.0 called is.1.2)
+answer_called_for c bytes status ScaleTooLarge within called is = absurd (told_or_refused c bytes status is.1.0 called is.1.2)
+answer_called_for c bytes status TooLong within called is = absurd (told_or_refused c bytes status is.1.0 called is.1.2)
+answer_called_for c bytes status Usage within called is = absurd is
+answer_called_for c bytes status ReadFault within called is = absurd is
+answer_called_for c bytes status WriteFault within called is = absurd is
+answer_called_for c bytes status NoMemory within called is = absurd is
 
 -- the answer, where the command refuses the bytes
 answer_refuses : (c : Command) (bytes : List ℕ) (r : Refusal) (answer : Status) → length bytes ≤ limit_of c → Refuses c bytes r → IsAnswer c bytes answer → status_of r ≡ answer
-answer_refuses c bytes r Done within refuses is = absurd (writes_or_refuses c bytes is.1.0 r is.1.1 refuses)
+answer_refuses c bytes r Done within refuses is = absurd (told_or_refused c bytes Done r is.1 refuses)
+answer_refuses c bytes r Invalid within refuses is = absurd (told_or_refused c bytes Invalid r is.1 refuses)
 answer_refuses c bytes r InputTooLong within refuses is = absurd (omega (arith, within, is))
 answer_refuses c bytes r BadInput within refuses is = one_status c bytes r is.1.0 refuses is.1.2 ∙ is.1.1
 answer_refuses c bytes r Overload within refuses is = one_status c bytes r is.1.0 refuses is.1.2 ∙ is.1.1
@@ -189,6 +268,7 @@ answer_refuses c bytes r NoMemory within refuses is = absurd is
 answer_too_long : (c : Command) (bytes : List ℕ) (answer : Status) → limit_of c < length bytes → IsAnswer c bytes answer → InputTooLong ≡ answer
 answer_too_long c bytes InputTooLong over is = refl
 answer_too_long c bytes Done over is = let within = is.0 in absurd (omega (arith, within, over))
+answer_too_long c bytes Invalid over is = let within = is.0 in absurd (omega (arith, within, over))
 answer_too_long c bytes BadInput over is = let within = is.0 in absurd (omega (arith, within, over))
 answer_too_long c bytes Overload over is = let within = is.0 in absurd (omega (arith, within, over))
 answer_too_long c bytes ScaleTooLarge over is = let within = is.0 in absurd (omega (arith, within, over))
@@ -198,18 +278,19 @@ answer_too_long c bytes ReadFault over is = absurd is
 answer_too_long c bytes WriteFault over is = absurd is
 answer_too_long c bytes NoMemory over is = absurd is
 
-done_asked : (c : Command) (left : Option (List ℕ)) (old new : Streams) → old.left ≡ left → IsDone c old new → IsAnswered (Some c) left old new Done
-done_asked c None old new e h = tt
-done_asked c (Some bytes) old new e h = λ unread unwritten answer is.
-    let (given, text, read, writes, took) = h.done in
+done_asked : (c : Command) (status : Status) (left : Option (List ℕ)) (old new : Streams) → old.left ≡ left → IsDone c status old new → IsAnswered (Some c) left old new status
+done_asked c status None old new e h = tt
+done_asked c status (Some bytes) old new e h = λ unread unwritten answer is.
+    let (given, text, read, writes, took) = h.told in
     let all : GaveAll (Some bytes) new.left (limit_of c) given = subst (λ (l : Option (List ℕ)). GaveAll l new.left (limit_of c) given) e read in
     let same : given ≡ bytes = same_bytes bytes given new.left (limit_of c) all in
     let within : length bytes ≤ limit_of c = subst (λ (b : List ℕ). length b ≤ limit_of c) same all.within in
-    inl (answer_writes c bytes text answer within (subst (λ (b : List ℕ). Writes c b text) same writes) is)
+    let called : CallsFor c bytes status = subst (λ (b : List ℕ). CallsFor c b status) same (called_for c given text status writes) in
+    inl (answer_called_for c bytes status answer within called is)
 
 -- a command that was done answered
-pub done_answered : (asked : Option Command) (c : Command) (old new : Streams) → Some c ≡ asked → IsDone c old new → IsAnswered asked old.left old new Done
-done_answered asked c old new e h = subst (λ (a : Option Command). IsAnswered a old.left old new Done) e (done_asked c old.left old new refl h)
+pub done_answered : (asked : Option Command) (c : Command) (status : Status) (old new : Streams) → Some c ≡ asked → IsDone c status old new → IsAnswered asked old.left old new status
+done_answered asked c status old new e h = subst (λ (a : Option Command). IsAnswered a old.left old new status) e (done_asked c status old.left old new refl h)
 
 refused_by : (c : Command) (bytes given : List ℕ) (left : Option (List ℕ)) (r : Refusal) (answer : Status) → GaveAll (Some bytes) left (limit_of c) given → Refuses c given r
     → IsAnswer c bytes answer → status_of r ≡ answer
@@ -223,12 +304,14 @@ stop_answered : (c : Command) (bytes : List ℕ) (old new : Streams) (r : Refusa
 stop_answered c bytes old new why.Usage answer e stops unread unwritten is = absurd stops
 stop_answered c bytes old new why.ReadFault answer e stops unread unwritten is = absurd (unread stops.0)
 stop_answered c bytes old new why.NoMemory answer e stops unread unwritten is = inr refl
-stop_answered c bytes old new why.WriteFault answer e stops unread unwritten is = absurd (unwritten stops.5)
+stop_answered c bytes old new why.WriteFault answer e stops unread unwritten is = absurd (unwritten stops.6)
 stop_answered c bytes old new (why.InputTooLong count) answer e stops unread unwritten is =
     let gave : GaveCount (Some bytes) new.left (limit_of c + 1) = subst (λ (n : ℕ). GaveCount (Some bytes) new.left n) stops.0 (subst (λ (l : Option (List ℕ)). GaveCount l new.left count) e stops.1) in
     inl (answer_too_long c bytes answer (holds_more (Some bytes) new.left (limit_of c) gave) is)
 stop_answered c bytes old new (why.BadSet r) answer e stops unread unwritten is =
     inl (refused_by c bytes stops.0 new.left (why.BadSet r) answer (subst (λ (l : Option (List ℕ)). GaveAll l new.left (limit_of c) stops.0) e stops.1) stops.2 is)
+stop_answered c bytes old new (why.BadLine line) answer e stops unread unwritten is =
+    inl (refused_by c bytes stops.0 new.left (why.BadLine line) answer (subst (λ (l : Option (List ℕ)). GaveAll l new.left (limit_of c) stops.0) e stops.1) stops.2 is)
 stop_answered c bytes old new (why.Overload total room) answer e stops unread unwritten is =
     inl (refused_by c bytes stops.0 new.left (why.Overload total room) answer (subst (λ (l : Option (List ℕ)). GaveAll l new.left (limit_of c) stops.0) e stops.1) stops.2 is)
 stop_answered c bytes old new (why.TooLong rows) answer e stops unread unwritten is =

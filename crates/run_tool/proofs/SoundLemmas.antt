@@ -9,9 +9,7 @@ use Rattle.run_tree.specs.Compiled.{tree_of}
 use Rattle.run_tree.specs.Plans.{schedule_of}
 use Rattle.run_tree.specs.Schedule.{schedule}
 use Rattle.task_reader.specs.Reading.{set_read_from}
-use Rattle.run_tool.specs.declared.words.Command.{Command}
-use Rattle.run_tool.specs.declared.words.Command.TheVariants.{Rate, Tree as TreeCommand, Trace, TraceMet}
-use Rattle.run_tool.specs.Commands.{plan_of}
+use Rattle.run_tool.specs.Commands.{SetText, rates, server_tree, schedule_rows, plan_of}
 use Rattle.run_tool.specs.Ends.{TellsTruth}
 
 module _
@@ -23,8 +21,7 @@ module _
   schedule_valid s scale l i f =
       subst (λ (n : ℕ). IsValid s n (s.horizon * n) (s.horizon * n) (schedule_of (plan_of s scale))) (same s scale l i f) (valid s l (tree_of scale s) (is_tree s scale l i f))
 
-  pub tells_truth : (c : Command) → TellsTruth c
-  tells_truth Rate bytes s scale reads fits = tt
-  tells_truth TreeCommand bytes s scale reads fits = is_tree s scale (lawful bytes s reads.read) reads.is_scale fits
-  tells_truth Trace bytes s scale reads fits = schedule_valid s scale (lawful bytes s reads.read) reads.is_scale fits
-  tells_truth TraceMet bytes s scale reads fits = schedule_valid s scale (lawful bytes s reads.read) reads.is_scale fits
+  pub tells_truth : (what : SetText) → TellsTruth what
+  tells_truth rates bytes s scale reads fits = tt
+  tells_truth server_tree bytes s scale reads fits = is_tree s scale (lawful bytes s reads.read) reads.is_scale fits
+  tells_truth (schedule_rows met) bytes s scale reads fits = schedule_valid s scale (lawful bytes s reads.read) reads.is_scale fits

@@ -4,13 +4,14 @@ use Rattle.std.specs.declared.result.Result.TheVariants.{Ok, Err}
 use Rattle.sched_edges.specs.declared.streams.Failed.{Failed}
 use Rattle.run_tool.specs.declared.refusal.Refusal.TheVariants as why
 use Rattle.run_tool.specs.declared.status.Status.{Status}
-use Rattle.run_tool.specs.declared.status.Status.TheVariants.{Done, WriteFault}
+use Rattle.run_tool.specs.declared.status.Status.TheVariants.{Done, Invalid, WriteFault}
 use Rattle.run_tool.specs.Refusals.{refusal_line}
 use Rattle.run_tool.specs.Ends.{ErrorStream, IsQuiet, Tells}
 
 -- the status of a run that had this status before `out` failed to hand on what it kept back
 abbrev pub after_fault : Status → Status
 after_fault Done = WriteFault
+after_fault Invalid = WriteFault
 after_fault status = status
 
 -- the status of a run that had this status before `out` was to hand on what it kept back
@@ -21,6 +22,7 @@ closed status (Err _) = after_fault status
 -- what `err` takes where `out` failed then: the line of that fault, where no other was told
 abbrev pub TellsFault : Status → ErrorStream → ErrorStream → Type 0
 TellsFault Done old new = Tells old new (refusal_line why.WriteFault)
+TellsFault Invalid old new = Tells old new (refusal_line why.WriteFault)
 TellsFault status old new = IsQuiet old new
 
 -- what `err` takes at the end of a run

@@ -6,7 +6,7 @@ use Rattle.sched_base.specs.Sets.{SetContents}
 use Rattle.sched_base.specs.Scale.{IsScale, PassesAt, total_of, room_of, Fits}
 use Rattle.task_reader.specs.Reading.{set_read_from}
 use Rattle.run_tool.specs.declared.words.Command.{Command}
-use Rattle.run_tool.specs.declared.words.Command.TheVariants.{Rate, Tree, Trace, TraceMet}
+use Rattle.run_tool.specs.declared.words.Command.TheVariants.{Rate, Tree, Trace, TraceMet, Check}
 use Rattle.run_tool.specs.declared.refusal.Refusal.{Refusal}
 use Rattle.run_tool.specs.declared.refusal.Refusal.TheVariants.{BadSet, Overload, ScaleTooLarge, TooLong}
 use Rattle.sched_base.specs.Valid.{IsValid}
@@ -21,13 +21,30 @@ use Rattle.trace_lines.specs.Merging.{merged_lanes}
 use Rattle.trace_lines.specs.Text.{trace_text}
 use Rattle.tree_text.specs.Text.{tree_text}
 use Rattle.run_tool.specs.RateText.{rate_text}
+use Rattle.run_tool.specs.Checks.{WritesVerdict, Judges, RefusesTrace}
+use Rattle.run_tool.specs.declared.status.Status.{Status}
+use Rattle.run_tool.specs.declared.status.Status.TheVariants.{Done}
+
+-- the most bytes of a task set, and of a trace text
+abbrev pub set_limit : ℕ
+set_limit = 1048576
+
+abbrev pub trace_limit : ℕ
+trace_limit = 536870912
 
 -- the most bytes that a command reads
 abbrev pub limit_of : Command → ℕ
-limit_of Rate = 1048576
-limit_of Tree = 1048576
-limit_of Trace = 1048576
-limit_of TraceMet = 1048576
+limit_of Rate = set_limit
+limit_of Tree = set_limit
+limit_of Trace = set_limit
+limit_of TraceMet = set_limit
+limit_of Check = trace_limit
+
+-- a text of a set that fits: its rates, its tree, or its schedule, with or without when each period was done
+pub data SetText : Type 0 where
+  rates : SetText
+  server_tree : SetText
+  schedule_rows : Bool → SetText
 
 -- the bytes are this set, with this scale within 2 ^ 94
 pub record ReadsSet (bytes : List ℕ) (s : SetContents) (scale : ℕ) : Type 0 where
@@ -52,33 +69,43 @@ abbrev pub schedule_text : Bool → PlanContents → List ℕ
 schedule_text met p = trace_text (version_of met p.set.tasks) p.set p.tree.scale (merged_lanes (lanes_of p.tree.processors (schedule_of p)))
 
 -- the text of a set that fits, with this scale
-abbrev pub text_of : Command → SetContents → ℕ → List ℕ
-text_of Rate s scale = rate_text scale s
-text_of Tree s scale = tree_text (plan_of s scale)
-text_of Trace s scale = schedule_text false (plan_of s scale)
-text_of TraceMet s scale = schedule_text true (plan_of s scale)
+abbrev pub text_of : SetText → SetContents → ℕ → List ℕ
+text_of rates s scale = rate_text scale s
+text_of server_tree s scale = tree_text (plan_of s scale)
+text_of (schedule_rows met) s scale = schedule_text met (plan_of s scale)
 
 -- how many rows the schedule of a plan has, one for each processor and round
 abbrev pub rows_of : PlanContents → ℕ
 rows_of p = rounds_of p * p.tree.processors
 
--- the command can tell of a set that fits, with this scale: a schedule has at most 2,097,152 rows
-abbrev pub HasRoom : Command → SetContents → ℕ → Type 0
-HasRoom Rate s scale = Unit {0}
-HasRoom Tree s scale = Unit {0}
-HasRoom Trace s scale = rows_of (plan_of s scale) ≤ row_limit
-HasRoom TraceMet s scale = rows_of (plan_of s scale) ≤ row_limit
+-- a set that fits has this text: a schedule that is told has at most 2,097,152 rows
+abbrev pub HasRoom : SetText → SetContents → ℕ → Type 0
+HasRoom rates s scale = Unit {0}
+HasRoom server_tree s scale = Unit {0}
+HasRoom (schedule_rows met) s scale = rows_of (plan_of s scale) ≤ row_limit
 
--- the command writes this text for these bytes
-abbrev pub Writes : Command → List ℕ → List ℕ → Type 0
-Writes c bytes text = (s : SetContents) × (scale : ℕ) × ReadsSet bytes s scale × Fits scale s × HasRoom c s scale × (text ≡ text_of c s scale)
+-- this text is written for these bytes, which are a set that fits; the status is always `Done`
+abbrev pub WritesSet : SetText → List ℕ → Status → List ℕ → Type 0
+WritesSet what bytes status text = (status ≡ Done) × ((s : SetContents) × (scale : ℕ) × ReadsSet bytes s scale × Fits scale s × HasRoom what s scale × (text ≡ text_of what s scale))
 
--- what is so of that which the command tells of a set: its tree is a reduction tree of it, its schedule is valid
-abbrev pub IsSound : Command → SetContents → ℕ → Type 0
-IsSound Rate s scale = Unit {0}
-IsSound Tree s scale = IsTreeOf s (tree_of scale s)
-IsSound Trace s scale = IsValid s scale (s.horizon * scale) (s.horizon * scale) (schedule_of (plan_of s scale))
-IsSound TraceMet s scale = IsValid s scale (s.horizon * scale) (s.horizon * scale) (schedule_of (plan_of s scale))
+-- the command writes this text for these bytes, and ends with this status
+abbrev pub Writes : Command → List ℕ → Status → List ℕ → Type 0
+Writes Rate bytes status text = WritesSet rates bytes status text
+Writes Tree bytes status text = WritesSet server_tree bytes status text
+Writes Trace bytes status text = WritesSet (schedule_rows false) bytes status text
+Writes TraceMet bytes status text = WritesSet (schedule_rows true) bytes status text
+Writes Check bytes status text = WritesVerdict bytes status text
+
+-- the bytes call for this status of a command that tells of them: that of `check` goes by whether the rows are a valid schedule
+abbrev pub CallsFor : Command → List ℕ → Status → Type 0
+CallsFor Check bytes status = Judges bytes status
+CallsFor c bytes status = (text : List ℕ) × Writes c bytes status text
+
+-- what is so of the text of a set that fits: its tree is a reduction tree of it, its schedule is valid
+abbrev pub IsSound : SetText → SetContents → ℕ → Type 0
+IsSound rates s scale = Unit {0}
+IsSound server_tree s scale = IsTreeOf s (tree_of scale s)
+IsSound (schedule_rows met) s scale = IsValid s scale (s.horizon * scale) (s.horizon * scale) (schedule_of (plan_of s scale))
 
 -- these bytes are refused where a set that fits is wanted
 abbrev pub RefusesSet : List ℕ → Refusal → Type 0
@@ -93,14 +120,21 @@ HasTooManyRows bytes rows =
     (s : SetContents) × (scale : ℕ) × ReadsSet bytes s scale × Fits scale s × (row_limit < rows_of (plan_of s scale))
     × (rows ≡ (row_limit / (plan_of s scale).tree.processors + 1) * (plan_of s scale).tree.processors)
 
--- the command has no room for the schedule of these bytes
-abbrev pub HasNoRoom : Command → List ℕ → ℕ → Type 0
-HasNoRoom Rate bytes rows = ⊥
-HasNoRoom Tree bytes rows = ⊥
-HasNoRoom Trace bytes rows = HasTooManyRows bytes rows
-HasNoRoom TraceMet bytes rows = HasTooManyRows bytes rows
+-- a set of these bytes fits, and doesn't have this text for its many rows
+abbrev pub HasNoRoom : SetText → List ℕ → ℕ → Type 0
+HasNoRoom rates bytes rows = ⊥
+HasNoRoom server_tree bytes rows = ⊥
+HasNoRoom (schedule_rows met) bytes rows = HasTooManyRows bytes rows
+
+-- these bytes are refused where this text of a set is wanted
+abbrev pub RefusesText : SetText → List ℕ → Refusal → Type 0
+RefusesText what bytes (TooLong rows) = HasNoRoom what bytes rows
+RefusesText what bytes refusal = RefusesSet bytes refusal
 
 -- the command refuses these bytes for this reason
 abbrev pub Refuses : Command → List ℕ → Refusal → Type 0
-Refuses c bytes (TooLong rows) = HasNoRoom c bytes rows
-Refuses c bytes refusal = RefusesSet bytes refusal
+Refuses Rate bytes refusal = RefusesText rates bytes refusal
+Refuses Tree bytes refusal = RefusesText server_tree bytes refusal
+Refuses Trace bytes refusal = RefusesText (schedule_rows false) bytes refusal
+Refuses TraceMet bytes refusal = RefusesText (schedule_rows true) bytes refusal
+Refuses Check bytes refusal = RefusesTrace bytes refusal

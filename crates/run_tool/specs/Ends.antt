@@ -8,10 +8,10 @@ use Rattle.run_tool.specs.declared.words.Command.{Command}
 use Rattle.run_tool.specs.declared.refusal.Refusal.{Refusal}
 use Rattle.run_tool.specs.declared.refusal.Refusal.TheVariants as why
 use Rattle.run_tool.specs.declared.status.Status.{Status}
-use Rattle.run_tool.specs.declared.status.Status.TheVariants.{Done, Usage, NoMemory, BadInput, Overload, ScaleTooLarge, TooLong, InputTooLong}
+use Rattle.run_tool.specs.declared.status.Status.TheVariants.{Done, Invalid, Usage, NoMemory, BadInput, Overload, ScaleTooLarge, TooLong, InputTooLong}
 use Rattle.sched_base.specs.Sets.{SetContents}
 use Rattle.sched_base.specs.Scale.{Fits}
-use Rattle.run_tool.specs.Commands.{limit_of, ReadsSet, Writes, Refuses, IsSound}
+use Rattle.run_tool.specs.Commands.{SetText, limit_of, ReadsSet, Writes, CallsFor, Refuses, IsSound}
 use Rattle.run_tool.specs.Refusals.{status_of, refusal_line}
 
 -- the source and `out` at one moment; content is None where a stream doesn't tell it
@@ -54,30 +54,36 @@ pub record IsQuiet (old new : ErrorStream) : Type 0 where
 pub record Tells (old new : ErrorStream) (line : List ℕ) : Type 0 where
   pub told : Appends old.taken new.taken line ⊎ (TookPart old.taken new.taken line × Rose old.faults new.faults)
 
--- the source was read to its end, and gave these bytes
-abbrev pub Read : Command → Streams → Streams → List ℕ → Type 0
-Read c old new bytes = GaveAll old.left new.left (limit_of c) bytes
+-- the source was read to its end, and `out` took the whole text that is written for its bytes with this status
+pub record IsTold (limit : ℕ) (Writes : List ℕ → Status → List ℕ → Type 0) (status : Status) (old new : Streams) : Type 0 where
+  pub told : (bytes text : List ℕ) × GaveAll old.left new.left limit bytes × Writes bytes status text × Appends old.out new.out text
 
--- the command was done: `out` took its whole text
-pub record IsDone (c : Command) (old new : Streams) : Type 0 where
-  pub done : (bytes text : List ℕ) × Read c old new bytes × Writes c bytes text × Appends old.out new.out text
+-- why a text wasn't written, or not all of it, and what `out` took
+abbrev pub StopsAs : ℕ → (List ℕ → Status → List ℕ → Type 0) → (List ℕ → Refusal → Type 0) → Streams → Streams → Refusal → Type 0
+StopsAs limit Writes Refuses old new why.Usage = ⊥
+StopsAs limit Writes Refuses old new why.ReadFault = Rose old.read_faults new.read_faults × Keeps old.out new.out
+StopsAs limit Writes Refuses old new (why.InputTooLong count) = (count ≡ limit + 1) × GaveCount old.left new.left count × Keeps old.out new.out
+StopsAs limit Writes Refuses old new why.NoMemory = Keeps old.out new.out
+StopsAs limit Writes Refuses old new why.WriteFault =
+    (bytes text : List ℕ) × (status : Status) × GaveAll old.left new.left limit bytes × Writes bytes status text × TookPart old.out new.out text × Rose old.out_faults new.out_faults
+StopsAs limit Writes Refuses old new refusal = (bytes : List ℕ) × GaveAll old.left new.left limit bytes × Refuses bytes refusal × Keeps old.out new.out
 
--- what a command tells of each set that fits is sound
-abbrev pub TellsTruth : Command → Type 0
-TellsTruth c = (bytes : List ℕ) (s : SetContents) (scale : ℕ) → ReadsSet bytes s scale → Fits scale s → IsSound c s scale
+-- the command told what it has to tell, with this status: `out` took its whole text
+abbrev pub IsDone : Command → Status → Streams → Streams → Type 0
+IsDone c status old new = IsTold (limit_of c) (Writes c) status old new
 
 -- why a command stopped, and what `out` took of its text
 abbrev pub Stops : Command → Streams → Streams → Refusal → Type 0
-Stops c old new why.Usage = ⊥
-Stops c old new why.ReadFault = Rose old.read_faults new.read_faults × Keeps old.out new.out
-Stops c old new (why.InputTooLong count) = (count ≡ limit_of c + 1) × GaveCount old.left new.left count × Keeps old.out new.out
-Stops c old new why.NoMemory = Keeps old.out new.out
-Stops c old new why.WriteFault = (bytes text : List ℕ) × Read c old new bytes × Writes c bytes text × TookPart old.out new.out text × Rose old.out_faults new.out_faults
-Stops c old new refusal = (bytes : List ℕ) × Read c old new bytes × Refuses c bytes refusal × Keeps old.out new.out
+Stops c old new refusal = StopsAs (limit_of c) (Writes c) (Refuses c) old new refusal
+
+-- what is told of each set that fits is sound
+abbrev pub TellsTruth : SetText → Type 0
+TellsTruth what = (bytes : List ℕ) (s : SetContents) (scale : ℕ) → ReadsSet bytes s scale → Fits scale s → IsSound what s scale
 
 -- how a command ends with this status, and what `err` took
 abbrev pub Ends : Command → Streams → Streams → ErrorStream → ErrorStream → Status → Type 0
-Ends c old new err err' Done = IsDone c old new × IsQuiet err err'
+Ends c old new err err' Done = IsDone c Done old new × IsQuiet err err'
+Ends c old new err err' Invalid = IsDone c Invalid old new × IsQuiet err err'
 Ends c old new err err' status = (refusal : Refusal) × (status_of refusal ≡ status) × Stops c old new refusal × Tells err err' (refusal_line refusal)
 
 -- words that are no command line: nothing was read or written, and `err` took the line that says so, or that there was no memory to read the words
@@ -93,7 +99,8 @@ Refused c bytes status = (length bytes ≤ limit_of c) × ((refusal : Refusal) �
 
 -- the answer for these bytes, where nothing fails and memory is there
 abbrev pub IsAnswer : Command → List ℕ → Status → Type 0
-IsAnswer c bytes Done = (length bytes ≤ limit_of c) × ((text : List ℕ) × Writes c bytes text)
+IsAnswer c bytes Done = (length bytes ≤ limit_of c) × CallsFor c bytes Done
+IsAnswer c bytes Invalid = (length bytes ≤ limit_of c) × CallsFor c bytes Invalid
 IsAnswer c bytes InputTooLong = limit_of c < length bytes
 IsAnswer c bytes BadInput = Refused c bytes BadInput
 IsAnswer c bytes Overload = Refused c bytes Overload

@@ -7,12 +7,12 @@ use Rattle.sched_base.specs.Scale.{IsScale, PassesAt, total_of, room_of, Fits}
 use Rattle.sched_edges.specs.Causes.{Rose}
 use Rattle.sched_edges.specs.Streams.{GaveAll, GaveCount, TookPart}
 use Rattle.task_reader.specs.Reading.{set_read_from}
+use Rattle.trace_check.specs.Traces.{Trace}
+use Rattle.trace_check.specs.Reading.{reading}
 use Rattle.run_tool.specs.declared.refusal.Refusal.{Refusal}
-use Rattle.run_tool.specs.declared.refusal.Refusal.TheVariants.{ReadFault, WriteFault, NoMemory, BadSet, Overload, ScaleTooLarge, TooLong, InputTooLong}
-use Rattle.run_tool.specs.declared.words.Command.{Command}
-use Rattle.run_tool.specs.declared.words.Command.TheVariants.{Rate, Tree, Trace, TraceMet}
+use Rattle.run_tool.specs.declared.refusal.Refusal.TheVariants.{ReadFault, WriteFault, NoMemory, BadSet, BadLine, Overload, ScaleTooLarge, TooLong, InputTooLong}
 use Rattle.event_core.specs.Rounds.{row_limit}
-use Rattle.run_tool.specs.Commands.{text_of, plan_of, rows_of, HasRoom}
+use Rattle.run_tool.specs.Commands.{SetText, rates, server_tree, schedule_rows, text_of, plan_of, rows_of, HasRoom}
 
 -- the source gave all its bytes, at most the limit, and they are this set
 pub record GaveSet (left left' : Option (List ℕ)) (limit : ℕ) (s : SetContents) : Type 0 where
@@ -25,6 +25,18 @@ GaveNoSet left left' faults faults' limit NoMemory = Unit {0}
 GaveNoSet left left' faults faults' limit (InputTooLong count) = (count ≡ limit + 1) × GaveCount left left' count
 GaveNoSet left left' faults faults' limit (BadSet refusal) = (bytes : List ℕ) × GaveAll left left' limit bytes × (set_read_from bytes ≡ Err refusal)
 GaveNoSet left left' faults faults' limit _ = ⊥
+
+-- the source gave all its bytes, at most the limit, and they are this trace
+pub record GaveTrace (left left' : Option (List ℕ)) (limit : ℕ) (t : Trace) : Type 0 where
+  pub gave : (bytes : List ℕ) × GaveAll left left' limit bytes × (reading bytes ≡ Ok t)
+
+-- why no trace was read
+abbrev pub GaveNoTrace : Option (List ℕ) → Option (List ℕ) → ℕ → ℕ → ℕ → Refusal → Type 0
+GaveNoTrace left left' faults faults' limit ReadFault = Rose faults faults'
+GaveNoTrace left left' faults faults' limit NoMemory = Unit {0}
+GaveNoTrace left left' faults faults' limit (InputTooLong count) = (count ≡ limit + 1) × GaveCount left left' count
+GaveNoTrace left left' faults faults' limit (BadLine line) = (bytes : List ℕ) × GaveAll left left' limit bytes × (reading bytes ≡ Err line)
+GaveNoTrace left left' faults faults' limit _ = ⊥
 
 -- the set fits, with this scale
 pub record IsRun (s : SetContents) (scale : ℕ) : Type 0 where
@@ -45,19 +57,18 @@ IsTooLongPlan s rows =
     (scale : ℕ) × IsRun s scale × (row_limit < rows_of (plan_of s scale))
     × (rows ≡ (row_limit / (plan_of s scale).tree.processors + 1) * (plan_of s scale).tree.processors)
 
--- the schedule has too many rows, as the command tells it
-abbrev pub IsTooLongSet : Command → SetContents → ℕ → Type 0
-IsTooLongSet Rate s rows = ⊥
-IsTooLongSet Tree s rows = ⊥
-IsTooLongSet Trace s rows = IsTooLongPlan s rows
-IsTooLongSet TraceMet s rows = IsTooLongPlan s rows
+-- the set doesn't have this text for its many rows
+abbrev pub IsTooLongSet : SetText → SetContents → ℕ → Type 0
+IsTooLongSet rates s rows = ⊥
+IsTooLongSet server_tree s rows = ⊥
+IsTooLongSet (schedule_rows met) s rows = IsTooLongPlan s rows
 
 -- why a set's text wasn't written, or not all of it
-abbrev pub StopsAtSet : Command → Option (List ℕ) → Option (List ℕ) → ℕ → ℕ → SetContents → Refusal → Type 0
-StopsAtSet c out out' faults faults' s WriteFault = (scale : ℕ) × IsRun s scale × HasRoom c s scale × TookPart out out' (text_of c s scale) × Rose faults faults'
-StopsAtSet c out out' faults faults' s (TooLong rows) = IsTooLongSet c s rows × Keeps out out'
-StopsAtSet c out out' faults faults' s refusal = IsRefusedSet s refusal × Keeps out out'
+abbrev pub StopsAtSet : SetText → Option (List ℕ) → Option (List ℕ) → ℕ → ℕ → SetContents → Refusal → Type 0
+StopsAtSet what out out' faults faults' s WriteFault = (scale : ℕ) × IsRun s scale × HasRoom what s scale × TookPart out out' (text_of what s scale) × Rose faults faults'
+StopsAtSet what out out' faults faults' s (TooLong rows) = IsTooLongSet what s rows × Keeps out out'
+StopsAtSet what out out' faults faults' s refusal = IsRefusedSet s refusal × Keeps out out'
 
 -- a set's text was written
-abbrev pub WroteSet : Command → Option (List ℕ) → Option (List ℕ) → SetContents → Type 0
-WroteSet c out out' s = (scale : ℕ) × IsRun s scale × HasRoom c s scale × Appends out out' (text_of c s scale)
+abbrev pub WroteSet : SetText → Option (List ℕ) → Option (List ℕ) → SetContents → Type 0
+WroteSet what out out' s = (scale : ℕ) × IsRun s scale × HasRoom what s scale × Appends out out' (text_of what s scale)

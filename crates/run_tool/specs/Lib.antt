@@ -3,9 +3,9 @@ pub mod Words
 pub mod CommandLine
 pub mod Refusals
 pub mod RateText
+pub mod Checks
 pub mod Commands
 pub mod Input
-pub mod Traces
 pub mod Ends
 pub mod Refuse
 pub mod Closing

@@ -8,7 +8,7 @@ use Rattle.task_reader.specs.declared.refusals.ReadSet.{ReadSet}
 use Rattle.task_reader.specs.declared.refusals.ReadSet.TheVariants as set
 use Rattle.task_reader.specs.Keys.{key_text}
 use Rattle.run_tool.specs.declared.refusal.Refusal.{Refusal}
-use Rattle.run_tool.specs.declared.refusal.Refusal.TheVariants.{Usage, ReadFault, WriteFault, NoMemory, BadSet, Overload, ScaleTooLarge, TooLong, InputTooLong}
+use Rattle.run_tool.specs.declared.refusal.Refusal.TheVariants.{Usage, ReadFault, WriteFault, NoMemory, BadSet, BadLine, Overload, ScaleTooLarge, TooLong, InputTooLong}
 use Rattle.run_tool.specs.declared.status.Status.{Status}
 use Rattle.run_tool.specs.declared.status.Status.TheVariants as status
 use Rattle.run_tool.specs.Status.{code_of}
@@ -25,6 +25,7 @@ status_of ReadFault = status.ReadFault
 status_of WriteFault = status.WriteFault
 status_of NoMemory = status.NoMemory
 status_of (BadSet refusal) = set_status refusal
+status_of (BadLine line) = status.BadInput
 status_of (Overload total room) = status.Overload
 status_of (ScaleTooLarge task) = status.ScaleTooLarge
 status_of (TooLong rows) = status.TooLong
@@ -67,6 +68,7 @@ refusal_words ReadFault = codes "ReadFault" ∷ []
 refusal_words WriteFault = codes "WriteFault" ∷ []
 refusal_words NoMemory = codes "NoMemory" ∷ []
 refusal_words (BadSet refusal) = set_words refusal
+refusal_words (BadLine line) = codes "BadLine" ∷ decimal line ∷ []
 refusal_words (Overload total room) = codes "Overload" ∷ codes "total" ∷ decimal total ∷ codes "room" ∷ decimal room ∷ []
 refusal_words (ScaleTooLarge task) = codes "ScaleTooLarge" ∷ codes "task" ∷ decimal task ∷ []
 refusal_words (TooLong rows) = codes "TooLong" ∷ codes "rows" ∷ decimal rows ∷ []

@@ -2,7 +2,7 @@
 use Rattle.std.specs.Prelude.{ℕ, ◌&&◌, if◌then◌else◌, List, [], ◌∷◌, Option, Some, None, codes}
 use Rattle.std.specs.Str.{bytes_eq}
 use Rattle.run_tool.specs.declared.words.Command.{Command}
-use Rattle.run_tool.specs.declared.words.Command.TheVariants.{Rate, Tree, Trace, TraceMet}
+use Rattle.run_tool.specs.declared.words.Command.TheVariants.{Rate, Tree, Trace, TraceMet, Check}
 
 -- the command of this name, if there is one
 abbrev pub command_named : List ℕ → Option Command
@@ -10,6 +10,7 @@ command_named word =
     if bytes_eq word (codes "rate") then Some Rate
     else if bytes_eq word (codes "tree") then Some Tree
     else if bytes_eq word (codes "trace") then Some Trace
+    else if bytes_eq word (codes "check") then Some Check
     else None
 
 -- the command of this name with this option, if there is one

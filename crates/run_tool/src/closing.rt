@@ -22,7 +22,9 @@ pub fn close_run<E: Sink>(
 {
     match flushed {
         Ok(()) => status,
-        Err(_) if status == Status::Done => refuse(alloc, &Refusal::WriteFault, err),
-        Err(_) => status,
+        Err(_) => match status {
+            Status::Done | Status::Invalid => refuse(alloc, &Refusal::WriteFault, err),
+            told => told,
+        },
     }
 }

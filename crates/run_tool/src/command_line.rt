@@ -38,7 +38,8 @@ fn parser<'a>(alloc: Global) -> Result<clap::Command<'a>, AllocError>
         .subcommand_required(true)
         .subcommand(clap::Command::new(alloc, "rate"))?
         .subcommand(clap::Command::new(alloc, "tree"))?
-        .subcommand(trace)
+        .subcommand(trace)?
+        .subcommand(clap::Command::new(alloc, "check"))
 }
 
 // The command that was used, with its options.
@@ -51,6 +52,7 @@ fn command_in(matches: &ArgMatches<'_>) -> Option<Command>
         "tree" => Some(Command::Tree),
         "trace" if options.get_flag("met") => Some(Command::TraceMet),
         "trace" => Some(Command::Trace),
+        "check" => Some(Command::Check),
         _ => None,
     }
 }

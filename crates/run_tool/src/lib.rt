@@ -1,6 +1,7 @@
 //! The commands, from the words and the bytes given to the status and the bytes written.
 #![tactic(auto)]
 
+mod check;
 mod closing;
 mod command_line;
 mod input;

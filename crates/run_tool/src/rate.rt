@@ -1,8 +1,9 @@
 //! The command `rate`.
 ghost use Rattle.std.specs.Prelude.{OnOk, IfErr};
-ghost use Rattle.run_tool.specs.Ends.{streams, IsDone, Stops};
+ghost use Rattle.run_tool.specs.Ends.{streams, IsTold, StopsAs};
 ghost use Rattle.run_tool.specs.Input.{WroteSet, StopsAtSet};
-ghost use Rattle.run_tool.specs.declared.words.Command.TheVariants.{Rate};
+ghost use Rattle.run_tool.specs.Commands.{rates, set_limit, WritesSet, RefusesText};
+ghost use Rattle.run_tool.specs.declared.status.Status.TheVariants.{Done};
 
 use crate::input::read_input;
 use crate::rate_text::write_rate;
@@ -18,8 +19,8 @@ pub(crate) fn rate<R: Source, W: Sink>(
     source: &mut R,
     out: &mut W,
 ) -> Result<(), Refusal>
-    ensures done { OnOk result (IsDone Rate (streams (R.left source.old) (R.faults source.old) (W.taken out.old) (W.faults out.old)) (streams (R.left source.new) (R.faults source.new) (W.taken out.new) (W.faults out.new))) }
-    ensures stops { IfErr result (Stops Rate (streams (R.left source.old) (R.faults source.old) (W.taken out.old) (W.faults out.old)) (streams (R.left source.new) (R.faults source.new) (W.taken out.new) (W.faults out.new))) }
+    ensures done { OnOk result (IsTold set_limit (WritesSet rates) Done (streams (R.left source.old) (R.faults source.old) (W.taken out.old) (W.faults out.old)) (streams (R.left source.new) (R.faults source.new) (W.taken out.new) (W.faults out.new))) }
+    ensures stops { IfErr result (StopsAs set_limit (WritesSet rates) (RefusesText rates) (streams (R.left source.old) (R.faults source.old) (W.taken out.old) (W.faults out.old)) (streams (R.left source.new) (R.faults source.new) (W.taken out.new) (W.faults out.new))) }
 {
     match read_input(alloc, source) {
         Ok(set) => write_set(&set, out),
@@ -29,8 +30,8 @@ pub(crate) fn rate<R: Source, W: Sink>(
 
 // Writes the rates of a set, where it fits.
 fn write_set<W: Sink>(set: &TaskSet, out: &mut W) -> Result<(), Refusal>
-    ensures done { OnOk result (WroteSet Rate (W.taken out.old) (W.taken out.new) set.now) }
-    ensures stops { IfErr result (StopsAtSet Rate (W.taken out.old) (W.taken out.new) (W.faults out.old) (W.faults out.new) set.now) }
+    ensures done { OnOk result (WroteSet rates (W.taken out.old) (W.taken out.new) set.now) }
+    ensures stops { IfErr result (StopsAtSet rates (W.taken out.old) (W.taken out.new) (W.faults out.old) (W.faults out.new) set.now) }
 {
     let scale = match scale_of(set) {
         Ok(scale) => scale,

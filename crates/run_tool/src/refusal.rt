@@ -18,6 +18,8 @@ pub enum Refusal {
     NoMemory,
     /// The bytes are no task set, for this reason.
     BadSet(ReadSet),
+    /// The bytes are no trace text: this line is the first at fault, counted from 1.
+    BadLine { line: u64 },
     /// The tasks ask for `total` ticks in each unit, and there are `room`.
     Overload { total: u128, room: u128 },
     /// This task's period brings the scale past 2^94.
@@ -40,6 +42,7 @@ impl Refusal {
             Refusal::NoMemory => Status::NoMemory,
             Refusal::BadSet(ReadSet::NoMemory) => Status::NoMemory,
             Refusal::BadSet(_) => Status::BadInput,
+            Refusal::BadLine { .. } => Status::BadInput,
             Refusal::Overload { .. } => Status::Overload,
             Refusal::ScaleTooLarge { .. } => Status::ScaleTooLarge,
             Refusal::TooLong { .. } => Status::TooLong,

@@ -57,6 +57,9 @@ fn line_of(refusal: &Refusal) -> Line
         Refusal::WriteFault => plain_line(Status::WriteFault, b"WriteFault"),
         Refusal::NoMemory => plain_line(Status::NoMemory, b"NoMemory"),
         Refusal::BadSet(refusal) => set_line(refusal),
+        Refusal::BadLine { line } => {
+            number_line(Status::BadInput, b"BadLine", u128::from(*line))
+        }
         Refusal::Overload { total, room } => overload_line(*total, *room),
         Refusal::ScaleTooLarge { task } => scale_line(*task),
         Refusal::TooLong { rows } => rows_line(*rows),

@@ -7,6 +7,8 @@ ghost use Rattle.run_tool.specs.Status.{code_of};
 pub enum Status {
     /// The command was done, and its whole text was written.
     Done,
+    /// The trace was read, and its rows aren't a valid schedule of its set. The line that says where and why was written.
+    Invalid,
     /// The words are no command line. Nothing was read.
     Usage,
     /// The source failed.
@@ -34,6 +36,7 @@ impl Status {
     {
         match self {
             Status::Done => 0,
+            Status::Invalid => 1,
             Status::Usage => 2,
             Status::ReadFault => 3,
             Status::WriteFault => 4,

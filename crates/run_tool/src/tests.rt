@@ -1,4 +1,5 @@
 //! The commands, from the words and the bytes to the status and the bytes written: worked sets, and faults in mid-stream.
+mod checks;
 mod traces;
 
 use crate::{Status, close_run, run_still};
@@ -182,7 +183,7 @@ fn trees_of_worked_sets(rt: HostRuntime) -> Result<(), Fail> {
 
 #[test]
 fn other_words_are_no_line(rt: HostRuntime) -> Result<(), Fail> {
-    let rows: [&[&str]; 27] = [
+    let rows: [&[&str]; 30] = [
         &[],
         &["run"],
         &["rate", "x"],
@@ -200,6 +201,9 @@ fn other_words_are_no_line(rt: HostRuntime) -> Result<(), Fail> {
         &["trace", "--met", "--"],
         &["--", "trace"],
         &["trace", ""],
+        &["check", "x"],
+        &["check", "--met"],
+        &["check", "check"],
         &[""],
         &["Rate"],
         // No word asks for help, and `--` is no word of a line.
@@ -270,6 +274,13 @@ fn a_text_kept_back_is_not_lost_silently(rt: HostRuntime) -> Result<(), Fail> {
         (Status::Done, Ok(()), Status::Done, ""),
         (
             Status::Done,
+            Err(Failed),
+            Status::WriteFault,
+            "refused 4 WriteFault\n",
+        ),
+        (Status::Invalid, Ok(()), Status::Invalid, ""),
+        (
+            Status::Invalid,
             Err(Failed),
             Status::WriteFault,
             "refused 4 WriteFault\n",

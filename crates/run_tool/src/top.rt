@@ -1,9 +1,13 @@
 //! The top call.
-ghost use Rattle.std.specs.Prelude.{◌≡◌, ◌≢◌, ◌↔◌, map, string_bytes, None, Some, OnOk, IfErr};
+ghost use Rattle.std.specs.Prelude.{◌≡◌, ◌≢◌, ◌↔◌, map, string_bytes, None, Some, IfOk, IfErr};
 ghost use Rattle.run_tool.specs.Words.{command_of};
 ghost use Rattle.run_tool.specs.Ends.{streams, error_stream, IsDone, IsUsage, Stops, Ends, IsAnswered, TellsTruth};
+ghost use Rattle.run_tool.specs.Commands.{SetText};
 ghost use Rattle.run_tool.specs.declared.words.Command.{Command};
+ghost use Rattle.run_tool.specs.declared.words.Command.TheVariants.{Check};
+ghost use Rattle.run_tool.specs.declared.status.Status.TheVariants.{Done, Invalid};
 
+use crate::check::check;
 use crate::rate::rate;
 use crate::refusal::Refusal;
 use crate::refusal_line::refuse;
@@ -31,10 +35,13 @@ pub fn run_still<R: Source, W: Sink, E: Sink>(
     ensures unread { command_of (map string_bytes words.now) ≡ None → IsUsage (streams (R.left source.old) (R.faults source.old) (W.taken out.old) (W.faults out.old)) (streams (R.left source.new) (R.faults source.new) (W.taken out.new) (W.faults out.new)) (error_stream (E.taken err.old) (E.faults err.old)) (error_stream (E.taken err.new) (E.faults err.new)) result }
 
     // Done: `out` took exactly the text that the command writes for the bytes that the source gave.
-    ensures done { result ≡ Status.Done → (c : Command) × (command_of (map string_bytes words.now) ≡ Some c) × IsDone c (streams (R.left source.old) (R.faults source.old) (W.taken out.old) (W.faults out.old)) (streams (R.left source.new) (R.faults source.new) (W.taken out.new) (W.faults out.new)) }
+    ensures done { result ≡ Status.Done → (c : Command) × (command_of (map string_bytes words.now) ≡ Some c) × IsDone c Done (streams (R.left source.old) (R.faults source.old) (W.taken out.old) (W.faults out.old)) (streams (R.left source.new) (R.faults source.new) (W.taken out.new) (W.faults out.new)) }
 
-    // What was told is sound: a tree is a reduction tree of the set, and a schedule is valid.
-    ensures sound { (c : Command) → TellsTruth c }
+    // Invalid: `check` read a trace whose rows aren't a valid schedule, and `out` took exactly the line that says where and why.
+    ensures invalid { result ≡ Status.Invalid → (command_of (map string_bytes words.now) ≡ Some Check) × IsDone Check Invalid (streams (R.left source.old) (R.faults source.old) (W.taken out.old) (W.faults out.old)) (streams (R.left source.new) (R.faults source.new) (W.taken out.new) (W.faults out.new)) }
+
+    // What is told of a set is sound: a tree is a reduction tree of it, and a schedule is valid.
+    ensures sound { (what : SetText) → TellsTruth what }
 
     // Each status comes only for its reason, and `err` took its line.
     ensures ends { (c : Command) → command_of (map string_bytes words.now) ≡ Some c → Ends c (streams (R.left source.old) (R.faults source.old) (W.taken out.old) (W.faults out.old)) (streams (R.left source.new) (R.faults source.new) (W.taken out.new) (W.faults out.new)) (error_stream (E.taken err.old) (E.faults err.old)) (error_stream (E.taken err.new) (E.faults err.new)) result }
@@ -47,7 +54,7 @@ pub fn run_still<R: Source, W: Sink, E: Sink>(
         Err(_) => refuse(alloc, &Refusal::NoMemory, err),
         Ok(None) => refuse(alloc, &Refusal::Usage, err),
         Ok(Some(command)) => match run_command(alloc, command, source, out) {
-            Ok(()) => Status::Done,
+            Ok(status) => status,
             Err(refusal) => refuse(alloc, &refusal, err),
         },
     }
@@ -58,14 +65,15 @@ fn run_command<R: Source, W: Sink>(
     command: Command,
     source: &mut R,
     out: &mut W,
-) -> Result<(), Refusal>
-    ensures done { OnOk result (IsDone command (streams (R.left source.old) (R.faults source.old) (W.taken out.old) (W.faults out.old)) (streams (R.left source.new) (R.faults source.new) (W.taken out.new) (W.faults out.new))) }
+) -> Result<Status, Refusal>
+    ensures done { IfOk result (λ status. IsDone command status (streams (R.left source.old) (R.faults source.old) (W.taken out.old) (W.faults out.old)) (streams (R.left source.new) (R.faults source.new) (W.taken out.new) (W.faults out.new))) }
     ensures stops { IfErr result (Stops command (streams (R.left source.old) (R.faults source.old) (W.taken out.old) (W.faults out.old)) (streams (R.left source.new) (R.faults source.new) (W.taken out.new) (W.faults out.new))) }
 {
     match command {
-        Command::Rate => rate(alloc, source, out),
-        Command::Tree => tree(alloc, source, out),
-        Command::Trace => trace(alloc, source, false, out),
-        Command::TraceMet => trace(alloc, source, true, out),
+        Command::Rate => rate(alloc, source, out).map(|()| Status::Done),
+        Command::Tree => tree(alloc, source, out).map(|()| Status::Done),
+        Command::Trace => trace(alloc, source, false, out).map(|()| Status::Done),
+        Command::TraceMet => trace(alloc, source, true, out).map(|()| Status::Done),
+        Command::Check => check(alloc, source, out),
     }
 }

@@ -7,10 +7,10 @@ ghost use Rattle.run_tree.specs.Plans.{rounds_of, schedule_of};
 ghost use Rattle.event_core.specs.Rounds.{row_limit};
 ghost use Rattle.round_table.specs.Lanes.{lanes_of};
 ghost use Rattle.trace_writer.specs.Conditions.{totals_of};
-ghost use Rattle.run_tool.specs.Commands.{schedule_text, some_late};
-ghost use Rattle.run_tool.specs.Ends.{streams, IsDone, Stops};
+ghost use Rattle.run_tool.specs.Commands.{schedule_rows, set_limit, schedule_text, some_late, WritesSet, RefusesText};
+ghost use Rattle.run_tool.specs.Ends.{streams, IsTold, StopsAs};
 ghost use Rattle.run_tool.specs.Input.{WroteSet, StopsAtSet};
-ghost use Rattle.run_tool.specs.Traces.{trace_command};
+ghost use Rattle.run_tool.specs.declared.status.Status.TheVariants.{Done};
 
 use crate::input::read_input;
 use crate::plan::plan_of;
@@ -31,8 +31,8 @@ pub(crate) fn trace<R: Source, W: Sink>(
     met: bool,
     out: &mut W,
 ) -> Result<(), Refusal>
-    ensures done { OnOk result (IsDone (trace_command met) (streams (R.left source.old) (R.faults source.old) (W.taken out.old) (W.faults out.old)) (streams (R.left source.new) (R.faults source.new) (W.taken out.new) (W.faults out.new))) }
-    ensures stops { IfErr result (Stops (trace_command met) (streams (R.left source.old) (R.faults source.old) (W.taken out.old) (W.faults out.old)) (streams (R.left source.new) (R.faults source.new) (W.taken out.new) (W.faults out.new))) }
+    ensures done { OnOk result (IsTold set_limit (WritesSet (schedule_rows met)) Done (streams (R.left source.old) (R.faults source.old) (W.taken out.old) (W.faults out.old)) (streams (R.left source.new) (R.faults source.new) (W.taken out.new) (W.faults out.new))) }
+    ensures stops { IfErr result (StopsAs set_limit (WritesSet (schedule_rows met)) (RefusesText (schedule_rows met)) (streams (R.left source.old) (R.faults source.old) (W.taken out.old) (W.faults out.old)) (streams (R.left source.new) (R.faults source.new) (W.taken out.new) (W.faults out.new))) }
 {
     match read_input(alloc, source) {
         Ok(set) => write_set(alloc, set, met, out),
@@ -42,8 +42,8 @@ pub(crate) fn trace<R: Source, W: Sink>(
 
 // Writes the schedule of a set, where it fits.
 fn write_set<W: Sink>(alloc: Global, set: TaskSet, met: bool, out: &mut W) -> Result<(), Refusal>
-    ensures done { OnOk result (WroteSet (trace_command met) (W.taken out.old) (W.taken out.new) set) }
-    ensures stops { IfErr result (StopsAtSet (trace_command met) (W.taken out.old) (W.taken out.new) (W.faults out.old) (W.faults out.new) set) }
+    ensures done { OnOk result (WroteSet (schedule_rows met) (W.taken out.old) (W.taken out.new) set) }
+    ensures stops { IfErr result (StopsAtSet (schedule_rows met) (W.taken out.old) (W.taken out.new) (W.faults out.old) (W.faults out.new) set) }
 {
     let plan = match plan_of(alloc, set) {
         Ok(plan) => plan,

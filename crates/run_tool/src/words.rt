@@ -17,6 +17,8 @@ pub enum Command {
     Trace,
     /// `trace --met`: the same, and when each period was done.
     TraceMet,
+    /// `check`: read a trace text, and tell whether its rows are a valid schedule of its set.
+    Check,
 }
 
 /// The command that these words are, the words after the program's name; none where they are no command line.
@@ -52,6 +54,7 @@ fn is_name(command: Command, word: &str) -> bool
         Command::Tree => word == "tree",
         Command::Trace => word == "trace",
         Command::TraceMet => false,
+        Command::Check => word == "check",
     }
 }
 

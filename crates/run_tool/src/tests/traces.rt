@@ -90,6 +90,9 @@ fn nine_tasks_of_a_vehicle(rt: HostRuntime) -> Result<(), Fail> {
         text.windows(second.len())
             .any(|part| part == second.as_bytes())
     );
+    let checked = call(rt.alloc(), &["check"], text, NONE)?;
+    assert_eq!(rt; checked.status, Status::Done);
+    assert!(rt; checked.out.as_slice().starts_with(b"valid\n"));
     Ok(())
 }
 

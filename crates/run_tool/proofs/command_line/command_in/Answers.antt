@@ -1,7 +1,7 @@
 use Rattle.std.proofs.Common.{◌≡◌, true, false, Option, Some, None, List, ℕ, inl, inr, codes, sym, ap, option_map, ◌∙◌}
 use Rattle.clap.specs.Words.{found_of, rows_of}
 use Rattle.clap.proofs.WalkLemmas.{one_text-rows}
-use Rattle.run_tool.proofs.CommandLineLemmas.{names, name_of, only_rate, only_tree, only_trace}
+use Rattle.run_tool.proofs.CommandLineLemmas.{names, name_of, only_rate, only_tree, only_trace, only_check}
 use Rattle.run_tool.proofs.command_line.command_in.Goals as goal
 
 pub returns-in_err-name : goal.returns-in_err-name
@@ -32,3 +32,8 @@ returns-in-trace-2 c = λ used e.
       | inl unmet ↦ ap Some (sym unmet.0)
       | inr met ↦ absurd (let bad : true ≡ false = sym (c.get_flag.ensures.value (one_text-rows (found_of c.in_ok-name.options.now) (codes "met") ∙ met.1)) ∙ c.if-get_flag.false in cc)
     ]
+
+pub returns-in-check : goal.returns-in-check
+returns-in-check c = λ used e.
+    let h : ◌≡◌ {A = Option (List ℕ)} (Some c.in_ok-name.name.now) (Some (name_of used)) = c.in_ok-name.ensures.name ∙ names c.args.matches.now used e in
+    only_check used (sym c.in-check.is ∙ cc)

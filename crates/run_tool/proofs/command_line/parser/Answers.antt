@@ -21,4 +21,6 @@ returns c =
     c.in_ok-subcommand.ensures.shape (search rules) ∙ ap₂ with_subcommand program_is (ap (λ (a : App). a.top) c.new-4.ensures.app) in
     let tree_is : app_of c.in_ok-subcommand-2.field-0 ≡ with_subcommand (with_subcommand program (new_app (codes "rate")).top) (new_app (codes "tree")).top =
     c.in_ok-subcommand-2.ensures.shape (search rules) ∙ ap₂ with_subcommand rate_is (ap (λ (a : App). a.top) c.new-5.ensures.app) in
-    IfOk-weaker c.subcommand-3.result _ _ (λ p h. h.shape (search rules) ∙ ap₂ with_subcommand tree_is (ap (λ (a : App). a.top) trace_is)) c.subcommand-3.ensures
+    let traced_is : app_of c.in_ok-subcommand-3.field-0 ≡ with_subcommand (with_subcommand (with_subcommand program (new_app (codes "rate")).top) (new_app (codes "tree")).top) (with_rule (new_app (codes "trace")) met).top =
+    c.in_ok-subcommand-3.ensures.shape (search rules) ∙ ap₂ with_subcommand tree_is (ap (λ (a : App). a.top) trace_is) in
+    IfOk-weaker c.subcommand-4.result _ _ (λ p h. h.shape (search rules) ∙ ap₂ with_subcommand traced_is (ap (λ (a : App). a.top) c.new-6.ensures.app)) c.subcommand-4.ensures

@@ -9,7 +9,7 @@ returns-in-Err-clause-answered g c = unread_answered (command_of (map string_byt
 pub returns-in-Ok-clause-answered : goal.returns-in-Ok-clause-answered
 returns-in-Ok-clause-answered g c =
     let asked : Some c.in-Ok-Some.command ≡ command_of (map string_bytes c.args.words.now) = search rules in
-    done_answered _ c.in-Ok-Some.command _ _ asked c.in-Ok.ensures.done
+    done_answered _ c.in-Ok-Some.command _ _ _ asked c.in-Ok.ensures.done
 
 pub returns-in-Err-run_command-clause-answered : goal.returns-in-Err-run_command-clause-answered
 returns-in-Err-run_command-clause-answered g c =

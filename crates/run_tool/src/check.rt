@@ -1,0 +1,87 @@
+//! The command `check`.
+ghost use Rattle.std.specs.Prelude.{ℕ, List, ◌≡◌, ◌≤◌, length, IfOk, IfErr, OnErr};
+ghost use Rattle.std.specs.Io.KnownBytes.{Appends};
+ghost use Rattle.sched_edges.specs.Causes.{HasCause};
+ghost use Rattle.sched_edges.specs.Streams.{TookPart};
+ghost use Rattle.run_tool.specs.Commands.{trace_limit};
+ghost use Rattle.run_tool.specs.Checks.{kind_text, invalid_line, TellsTrace, WritesVerdict, RefusesTrace};
+ghost use Rattle.run_tool.specs.Ends.{streams, IsTold, StopsAs};
+ghost use Rattle.run_tool.specs.declared.status.Status.{Status};
+
+use crate::input::read_trace_input;
+use crate::refusal::Refusal;
+use crate::status::Status;
+use sched_edges::{Failed, Line, Sink, Source, write_all};
+use stat_report::write_report;
+use std::alloc::Global;
+use trace_check::{FaultKind, ReadTrace, Verdict, check_trace};
+
+/// Reads a trace text, and tells whether its rows are a valid schedule of its set: the report of a valid one, with the status
+/// `Done`, or the first line at fault and why, with the status `Invalid`.
+pub(crate) fn check<R: Source, W: Sink>(
+    alloc: Global,
+    source: &mut R,
+    out: &mut W,
+) -> Result<Status, Refusal>
+    ensures told { IfOk result (λ status. IsTold trace_limit WritesVerdict status (streams (R.left source.old) (R.faults source.old) (W.taken out.old) (W.faults out.old)) (streams (R.left source.new) (R.faults source.new) (W.taken out.new) (W.faults out.new))) }
+    ensures stops { IfErr result (StopsAs trace_limit WritesVerdict RefusesTrace (streams (R.left source.old) (R.faults source.old) (W.taken out.old) (W.faults out.old)) (streams (R.left source.new) (R.faults source.new) (W.taken out.new) (W.faults out.new))) }
+{
+    let trace = match read_trace_input(alloc, source) {
+        Ok(trace) => trace,
+        Err(refusal) => return Err(refusal),
+    };
+    match write_verdict(&trace, out) {
+        Ok(status) => Ok(status),
+        Err(_) => Err(Refusal::WriteFault),
+    }
+}
+
+// Writes the report of a valid trace, or the first fault of another.
+fn write_verdict<W: Sink>(trace: &ReadTrace, out: &mut W) -> Result<Status, Failed>
+    ensures told { IfOk result (λ status. (text : List ℕ) × TellsTrace trace.now status text × Appends (W.taken out.old) (W.taken out.new) text) }
+    ensures part { OnErr result ((text : List ℕ) × (status : Status) × TellsTrace trace.now status text × TookPart (W.taken out.old) (W.taken out.new) text) }
+    ensures cause { HasCause (W.faults out.old) (W.faults out.new) result }
+{
+    match check_trace(trace) {
+        Verdict::Valid => {
+            write_report(out, trace)?;
+            Ok(Status::Done)
+        }
+        Verdict::Fault { line, kind } => {
+            write_all(out, invalid_line(line, kind).as_slice())?;
+            Ok(Status::Invalid)
+        }
+    }
+}
+
+// The line that tells the first fault of a trace.
+#[tactic(auto, unfolding(crate::specs::Checks::invalid_line, sched_edges::specs::Lines::line_of))]
+fn invalid_line(line: u64, kind: FaultKind) -> Line
+    ensures { result ≡ invalid_line line kind }
+{
+    let mut told = Line::new();
+    told.text(b"invalid");
+    told.space();
+    told.text(b"line");
+    told.space();
+    told.number(u128::from(line));
+    told.space();
+    told.text(kind_text(kind));
+    told.end();
+    told
+}
+
+// The kind of a fault, as it is printed.
+fn kind_text(kind: FaultKind) -> &'static [u8]
+    ensures text { result.now ≡ kind_text kind }
+    ensures short { length result.now ≤ 32 }
+{
+    match kind {
+        FaultKind::Processor => b"processor",
+        FaultKind::End => b"end",
+        FaultKind::ProcessorOverlap => b"processor-overlap",
+        FaultKind::TaskOverlap => b"task-overlap",
+        FaultKind::Early => b"early",
+        FaultKind::Supply => b"supply",
+    }
+}
