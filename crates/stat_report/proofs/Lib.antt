@@ -6,3 +6,4 @@ pub mod PlaceLemmas
 pub mod TaskLemmas
 pub mod TextLemmas
 pub mod ChartLemmas
+pub mod OrderLemmas

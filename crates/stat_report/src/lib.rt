@@ -3,11 +3,13 @@
 
 mod charts;
 mod interruptions;
+mod laws;
 mod periods;
 mod responses;
 mod text;
 
 pub use interruptions::{migrations, preemptions};
+pub use laws::order_of_lines;
 pub use responses::response;
 pub use text::write_report;
 
