@@ -1,10 +1,10 @@
--- When a period was done: by merged rows as by the rows themselves, and row by row.
-use Rattle.std.proofs.Common.{ℕ, ◌+◌, ◌-◌, ◌*◌, ◌^◌, ◌<◌, ◌≤◌, ◌≡◌, inl, inr, min, max, eqb, ltb, true, false, ◌&&◌, List, [], ◌∷◌, ◌++◌, cond, length, take, get_or, sym, refl, ap, ◌∙◌, arith}
+-- When a period was done: by merged rows as by the rows themselves, and by the ends of the rows.
+use Rattle.std.proofs.Common.{ℕ, ◌+◌, ◌-◌, ◌*◌, ◌^◌, ◌<◌, ◌≤◌, ◌≡◌, inl, inr, min, max, eqb, ltb, Bool, true, false, ◌&&◌, List, [], ◌∷◌, ◌++◌, cond, sym, refl, ap, ◌∙◌, arith}
 use Rattle.std.proofs.lemmas.Bool.{cases_Bool, cases_lt, and_parts, cond-true, cond-false, eqb-true, lt-ltb, le-ltb, ltb-false}
-use Rattle.std.proofs.lemmas.List.{take_more}
-use Rattle.std.proofs.lemmas.List.Concat.{flat_map-append}
 use Rattle.std.proofs.Math.Nat.{mul-le-mul_right, le-div_iff_mul-le}
+use Rattle.std.specs.List.{AllByRecursion}
 use Rattle.sched_base.specs.declared.rows.Row.{Row}
+use Rattle.sched_base.specs.Tables.{IsTable, all_rows}
 use Rattle.sched_base.specs.declared.sets.Task.{Task}
 use Rattle.sched_base.specs.Rows.{is_of_task}
 use Rattle.sched_base.specs.Sets.{SetContents, task_at}
@@ -12,11 +12,16 @@ use Rattle.sched_base.specs.Valid.{period_start}
 use Rattle.trace_lines.specs.Finishes.{ended_count, finish, finish_between}
 use Rattle.trace_lines.specs.Merging.{shown, lengthened, merge_onto, merged, merged_lanes}
 use Rattle.trace_lines.specs.Conditions.{RunForward}
-use Rattle.trace_writer.specs.Conditions.{serves}
-use Rattle.trace_lines.proofs.MergeLemmas.{goes_on, shown_same, forward_merged}
+use Rattle.trace_lines.proofs.MergeLemmas.{goes_on, shown_same, forward_merged, forward_lanes}
+use Rattle.trace_writer.specs.Ends.{own_end, last_end_before}
+use Rattle.trace_writer.proofs.EndLemmas.{last_end_before-append}
+
+-- whether a row gives task j a tick from a up to b
+abbrev serves : ℕ → ℕ → ℕ → Row → Bool
+serves j a b r = is_of_task j r.leaf && (ltb r.start b && ltb a r.end)
 
 -- how far a row reaches into the ticks from a up to b for task j, or a
-abbrev pub reach : Row → ℕ → ℕ → ℕ → ℕ
+abbrev reach : Row → ℕ → ℕ → ℕ → ℕ
 reach r j a b = cond (serves j a b r) (min r.end b) a
 
 pub finish_least : (rows : List Row) (j a b : ℕ) → a ≤ finish_between rows j a b
@@ -126,26 +131,50 @@ finish_merged (r ∷ rows) j a b f =
     let two = finish_cons r rows j a b in
     omega (arith, one, rest, two)
 
--- ---- one row, one processor more
+-- ---- by the ends of the rows
 
-pub finish_row : (rows : List Row) (i : ℕ) (r : Row) (j a b : ℕ) → i < length rows → r ≡ get_or rows i r
-    → finish_between (take (i + 1) rows) j a b ≡ max (finish_between (take i rows) j a b) (reach r j a b)
-finish_row rows i r j a b within at =
-    let last = finish_cons r [] j a b in
-    let both = finish-append (take i rows) (r ∷ []) j a b in
-    let one : finish_between (take i rows ++ r ∷ []) j a b ≡ max (finish_between (take i rows) j a b) (reach r j a b) = omega (arith, last, both, finish_least (take i rows) j a b) in
-    rw (take_more rows i r within, ← at) one
+-- a period's finish lies between its ends, and else is the greatest end of the rows that start before it ends
+finish_by_end : (rows : List Row) (j a b : ℕ) → a ≤ b → finish_between rows j a b ≡ max a (min b (last_end_before b rows j))
+finish_by_end [] j a b h = omega (arith, h)
+finish_by_end (r ∷ rows) j a b h =
+    let whole = finish_cons r rows j a b in
+    let rest = finish_by_end rows j a b h in
+    let least = finish_least rows j a b in
+    elim (cases_Bool (is_of_task j r.leaf)) [
+      | inl own ↦ (
+          let mine : own_end j r ≡ r.end = cond-true _ _ _ own in
+          elim (cases_lt r.start b) [
+            | inl early ↦ (
+                let one = reach_early r j a b (finish_between rows j a b) own early least in
+                let two : last_end_before b (r ∷ rows) j ≡ max (own_end j r) (last_end_before b rows j) = ap (λ n. max n (last_end_before b rows j)) (cond-true _ _ _ (lt-ltb r.start b early)) in
+                omega (arith, whole, rest, one, two, mine))
+            | inr late ↦ (
+                let one = reach_late r j a b (finish_between rows j a b) own late least in
+                let two : last_end_before b (r ∷ rows) j ≡ max 0 (last_end_before b rows j) = ap (λ n. max n (last_end_before b rows j)) (cond-false _ _ _ (le-ltb r.start b late)) in
+                omega (arith, whole, rest, one, two))
+          ])
+      | inr other ↦ (
+          let one = reach_other r j a b other in
+          let none : own_end j r ≡ 0 = cond-false _ _ _ other in
+          let two : last_end_before b (r ∷ rows) j ≡ max (cond (ltb r.start b) 0 0) (last_end_before b rows j) = ap (λ n. max (cond (ltb r.start b) n 0) (last_end_before b rows j)) none in
+          let zero : ◌≡◌ {A = ℕ} (cond (ltb r.start b) 0 0) 0 = cond_same (ltb r.start b) in
+          omega (arith, whole, rest, one, two, zero, least))
+    ]
+  where
+    cond_same : (t : Bool) → ◌≡◌ {A = ℕ} (cond t 0 0) 0
+    cond_same true = refl
+    cond_same false = refl
 
-pub finish_lane : (lanes : List (List Row)) (p : ℕ) (lane : List Row) (j a b : ℕ) → p < length lanes → lane ≡ get_or lanes p lane
-    → finish_between (merged_lanes (take (p + 1) lanes)) j a b ≡ max (finish_between (merged_lanes (take p lanes)) j a b) (finish_between (merged lane) j a b)
-finish_lane lanes p lane j a b within at =
-    let split : finish_between (merged_lanes (take p lanes ++ lane ∷ [])) j a b ≡ finish_between (merged_lanes (take p lanes) ++ (merged lane ++ [])) j a b =
-    ap (λ l. finish_between l j a b) (flat_map-append merged (take p lanes) (lane ∷ [])) in
-    let both = finish-append (merged_lanes (take p lanes)) (merged lane ++ []) j a b in
-    let none = finish-append (merged lane) [] j a b in
-    let one : finish_between (merged_lanes (take p lanes ++ lane ∷ [])) j a b ≡ max (finish_between (merged_lanes (take p lanes)) j a b) (finish_between (merged lane) j a b) =
-    omega (arith, split, both, none, finish_least (merged lane) j a b) in
-    rw (take_more lanes p lane within, ← at) one
+-- the same of merged lanes by the table's rows
+pub finish_lanes : (lanes : List (List Row)) (j a b : ℕ) → a ≤ b → AllByRecursion RunForward lanes → finish_between (merged_lanes lanes) j a b ≡ max a (min b (last_end_before b (all_rows lanes) j))
+finish_lanes [] j a b h forward = omega (arith, h)
+finish_lanes (lane ∷ lanes) j a b h forward =
+    let split = finish-append (merged lane) (merged_lanes lanes) j a b in
+    let first = finish_merged lane j a b forward.0 in
+    let one = finish_by_end lane j a b h in
+    let rest = finish_lanes lanes j a b h forward.1 in
+    let both = last_end_before-append b lane (all_rows lanes) j in
+    omega (arith, split, first, one, rest, both)
 
 -- ---- periods
 
@@ -168,9 +197,13 @@ start_fits s t scale k some h u v =
     let b : s.horizon * scale ≤ (2 ^ 32 - 1) * scale = mul-le-mul_right scale (omega (arith, u)) in
     omega (arith, a, b, v)
 
--- when period k was done, found from its first tick and the one after its last
-pub finish_is : (s : SetContents) (rows : List Row) (t : Task) (j scale k begin end result : ℕ) → task_at s.tasks j ≡ t → begin ≡ period_start scale t k → end ≡ period_start scale t (k + 1)
-    → result ≡ finish_between rows j begin end → result ≡ finish scale s rows j k
-finish_is s rows t j scale k begin end result place first last is =
+-- when period k was done, found from its first tick, the one after its last, and the ends of the rows that start before that
+pub finish_is : (s : SetContents) (lanes : List (List Row)) (t : Task) (j scale k begin end reached cut result : ℕ) → IsTable lanes → task_at s.tasks j ≡ t → begin ≡ period_start scale t k → end ≡ period_start scale t (k + 1)
+    → reached ≡ last_end_before end (all_rows lanes) j → cut ≡ min end reached → result ≡ max begin cut → result ≡ finish scale s (merged_lanes lanes) j k
+finish_is s lanes t j scale k begin end reached cut result table place first last far low most =
+    let rows = merged_lanes lanes in
+    let rise : begin ≤ end = omega (arith, first, last, starts_rise scale t k) in
+    let by_end = finish_lanes lanes j begin end rise (forward_lanes lanes table) in
+    let is : result ≡ finish_between rows j begin end = omega (arith, by_end, far, low, most) in
     is ∙ ap (λ x. finish_between rows j x end) first ∙ ap (λ x. finish_between rows j (period_start scale t k) x) last
     ∙ ap (λ u. finish_between rows j (period_start scale u k) (period_start scale u (k + 1))) (sym place)

@@ -23,7 +23,8 @@ use Rattle.trace_lines.proofs.MergeLemmas.{goes_on}
 pub record Written (tasks : List Task) (a b : Option (List ℕ)) (rows left : List Row) (count : ℕ) : Type 0 where
   pub parts : (written : List Row) × (merged rows ≡ written ++ merged left) × Appends a b (flat_map (row_line tasks) written) × (count ≡ length written)
 
-took_none : (a : Option (List ℕ)) → Appends a a []
+-- no bytes more
+pub took_none : (a : Option (List ℕ)) → Appends a a []
 took_none None = tt
 took_none (Some xs) = sym (append-nil xs)
 

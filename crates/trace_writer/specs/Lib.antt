@@ -1,2 +1,5 @@
 pub mod Conditions
 pub mod Parts
+pub mod Ends
+pub mod Reaches
+pub mod LongTables

@@ -1,13 +1,10 @@
-//! When the periods of a task were done.
-ghost use Rattle.std.specs.Prelude.{◌≡◌, ◌≤◌, ◌<◌, ◌+◌, ◌^◌, length, max};
+//! The periods of a task that end by the horizon.
+ghost use Rattle.std.specs.Prelude.{◌≡◌, ◌≤◌, ◌<◌, ◌+◌, ◌^◌};
 ghost use Rattle.sched_base.specs.Rows.{is_of_task};
 ghost use Rattle.sched_base.specs.Valid.{period_start};
-ghost use Rattle.trace_lines.specs.Conditions.{RunForward};
-ghost use Rattle.trace_lines.specs.Finishes.{ended_count, finish_between};
-ghost use Rattle.trace_lines.specs.Merging.{merged, merged_lanes};
-ghost use Rattle.trace_writer.specs.Conditions.{serves};
+ghost use Rattle.trace_lines.specs.Finishes.{ended_count};
 
-use sched_base::{Leaf, Row, RowTable, Task, TaskSet};
+use sched_base::{Leaf, Task, TaskSet};
 
 /// How many periods of the task end by the horizon.
 pub(crate) fn ended_count(set: &TaskSet, task: &Task) -> u64
@@ -29,39 +26,8 @@ pub(crate) fn period_start(task: &Task, scale: u128, k: u64) -> u128
     u128::from(task.offset + k * task.period) * scale
 }
 
-/// The greatest end, cut at `to`, of the task's rows that overlap the ticks from `from` up to `to`; `from` where none does.
-pub(crate) fn finish_between(table: &RowTable, task: u32, from: u128, to: u128) -> u128
-    ensures { result ≡ finish_between (merged_lanes table.now.lanes) task from to }
-{
-    let mut finish = from;
-    for p in 0..table.processors() {
-        finish = finish.max(finish_in(table.lane(p), task, from, to));
-    }
-    finish
-}
-
-// The same of the rows of one processor.
-fn finish_in(lane: &[Row], task: u32, from: u128, to: u128) -> u128
-    requires { RunForward lane.now }
-    ensures { result ≡ finish_between (merged lane.now) task from to }
-{
-    let mut finish = from;
-    for row in lane {
-        if serves(row, task, from, to) {
-            finish = finish.max(row.end.min(to));
-        }
-    }
-    finish
-}
-
-// Whether the row gives the task a tick from `from` up to `to`.
-fn serves(row: &Row, task: u32, from: u128, to: u128) -> bool
-    ensures { result ≡ serves task from to row.now }
-{
-    is_of_task(row.leaf, task) && (row.start < to && from < row.end)
-}
-
-fn is_of_task(leaf: Leaf, task: u32) -> bool
+/// Whether the leaf is the task of this number.
+pub(crate) fn is_of_task(leaf: Leaf, task: u32) -> bool
     ensures { result ≡ is_of_task task leaf }
 {
     match leaf {

@@ -5,6 +5,7 @@ mod body;
 mod finishes;
 mod lines;
 mod mets;
+mod reaches;
 mod rows;
 mod text;
 

@@ -8,7 +8,8 @@ ghost use Rattle.trace_lines.specs.Merging.{merged_lanes};
 ghost use Rattle.trace_lines.specs.Text.{mets_of_task, met_lines};
 ghost use Rattle.trace_writer.specs.Parts.{text_of};
 
-use crate::finishes::{ended_count, finish_between, period_start};
+use crate::finishes::{ended_count, period_start};
+use crate::reaches::{Reach, reach_to};
 use sched_base::{RowTable, Task, TaskSet};
 use sched_edges::{Failed, Sink, write_all};
 use trace_lines::met_line;
@@ -45,14 +46,12 @@ fn write_mets_of_task<W: Sink>(
     ensures cause { HasCause (W.faults sink.old) (W.faults sink.new) result }
 {
     let _horizon = set.horizon();
+    let mut reach = Reach::start();
     for k in 0..ended_count(set, task) {
         let begin = period_start(task, scale, k);
         let end = period_start(task, scale, k + 1);
-        let line = met_line(
-            task.name.as_slice(),
-            k,
-            finish_between(table, number, begin, end),
-        );
+        reach = reach_to(table, number, end, reach);
+        let line = met_line(task.name.as_slice(), k, begin.max(end.min(reach.end)));
         write_all(sink, line.as_slice())?;
     }
     Ok(())

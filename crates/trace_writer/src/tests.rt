@@ -1,9 +1,11 @@
 //! Texts of worked schedules, and a sink that fails.
-ghost use Rattle.std.specs.Prelude.{◌≡◌};
+ghost use Rattle.std.specs.Prelude.{◌≡◌, ◌≤◌, [], ◌∷◌, IfOk};
+ghost use Rattle.trace_writer.specs.LongTables.{steady_rows};
 
 use super::{write_met, write_trace};
-use sched_base::{Leaf, Row, RowTable, TaskId, TaskSet};
+use sched_base::{Leaf, NoMemory, Row, RowTable, TaskId, TaskSet};
 use sched_edges::{Failed, MemSink};
+use std::alloc::Global;
 use std::test::Fail;
 
 const A: Leaf = Leaf::Task(TaskId(0));
@@ -102,5 +104,33 @@ fn a_sink_that_fails_takes_a_first_part(rt: HostRuntime) -> Result<(), Fail> {
     let mut sink = MemSink::new(rt.alloc(), 1024, &[3])?;
     assert!(rt; write_trace(&mut sink, &set, 1, &table, &[]) == Err(Failed));
     assert_eq!(rt; sink.taken(), b"run-trace 1\nprocessors 1\n".as_slice());
+    Ok(())
+}
+
+/// So many rounds of one tick each, in which task a runs on the one processor.
+fn long_table(alloc: Global, rounds: u64) -> Result<RowTable, NoMemory>
+    requires { rounds ≤ 1_000_000 }
+    ensures { IfOk result (λ table. table.lanes ≡ steady_rows rounds ∷ []) }
+{
+    let mut table = RowTable::new(alloc, 1, rounds)?;
+    for k in 0..rounds {
+        table.push_round(&[row(0, u128::from(k), u128::from(k + 1), A)]);
+    }
+    Ok(table)
+}
+
+// Were each of the million periods looked up in each of the rounds, this would take minutes.
+#[test]
+fn many_rounds_and_many_periods(rt: HostRuntime) -> Result<(), Fail> {
+    let mut set = TaskSet::start(rt.alloc(), 1, 1_000_000);
+    set.add(b"a", 1, 1)?;
+    let table = long_table(rt.alloc(), 200_000)?;
+    let mut sink = MemSink::new(rt.alloc(), 30_000_000, &[])?;
+    assert!(rt; write_met(&mut sink, &set, 1, &table, &[200_000]).is_ok());
+    let first =
+        b"run-trace 2\nprocessors 1\nhorizon 1000000\nscale 1\ntasks 1\ntask a 1 1 0\nrow 0 0 200000 a\ntotal a 200000\nmet a 0 1\nmet a 1 2\n";
+    let last = b"\nmet a 999998 999998\nmet a 999999 999999\nrows 1\n";
+    assert!(rt; sink.taken().starts_with(first));
+    assert!(rt; sink.taken().ends_with(last));
     Ok(())
 }

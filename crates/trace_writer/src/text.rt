@@ -44,8 +44,7 @@ pub fn write_trace<W: Sink>(
 /// The same of version 2: each task's line has its offset, and after the totals stands for each period that ends by the
 /// horizon when it was done.
 ///
-/// It takes no memory: for each such period it goes through the table's rows, so that its time is that of the periods times
-/// the rows.
+/// It takes no memory: for each task it goes once through the table's rows and through the task's periods.
 pub fn write_met<W: Sink>(
     sink: &mut W,
     set: &TaskSet,

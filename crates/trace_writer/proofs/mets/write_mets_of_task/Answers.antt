@@ -2,9 +2,18 @@ use Rattle.std.proofs.Common.{◌≡◌, ◌<◌, arith}
 use Rattle.sched_edges.proofs.Wrote.{number_written, wrote_number}
 use Rattle.trace_lines.specs.Finishes.{ended_count}
 use Rattle.trace_lines.specs.Merging.{merged_lanes}
-use Rattle.trace_writer.proofs.FinishLemmas.{finish_is}
+use Rattle.trace_writer.proofs.FinishLemmas.{finish_is, starts_rise}
+use Rattle.trace_writer.proofs.LaneLemmas.{took_none}
+use Rattle.trace_writer.proofs.ReachLemmas.{HasGone-later}
 use Rattle.trace_writer.proofs.TextLemmas.{met_of, mets_are}
 use Rattle.trace_writer.proofs.mets.write_mets_of_task.Goals as goal
+
+pub loop-k-init : goal.loop-k-init
+loop-k-init g c = record { taken = took_none _; faults = omega arith; gone = c.start-reach.ensures c.args.table.now.lanes c.args.number _ }
+
+pub reach_to-reach-requires : goal.reach_to-reach-requires
+reach_to-reach-requires g c =
+    HasGone-later c.args.table.now.lanes c.args.number _ _ c.loop-k.reach (omega (arith, c.period_start-end.ensures, starts_rise c.args.scale c.args.task.now c.loop-k.k)) c.loop-k.invariant.gone
 
 pub returns-in_err-write_all-clause-wrote : goal.returns-in_err-write_all-clause-wrote
 returns-in_err-write_all-clause-wrote g c =
@@ -12,25 +21,29 @@ returns-in_err-write_all-clause-wrote g c =
     let s = c.args.set.now in
     let rows = merged_lanes c.args.table.now.lanes in
     let below : k < ended_count s c.args.task.now = omega (arith, c.loop-k-test.true, c.ended_count-k-end.ensures) in
-    let done = finish_is s rows c.args.task.now c.args.number c.args.scale k _ _ _ c.requires.place c.period_start-begin.ensures c.period_start-end.ensures c.finish_between.ensures in
+    let done = finish_is s c.args.table.now.lanes c.args.task.now c.args.number c.args.scale k _ _ _ _ _ c.reach_to-reach.ensures.lawful c.requires.place c.period_start-begin.ensures c.period_start-end.ensures c.reach_to-reach.ensures.end c.min.ensures c.max.ensures in
     let wrote = rw (c.as_slice-in-loop-k.ensures.bytes, c.met_line-line.ensures, c.as_slice.ensures.bytes, done) at c.in_err-write_all.ensures.wrote in
     rw (mets_are c.args.scale s rows c.args.number c.args.task.now)
-    (wrote_number (met_of c.args.scale s rows c.args.number c.args.task.now.name) (ended_count s c.args.task.now) k _ _ _ _ _ below c.loop-k.invariant.0 wrote c.from_residual.ensures.0)
+    (wrote_number (met_of c.args.scale s rows c.args.number c.args.task.now.name) (ended_count s c.args.task.now) k _ _ _ _ _ below c.loop-k.invariant.taken wrote c.from_residual.ensures.0)
 
 pub loop-k-preserved : goal.loop-k-preserved
 loop-k-preserved g c =
     let k = c.loop-k.k in
     let s = c.args.set.now in
     let rows = merged_lanes c.args.table.now.lanes in
-    let done = finish_is s rows c.args.task.now c.args.number c.args.scale k _ _ _ c.requires.place c.period_start-begin.ensures c.period_start-end.ensures c.finish_between.ensures in
+    let done = finish_is s c.args.table.now.lanes c.args.task.now c.args.number c.args.scale k _ _ _ _ _ c.reach_to-reach.ensures.lawful c.requires.place c.period_start-begin.ensures c.period_start-end.ensures c.reach_to-reach.ensures.end c.min.ensures c.max.ensures in
     let wrote = rw (c.as_slice-in-loop-k.ensures.bytes, c.met_line-line.ensures, c.as_slice.ensures.bytes, done) at c.in_ok-write_all.ensures.wrote in
-    let before = c.loop-k.invariant.1 in
+    let before = c.loop-k.invariant.faults in
     let later = c.write_all.ensures.cause.later in
-    (number_written (met_of c.args.scale s rows c.args.number c.args.task.now.name) k _ _ _ c.loop-k.invariant.0 wrote.ok, omega (arith, before, later))
+    record {
+      taken = number_written (met_of c.args.scale s rows c.args.number c.args.task.now.name) k _ _ _ c.loop-k.invariant.taken wrote.ok;
+      faults = omega (arith, before, later);
+      gone = rw (← c.period_start-end.ensures) c.reach_to-reach.ensures.gone;
+    }
 
 pub returns-clause-wrote : goal.returns-clause-wrote
 returns-clause-wrote g c =
     let s = c.args.set.now in
     let rows = merged_lanes c.args.table.now.lanes in
     let all : c.loop-k.k ≡ ended_count s c.args.task.now = omega (arith, c.loop-k-test.false, c.loop-k.auto.k-end, c.ended_count-k-end.ensures) in
-    rw (mets_are c.args.scale s rows c.args.number c.args.task.now) (record { ok = rw all at c.loop-k.invariant.0; err = tt })
+    rw (mets_are c.args.scale s rows c.args.number c.args.task.now) (record { ok = rw all at c.loop-k.invariant.taken; err = tt })
