@@ -1,10 +1,10 @@
 -- Trees that are made by hand.
-use Rattle.std.proofs.Common.{◌≡◌, ℕ, zero, suc, ◌+◌, ◌*◌, ◌-◌, ◌<◌, ◌≤◌, ◌^◌, true, false, List, [], ◌∷◌, ◌++◌, length, get_or, set, refl, sym, ◌∙◌, ap, subst, arith, length-append, length-set}
+use Rattle.std.proofs.Common.{◌≡◌, ℕ, zero, suc, ◌+◌, ◌*◌, ◌<◌, ◌≤◌, false, [], ◌∷◌, ◌++◌, length, set, refl, ◌∙◌, ap, arith, length-append, length-set}
 use Rattle.std.proofs.lemmas.Bool.{le-ltb}
 use Rattle.std.specs.Prelude.{nat_lt}
 use Rattle.std.specs.Int.{◌∣◌}
 use Rattle.std.proofs.lemmas.Nat.Gcd.{dvd_of_mod-eq-zero, le_of_dvd}
-use Rattle.sched_base.specs.Counting.{sum_to, bit}
+use Rattle.sched_base.specs.Counting.{bit}
 use Rattle.sched_base.specs.Scale.{IsScale}
 use Rattle.sched_base.specs.declared.rows.Leaf.TheVariants.{Task}
 use Rattle.sched_base.proofs.CountingLemmas.{bit_le}
@@ -13,8 +13,8 @@ use Rattle.run_tree.specs.declared.kinds.Kind.TheVariants as kind
 use Rattle.run_tree.specs.Tree.{Tree, IsTree, is_leaf, kind_at}
 use Rattle.run_tree.specs.TreeOfSet.{IsTreeOf}
 use Rattle.run_tree.specs.Making.{Making, started, put, lifted, lower_packs}
-use Rattle.run_tree.specs.Maker.{NamesLower, leaf_count, packs_named}
-use Rattle.worked_rounds.specs.ByHand.{own_packs, raised_to_one, three_tasks_tree, crossed_level, crossed_tree, five_tasks_set}
+use Rattle.run_tree.specs.Maker.{NamesLower, leaf_count}
+use Rattle.worked_rounds.specs.ByHand.{own_packs, three_tasks_tree, crossed_level, crossed_tree, five_tasks_set}
 use Rattle.worked_rounds.proofs.TreeChecks.{PassesTree, IsTree-passed}
 use Rattle.worked_rounds.proofs.HeldChecks.{PassesOrder, NamesLower-passed, PassesHeld, HoldsTasks-passed, NumbersIdles-passed}
 

@@ -1,12 +1,10 @@
 -- Reduction trees, by computing.
-use Rattle.std.proofs.Common.{◌≡◌, ℕ, zero, suc, ◌+◌, ◌*◌, ◌<◌, ◌≤◌, Bool, true, false, ◌&&◌, not, length, Option, Some, None, refl, sym, ◌∙◌, ap, arith}
+use Rattle.std.proofs.Common.{◌≡◌, ℕ, suc, ◌+◌, ◌*◌, ◌<◌, Bool, true, ◌&&◌, not, length, Option, Some, None, sym, ◌∙◌, ap}
 use Rattle.std.specs.Prelude.{◌==◌, nat_lt, nat_le}
 use Rattle.std.proofs.lemmas.Bool.{and_parts, ltb-true, leb-true, eqb-true, not-true, ne_eqb, eq-eqb}
 use Rattle.sched_base.specs.Counting.{sum_to, bit}
 use Rattle.sched_base.specs.Candidates.{is_at}
 use Rattle.sched_base.proofs.EarliestLemmas.{is_at_some}
-use Rattle.run_tree.specs.declared.kinds.Kind.{Kind}
-use Rattle.run_tree.specs.declared.kinds.Kind.TheVariants as kind
 use Rattle.run_tree.specs.Tree.{Tree, IsTree, IsPack, IsMember, IsLeaf, IsDual, is_pack, is_leaf, is_dual, kind_at, level, rate, home, place, members, member, dual, primal}
 use Rattle.worked_rounds.proofs.NumberChecks.{where_so, all_below, some_below, pass_below, pass_where, passing_below}
 

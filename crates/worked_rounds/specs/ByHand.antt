@@ -1,5 +1,5 @@
 -- Trees and sets that are made by hand.
-use Rattle.std.specs.Prelude.{ℕ, zero, suc, List, [], ◌∷◌}
+use Rattle.std.specs.Prelude.{ℕ, zero, suc, [], ◌∷◌}
 use Rattle.sched_base.specs.declared.rows.Leaf.TheVariants.{Task}
 use Rattle.sched_base.specs.declared.sets.Task as declared
 use Rattle.sched_base.specs.Sets.{SetContents}

@@ -1,9 +1,9 @@
-use Rattle.std.proofs.Common.{◌≡◌, ◌∙◌, ◌<◌, sym, ap, subst, length, arith, List, ℕ, [], ◌∷◌}
+use Rattle.std.proofs.Common.{◌∙◌, sym, ap, subst, length, arith, [], ◌∷◌}
 use Rattle.run_tree.specs.Tree.{IsTree}
-use Rattle.run_tree.specs.Making.{Making, lower_packs, started}
+use Rattle.run_tree.specs.Making.{Making, lower_packs}
 use Rattle.run_tree.specs.Maker.{NamesLower}
-use Rattle.worked_rounds.specs.ByHand.{own_packs, raised_to_one, crossed_level}
-use Rattle.worked_rounds.proofs.ByHandLemmas.{IsOwn, own_is, order_names, five_lower, crossed_lower, crossed_levels, crossed_is_tree}
+use Rattle.worked_rounds.specs.ByHand.{raised_to_one, crossed_level}
+use Rattle.worked_rounds.proofs.ByHandLemmas.{own_is, order_names, five_lower, crossed_lower, crossed_levels, crossed_is_tree}
 use Rattle.worked_rounds.proofs.tests.by_hand.crossed.Goals as goal
 
 pub lift_order-requires-clause-few_levels : goal.lift_order-requires-clause-few_levels

@@ -1,8 +1,8 @@
-use Rattle.std.proofs.Common.{◌≡◌, ◌∙◌, sym, ap, subst, length, arith}
+use Rattle.std.proofs.Common.{◌∙◌, sym, ap, subst, length, arith}
 use Rattle.run_tree.specs.Tree.{IsTree}
 use Rattle.run_tree.specs.Making.{Making, lower_packs}
 use Rattle.worked_rounds.specs.ByHand.{raised_to_one}
-use Rattle.worked_rounds.proofs.ByHandLemmas.{IsOwn, own_is, three_lower, three_is_tree}
+use Rattle.worked_rounds.proofs.ByHandLemmas.{own_is, three_lower, three_is_tree}
 use Rattle.worked_rounds.proofs.tests.by_hand.three_tasks.Goals as goal
 
 pub lift-requires-clause-few_levels : goal.lift-requires-clause-few_levels
