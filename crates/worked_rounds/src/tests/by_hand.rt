@@ -3,8 +3,9 @@ ghost use Rattle.std.specs.Prelude.{◌≡◌, ◌≤◌, ◌^◌, IfOk};
 ghost use Rattle.run_tree.specs.Making.{started};
 ghost use Rattle.worked_rounds.specs.ByHand.{own_packs, three_tasks_tree, crossed_tree, five_tasks_set};
 
-use super::{add, blank_rows, run_rounds};
+use super::{add, blank_rows, letter, run_rounds};
 use event_core::Core;
+use run_plain::plain_schedule;
 use run_tree::{Kind, Plan, Tree, TreeMaker};
 use sched_base::{Leaf, NoMemory, NodeId, TaskId, TaskSet};
 use std::alloc::Global;
@@ -140,5 +141,22 @@ fn runs_a_tree_of_another_packing(rt: HostRuntime) -> Result<(), Fail> {
         &[0, 5, 10, 15, 25],
         &lanes,
     );
+    Ok(())
+}
+
+#[test]
+fn another_packing_by_the_definitions(rt: HostRuntime) -> Result<(), Fail> {
+    let plan = crossed_plan(&rt, rt.alloc())?;
+    assert!(rt; plan.rounds_end() <= 1 << 32);
+    let rows = plain_schedule(rt.alloc(), &plan)?;
+    let starts = [0, 5, 10, 15, 25];
+    let letters = b"acdbcdecdeab";
+    assert_eq!(rt; rows.len(), letters.len());
+    for (i, row) in rows.iter().enumerate() {
+        assert_eq!(rt; row.processor as usize, i % 3);
+        assert_eq!(rt; Some(row.start), starts.get(i / 3).copied());
+        assert_eq!(rt; Some(row.end), starts.get(i / 3 + 1).copied());
+        assert_eq!(rt; Some(letter(row.leaf)), letters.get(i).copied());
+    }
     Ok(())
 }
