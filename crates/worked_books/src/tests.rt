@@ -120,18 +120,19 @@ fn turn<Q: PostLedger>(
     book: &mut Book<Q, CountJob>,
     seat: &mut LaneSeat<Q>,
     row: Row,
-)
-    requires made { Q.made ≡ [] }
-{
+) {
     let p = seat.lane();
     assert_free(rt, book, p);
     assert_eq!(rt; seat.posted(), book.lane(p).posted);
     let Look::Ready {
         row: taken,
-        job: Some(mut job),
+        job: given,
     } = book.take(p)
     else {
-        panic!(rt; "no row of a task");
+        panic!(rt; "no row");
+    };
+    let Some(mut job) = given else {
+        panic!(rt; "no job");
     };
     assert_eq!(rt; taken, row);
     let _follows = book.log();
@@ -147,9 +148,7 @@ fn play<Q: PostLedger>(
     book: &mut Book<Q, CountJob>,
     seats: &mut [LaneSeat<Q>],
     steps: &[Step],
-)
-    requires made { Q.made ≡ [] }
-{
+) {
     for step in steps {
         match *step {
             Step::Turn(row) => {
