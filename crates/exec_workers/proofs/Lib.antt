@@ -1,0 +1,4 @@
+pub mod PlanLemmas
+pub mod FoundLemmas
+pub mod LookLemmas
+pub mod CloseLemmas

@@ -1,0 +1,13 @@
+use Rattle.std.proofs.Common.{◌≡◌, ℕ, true, refl, ap, ◌∙◌, arith, eq-eqb}
+use Rattle.std.proofs.lemmas.Bool.{eqb-true}
+use Rattle.sched_base.specs.Rows.{is_of_task}
+use Rattle.exec_workers.proofs.FoundLemmas.{job_of_task}
+use Rattle.exec_workers.proofs.found.is_job_of.Goals as goal
+
+pub returns-else-used-ticks : goal.returns-else-used-ticks
+returns-else-used-ticks g c = λ same.
+    let t = c.in-Task.task.0 in
+    let named : is_of_task t c.args.row.now.leaf ≡ true = ap (is_of_task t) c.in-Task.is ∙ eq-eqb t t refl in
+    let noted = c.handed.ensures c.args.row.now t c.requires.out named in
+    let before = eqb-true _ _ same in
+    job_of_task _ _ _ _ _ _ _ _ _ c.in-Task.is c.in-Some.is (omega (arith, c.id.ensures)) (omega (arith, noted, before, c.used-used.ensures)) c.requires.agrees

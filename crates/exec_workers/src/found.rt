@@ -1,0 +1,141 @@
+//! What is tested of a book that is found under the lock.
+ghost use Rattle.std.specs.Prelude.{◌≡◌, ◌<◌, ◌≤◌, ◌+◌, ◌-◌, ◌↔◌, ℕ, length, false, true, IsTrue, slice_index};
+ghost use Rattle.sched_base.specs.Tables.{RowAt};
+ghost use Rattle.sched_edges.specs.Jobs.{FaultsAre};
+ghost use Rattle.run_tree.specs.Plans.{IsPlan};
+ghost use Rattle.book_machine.specs.Machine.{IsOut, lane_at, posted_at};
+ghost use Rattle.book_machine.specs.Reached.{OutRow, counts_of};
+ghost use Rattle.exec_book.specs.PlanRows.{IsCompiled, plan_rows};
+ghost use Rattle.exec_book.specs.Jobs.{IsJobOf, posted_ticks};
+ghost use Rattle.exec_book.specs.Books.{IsDismissed};
+ghost use Rattle.exec_workers.specs.Promises.{Agrees};
+
+use exec_book::Book;
+use run_tree::Plan;
+use sched_base::{Leaf, Row};
+use sched_edges::Job;
+use unit_ledger::{LaneSeat, PostLedger};
+
+/// The ticks of a row.
+pub(crate) fn ticks_of(row: &Row) -> u128
+    ensures { result ≡ row.now.end - row.now.start }
+{
+    row.end.saturating_sub(row.start)
+}
+
+// Whether the book is one of this plan's set, and so of this plan.
+fn is_of_plan<Q: PostLedger, J: Job>(book: &Book<Q, J>, plan: &Plan) -> bool
+    requires { IsCompiled plan.now }
+    ensures same { IsTrue result ↔ (book.now.plan ≡ plan.now) }
+    ensures lawful { IsPlan book.now.plan }
+    ensures lanes { length book.now.state.lanes ≡ book.now.plan.tree.processors }
+{
+    let _lawful = plan.scale();
+    book.plan().set().is_same(plan.set())
+}
+
+/// Whether the book is of this plan and not dismissed, and stands at the seat's count with no row out on the seat's lane.
+pub(crate) fn is_free_at<Q: PostLedger, J: Job>(
+    book: &Book<Q, J>,
+    plan: &Plan,
+    seat: &LaneSeat<Q>,
+) -> bool
+    requires { IsCompiled plan.now }
+    ensures plan { IsTrue result → book.now.plan ≡ plan.now }
+    ensures open { IsTrue result → ¬ (IsDismissed book.now) }
+    ensures lane { IsTrue result → seat.now.lane < length book.now.state.lanes }
+    ensures free { IsTrue result → (lane_at book.now.state.lanes seat.now.lane).out ≡ false }
+    ensures count { IsTrue result → posted_at book.now.state seat.now.lane ≡ seat.now.posted }
+{
+    if !is_of_plan(book, plan) || book.dismissed() || seat.lane() >= plan.tree().processors() {
+        return false;
+    }
+    let lane = book.lane(seat.lane());
+    !lane.out && lane.posted == seat.posted()
+}
+
+/// Whether the book is halted, or each job at home has failed as often as is given.
+pub(crate) fn is_halted_or_told<Q: PostLedger, J: Job>(book: &Book<Q, J>, counts: &[u64]) -> bool
+    requires open { ¬ (IsDismissed book.now) }
+    requires counts { length counts.now ≡ length book.now.plan.set.tasks }
+    ensures { IsTrue result → book.now.state.halted ≡ false → FaultsAre J.faults book.now.jobs.places counts.now }
+{
+    book.halted() || book.faults_are(counts)
+}
+
+/// Whether the book is of this plan, and this row is out on the seat's lane at the seat's count.
+pub(crate) fn is_out_at<Q: PostLedger, J: Job>(
+    book: &Book<Q, J>,
+    plan: &Plan,
+    seat: &LaneSeat<Q>,
+    row: &Row,
+) -> bool
+    requires { IsCompiled plan.now }
+    ensures plan { IsTrue result → book.now.plan ≡ plan.now }
+    ensures count { IsTrue result → posted_at book.now.state seat.now.lane ≡ seat.now.posted }
+    ensures row { IsTrue result → OutRow (plan_rows book.now.plan) book.now.state seat.now.lane row.now }
+{
+    let p = seat.lane();
+    if !is_of_plan(book, plan) || book.dismissed() || p >= plan.tree().processors() {
+        return false;
+    }
+    let lane = book.lane(p);
+    if !lane.out || lane.posted != seat.posted() {
+        return false;
+    }
+    book.table().row(p, lane.posted) == *row
+}
+
+/// Whether a job is that of the row that is out on lane p, having worked that many ticks for it.
+pub(crate) fn is_job_of<Q: PostLedger, J: Job>(
+    book: &Book<Q, J>,
+    p: u32,
+    row: &Row,
+    job: &Option<J>,
+    ticks: u128,
+) -> bool
+    requires out { OutRow (plan_rows book.now.plan) book.now.state p row.now }
+    requires agrees { Agrees J.made Q.made row.now.leaf job.now }
+    ensures { IsTrue result → IsJobOf J.id J.used J.made Q.made (λ t. posted_ticks (plan_rows book.now.plan) book.now.state t + ticks) row.now.leaf job.now }
+{
+    match row.leaf {
+        Leaf::Task(task) => match job {
+            Some(job) => {
+                let used = job.used();
+                if job.id() != task.0 || used < ticks {
+                    return false;
+                }
+                used - ticks == book.handed(p)
+            }
+            None => false,
+        },
+        Leaf::Wait(_) => job.is_none(),
+        Leaf::Idle(_) => job.is_none(),
+        Leaf::Empty => job.is_none(),
+    }
+}
+
+/// Whether the book is of this plan and not dismissed, no row is out, and these are the posted counts.
+pub(crate) fn is_whole_at<Q: PostLedger, J: Job>(
+    book: &Book<Q, J>,
+    plan: &Plan,
+    posted: &[u64],
+) -> bool
+    requires compiled { IsCompiled plan.now }
+    requires lanes { length posted.now ≡ plan.now.tree.processors }
+    ensures plan { IsTrue result → book.now.plan ≡ plan.now }
+    ensures open { IsTrue result → ¬ (IsDismissed book.now) }
+    ensures none_out { IsTrue result → (p : ℕ) → ¬ (IsOut book.now.state p) }
+    ensures counts { IsTrue result → counts_of book.now.state.lanes ≡ posted.now }
+{
+    if !is_of_plan(book, plan) || book.dismissed() {
+        return false;
+    }
+    for p in 0..plan.tree().processors() {
+        let lane = book.lane(p);
+        if lane.out || lane.posted != posted[p as usize] {
+            return false;
+        }
+    }
+    true
+}

@@ -1,0 +1,19 @@
+//! The workers of the executive: one for each lane. A worker takes its lane's next row from the book, lets the lane's gate
+//! and the task's job run it, and posts it.
+//!
+//! A book is found under a lock, where no more is known of it than its type says. So each call tests the book that it finds,
+//! and tries again where the test fails.
+#![tactic(auto)]
+
+mod causes;
+mod close;
+mod found;
+mod kits;
+mod lanes;
+mod rows;
+
+pub use causes::Cause;
+pub use close::close_book;
+pub use kits::Kit;
+pub use lanes::Lane;
+pub use rows::{halt_row, post_row, take_row};

@@ -1,0 +1,94 @@
+//! Taking a row from the book, and putting it back.
+ghost use Rattle.std.specs.Prelude.{◌≡◌, ◌+◌, length};
+ghost use Rattle.exec_book.specs.PlanRows.{IsCompiled};
+ghost use Rattle.exec_workers.specs.Promises.{Agrees, Gives};
+
+use crate::found::{is_free_at, is_halted_or_told, is_job_of, is_out_at, ticks_of};
+use exec_book::{Book, Look};
+use run_tree::Plan;
+use sched_base::Row;
+use sched_edges::Job;
+use std::sync::{Mutex, Wait};
+use unit_ledger::{LaneSeat, PostLedger};
+
+/// Takes the next row of a seat's lane, with its task's job. `counts` says how often the job of each task has failed.
+///
+/// It tries again until it finds a book of this plan's set that isn't dismissed, has no row out on the lane and stands at
+/// the seat's count, and is halted or has jobs that have failed as often as is given. A book found halted says nothing
+/// further.
+pub fn take_row<Q: PostLedger, J: Job, R: Wait>(
+    rt: &R,
+    book: &Mutex<Book<Q, J>>,
+    plan: &Plan,
+    seat: &LaneSeat<Q>,
+    counts: &[u64],
+) -> Look<J>
+    requires compiled { IsCompiled plan.now }
+    requires counts { length counts.now ≡ length plan.now.set.tasks }
+    ensures { Gives J.id J.used J.made J.faults Q.made plan.now seat.now counts.now result }
+{
+    let _lawful = plan.scale();
+    for _ in rt.forever() {
+        let mut guard = book.lock(rt);
+        let held = &mut *guard;
+        if is_free_at(held, plan, seat) && is_halted_or_told(held, counts) {
+            return held.take(seat.lane());
+        }
+    }
+    unreachable!()
+}
+
+/// Posts a row that is out on a seat's lane, with its job, which has worked the row's ticks.
+///
+/// It tries again until it finds a book of this plan's set with this row out on the lane, which stands at the seat's count
+/// and to which the job belongs.
+pub fn post_row<Q: PostLedger, J: Job, R: Wait>(
+    rt: &R,
+    book: &Mutex<Book<Q, J>>,
+    plan: &Plan,
+    seat: &mut LaneSeat<Q>,
+    row: &Row,
+    job: Option<J>,
+)
+    requires compiled { IsCompiled plan.now }
+    requires agrees { Agrees J.made Q.made row.now.leaf job }
+    ensures { seat.new ≡ record seat.old { posted = seat.old.posted + 1 } }
+{
+    let ticks = ticks_of(row);
+    for _ in rt.forever() {
+        let mut guard = book.lock(rt);
+        let held = &mut *guard;
+        let p = seat.lane();
+        if is_out_at(held, plan, seat, row) && is_job_of(held, p, row, &job, ticks) {
+            held.post(p, seat, job);
+            return;
+        }
+    }
+    unreachable!()
+}
+
+/// Puts a row that is out on a seat's lane back unposted, with its job, which hasn't worked for it, and halts the book.
+///
+/// It tries again as `post_row` does.
+pub fn halt_row<Q: PostLedger, J: Job, R: Wait>(
+    rt: &R,
+    book: &Mutex<Book<Q, J>>,
+    plan: &Plan,
+    seat: &LaneSeat<Q>,
+    row: &Row,
+    job: Option<J>,
+)
+    requires compiled { IsCompiled plan.now }
+    requires agrees { Agrees J.made Q.made row.now.leaf job }
+{
+    for _ in rt.forever() {
+        let mut guard = book.lock(rt);
+        let held = &mut *guard;
+        let p = seat.lane();
+        if is_out_at(held, plan, seat, row) && is_job_of(held, p, row, &job, 0) {
+            held.halt(p, job);
+            return;
+        }
+    }
+    unreachable!()
+}
