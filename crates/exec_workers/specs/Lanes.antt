@@ -70,3 +70,7 @@ AllServed rows counts before now = (p : ℕ) → p < length before → Served ro
 -- no lane has failed
 abbrev pub NoneFailed : List LaneContents → Type 0
 NoneFailed lanes = (p : ℕ) → p < length lanes → (lane_in lanes p).cause ≡ None
+
+-- each lane has posted that many rows
+abbrev pub AllAt : ℕ → List LaneContents → Type 0
+AllAt rounds lanes = (p : ℕ) → p < length lanes → (lane_in lanes p).seat.posted ≡ rounds

@@ -1,3 +1,5 @@
 pub mod Lanes
 pub mod Promises
 pub mod Fronts
+pub mod Kits
+pub mod Ends

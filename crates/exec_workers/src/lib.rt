@@ -5,15 +5,22 @@
 //! and tries again where the test fails.
 #![tactic(auto)]
 
+mod answers;
 mod causes;
 mod close;
+mod ends;
 mod found;
 mod kits;
 mod lanes;
+mod passes;
 mod rows;
+mod serving;
+mod stage;
 
+pub use answers::{ExecFault, Executed};
 pub use causes::Cause;
 pub use close::close_book;
 pub use kits::Kit;
 pub use lanes::Lane;
 pub use rows::{halt_row, post_row, take_row};
+pub use serving::serve;

@@ -1,0 +1,104 @@
+//! Serving all lanes.
+ghost use Rattle.std.specs.Prelude.{◌≡◌, ◌≢◌, ◌<◌, ℕ, None, length, IsTrue, true, false};
+ghost use Rattle.run_tree.specs.Plans.{rounds_of};
+ghost use Rattle.exec_book.specs.PlanRows.{IsCompiled, plan_rows};
+ghost use Rattle.exec_workers.specs.Lanes.{lane_in, AllServed, NoneFailed, AllAt};
+
+use crate::lanes::Lane;
+use crate::serving::serve;
+use exec_book::Book;
+use run_tree::Plan;
+use sched_edges::{Gate, Job};
+use std::sync::{Mutex, Wait};
+use std::thread;
+use std::thread::Threads;
+use unit_ledger::PostLedger;
+
+/// Serves the lanes in passes, one worker for each lane, until all have posted that many rows or one has failed. False
+/// where one has failed.
+pub(crate) fn serve_passes<
+    G: Gate + Send,
+    Q: PostLedger + Send + Sync,
+    J: Job + Send,
+    R: Threads + Wait + Sync,
+>(
+    rt: &R,
+    book: &Mutex<Book<Q, J>>,
+    plan: &Plan,
+    lanes: &mut [Lane<G, Q>],
+    counts: &[u64],
+    rounds: u64,
+) -> bool
+    requires compiled { IsCompiled plan.now }
+    requires counts { length counts.now ≡ length plan.now.set.tasks }
+    requires fresh { NoneFailed lanes.old }
+    ensures served { AllServed (plan_rows plan.now) counts.now lanes.old lanes.new }
+    ensures done { IsTrue result → NoneFailed lanes.new × AllAt rounds lanes.new }
+    ensures failed { result ≡ false → (p : ℕ) × (p < length lanes.new) × ((lane_in lanes.new p).cause ≢ None) }
+{
+    for _ in rt.forever() {
+        serve_all(rt, book, plan, lanes, counts);
+        if any_failed(lanes) {
+            return false;
+        }
+        if all_at(lanes, rounds) {
+            return true;
+        }
+    }
+    unreachable!()
+}
+
+// Serves each lane once, in a thread of its own where one can be made.
+fn serve_all<
+    G: Gate + Send,
+    Q: PostLedger + Send + Sync,
+    J: Job + Send,
+    R: Threads + Wait + Sync,
+>(
+    rt: &R,
+    book: &Mutex<Book<Q, J>>,
+    plan: &Plan,
+    lanes: &mut [Lane<G, Q>],
+    counts: &[u64],
+)
+    requires compiled { IsCompiled plan.now }
+    requires counts { length counts.now ≡ length plan.now.set.tasks }
+    requires fresh { NoneFailed lanes.old }
+    ensures { AllServed (plan_rows plan.now) counts.now lanes.old lanes.new }
+{
+    let workers = lanes.len();
+    if workers == 0 {
+        return;
+    }
+    thread::for_each_mut(
+        rt,
+        lanes,
+        workers,
+        &|_, lane: &mut Lane<G, Q>| serve(rt, book, plan, lane, counts),
+    );
+}
+
+// Whether some lane has failed.
+fn any_failed<G: Gate, Q: PostLedger>(lanes: &[Lane<G, Q>]) -> bool
+    ensures none { result ≡ false → NoneFailed lanes.now }
+    ensures some { IsTrue result → (p : ℕ) × (p < length lanes.now) × ((lane_in lanes.now p).cause ≢ None) }
+{
+    for lane in lanes {
+        if lane.cause.is_some() {
+            return true;
+        }
+    }
+    false
+}
+
+// Whether each lane has posted that many rows.
+fn all_at<G: Gate, Q: PostLedger>(lanes: &[Lane<G, Q>], rounds: u64) -> bool
+    ensures { IsTrue result → AllAt rounds lanes.now }
+{
+    for lane in lanes {
+        if lane.seat.posted() != rounds {
+            return false;
+        }
+    }
+    true
+}
