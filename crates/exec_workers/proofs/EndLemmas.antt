@@ -1,6 +1,6 @@
 -- The counts of faults once each lane's failure is noted.
-use Rattle.std.proofs.Common.{◌≡◌, ◌≢◌, ℕ, ◌+◌, ◌<◌, ◌≤◌, List, Option, Some, None, length, set, get_or, refl, sym, ap, ◌∙◌, subst, arith, inl, inr}
-use Rattle.std.specs.Prelude.{slice_index, slice_set}
+use Rattle.std.proofs.Common.{◌≡◌, ◌≢◌, ℕ, ◌+◌, ◌<◌, ◌≤◌, Bool, true, false, List, Option, Some, None, length, set, get_or, refl, sym, ap, ◌∙◌, subst, arith, inl, inr}
+use Rattle.std.specs.Prelude.{slice_index, slice_set, IfNone}
 use Rattle.std.proofs.lemmas.Bool.{cases_eq}
 use Rattle.std.proofs.lemmas.List.{get_or-set_same, get_or-set_other}
 use Rattle.sched_base.specs.declared.rows.Leaf.{Leaf}
@@ -9,8 +9,8 @@ use Rattle.sched_base.specs.declared.rows.TaskId.{TaskId}
 use Rattle.sched_base.specs.declared.rows.Row.{Row}
 use Rattle.exec_workers.specs.declared.causes.Cause.{Cause}
 use Rattle.exec_workers.specs.declared.causes.Cause.TheVariants as cause
-use Rattle.exec_workers.specs.Lanes.{LaneContents, HasRisen, JobRose, lane_in}
-use Rattle.exec_workers.specs.Ends.{JobFailed, JobsRose, KeepsCounts}
+use Rattle.exec_workers.specs.Lanes.{LaneContents, HasRisen, JobRose, IsCaused, AllServed, AllAt, NoneFailed, lane_in}
+use Rattle.exec_workers.specs.Ends.{JobFailed, NoGateBefore, NoJobBefore, JobsRose, KeepsCounts}
 
 same_row : (r q : Row) (m n : ℕ) → Some (cause.Job r m) ≡ Some (cause.Job q n) → r ≡ q
 same_row r q m n same = cc
@@ -86,3 +86,30 @@ job_within counts lanes k r n task rose within is leaf =
     let risen = rose k r n within is in
     let same = same_task risen.task task (sym risen.of_task ∙ leaf) in
     subst (λ (x : TaskId). x.0 < length counts) same risen.given
+
+-- the jobs that failed on lanes that were served have counts that rose
+pub jobs_rose : (rows : List (List Row)) (counts : List ℕ) (before now : List LaneContents) → length now ≡ length before → AllServed rows counts before now → JobsRose counts now
+jobs_rose rows counts before now long served p r n within is =
+    let lane = served p (omega (arith, within, long)) in
+    let caused : IsCaused (Some (cause.Job r n)) (lane_in before p).faults (lane_in now p).faults counts = subst (λ o. IsCaused o (lane_in before p).faults (lane_in now p).faults counts) is lane.caused in
+    caused.1
+
+no_cause : (lanes : List LaneContents) (counts : List ℕ) → NoGateBefore lanes (length lanes) → NoJobBefore lanes (length lanes) → JobsRose counts lanes → (p : ℕ) → p < length lanes → (o : Option Cause) → (lane_in lanes p).cause ≡ o → o ≡ None
+no_cause lanes counts no_gate no_job rose p within None is = refl
+no_cause lanes counts no_gate no_job rose p within (Some (cause.Gate r)) is = absurd (no_gate p r within (within, is))
+no_cause lanes counts no_gate no_job rose p within (Some (cause.Job r n)) is =
+    let risen = rose p r n within is in
+    absurd (no_job p risen.task.0 r n within (record { lane = within; cause = is; of_task = risen.of_task }))
+
+-- where no gate and no job failed, nothing did
+pub none_failed : (lanes : List LaneContents) (counts : List ℕ) → NoGateBefore lanes (length lanes) → NoJobBefore lanes (length lanes) → JobsRose counts lanes → NoneFailed lanes
+none_failed lanes counts no_gate no_job rose p within = no_cause lanes counts no_gate no_job rose p within (lane_in lanes p).cause refl
+
+pub if_none : {X A B : Type 0} (o : Option X) → (A → B) → IfNone o A → IfNone o B
+if_none None f h = f h
+if_none (Some x) f h = tt
+
+-- where nothing failed, the passes went on until all was posted
+pub all_at_end : (lanes : List LaneContents) (done : Bool) (rounds : ℕ) → NoneFailed lanes → (done ≡ true → NoneFailed lanes × AllAt rounds lanes) → (done ≡ false → (p : ℕ) × (p < length lanes) × ((lane_in lanes p).cause ≢ None)) → AllAt rounds lanes
+all_at_end lanes true rounds none done failed = (done refl).1
+all_at_end lanes false rounds none done failed = let some = failed refl in absurd (some.2 (none some.0 some.1))

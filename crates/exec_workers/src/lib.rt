@@ -14,6 +14,7 @@ mod kits;
 mod lanes;
 mod passes;
 mod rows;
+mod run;
 mod serving;
 mod stage;
 

@@ -7,7 +7,7 @@ ghost use Rattle.exec_workers.specs.Kits.{KitAt, IsOut, AreFilled, IsGateOf, lan
 
 use crate::kits::Kit;
 use crate::lanes::Lane;
-use sched_base::NoMemory;
+use sched_base::{NoMemory, Totals};
 use sched_edges::{Gate, Job, JobList};
 use std::alloc::Global;
 use unit_ledger::{PostLedger, Seats};
@@ -117,4 +117,17 @@ pub(crate) fn fault_counts<J: Job>(alloc: Global, jobs: &JobList<J>, n: u32) -> 
         counts.push(jobs.faults(t))?;
     }
     Ok(counts)
+}
+
+/// Appends the ticks that the jobs of the first n tasks have worked.
+pub(crate) fn push_totals<J: Job>(jobs: &JobList<J>, totals: &mut Totals, n: u32)
+    requires none { totals.old.ticks ≡ [] }
+    requires room { n ≤ totals.old.room }
+    requires there { (t : ℕ) → t < n → (job : J) × JobAt jobs.now.places t job }
+    ensures count { length totals.new.ticks ≡ n }
+    ensures ticks { (t : ℕ) (job : J) → t < n → JobAt jobs.now.places t job → slice_index totals.new.ticks t ≡ J.used job }
+{
+    for t in 0..n {
+        totals.push(jobs.used(t));
+    }
 }

@@ -1,0 +1,71 @@
+-- What a run does to the gates and to the jobs, and what it answers.
+use Rattle.std.specs.Prelude.{ℕ, ◌≡◌, ◌<◌, ◌≤◌, List, ◌++◌, Option, Some, None, Result, Ok, Err, length, slice_get, take}
+use Rattle.sched_base.specs.declared.rows.Row.{Row}
+use Rattle.sched_base.specs.Tables.{lane_of, ticks_of, all_rows}
+use Rattle.sched_base.specs.Valid.{IsValid}
+use Rattle.sched_edges.specs.Gates.{grown}
+use Rattle.sched_edges.specs.Jobs.{JobAt}
+use Rattle.run_tree.specs.Plans.{PlanContents, rounds_of, stop_of}
+use Rattle.row_totals.specs.Sums.{totals_of}
+use Rattle.exec_book.specs.PlanRows.{plan_rows}
+use Rattle.exec_book.specs.Jobs.{Made}
+use Rattle.exec_workers.specs.declared.kits.Kit.{Kit}
+use Rattle.exec_workers.specs.declared.causes.Cause.{Cause}
+use Rattle.exec_workers.specs.declared.causes.Cause.TheVariants as cause
+use Rattle.exec_workers.specs.declared.answers.Executed.{Executed}
+use Rattle.exec_workers.specs.declared.answers.ExecFault.{ExecFault}
+use Rattle.exec_workers.specs.declared.answers.ExecFault.TheVariants as fault
+use Rattle.exec_workers.specs.Lanes.{LaneContents, HasRisen, NoneFailed, AllAt, FailsNext, lane_in, unposted}
+use Rattle.exec_workers.specs.Kits.{KitAt}
+use Rattle.exec_workers.specs.Ends.{JobFailed, NamesLowest, posted_by}
+use Rattle.exec_workers.specs.Fronts.{IsFrontAt}
+
+-- a gate's count of faults rose where the gate failed, and else is as before
+abbrev pub CountsGate : Option Cause → ℕ → ℕ → Type 0
+CountsGate None before now = now ≡ before
+CountsGate (Some (cause.Gate r)) before now = HasRisen before now
+CountsGate (Some (cause.Job r faults)) before now = now ≡ before
+
+-- the gate of a lane ran the rows that the lane posted, and the one whose job failed; a failed row is the lane's next one
+pub record GateRan {G : Type 0} (ran : G → Option (List Row)) (faults : G → ℕ) (rows : List (List Row)) (q : ℕ) (lane : LaneContents) (before now : G) : Type 0 where
+  pub list : ran now ≡ grown (ran before) (take lane.seat.posted (lane_of rows q) ++ unposted lane.cause)
+  pub count : CountsGate lane.cause (faults before) (faults now)
+  pub own : lane.seat.lane ≡ q
+  pub next : FailsNext rows lane.seat lane.cause
+
+-- a task's job is the one that it was and has used these ticks, and its count of faults rose where it failed, and else is as before
+pub record JobRan {J : Type 0} (id used : J → ℕ) (made : J → Made) (faults : J → ℕ) (lanes : List LaneContents) (t ticks : ℕ) (before now : J) : Type 0 where
+  pub own : id now ≡ id before
+  pub made_of : made now ≡ made before
+  pub worked : used now ≡ ticks
+  pub later : faults before ≤ faults now
+  pub risen : (q : ℕ) (r : Row) (n : ℕ) → JobFailed lanes q t r n → HasRisen (faults before) (faults now)
+  pub same : ((q : ℕ) (r : Row) (n : ℕ) → JobFailed lanes q t r n → ⊥) → faults now ≡ faults before
+
+-- a run that ended with these lanes: what was posted is a front of the plan's schedule, each gate ran its lane's first rows,
+-- and each task's job has used the ticks of its posted rows
+pub record Ran {G J : Type 0} (ran : G → Option (List Row)) (gate_faults : G → ℕ) (id used : J → ℕ) (made : J → Made) (job_faults : J → ℕ) (p : PlanContents) (kits kits' : List (Kit G)) (places places' : List (Option J)) (lanes : List LaneContents) : Type 0 where
+  pub width : length lanes ≡ p.tree.processors
+  pub front : (horizon : ℕ) × IsFrontAt p (posted_by lanes) horizon
+  pub gates : (q : ℕ) (gate : G) → q < p.tree.processors → KitAt kits q gate → (now : G) × KitAt kits' q now × GateRan ran gate_faults (plan_rows p) q (lane_in lanes q) gate now
+  pub other_kits : (q : ℕ) → p.tree.processors ≤ q → slice_get kits' q ≡ slice_get kits q
+  pub jobs : (t : ℕ) (job : J) → t < length p.set.tasks → JobAt places t job → (now : J) × JobAt places' t now × JobRan id used made job_faults lanes t (ticks_of t (plan_rows p) (posted_by lanes)) job now
+  pub other_jobs : (t : ℕ) → length p.set.tasks ≤ t → slice_get places' t ≡ slice_get places t
+
+-- nothing failed, and all rounds of the plan's schedule were run
+pub record RanAll (p : PlanContents) (lanes : List LaneContents) (e : Executed) : Type 0 where
+  pub none_failed : NoneFailed lanes
+  pub all_posted : AllAt (rounds_of p) lanes
+  pub table : e.table.lanes ≡ plan_rows p
+  pub totals : e.totals.ticks ≡ totals_of (length p.set.tasks) (plan_rows p)
+  pub valid : IsValid p.set p.tree.scale (stop_of p) (stop_of p) (all_rows (plan_rows p))
+
+-- what an answer says of the lanes
+abbrev pub Says : PlanContents → List LaneContents → Result Executed ExecFault → Type 0
+Says p lanes (Ok e) = RanAll p lanes e
+Says p lanes (Err f) = NamesLowest lanes f
+
+-- what a run does, with what it answers
+abbrev pub Outcome : {G J : Type 0} → (G → Option (List Row)) → (G → ℕ) → (J → ℕ) → (J → ℕ) → (J → Made) → (J → ℕ) → PlanContents → List (Kit G) → List (Kit G) → List (Option J) → List (Option J) → Result Executed ExecFault → Type 0
+Outcome ran gate_faults id used made job_faults p kits kits' places places' (Err fault.NoMemory) = (kits' ≡ kits) × (places' ≡ places)
+Outcome ran gate_faults id used made job_faults p kits kits' places places' result = (lanes : List LaneContents) × Ran ran gate_faults id used made job_faults p kits kits' places places' lanes × Says p lanes result

@@ -1,0 +1,65 @@
+//! One run over a book.
+ghost use Rattle.std.specs.Prelude.{◌≡◌, ◌≤◌, ◌<◌, ℕ, length, slice_index, sum, IfSome, IfNone};
+ghost use Rattle.sched_base.specs.Tables.{rounds_of as rounds_in, ticks_of};
+ghost use Rattle.sched_edges.specs.Jobs.{FaultsAre};
+ghost use Rattle.run_tree.specs.Plans.{rounds_of};
+ghost use Rattle.book_machine.specs.Rounds.{AreFirstRounds};
+ghost use Rattle.exec_book.specs.PlanRows.{IsCompiled, plan_rows};
+ghost use Rattle.exec_book.specs.Jobs.{AllAtHome};
+ghost use Rattle.exec_workers.specs.Lanes.{AllServed, NoneFailed, AllAt};
+ghost use Rattle.exec_workers.specs.Ends.{NamesLowest, KeepsCounts, posted_by};
+ghost use Rattle.exec_workers.specs.Fronts.{IsFrontAt};
+
+use crate::answers::ExecFault;
+use crate::close::close_book;
+use crate::ends::{first_fault, note_faults, note_posted};
+use crate::lanes::Lane;
+use crate::passes::serve_passes;
+use exec_book::{Book, Closing};
+use run_tree::Plan;
+use sched_edges::{Gate, Job};
+use std::sync::{Mutex, Wait};
+use std::thread::Threads;
+use unit_ledger::PostLedger;
+
+/// Serves all lanes to the end, or until one has failed, and closes the book. `counts` says how often each task's job has
+/// failed, before and after.
+pub(crate) fn serve_book<
+    G: Gate + Send,
+    Q: PostLedger + Send + Sync,
+    J: Job + Send,
+    R: Threads + Wait + Sync,
+>(
+    rt: &R,
+    book: &Mutex<Book<Q, J>>,
+    plan: &Plan,
+    rounds: u64,
+    lanes: &mut [Lane<G, Q>],
+    counts: &mut [u64],
+    posted: &mut [u64],
+) -> (Closing<Q, J>, Option<ExecFault>)
+    requires compiled { IsCompiled plan.now }
+    requires rounds { rounds ≡ rounds_of plan.now }
+    requires counts { length counts.old ≡ length plan.now.set.tasks }
+    requires width { length lanes.old ≡ plan.now.tree.processors }
+    requires places { length posted.old ≡ length lanes.old }
+    requires fresh { NoneFailed lanes.old }
+    ensures served { AllServed (plan_rows plan.now) counts.old lanes.old lanes.new }
+    ensures counts { KeepsCounts lanes.new (length lanes.new) counts.old counts.new }
+    ensures side { result.0.side ≡ sum (posted_by lanes.new) }
+    ensures jobs { AllAtHome J.id J.used J.made Q.made (length plan.now.set.tasks) (λ t. ticks_of t (plan_rows plan.now) (posted_by lanes.new)) result.0.jobs.places }
+    ensures faults { FaultsAre J.faults result.0.jobs.places counts.new }
+    ensures table { AreFirstRounds result.0.table.lanes (plan_rows plan.now) }
+    ensures held { (p : ℕ) → slice_index (posted_by lanes.new) p ≤ rounds_in result.0.table.lanes }
+    ensures front { (horizon : ℕ) × IsFrontAt plan.now (posted_by lanes.new) horizon }
+    ensures some { IfSome result.1 (λ fault. NamesLowest lanes.new fault) }
+    ensures none { IfNone result.1 (NoneFailed lanes.new × AllAt (rounds_of plan.now) lanes.new) }
+{
+    let _few = plan.tree().processors();
+    serve_passes(rt, book, plan, lanes, counts, rounds);
+    note_posted(lanes, posted);
+    note_faults(lanes, counts);
+    let fault = first_fault(lanes);
+    let closing = close_book(rt, book, plan, posted, counts);
+    (closing, fault)
+}
