@@ -6,3 +6,4 @@ pub mod ServeLemmas
 pub mod PlaceLemmas
 pub mod EndLemmas
 pub mod StageLemmas
+pub mod RunLemmas

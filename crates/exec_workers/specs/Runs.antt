@@ -1,14 +1,15 @@
 -- What a run does to the gates and to the jobs, and what it answers.
-use Rattle.std.specs.Prelude.{ℕ, ◌≡◌, ◌<◌, ◌≤◌, List, ◌++◌, Option, Some, None, Result, Ok, Err, length, slice_get, take}
+use Rattle.std.specs.Prelude.{ℕ, ◌≡◌, ◌<◌, ◌≤◌, List, ◌++◌, Option, Some, None, Result, Ok, Err, length, slice_get, slice_index, take}
 use Rattle.sched_base.specs.declared.rows.Row.{Row}
-use Rattle.sched_base.specs.Tables.{lane_of, ticks_of, all_rows}
+use Rattle.sched_base.specs.Tables.{Table, lane_of, ticks_of, all_rows, rounds_of as rounds_in}
 use Rattle.sched_base.specs.Valid.{IsValid}
 use Rattle.sched_edges.specs.Gates.{grown}
-use Rattle.sched_edges.specs.Jobs.{JobAt}
+use Rattle.sched_edges.specs.Jobs.{JobAt, FaultsAre}
 use Rattle.run_tree.specs.Plans.{PlanContents, rounds_of, stop_of}
 use Rattle.row_totals.specs.Sums.{totals_of}
 use Rattle.exec_book.specs.PlanRows.{plan_rows}
-use Rattle.exec_book.specs.Jobs.{Made}
+use Rattle.book_machine.specs.Rounds.{AreFirstRounds}
+use Rattle.exec_book.specs.Jobs.{Made, AllAtHome}
 use Rattle.exec_workers.specs.declared.kits.Kit.{Kit}
 use Rattle.exec_workers.specs.declared.causes.Cause.{Cause}
 use Rattle.exec_workers.specs.declared.causes.Cause.TheVariants as cause
@@ -17,7 +18,7 @@ use Rattle.exec_workers.specs.declared.answers.ExecFault.{ExecFault}
 use Rattle.exec_workers.specs.declared.answers.ExecFault.TheVariants as fault
 use Rattle.exec_workers.specs.Lanes.{LaneContents, HasRisen, NoneFailed, AllAt, FailsNext, lane_in, unposted}
 use Rattle.exec_workers.specs.Kits.{KitAt}
-use Rattle.exec_workers.specs.Ends.{JobFailed, NamesLowest, posted_by}
+use Rattle.exec_workers.specs.Ends.{JobFailed, KeepsCounts, NamesLowest, posted_by}
 use Rattle.exec_workers.specs.Fronts.{IsFrontAt}
 
 -- a gate's count of faults rose where the gate failed, and else is as before
@@ -51,6 +52,26 @@ pub record Ran {G J : Type 0} (ran : G → Option (List Row)) (gate_faults : G �
   pub other_kits : (q : ℕ) → p.tree.processors ≤ q → slice_get kits' q ≡ slice_get kits q
   pub jobs : (t : ℕ) (job : J) → t < length p.set.tasks → JobAt places t job → (now : J) × JobAt places' t now × JobRan id used made job_faults lanes t (ticks_of t (plan_rows p) (posted_by lanes)) job now
   pub other_jobs : (t : ℕ) → length p.set.tasks ≤ t → slice_get places' t ≡ slice_get places t
+
+-- the same, of the gates alone, where the jobs' counts of faults are still to be handed on
+pub record GatesRan {G : Type 0} (ran : G → Option (List Row)) (faults : G → ℕ) (p : PlanContents) (counts counts' : List ℕ) (kits kits' : List (Kit G)) (lanes : List LaneContents) : Type 0 where
+  pub width : length lanes ≡ p.tree.processors
+  pub front : (horizon : ℕ) × IsFrontAt p (posted_by lanes) horizon
+  pub gates : (q : ℕ) (gate : G) → q < p.tree.processors → KitAt kits q gate → (now : G) × KitAt kits' q now × GateRan ran faults (plan_rows p) q (lane_in lanes q) gate now
+  pub other_kits : (q : ℕ) → p.tree.processors ≤ q → slice_get kits' q ≡ slice_get kits q
+  pub counts_kept : KeepsCounts lanes (length lanes) counts counts'
+
+-- what the closed book handed out: the jobs, with the ticks of the posted rows, and the rounds that it computed
+pub record HandedOut {J : Type 0} (id used : J → ℕ) (made : J → Made) (faults : J → ℕ) (all_made : List Made) (p : PlanContents) (counts : List ℕ) (lanes : List LaneContents) (places : List (Option J)) (table : Table) : Type 0 where
+  pub jobs : AllAtHome id used made all_made (length p.set.tasks) (λ t. ticks_of t (plan_rows p) (posted_by lanes)) places
+  pub told : FaultsAre faults places counts
+  pub first : AreFirstRounds table.lanes (plan_rows p)
+  pub held : (q : ℕ) → slice_index (posted_by lanes) q ≤ rounds_in table.lanes
+
+-- a failure is the lowest one; where there is none, all lanes have posted that many rows
+abbrev pub NamesFirst : ℕ → List LaneContents → Option ExecFault → Type 0
+NamesFirst rounds lanes None = NoneFailed lanes × AllAt rounds lanes
+NamesFirst rounds lanes (Some f) = NamesLowest lanes f
 
 -- nothing failed, and all rounds of the plan's schedule were run
 pub record RanAll (p : PlanContents) (lanes : List LaneContents) (e : Executed) : Type 0 where

@@ -1,26 +1,87 @@
 //! One run over a book.
-ghost use Rattle.std.specs.Prelude.{◌≡◌, ◌≤◌, ◌<◌, ℕ, length, slice_index, sum, IfSome, IfNone};
+ghost use Rattle.std.specs.Prelude.{◌≡◌, ◌≤◌, ◌<◌, ℕ, List, length, slice_index, sum, IfSome, IfNone, vec_len, vec_capacity};
 ghost use Rattle.sched_base.specs.Tables.{rounds_of as rounds_in, ticks_of};
 ghost use Rattle.sched_edges.specs.Jobs.{FaultsAre};
 ghost use Rattle.run_tree.specs.Plans.{rounds_of};
 ghost use Rattle.book_machine.specs.Rounds.{AreFirstRounds};
 ghost use Rattle.exec_book.specs.PlanRows.{IsCompiled, plan_rows};
 ghost use Rattle.exec_book.specs.Jobs.{AllAtHome};
-ghost use Rattle.exec_workers.specs.Lanes.{AllServed, NoneFailed, AllAt};
+ghost use Rattle.unit_ledger.specs.Seats.{seats_at_start};
+ghost use Rattle.exec_workers.specs.Lanes.{LaneContents, AllServed, NoneFailed, AllAt};
+ghost use Rattle.exec_workers.specs.Kits.{AreFilled};
 ghost use Rattle.exec_workers.specs.Ends.{NamesLowest, KeepsCounts, posted_by};
 ghost use Rattle.exec_workers.specs.Fronts.{IsFrontAt};
+ghost use Rattle.exec_workers.specs.Runs.{GatesRan, HandedOut, NamesFirst};
 
 use crate::answers::ExecFault;
 use crate::close::close_book;
 use crate::ends::{first_fault, note_faults, note_posted};
+use crate::kits::Kit;
 use crate::lanes::Lane;
 use crate::passes::serve_passes;
+use crate::stage::{empty_lanes, fill_lanes};
 use exec_book::{Book, Closing};
 use run_tree::Plan;
-use sched_edges::{Gate, Job};
+use sched_base::RowTable;
+use sched_edges::{Gate, Job, JobList};
 use std::sync::{Mutex, Wait};
 use std::thread::Threads;
-use unit_ledger::PostLedger;
+use unit_ledger::{PostLedger, Seats};
+
+/// What a run leaves beside the gates: the jobs, the rounds computed, and the failure that is to be named.
+#[derive(Drop)]
+pub(crate) struct Ended<J> {
+    pub(crate) jobs: JobList<J>,
+    pub(crate) table: RowTable,
+    pub(crate) fault: Option<ExecFault>,
+}
+
+/// Runs the gates of the first kits over a book that nobody has taken from. `counts` says how often each task's job has
+/// failed, before and after; `lanes` and `posted` have room for all lanes.
+pub(crate) fn run_gates<
+    G: Gate + Send,
+    Q: PostLedger + Send + Sync,
+    J: Job + Send,
+    R: Threads + Wait + Sync,
+>(
+    rt: &R,
+    book: &Mutex<Book<Q, J>>,
+    plan: &Plan,
+    rounds: u64,
+    seats: Seats<Q>,
+    kits: &mut [Kit<G>],
+    lanes: Vec<Lane<G, Q>>,
+    counts: &mut [u64],
+    posted: &mut [u64],
+) -> Ended<J>
+    requires compiled { IsCompiled plan.now }
+    requires rounds { rounds ≡ rounds_of plan.now }
+    requires counts { length counts.old ≡ length plan.now.set.tasks }
+    requires seats { seats ≡ seats_at_start plan.now.tree.processors }
+    requires kits { AreFilled plan.now.tree.processors kits.old }
+    requires none { vec_len lanes ≡ 0 }
+    requires room { plan.now.tree.processors ≤ vec_capacity lanes }
+    requires places { length posted.old ≡ plan.now.tree.processors }
+    ensures { (ends : List LaneContents) × GatesRan G.ran G.faults plan.now counts.old counts.new kits.old kits.new ends × HandedOut J.id J.used J.made J.faults Q.made plan.now counts.new ends result.jobs.places result.table × NamesFirst (rounds_of plan.now) ends result.fault }
+{
+    let m = plan.tree().processors();
+    let mut seats = seats;
+    let mut lanes = lanes;
+    fill_lanes(kits, &mut seats, &mut lanes, m);
+    let (closing, fault) = serve_book(
+        rt,
+        book,
+        plan,
+        rounds,
+        lanes.as_mut_slice(),
+        counts,
+        posted,
+    );
+    empty_lanes(kits, &mut seats, lanes);
+    let Closing { jobs, side, table } = closing;
+    let _posts = unit_ledger::close(side, seats);
+    Ended { jobs, table, fault }
+}
 
 /// Serves all lanes to the end, or until one has failed, and closes the book. `counts` says how often each task's job has
 /// failed, before and after.
