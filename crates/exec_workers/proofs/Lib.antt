@@ -7,3 +7,4 @@ pub mod PlaceLemmas
 pub mod EndLemmas
 pub mod StageLemmas
 pub mod RunLemmas
+pub mod WholeLemmas

@@ -9,6 +9,7 @@ mod answers;
 mod causes;
 mod close;
 mod ends;
+mod execute;
 mod found;
 mod kits;
 mod lanes;
