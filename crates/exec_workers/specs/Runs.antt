@@ -1,7 +1,7 @@
 -- What a run does to the gates and to the jobs, and what it answers.
-use Rattle.std.specs.Prelude.{ℕ, ◌≡◌, ◌<◌, ◌≤◌, List, ◌++◌, Option, Some, None, Result, Ok, Err, length, slice_get, slice_index, take}
+use Rattle.std.specs.Prelude.{ℕ, ◌≡◌, ◌<◌, ◌≤◌, List, [], ◌++◌, Option, Some, None, Result, Ok, Err, IfSome, length, slice_get, slice_index, take}
 use Rattle.sched_base.specs.declared.rows.Row.{Row}
-use Rattle.sched_base.specs.Tables.{Table, lane_of, ticks_of, all_rows, rounds_of as rounds_in}
+use Rattle.sched_base.specs.Tables.{Table, lane_of, ticks_in, ticks_of, all_rows, rounds_of as rounds_in}
 use Rattle.sched_base.specs.Valid.{IsValid}
 use Rattle.sched_edges.specs.Gates.{grown}
 use Rattle.sched_edges.specs.Jobs.{JobAt, FaultsAre}
@@ -90,3 +90,27 @@ Says p lanes (Err f) = NamesLowest lanes f
 abbrev pub Outcome : {G J : Type 0} → (G → Option (List Row)) → (G → ℕ) → (J → ℕ) → (J → ℕ) → (J → Made) → (J → ℕ) → PlanContents → List (Kit G) → List (Kit G) → List (Option J) → List (Option J) → Result Executed ExecFault → Type 0
 Outcome ran gate_faults id used made job_faults p kits kits' places places' (Err fault.NoMemory) = (kits' ≡ kits) × (places' ≡ places)
 Outcome ran gate_faults id used made job_faults p kits kits' places places' result = (lanes : List LaneContents) × Ran ran gate_faults id used made job_faults p kits kits' places places' lanes × Says p lanes result
+
+-- each gate's list grew by exactly its lane's rows
+abbrev pub GatesGrew : {G : Type 0} → (G → Option (List Row)) → PlanContents → List (Kit G) → List (Kit G) → Type 0
+GatesGrew {G} ran p kits kits' = (q : ℕ) (gate : G) → q < p.tree.processors → KitAt kits q gate → (now : G) × KitAt kits' q now × (ran now ≡ grown (ran gate) (lane_of (plan_rows p) q))
+
+-- the lists of the gates are empty, where they are told
+abbrev pub AreEmpty : {G : Type 0} → (G → Option (List Row)) → PlanContents → List (Kit G) → Type 0
+AreEmpty {G} ran p kits = (q : ℕ) (gate : G) → q < p.tree.processors → KitAt kits q gate → IfSome (ran gate) (λ list. list ≡ [])
+
+-- each gate's list is exactly its lane's rows, where it is told
+abbrev pub GatesList : {G : Type 0} → (G → Option (List Row)) → PlanContents → List (Kit G) → Type 0
+GatesList {G} ran p kits = (q : ℕ) (gate : G) → q < p.tree.processors → KitAt kits q gate → IfSome (ran gate) (λ list. list ≡ lane_of (plan_rows p) q)
+
+-- each gate's list is some of the first of its lane's rows, where it is told
+abbrev pub GatesListFirst : {G : Type 0} → (G → Option (List Row)) → PlanContents → List (Kit G) → Type 0
+GatesListFirst {G} ran p kits = (q : ℕ) (gate : G) → q < p.tree.processors → KitAt kits q gate → IfSome (ran gate) (λ list. (k : ℕ) × (list ≡ take k (lane_of (plan_rows p) q)))
+
+-- each task has its own job, which has used the sum of the task's rows
+abbrev pub JobsUsedAll : {J : Type 0} → (J → ℕ) → (J → ℕ) → PlanContents → List (Option J) → Type 0
+JobsUsedAll {J} id used p places = (t : ℕ) → t < length p.set.tasks → (job : J) × JobAt places t job × (id job ≡ t) × (used job ≡ ticks_in t (all_rows (plan_rows p)))
+
+-- each of the tasks has its own job, which has worked no tick yet
+abbrev pub AreFresh : {J : Type 0} → (J → ℕ) → (J → ℕ) → ℕ → List (Option J) → Type 0
+AreFresh {J} id used n places = (t : ℕ) → t < n → (job : J) × JobAt places t job × (id job ≡ t) × (used job ≡ 0)

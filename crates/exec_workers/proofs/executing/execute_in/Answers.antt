@@ -12,8 +12,8 @@ use Rattle.exec_workers.specs.Runs.{Ran, NamesFirst, Outcome}
 use Rattle.exec_workers.proofs.RunLemmas.{written_back}
 use Rattle.exec_workers.proofs.StageLemmas.{same_job}
 use Rattle.exec_workers.proofs.WholeLemmas.{job_ran, ran_all, outcome_of, same_places}
-use Rattle.exec_workers.proofs.execute.execute_in.Goals as goal
-use Rattle.exec_workers.proofs.execute.execute_in.Goals.{After-count-n, After-lay_jobs-2}
+use Rattle.exec_workers.proofs.executing.execute_in.Goals as goal
+use Rattle.exec_workers.proofs.executing.execute_in.Goals.{After-count-n, After-lay_jobs-2}
 
 module _ (g : _) (c : After-count-n g) where
   tasks : c.count-n.result ≡ length c.args.plan.now.set.tasks

@@ -1,0 +1,161 @@
+//! The execution of a plan.
+ghost use Rattle.std.specs.Prelude.{◌≡◌, ◌≤◌, ◌<◌, ◌*◌, ℕ, None, length, slice_index_or, OnOk};
+ghost use Rattle.sched_edges.specs.Jobs.{JobAt};
+ghost use Rattle.run_tree.specs.Plans.{rounds_of};
+ghost use Rattle.event_core.specs.Rounds.{row_limit};
+ghost use Rattle.exec_book.specs.PlanRows.{IsCompiled, plan_rows};
+ghost use Rattle.exec_workers.specs.Kits.{AreFilled};
+ghost use Rattle.exec_workers.specs.Runs.{Outcome, AreFresh, AreEmpty, GatesGrew, GatesList, GatesListFirst, JobsUsedAll};
+
+use crate::answers::{ExecFault, Executed};
+use crate::kits::Kit;
+use crate::run::{Ended, run_gates};
+use crate::stage::{fault_counts, lay_jobs, lift_jobs, push_totals};
+use exec_book::{Book, JobsBack};
+use run_tree::Plan;
+use sched_base::Totals;
+use sched_edges::{Gate, Job, JobList, Jobs};
+use std::alloc::Global;
+use std::marker::Brand;
+use std::sync::ledger::Blank;
+use std::sync::{Mutex, Wait};
+use std::thread::Threads;
+use unit_ledger::PostLedger;
+
+/// Executes a plan: runs each row of its schedule on its processor's gate and on its task's job. The gates' lists must be
+/// empty where they are told; else it is as `execute_on`.
+pub fn execute<G: Gate + Send, X: Threads + Wait + Sync>(
+    rt: &X,
+    alloc: Global,
+    plan: &Plan,
+    rounds: u64,
+    window: u32,
+    kits: &mut Vec<Kit<G>>,
+    jobs: &mut Jobs,
+) -> Result<Executed, ExecFault>
+    requires compiled { IsCompiled plan.now }
+    requires rounds { rounds ≡ rounds_of plan.now }
+    requires few { rounds * plan.now.tree.processors ≤ row_limit }
+    requires some_window { 1 ≤ window }
+    requires small_window { window ≤ 1024 }
+    requires kits { AreFilled plan.now.tree.processors kits.old.items }
+    requires empty { AreEmpty G.ran plan.now kits.old.items }
+    requires jobs { AreFresh (λ b. (Job-box b).id b.value) (λ b. (Job-box b).used b.value) (length plan.now.set.tasks) jobs.old.places }
+    ensures outcome { Outcome G.ran G.faults (λ b. (Job-box b).id b.value) (λ b. (Job-box b).used b.value) (λ b. (Job-box b).made b.value) (λ b. (Job-box b).faults b.value) plan.now kits.old.items kits.new.items jobs.old.places jobs.new.places result }
+    ensures gates { OnOk result (GatesList G.ran plan.now kits.new.items) }
+    ensures first { GatesListFirst G.ran plan.now kits.new.items }
+    ensures jobs { OnOk result (JobsUsedAll (λ b. (Job-box b).id b.value) (λ b. (Job-box b).used b.value) plan.now jobs.new.places) }
+{
+    let _lawful = plan.scale();
+    execute_on(rt, alloc, plan, rounds, window, kits, jobs)
+}
+
+/// Executes a plan: runs each row of its schedule on its processor's gate and on its task's job, with one worker for each
+/// processor, of which none is more than `window` rounds ahead of the last. `rounds` is the plan's number of rounds. The
+/// gates are those of the first kits, one for each processor, and the jobs those of the first places, one for each task.
+///
+/// A failure is named only where the count of faults of that gate or of that job rose in this call. Memory is refused
+/// before any gate is called. The gates are back in their kits, and the jobs in their places, whatever is answered.
+pub fn execute_on<G: Gate + Send, X: Threads + Wait + Sync>(
+    rt: &X,
+    alloc: Global,
+    plan: &Plan,
+    rounds: u64,
+    window: u32,
+    kits: &mut Vec<Kit<G>>,
+    jobs: &mut Jobs,
+) -> Result<Executed, ExecFault>
+    requires compiled { IsCompiled plan.now }
+    requires rounds { rounds ≡ rounds_of plan.now }
+    requires few { rounds * plan.now.tree.processors ≤ row_limit }
+    requires some_window { 1 ≤ window }
+    requires small_window { window ≤ 1024 }
+    requires kits { AreFilled plan.now.tree.processors kits.old.items }
+    requires jobs { AreFresh (λ b. (Job-box b).id b.value) (λ b. (Job-box b).used b.value) (length plan.now.set.tasks) jobs.old.places }
+    ensures outcome { Outcome G.ran G.faults (λ b. (Job-box b).id b.value) (λ b. (Job-box b).used b.value) (λ b. (Job-box b).made b.value) (λ b. (Job-box b).faults b.value) plan.now kits.old.items kits.new.items jobs.old.places jobs.new.places result }
+    ensures gates { OnOk result (GatesGrew G.ran plan.now kits.old.items kits.new.items) }
+    ensures jobs { OnOk result (JobsUsedAll (λ b. (Job-box b).id b.value) (λ b. (Job-box b).used b.value) plan.now jobs.new.places) }
+{
+    let m = plan.tree().processors();
+    execute_in::<G, Brand, Box<dyn Job + Send>, X>(
+        rt,
+        alloc,
+        Blank::new(u64::from(m)),
+        plan,
+        rounds,
+        window,
+        kits,
+        jobs,
+    )
+}
+
+// Executes a plan in one ledger.
+fn execute_in<
+    G: Gate + Send,
+    Q: PostLedger + Send + Sync,
+    J: Job + Send,
+    X: Threads + Wait + Sync,
+>(
+    rt: &X,
+    alloc: Global,
+    blank: Blank,
+    plan: &Plan,
+    rounds: u64,
+    window: u32,
+    kits: &mut Vec<Kit<G>>,
+    jobs: &mut JobList<J>,
+) -> Result<Executed, ExecFault>
+    requires name { blank.name ≡ Q.name }
+    requires parts { blank.parts ≡ Q.parts }
+    requires a_part_each { blank.parts ≡ plan.now.tree.processors }
+    requires compiled { IsCompiled plan.now }
+    requires rounds { rounds ≡ rounds_of plan.now }
+    requires few { rounds * plan.now.tree.processors ≤ row_limit }
+    requires some_window { 1 ≤ window }
+    requires small_window { window ≤ 1024 }
+    requires kits { AreFilled plan.now.tree.processors kits.old.items }
+    requires jobs { AreFresh J.id J.used (length plan.now.set.tasks) jobs.old.places }
+    requires made { (t : ℕ) (job : J) → t < length plan.now.set.tasks → JobAt jobs.old.places t job → J.made job ≡ slice_index_or Q.made t None }
+    ensures { Outcome G.ran G.faults J.id J.used J.made J.faults plan.now kits.old.items kits.new.items jobs.old.places jobs.new.places result }
+{
+    let m = plan.tree().processors();
+    let n = plan.set().count();
+    let mut counts = fault_counts(alloc, jobs, n)?;
+    let mut posted = vec![in alloc; 0u64; m as usize]?;
+    let mut totals = Totals::with_room(alloc, n)?;
+    let mut lanes = Vec::with_capacity(alloc, m as usize)?;
+    let mut out = JobList::with_room(alloc, n)?;
+    let copy = plan.copy()?;
+    let (side, seats) = unit_ledger::open::<Q>(blank, alloc, m)?;
+    lift_jobs(jobs, &mut out, n);
+    let book = match Book::new(alloc, copy, rounds, window, side, out) {
+        Ok(book) => Mutex::new(book),
+        Err(JobsBack { jobs: mut back }) => {
+            lay_jobs(&mut back, jobs, n);
+            return Err(ExecFault::NoMemory);
+        }
+    };
+    let Ended {
+        jobs: mut back,
+        table,
+        fault,
+    } = run_gates(
+        rt,
+        &book,
+        plan,
+        rounds,
+        seats,
+        kits.as_mut_slice(),
+        lanes,
+        &mut counts,
+        &mut posted,
+    );
+    lay_jobs(&mut back, jobs, n);
+    match fault {
+        Some(fault) => Err(fault),
+        None => {
+            push_totals(jobs, &mut totals, n);
+            Ok(Executed { table, totals })
+        }
+    }
+}
