@@ -1,15 +1,15 @@
 -- What the tests of a found book show.
-use Rattle.std.proofs.Common.{◌≡◌, ℕ, zero, suc, ◌+◌, ◌<◌, ◌≤◌, true, false, List, [], ◌∷◌, Option, Some, length, refl, sym, ap, ◌∙◌, subst, arith, inl, inr}
-use Rattle.std.specs.Prelude.{slice_get, slice_index, slice_index_or}
+use Rattle.std.proofs.Common.{◌≡◌, ℕ, suc, ◌<◌, true, false, List, [], ◌∷◌, Option, Some, length, refl, sym, ap, ◌∙◌, subst, arith, inl, inr}
+use Rattle.std.specs.Prelude.{slice_index}
 use Rattle.std.proofs.lemmas.List.{get_or_past}
 use Rattle.sched_base.specs.declared.rows.Leaf.{Leaf}
-use Rattle.sched_base.specs.declared.rows.Leaf.TheVariants.{Task, Wait, Idle, Empty}
+use Rattle.sched_base.specs.declared.rows.Leaf.TheVariants.{Task}
 use Rattle.sched_base.specs.declared.rows.TaskId.{TaskId}
 use Rattle.sched_base.specs.declared.rows.Row.{Row}
 use Rattle.book_machine.specs.declared.machine.LaneState.{LaneState}
-use Rattle.book_machine.specs.Machine.{State, IsOut, lane_at, posted_at, at_start}
+use Rattle.book_machine.specs.Machine.{State, IsOut, lane_at, at_start}
 use Rattle.book_machine.specs.Reached.{OutRow, counts_of}
-use Rattle.exec_book.specs.Jobs.{Made, IsJobOf, IsTasksJob}
+use Rattle.exec_book.specs.Jobs.{Made, IsJobOf}
 use Rattle.exec_book.proofs.RoundLemmas.{below_or}
 use Rattle.exec_workers.specs.Promises.{Agrees}
 

@@ -1,12 +1,11 @@
 -- What an outcome says of the lists of the gates and of the ticks of the jobs.
-use Rattle.std.proofs.Common.{◌≡◌, ℕ, zero, suc, ◌+◌, ◌<◌, ◌≤◌, List, [], ◌∷◌, ◌++◌, Option, Some, None, Result, Ok, Err, length, take, refl, sym, ap, ◌∙◌, subst, arith, append-nil}
+use Rattle.std.proofs.Common.{◌≡◌, ℕ, zero, suc, ◌+◌, ◌<◌, List, [], ◌∷◌, ◌++◌, Option, Some, None, Result, Ok, Err, length, take, refl, sym, ap, ◌∙◌, subst, arith, append-nil}
 use Rattle.std.specs.Prelude.{slice_get, OnOk, IfSome}
 use Rattle.std.proofs.lemmas.List.{take_all}
 use Rattle.sched_base.specs.declared.rows.Row.{Row}
-use Rattle.sched_base.specs.Tables.{lane_of, RowAt, ticks_in, all_rows}
+use Rattle.sched_base.specs.Tables.{lane_of}
 use Rattle.sched_edges.specs.Gates.{grown}
-use Rattle.sched_edges.specs.Jobs.{JobAt}
-use Rattle.run_tree.specs.Plans.{PlanContents, IsPlan, rounds_of}
+use Rattle.run_tree.specs.Plans.{PlanContents, IsPlan}
 use Rattle.exec_book.specs.PlanRows.{plan_rows}
 use Rattle.exec_book.specs.Jobs.{Made}
 use Rattle.exec_book.proofs.RoundLemmas.{plan_table, plan_count, plan_lanes}
@@ -18,7 +17,7 @@ use Rattle.exec_workers.specs.declared.causes.Cause.TheVariants as cause
 use Rattle.exec_workers.specs.declared.kits.Kit.{Kit}
 use Rattle.exec_workers.specs.Lanes.{LaneContents, FailsNext, lane_in, unposted}
 use Rattle.exec_workers.specs.Kits.{KitAt, AreFilled}
-use Rattle.exec_workers.specs.Runs.{GateRan, Ran, RanAll, Outcome, GatesGrew, AreEmpty, GatesList, GatesListFirst, JobsUsedAll, AreFresh}
+use Rattle.exec_workers.specs.Runs.{Ran, RanAll, Outcome, GatesGrew, AreEmpty, GatesList, GatesListFirst, JobsUsedAll, AreFresh}
 use Rattle.exec_workers.proofs.StageLemmas.{same_gate}
 use Rattle.exec_workers.proofs.WholeLemmas.{ticks_at_end}
 
@@ -62,9 +61,12 @@ module _ {G J : Type 0} (ran : G → Option (List Row)) (gate_faults : G → ℕ
       let none = all.none_failed q inside in
       let posted = all.all_posted q inside in
       let whole = (plan_table p h).whole q (let many = plan_lanes p h in omega (arith, many, within)) in
-      let count = plan_count p h in
-      (done.0, done.1, done.2.list ∙ (λ i. grown (ran gate) (take lane.seat.posted (lane_of (plan_rows p) q) ++ unposted (none i)))
-          ∙ ap (grown (ran gate)) (append-nil (take lane.seat.posted (lane_of (plan_rows p) q)) ∙ take_all lane.seat.posted (lane_of (plan_rows p) q) (omega (arith, posted, whole, count))))
+      let count = plan_count p h in (
+        done.0,
+        done.1,
+        done.2.list ∙ (λ i. grown (ran gate) (take lane.seat.posted (lane_of (plan_rows p) q) ++ unposted (none i)))
+            ∙ ap (grown (ran gate)) (append-nil (take lane.seat.posted (lane_of (plan_rows p) q)) ∙ take_all lane.seat.posted (lane_of (plan_rows p) q) (omega (arith, posted, whole, count))),
+      )
 
   used_all : (lanes : List LaneContents) → Ran ran gate_faults id used made job_faults p kits kits' places places' lanes → (e : Executed) → RanAll p lanes e → AreFresh id used (length p.set.tasks) places → JobsUsedAll id used p places'
   used_all lanes run e all fresh t within =
@@ -98,8 +100,8 @@ module _ {G J : Type 0} (ran : G → Option (List Row)) (gate_faults : G → ℕ
       let next = subst (λ n. FailsNext (plan_rows p) (record { lane = n; posted = lane.seat.posted }) lane.cause) done.2.own done.2.next in
       let first = gate_first (plan_rows p) q lane.seat.posted lane.cause next in
       subst (λ k. IfSome (ran k) (λ list. (n : ℕ) × (list ≡ take n (lane_of (plan_rows p) q)))) (same_gate kits' q done.0 gate done.1 at)
-          (if_some (λ list. list ≡ take first.0 (lane_of (plan_rows p) q)) (λ list. (n : ℕ) × (list ≡ take n (lane_of (plan_rows p) q))) (ran done.0) (λ list is. (first.0, is))
-          (grown_empty (ran kit.0) (ran done.0) (take first.0 (lane_of (plan_rows p) q)) (empty q kit.0 within kit.1) (done.2.list ∙ ap (grown (ran kit.0)) first.1)))
+      (if_some (λ list. list ≡ take first.0 (lane_of (plan_rows p) q)) (λ list. (n : ℕ) × (list ≡ take n (lane_of (plan_rows p) q))) (ran done.0) (λ list is. (first.0, is))
+      (grown_empty (ran kit.0) (ran done.0) (take first.0 (lane_of (plan_rows p) q)) (empty q kit.0 within kit.1) (done.2.list ∙ ap (grown (ran kit.0)) first.1)))
 
   none_of_run : AreEmpty ran p kits → kits' ≡ kits → GatesListFirst ran p kits'
   none_of_run empty same q gate within at =

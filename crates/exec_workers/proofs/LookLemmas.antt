@@ -1,6 +1,6 @@
 -- What a look at a seat gives.
 use Rattle.std.proofs.Common.{◌≡◌, ℕ, ◌+◌, ◌-◌, ◌<◌, ◌^◌, true, false, List, Option, Some, None, length, refl, sym, ap, ◌∙◌, subst, arith}
-use Rattle.std.specs.Prelude.{slice_get, slice_index}
+use Rattle.std.specs.Prelude.{slice_index}
 use Rattle.std.proofs.lemmas.Option.{slice_get-get_or}
 use Rattle.std.proofs.lemmas.Bool.{eq-eqb}
 use Rattle.sched_base.specs.declared.rows.Leaf.{Leaf}
@@ -11,7 +11,7 @@ use Rattle.sched_base.specs.Rows.{is_of_task}
 use Rattle.sched_base.specs.Tables.{RowAt, ticks_before}
 use Rattle.sched_base.proofs.TickLemmas.{ticks_before-fits}
 use Rattle.sched_edges.specs.Jobs.{FaultsAre}
-use Rattle.run_tree.specs.Plans.{PlanContents, IsPlan, rounds_of}
+use Rattle.run_tree.specs.Plans.{PlanContents, IsPlan}
 use Rattle.unit_ledger.specs.Seats.{Seat}
 use Rattle.book_machine.specs.Machine.{posted_at}
 use Rattle.exec_book.specs.declared.looks.Look.{Look}

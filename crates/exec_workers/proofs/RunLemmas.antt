@@ -1,20 +1,18 @@
 -- What a run did, gate by gate and job by job.
-use Rattle.std.proofs.Common.{◌≡◌, ℕ, zero, suc, ◌+◌, ◌-◌, ◌<◌, ◌≤◌, List, [], ◌∷◌, ◌++◌, Option, Some, None, length, take, drop, map, append-nil, refl, sym, ap, ◌∙◌, subst, arith}
+use Rattle.std.proofs.Common.{◌≡◌, ℕ, ◌-◌, ◌<◌, List, [], ◌++◌, Option, Some, None, length, take, drop, append-nil, sym, ap, ◌∙◌, subst, arith}
 use Rattle.std.proofs.Math.Seq.{take-length, drop-length}
-use Rattle.std.specs.Prelude.{IfSome, IfNone, slice_get, slice_index, slice_index_or, slice_range}
-use Rattle.std.specs.List.{range_with_len}
-use Rattle.std.proofs.lemmas.Option.{slice_get-get_or, get_or_from_slice_get}
+use Rattle.std.specs.Prelude.{IfSome, IfNone, slice_get}
+use Rattle.std.proofs.lemmas.Option.{slice_get-get_or}
 use Rattle.std.proofs.lemmas.List.FromFn.{get_or-map-range_with_len, length-map-range_with_len}
 use Rattle.sched_base.specs.declared.rows.Row.{Row}
 use Rattle.sched_base.specs.Tables.{lane_of}
 use Rattle.sched_edges.specs.Gates.{grown}
-use Rattle.unit_ledger.specs.Seats.{Seat, seat_at_start, seats_at_start}
+use Rattle.unit_ledger.specs.Seats.{seat_at_start, seats_at_start}
 use Rattle.exec_workers.specs.declared.causes.Cause.{Cause}
 use Rattle.exec_workers.specs.declared.causes.Cause.TheVariants as cause
 use Rattle.exec_workers.specs.declared.answers.ExecFault.{ExecFault}
-use Rattle.exec_workers.specs.declared.kits.Kit.{Kit}
-use Rattle.exec_workers.specs.Lanes.{LaneContents, IsCaused, Served, AllServed, NoneFailed, AllAt, lane_in, unposted}
-use Rattle.exec_workers.specs.Kits.{KitAt, IsGateOf, lane_at_start}
+use Rattle.exec_workers.specs.Lanes.{LaneContents, IsCaused, Served, NoneFailed, AllAt, unposted}
+use Rattle.exec_workers.specs.Kits.{IsGateOf, lane_at_start}
 use Rattle.exec_workers.specs.Ends.{NamesLowest}
 use Rattle.exec_workers.specs.Runs.{CountsGate, GateRan, NamesFirst}
 

@@ -90,12 +90,7 @@ pub fn execute_on<G: Gate + Send, X: Threads + Wait + Sync>(
 }
 
 // Executes a plan in one ledger.
-fn execute_in<
-    G: Gate + Send,
-    Q: PostLedger + Send + Sync,
-    J: Job + Send,
-    X: Threads + Wait + Sync,
->(
+fn execute_in<G: Gate + Send, Q: PostLedger + Send + Sync, J: Job + Send, X: Threads + Wait + Sync>(
     rt: &X,
     alloc: Global,
     blank: Blank,

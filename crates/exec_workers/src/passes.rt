@@ -49,12 +49,7 @@ pub(crate) fn serve_passes<
 }
 
 // Serves each lane once, in a thread of its own where one can be made.
-fn serve_all<
-    G: Gate + Send,
-    Q: PostLedger + Send + Sync,
-    J: Job + Send,
-    R: Threads + Wait + Sync,
->(
+fn serve_all<G: Gate + Send, Q: PostLedger + Send + Sync, J: Job + Send, R: Threads + Wait + Sync>(
     rt: &R,
     book: &Mutex<Book<Q, J>>,
     plan: &Plan,

@@ -68,15 +68,7 @@ pub(crate) fn run_gates<
     let mut seats = seats;
     let mut lanes = lanes;
     fill_lanes(kits, &mut seats, &mut lanes, m);
-    let (closing, fault) = serve_book(
-        rt,
-        book,
-        plan,
-        rounds,
-        lanes.as_mut_slice(),
-        counts,
-        posted,
-    );
+    let (closing, fault) = serve_book(rt, book, plan, rounds, lanes.as_mut_slice(), counts, posted);
     empty_lanes(kits, &mut seats, lanes);
     let Closing { jobs, side, table } = closing;
     let _posts = unit_ledger::close(side, seats);

@@ -8,8 +8,7 @@ returns-clause-same g c =
     let book = c.args.book.now.plan in
     let plan = c.args.plan.now in
     let of_book : c.set.result.now ≡ book.set = c.set.ensures.value ∙ ap (λ (p : PlanContents). p.set) c.plan.ensures.value in
-    let of_plan : c.set-2.result.now ≡ plan.set = c.set-2.ensures.value in
-    (
+    let of_plan : c.set-2.result.now ≡ plan.set = c.set-2.ensures.value in (
       λ same. same_plan book plan c.plan.ensures.lawful c.scale-lawful.ensures.lawful c.plan.ensures.compiled c.requires (sym of_book ∙ c.is_same.ensures.0 same ∙ of_plan),
       λ same. c.is_same.ensures.1 (of_book ∙ ap (λ (p : PlanContents). p.set) same ∙ sym of_plan),
     )

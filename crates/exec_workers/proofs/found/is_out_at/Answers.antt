@@ -1,6 +1,5 @@
 use Rattle.std.proofs.Common.{rules, ◌≡◌, ◌<◌, length, arith, ap}
 use Rattle.sched_base.specs.Tables.{Table}
-use Rattle.exec_book.specs.PlanRows.{plan_rows}
 use Rattle.exec_book.proofs.RoundLemmas.{plan_lanes}
 use Rattle.exec_workers.proofs.found.is_out_at.Goals as goal
 

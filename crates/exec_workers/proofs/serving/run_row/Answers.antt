@@ -1,4 +1,3 @@
-use Rattle.std.proofs.Common.{◌≡◌, ap, sym, ◌∙◌, arith}
 use Rattle.exec_book.specs.PlanRows.{plan_rows}
 use Rattle.exec_workers.proofs.LookLemmas.{job_may_work, job_rose}
 use Rattle.exec_workers.proofs.ServeLemmas.{served_row, served_to_gate, served_to_job}
