@@ -15,8 +15,8 @@ use Rattle.run_tool.specs.declared.words.Command.{Command}
 use Rattle.run_tool.specs.declared.refusal.Refusal.{Refusal}
 use Rattle.run_tool.specs.declared.refusal.Refusal.TheVariants as why
 use Rattle.run_tool.specs.declared.status.Status.{Status}
-use Rattle.run_tool.specs.declared.status.Status.TheVariants.{Done, Invalid, Usage, ReadFault, WriteFault, NoMemory, BadInput, Overload, ScaleTooLarge, TooLong, InputTooLong}
-use Rattle.run_tool.specs.declared.words.Command.TheVariants.{Rate, Tree, Trace, TraceMet, Check}
+use Rattle.run_tool.specs.declared.status.Status.TheVariants.{Done, Invalid, Usage, ReadFault, WriteFault, NoMemory, BadInput, Overload, ScaleTooLarge, TooLong, GateFault, JobFault, InputTooLong}
+use Rattle.run_tool.specs.declared.words.Command.TheVariants.{Rate, Tree, Trace, TraceMet, Check, Exec, ExecMet}
 use Rattle.event_core.specs.Rounds.{row_limit}
 use Rattle.run_tool.specs.Commands.{SetText, rates, server_tree, schedule_rows, limit_of, ReadsSet, plan_of, rows_of, HasRoom, HasTooManyRows, HasNoRoom, WritesSet, Writes, CallsFor, RefusesSet, RefusesText, Refuses}
 use Rattle.run_tool.specs.Checks.{TellsTrace, Judges, RefusesTrace}
@@ -67,6 +67,8 @@ fits_not_refused bytes s scale (why.Overload total room) reads fits refuses =
     let (t, other, reads', over, is_total, is_room) = refuses in
     no_overload bytes s t scale other total room reads fits reads' over is_total is_room
 fits_not_refused bytes s scale (why.BadLine line) reads fits refuses = refuses
+fits_not_refused bytes s scale (why.GateFault row name) reads fits refuses = refuses
+fits_not_refused bytes s scale (why.JobFault row name) reads fits refuses = refuses
 fits_not_refused bytes s scale why.Usage reads fits refuses = refuses
 fits_not_refused bytes s scale why.ReadFault reads fits refuses = refuses
 fits_not_refused bytes s scale why.WriteFault reads fits refuses = refuses
@@ -103,6 +105,8 @@ as_set what bytes (why.BadSet r) refuses = inl refuses
 as_set what bytes (why.ScaleTooLarge task) refuses = inl refuses
 as_set what bytes (why.Overload total room) refuses = inl refuses
 as_set what bytes (why.BadLine line) refuses = absurd refuses
+as_set what bytes (why.GateFault row name) refuses = absurd refuses
+as_set what bytes (why.JobFault row name) refuses = absurd refuses
 as_set what bytes why.Usage refuses = absurd refuses
 as_set what bytes why.ReadFault refuses = absurd refuses
 as_set what bytes why.WriteFault refuses = absurd refuses
@@ -131,6 +135,8 @@ one_set_status bytes (why.Overload total room) (why.BadSet q) a b = absurd (not_
 one_set_status bytes (why.Overload total room) (why.ScaleTooLarge task) a b = absurd (no_pass bytes a.0 b.0 a.1 task a.2 b.1 b.2)
 one_set_status bytes (why.Overload total room) (why.Overload other more) a b = refl
 one_set_status bytes (why.BadLine line) q a b = absurd a
+one_set_status bytes (why.GateFault row name) q a b = absurd a
+one_set_status bytes (why.JobFault row name) q a b = absurd a
 one_set_status bytes why.Usage q a b = absurd a
 one_set_status bytes why.ReadFault q a b = absurd a
 one_set_status bytes why.WriteFault q a b = absurd a
@@ -138,6 +144,8 @@ one_set_status bytes why.NoMemory q a b = absurd a
 one_set_status bytes (why.TooLong rows) q a b = absurd a
 one_set_status bytes (why.InputTooLong count) q a b = absurd a
 one_set_status bytes r (why.BadLine line) a b = absurd b
+one_set_status bytes r (why.GateFault row name) a b = absurd b
+one_set_status bytes r (why.JobFault row name) a b = absurd b
 one_set_status bytes r why.Usage a b = absurd b
 one_set_status bytes r why.ReadFault a b = absurd b
 one_set_status bytes r why.WriteFault a b = absurd b
@@ -210,6 +218,8 @@ told_or_refused Rate bytes status r is refuses = set_writes_or_refuses rates byt
 told_or_refused Tree bytes status r is refuses = set_writes_or_refuses server_tree bytes is.0 status r is.1 refuses
 told_or_refused Trace bytes status r is refuses = set_writes_or_refuses (schedule_rows false) bytes is.0 status r is.1 refuses
 told_or_refused TraceMet bytes status r is refuses = set_writes_or_refuses (schedule_rows true) bytes is.0 status r is.1 refuses
+told_or_refused (Exec window) bytes status r is refuses = set_writes_or_refuses (schedule_rows false) bytes is.0 status r is.1 refuses
+told_or_refused ExecMet bytes status r is refuses = set_writes_or_refuses (schedule_rows true) bytes is.0 status r is.1 refuses
 told_or_refused Check bytes status r is refuses = judged_or_refused bytes status r is refuses
 
 -- each command tells of bytes with one status
@@ -218,6 +228,8 @@ one_telling Rate bytes a b x y = x.1.0 ∙ sym y.1.0
 one_telling Tree bytes a b x y = x.1.0 ∙ sym y.1.0
 one_telling Trace bytes a b x y = x.1.0 ∙ sym y.1.0
 one_telling TraceMet bytes a b x y = x.1.0 ∙ sym y.1.0
+one_telling (Exec window) bytes a b x y = x.1.0 ∙ sym y.1.0
+one_telling ExecMet bytes a b x y = x.1.0 ∙ sym y.1.0
 one_telling Check bytes a b x y = one_judgment bytes a b x y
 
 -- each command refuses bytes with one status
@@ -226,6 +238,8 @@ one_status Rate bytes r q a b = one_text_status rates bytes r q a b
 one_status Tree bytes r q a b = one_text_status server_tree bytes r q a b
 one_status Trace bytes r q a b = one_text_status (schedule_rows false) bytes r q a b
 one_status TraceMet bytes r q a b = one_text_status (schedule_rows true) bytes r q a b
+one_status (Exec window) bytes r q a b = one_text_status (schedule_rows false) bytes r q a b
+one_status ExecMet bytes r q a b = one_text_status (schedule_rows true) bytes r q a b
 one_status Check bytes r q a b = (refused_line bytes r a).1 ∙ sym (refused_line bytes q b).1
 
 -- bytes call for the status with which their text is written
@@ -234,6 +248,8 @@ called_for Rate bytes text status writes = (text, writes)
 called_for Tree bytes text status writes = (text, writes)
 called_for Trace bytes text status writes = (text, writes)
 called_for TraceMet bytes text status writes = (text, writes)
+called_for (Exec window) bytes text status writes = (text, writes)
+called_for ExecMet bytes text status writes = (text, writes)
 called_for Check bytes text status writes = told_trace bytes text status writes.0 writes.1 writes.2
 
 -- the answer, where the bytes call for a status
@@ -249,6 +265,8 @@ answer_called_for c bytes status Usage within called is = absurd is
 answer_called_for c bytes status ReadFault within called is = absurd is
 answer_called_for c bytes status WriteFault within called is = absurd is
 answer_called_for c bytes status NoMemory within called is = absurd is
+answer_called_for c bytes status GateFault within called is = absurd is
+answer_called_for c bytes status JobFault within called is = absurd is
 
 -- the answer, where the command refuses the bytes
 answer_refuses : (c : Command) (bytes : List ℕ) (r : Refusal) (answer : Status) → length bytes ≤ limit_of c → Refuses c bytes r → IsAnswer c bytes answer → status_of r ≡ answer
@@ -263,6 +281,8 @@ answer_refuses c bytes r Usage within refuses is = absurd is
 answer_refuses c bytes r ReadFault within refuses is = absurd is
 answer_refuses c bytes r WriteFault within refuses is = absurd is
 answer_refuses c bytes r NoMemory within refuses is = absurd is
+answer_refuses c bytes r GateFault within refuses is = absurd is
+answer_refuses c bytes r JobFault within refuses is = absurd is
 
 -- the answer, where there are more bytes than the command reads
 answer_too_long : (c : Command) (bytes : List ℕ) (answer : Status) → limit_of c < length bytes → IsAnswer c bytes answer → InputTooLong ≡ answer
@@ -277,6 +297,8 @@ answer_too_long c bytes Usage over is = absurd is
 answer_too_long c bytes ReadFault over is = absurd is
 answer_too_long c bytes WriteFault over is = absurd is
 answer_too_long c bytes NoMemory over is = absurd is
+answer_too_long c bytes GateFault over is = absurd is
+answer_too_long c bytes JobFault over is = absurd is
 
 done_asked : (c : Command) (status : Status) (left : Option (List ℕ)) (old new : Streams) → old.left ≡ left → IsDone c status old new → IsAnswered (Some c) left old new status
 done_asked c status None old new e h = tt
@@ -312,6 +334,10 @@ stop_answered c bytes old new (why.BadSet r) answer e stops unread unwritten is 
     inl (refused_by c bytes stops.0 new.left (why.BadSet r) answer (subst (λ (l : Option (List ℕ)). GaveAll l new.left (limit_of c) stops.0) e stops.1) stops.2 is)
 stop_answered c bytes old new (why.BadLine line) answer e stops unread unwritten is =
     inl (refused_by c bytes stops.0 new.left (why.BadLine line) answer (subst (λ (l : Option (List ℕ)). GaveAll l new.left (limit_of c) stops.0) e stops.1) stops.2 is)
+stop_answered c bytes old new (why.GateFault row name) answer e stops unread unwritten is =
+    inl (refused_by c bytes stops.0 new.left (why.GateFault row name) answer (subst (λ (l : Option (List ℕ)). GaveAll l new.left (limit_of c) stops.0) e stops.1) stops.2 is)
+stop_answered c bytes old new (why.JobFault row name) answer e stops unread unwritten is =
+    inl (refused_by c bytes stops.0 new.left (why.JobFault row name) answer (subst (λ (l : Option (List ℕ)). GaveAll l new.left (limit_of c) stops.0) e stops.1) stops.2 is)
 stop_answered c bytes old new (why.Overload total room) answer e stops unread unwritten is =
     inl (refused_by c bytes stops.0 new.left (why.Overload total room) answer (subst (λ (l : Option (List ℕ)). GaveAll l new.left (limit_of c) stops.0) e stops.1) stops.2 is)
 stop_answered c bytes old new (why.TooLong rows) answer e stops unread unwritten is =

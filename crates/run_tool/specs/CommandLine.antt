@@ -1,22 +1,35 @@
 -- Command lines, as `clap` reads them.
-use Rattle.std.specs.Prelude.{ℕ, true, List, [], ◌∷◌, Some, codes}
+use Rattle.std.specs.Prelude.{◌≡◌, ◌⊎◌, ℕ, true, List, [], ◌∷◌, ◌++◌, Some, codes}
 use Rattle.clap.specs.Words.{App, Rule, new_app, new_rule, with_rule, with_subcommand}
 use Rattle.clap.specs.Simple.{new_shape, on_top}
-use Rattle.clap.specs.declared.builder.action.ArgAction.TheVariants.{SetTrue}
+use Rattle.clap.specs.declared.builder.action.ArgAction.TheVariants.{Set, SetTrue}
 use Rattle.run_tool.specs.declared.words.Command.{Command}
-use Rattle.run_tool.specs.declared.words.Command.TheVariants.{Rate, Tree, Trace, TraceMet, Check}
+use Rattle.run_tool.specs.declared.words.Command.TheVariants.{Rate, Tree, Trace, TraceMet, Check, Exec, ExecMet}
+use Rattle.run_tool.specs.Words.{window_of}
+
+-- the words are `exec` with a window: the usual one where none is written, as a value of its own or behind `=`
+abbrev pub SpellsExec : ℕ → List (List ℕ) → Type 0
+SpellsExec window words =
+    ((window ≡ 32) × (words ≡ codes "exec" ∷ []))
+    ⊎ ((value : List ℕ) × (window_of value ≡ Some window) × ((words ≡ codes "exec" ∷ codes "--window" ∷ value ∷ []) ⊎ (words ≡ codes "exec" ∷ (codes "--window=" ++ value) ∷ [])))
 
 -- the words of a command
-abbrev pub spelling_of : Command → List (List ℕ)
-spelling_of Rate = codes "rate" ∷ []
-spelling_of Tree = codes "tree" ∷ []
-spelling_of Trace = codes "trace" ∷ []
-spelling_of TraceMet = codes "trace" ∷ codes "--met" ∷ []
-spelling_of Check = codes "check" ∷ []
+abbrev pub Spells : Command → List (List ℕ) → Type 0
+Spells Rate words = words ≡ codes "rate" ∷ []
+Spells Tree words = words ≡ codes "tree" ∷ []
+Spells Trace words = words ≡ codes "trace" ∷ []
+Spells TraceMet words = words ≡ codes "trace" ∷ codes "--met" ∷ []
+Spells Check words = words ≡ codes "check" ∷ []
+Spells (Exec window) words = SpellsExec window words
+Spells ExecMet words = words ≡ codes "exec" ∷ codes "--met" ∷ []
 
 -- the option `--met`
 abbrev pub met : Rule
 met = record (new_rule (codes "met")) { long = Some (codes "met"); action = Some SetTrue }
+
+-- the option `--window`, with a value
+abbrev pub window : Rule
+window = record (new_rule (codes "window")) { long = Some (codes "window"); action = Some Set }
 
 -- the program, which wants a command and has no words of help
 abbrev pub program : App
@@ -25,5 +38,6 @@ program = on_top (λ s. record s { no_binary_name = true; disable_help_flag = tr
 -- the program with its commands and their options
 abbrev pub parser : App
 parser =
-    with_subcommand (with_subcommand (with_subcommand (with_subcommand program (new_app (codes "rate")).top) (new_app (codes "tree")).top)
-    (with_rule (new_app (codes "trace")) met).top) (new_app (codes "check")).top
+    with_subcommand (with_subcommand (with_subcommand (with_subcommand (with_subcommand program (new_app (codes "rate")).top) (new_app (codes "tree")).top)
+    (with_rule (new_app (codes "trace")) met).top) (new_app (codes "check")).top)
+    (with_rule (with_rule (new_app (codes "exec")) met) window).top

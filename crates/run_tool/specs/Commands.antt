@@ -6,7 +6,7 @@ use Rattle.sched_base.specs.Sets.{SetContents}
 use Rattle.sched_base.specs.Scale.{IsScale, PassesAt, total_of, room_of, Fits}
 use Rattle.task_reader.specs.Reading.{set_read_from}
 use Rattle.run_tool.specs.declared.words.Command.{Command}
-use Rattle.run_tool.specs.declared.words.Command.TheVariants.{Rate, Tree, Trace, TraceMet, Check}
+use Rattle.run_tool.specs.declared.words.Command.TheVariants.{Rate, Tree, Trace, TraceMet, Check, Exec, ExecMet}
 use Rattle.run_tool.specs.declared.refusal.Refusal.{Refusal}
 use Rattle.run_tool.specs.declared.refusal.Refusal.TheVariants.{BadSet, Overload, ScaleTooLarge, TooLong}
 use Rattle.sched_base.specs.Valid.{IsValid}
@@ -39,6 +39,8 @@ limit_of Tree = set_limit
 limit_of Trace = set_limit
 limit_of TraceMet = set_limit
 limit_of Check = trace_limit
+limit_of (Exec window) = set_limit
+limit_of ExecMet = set_limit
 
 -- a text of a set that fits: its rates, its tree, or its schedule, with or without when each period was done
 pub data SetText : Type 0 where
@@ -95,6 +97,8 @@ Writes Tree bytes status text = WritesSet server_tree bytes status text
 Writes Trace bytes status text = WritesSet (schedule_rows false) bytes status text
 Writes TraceMet bytes status text = WritesSet (schedule_rows true) bytes status text
 Writes Check bytes status text = WritesVerdict bytes status text
+Writes (Exec window) bytes status text = WritesSet (schedule_rows false) bytes status text
+Writes ExecMet bytes status text = WritesSet (schedule_rows true) bytes status text
 
 -- the bytes call for this status of a command that tells of them: that of `check` goes by whether the rows are a valid schedule
 abbrev pub CallsFor : Command → List ℕ → Status → Type 0
@@ -138,3 +142,5 @@ Refuses Tree bytes refusal = RefusesText server_tree bytes refusal
 Refuses Trace bytes refusal = RefusesText (schedule_rows false) bytes refusal
 Refuses TraceMet bytes refusal = RefusesText (schedule_rows true) bytes refusal
 Refuses Check bytes refusal = RefusesTrace bytes refusal
+Refuses (Exec window) bytes refusal = RefusesText (schedule_rows false) bytes refusal
+Refuses ExecMet bytes refusal = RefusesText (schedule_rows true) bytes refusal

@@ -9,3 +9,5 @@ pub mod Input
 pub mod Ends
 pub mod Refuse
 pub mod Closing
+pub mod Executions
+pub mod Executed

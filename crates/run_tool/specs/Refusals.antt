@@ -1,5 +1,5 @@
 -- The lines of refusals.
-use Rattle.std.specs.Prelude.{ℕ, nat_le, ◌&&◌, if◌then◌else◌, List, [], ◌∷◌, ◌++◌, map, codes, decimal}
+use Rattle.std.specs.Prelude.{ℕ, nat_le, ◌&&◌, if◌then◌else◌, List, [], ◌∷◌, ◌++◌, Option, Some, None, map, codes, decimal}
 use Rattle.std.specs.Fmt.{signed_decimal}
 use Rattle.sched_edges.specs.Lines.{line_of}
 use Rattle.task_reader.specs.declared.refusals.Place.{Place}
@@ -8,7 +8,7 @@ use Rattle.task_reader.specs.declared.refusals.ReadSet.{ReadSet}
 use Rattle.task_reader.specs.declared.refusals.ReadSet.TheVariants as set
 use Rattle.task_reader.specs.Keys.{key_text}
 use Rattle.run_tool.specs.declared.refusal.Refusal.{Refusal}
-use Rattle.run_tool.specs.declared.refusal.Refusal.TheVariants.{Usage, ReadFault, WriteFault, NoMemory, BadSet, BadLine, Overload, ScaleTooLarge, TooLong, InputTooLong}
+use Rattle.run_tool.specs.declared.refusal.Refusal.TheVariants.{Usage, ReadFault, WriteFault, NoMemory, BadSet, BadLine, Overload, ScaleTooLarge, TooLong, GateFault, JobFault, InputTooLong}
 use Rattle.run_tool.specs.declared.status.Status.{Status}
 use Rattle.run_tool.specs.declared.status.Status.TheVariants as status
 use Rattle.run_tool.specs.Status.{code_of}
@@ -29,6 +29,8 @@ status_of (BadLine line) = status.BadInput
 status_of (Overload total room) = status.Overload
 status_of (ScaleTooLarge task) = status.ScaleTooLarge
 status_of (TooLong rows) = status.TooLong
+status_of (GateFault row name) = status.GateFault
+status_of (JobFault row name) = status.JobFault
 status_of (InputTooLong count) = status.InputTooLong
 
 -- a byte of an unknown key as it is printed: `?` for one that isn't from 33 to 126
@@ -61,6 +63,11 @@ set_words (set.BadWork index) = codes "BadWork" ∷ decimal index ∷ []
 set_words (set.BadOffset index) = codes "BadOffset" ∷ decimal index ∷ []
 set_words set.NoMemory = codes "NoMemory" ∷ []
 
+-- the name of a row's task as it is printed, `-` where the row is of no task
+abbrev pub printed_name : Option (List ℕ) → List ℕ
+printed_name (Some name) = name
+printed_name None = 45 ∷ []
+
 -- why a command wasn't done
 abbrev pub refusal_words : Refusal → List (List ℕ)
 refusal_words Usage = codes "Usage" ∷ []
@@ -72,6 +79,10 @@ refusal_words (BadLine line) = codes "BadLine" ∷ decimal line ∷ []
 refusal_words (Overload total room) = codes "Overload" ∷ codes "total" ∷ decimal total ∷ codes "room" ∷ decimal room ∷ []
 refusal_words (ScaleTooLarge task) = codes "ScaleTooLarge" ∷ codes "task" ∷ decimal task ∷ []
 refusal_words (TooLong rows) = codes "TooLong" ∷ codes "rows" ∷ decimal rows ∷ []
+refusal_words (GateFault row name) =
+    codes "GateFault" ∷ codes "processor" ∷ decimal row.processor ∷ codes "row" ∷ decimal row.start ∷ decimal row.end ∷ printed_name name ∷ []
+refusal_words (JobFault row name) =
+    codes "JobFault" ∷ codes "task" ∷ printed_name name ∷ codes "processor" ∷ decimal row.processor ∷ codes "row" ∷ decimal row.start ∷ decimal row.end ∷ []
 refusal_words (InputTooLong count) = codes "InputTooLong" ∷ decimal count ∷ []
 
 -- the line of a refusal: `refused`, the status, and why

@@ -1,7 +1,7 @@
 -- The numbers of statuses.
 use Rattle.std.specs.Prelude.{ℕ}
 use Rattle.run_tool.specs.declared.status.Status.{Status}
-use Rattle.run_tool.specs.declared.status.Status.TheVariants.{Done, Invalid, Usage, ReadFault, WriteFault, NoMemory, BadInput, Overload, ScaleTooLarge, TooLong, InputTooLong}
+use Rattle.run_tool.specs.declared.status.Status.TheVariants.{Done, Invalid, Usage, ReadFault, WriteFault, NoMemory, BadInput, Overload, ScaleTooLarge, TooLong, GateFault, JobFault, InputTooLong}
 
 -- the exit status of the program
 abbrev pub code_of : Status → ℕ
@@ -15,4 +15,6 @@ code_of BadInput = 6
 code_of Overload = 7
 code_of ScaleTooLarge = 8
 code_of TooLong = 9
+code_of GateFault = 10
+code_of JobFault = 11
 code_of InputTooLong = 12

@@ -1,11 +1,12 @@
 //! Command lines, as `clap` reads them.
-ghost use Rattle.std.specs.Prelude.{◌≡◌, map, string_bytes, Some, IfOk};
-ghost use Rattle.clap.specs.Words.{app_of, subcommand_of, subcommand_rows_of};
-ghost use Rattle.run_tool.specs.Words.{command_of};
-ghost use Rattle.run_tool.specs.CommandLine.{parser, spelling_of};
+ghost use Rattle.std.specs.Prelude.{◌≡◌, ℕ, false, List, map, string_bytes, codes, Some, None, IfOk};
+ghost use Rattle.clap.specs.Words.{app_of, rule_of, subcommand_of, subcommand_rows_of, first_of, found_of, one_of, rows_of};
+ghost use Rattle.run_tool.specs.Words.{command_of, exec_with};
+ghost use Rattle.run_tool.specs.CommandLine.{met, window, parser, Spells};
 ghost use Rattle.run_tool.specs.declared.words.Command.{Command};
+ghost use Rattle.run_tool.specs.declared.words.Command.TheVariants.{Exec, ExecMet};
 
-use crate::words::Command;
+use crate::words::{Command, USUAL_WINDOW, exec_with};
 use clap::error::ErrorKind;
 use clap::{Arg, ArgAction, ArgMatches};
 use sched_base::NoMemory;
@@ -27,10 +28,10 @@ pub(crate) fn read_line(alloc: Global, words: &[String]) -> Result<Option<Comman
 fn parser<'a>(alloc: Global) -> Result<clap::Command<'a>, AllocError>
     ensures { IfOk result (λ p. app_of p ≡ parser) }
 {
-    let met = Arg::new(alloc, "met")
-        .long("met")
-        .action(ArgAction::SetTrue);
-    let trace = clap::Command::new(alloc, "trace").arg(met)?;
+    let trace = clap::Command::new(alloc, "trace").arg(met(alloc))?;
+    let exec = clap::Command::new(alloc, "exec")
+        .arg(met(alloc))?
+        .arg(window(alloc))?;
     clap::Command::new(alloc, "furnacelime")
         .no_binary_name(true)
         .disable_help_flag(true)
@@ -39,12 +40,33 @@ fn parser<'a>(alloc: Global) -> Result<clap::Command<'a>, AllocError>
         .subcommand(clap::Command::new(alloc, "rate"))?
         .subcommand(clap::Command::new(alloc, "tree"))?
         .subcommand(trace)?
-        .subcommand(clap::Command::new(alloc, "check"))
+        .subcommand(clap::Command::new(alloc, "check"))?
+        .subcommand(exec)
+}
+
+// The option `--met`.
+fn met<'a>(alloc: Global) -> Arg<'a>
+    ensures rule { rule_of result ≡ met }
+    ensures local { result.global ≡ false }
+{
+    Arg::new(alloc, "met")
+        .long("met")
+        .action(ArgAction::SetTrue)
+}
+
+// The option `--window`, with a value.
+fn window<'a>(alloc: Global) -> Arg<'a>
+    ensures rule { rule_of result ≡ window }
+    ensures local { result.global ≡ false }
+{
+    Arg::new(alloc, "window")
+        .long("window")
+        .action(ArgAction::Set)
 }
 
 // The command that was used, with its options.
 fn command_in(matches: &ArgMatches<'_>) -> Option<Command>
-    ensures { (c : Command) → subcommand_rows_of matches.now ≡ subcommand_of parser (spelling_of c) → result ≡ Some c }
+    ensures { (c : Command) (words : List (List ℕ)) → Spells c words → subcommand_rows_of matches.now ≡ subcommand_of parser words → result ≡ Some c }
 {
     let (name, options) = matches.subcommand()?;
     match name {
@@ -53,6 +75,24 @@ fn command_in(matches: &ArgMatches<'_>) -> Option<Command>
         "trace" if options.get_flag("met") => Some(Command::TraceMet),
         "trace" => Some(Command::Trace),
         "check" => Some(Command::Check),
+        "exec" => exec_in(options),
         _ => None,
+    }
+}
+
+// `exec` with its options.
+fn exec_in(options: &ArgMatches<'_>) -> Option<Command>
+    ensures met { one_of (codes "met") (rows_of (found_of options.now)) ≡ Some (codes "true") → result ≡ Some ExecMet }
+    ensures usual { one_of (codes "met") (rows_of (found_of options.now)) ≡ Some (codes "false") → first_of (codes "window") (rows_of (found_of options.now)) ≡ None → result ≡ Some (Exec 32) }
+    ensures window { (value : List ℕ) → one_of (codes "met") (rows_of (found_of options.now)) ≡ Some (codes "false") → first_of (codes "window") (rows_of (found_of options.now)) ≡ Some value → result ≡ exec_with value }
+{
+    if options.get_flag("met") {
+        return Some(Command::ExecMet);
+    }
+    match options.get_str("window") {
+        Some(value) => exec_with(value.as_bytes()),
+        None => Some(Command::Exec {
+            window: USUAL_WINDOW,
+        }),
     }
 }

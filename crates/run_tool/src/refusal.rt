@@ -3,6 +3,7 @@ ghost use Rattle.std.specs.Prelude.{◌≡◌, ◌≤◌, ◌<◌, ◌+◌, ◌+
 ghost use Rattle.run_tool.specs.Refusals.{status_of};
 
 use crate::status::Status;
+use sched_base::{Name, Row};
 use task_reader::ReadSet;
 
 /// Why a command wasn't done.
@@ -26,6 +27,10 @@ pub enum Refusal {
     ScaleTooLarge { task: u32 },
     /// The schedule has more rows than may be written; this is the least multiple of the number of processors above that.
     TooLong { rows: u64 },
+    /// The gate of the row's processor failed at this row, of the task of this name; of no task where there is none.
+    GateFault { row: Row, name: Option<Name> },
+    /// The gate of the row's processor ran this row, and then the job of its task, which has this name, failed.
+    JobFault { row: Row, name: Option<Name> },
     /// The source gave that many bytes, one more than the command reads.
     InputTooLong { count: u64 },
 }
@@ -46,6 +51,8 @@ impl Refusal {
             Refusal::Overload { .. } => Status::Overload,
             Refusal::ScaleTooLarge { .. } => Status::ScaleTooLarge,
             Refusal::TooLong { .. } => Status::TooLong,
+            Refusal::GateFault { .. } => Status::GateFault,
+            Refusal::JobFault { .. } => Status::JobFault,
             Refusal::InputTooLong { .. } => Status::InputTooLong,
         }
     }

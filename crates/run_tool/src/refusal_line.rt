@@ -3,16 +3,17 @@ ghost use Rattle.std.specs.Prelude.{◌≡◌, ◌≢◌, ◌≤◌, ◌+◌, �
 ghost use Rattle.std.specs.Fmt.{signed_decimal};
 ghost use Rattle.sched_edges.specs.Lines.{line_of};
 ghost use Rattle.task_reader.specs.Keys.{key_text};
-ghost use Rattle.run_tool.specs.Refusals.{place_and, place_text, refusal_line, printed_byte, IsShort, IsShortSet};
+ghost use Rattle.run_tool.specs.Refusals.{place_and, place_text, refusal_line, printed_byte, printed_name, IsShort, IsShortSet};
 ghost use Rattle.run_tool.specs.Status.{code_of};
 ghost use Rattle.run_tool.specs.Ends.{error_stream, Tells};
 ghost use Rattle.run_tool.specs.Refuse.{IsRefused};
 ghost use Rattle.run_tool.specs.declared.status.Status.TheVariants.{BadInput};
-ghost use Rattle.run_tool.specs.declared.refusal.Refusal.TheVariants.{BadSet, Overload, ScaleTooLarge, TooLong};
+ghost use Rattle.run_tool.specs.declared.refusal.Refusal.TheVariants.{BadSet, Overload, ScaleTooLarge, TooLong, GateFault, JobFault};
 ghost use Rattle.task_reader.specs.declared.refusals.ReadSet.TheVariants.{UnknownKey};
 
 use crate::refusal::Refusal;
 use crate::status::Status;
+use sched_base::{Name, Row};
 use sched_edges::{Line, Sink, write_all};
 use std::alloc::{AllocError, Global};
 use task_reader::{Key, Place, ReadSet};
@@ -63,6 +64,8 @@ fn line_of(refusal: &Refusal) -> Line
         Refusal::Overload { total, room } => overload_line(*total, *room),
         Refusal::ScaleTooLarge { task } => scale_line(*task),
         Refusal::TooLong { rows } => rows_line(*rows),
+        Refusal::GateFault { row, name } => gate_line(row, name),
+        Refusal::JobFault { row, name } => job_line(row, name),
         Refusal::InputTooLong { count } => {
             number_line(Status::InputTooLong, b"InputTooLong", u128::from(*count))
         }
@@ -90,6 +93,7 @@ fn begin(status: Status, why: &[u8]) -> Line
     requires { length why.now ≤ 32 }
     ensures text { result ≡ codes "refused" ++ (32 ∷ (decimal (code_of status) ++ (32 ∷ why.now))) }
     ensures short { length result ≤ 96 }
+    ensures near { length result ≤ 50 + length why.now }
 {
     let mut line = Line::new();
     line.text(b"refused");
@@ -219,6 +223,7 @@ fn add_number(line: &mut Line, word: &[u8], number: u128)
     requires word { length word.now ≤ 16 }
     ensures text { line.new ≡ line.old ++ (32 ∷ (word.now ++ (32 ∷ decimal number))) }
     ensures short { length line.new ≤ length line.old + 58 }
+    ensures near { length line.new ≤ length line.old + length word.now + 42 }
 {
     line.space();
     line.text(word);
@@ -247,6 +252,51 @@ fn scale_line(task: u32) -> Line
     add_number(&mut line, b"task", u128::from(task));
     line.end();
     line
+}
+
+// The line of a gate that failed.
+#[tactic(auto, unfolding(crate::specs::Refusals::refusal_line, sched_edges::specs::Lines::line_of))]
+fn gate_line(row: &Row, name: &Option<Name>) -> Line
+    ensures { result ≡ refusal_line (GateFault row.now name.now) }
+{
+    let mut line = begin(Status::GateFault, b"GateFault");
+    add_number(&mut line, b"processor", u128::from(row.processor));
+    add_number(&mut line, b"row", row.start);
+    line.space();
+    line.number(row.end);
+    line.space();
+    line.text(printed_name(name));
+    line.end();
+    line
+}
+
+// The line of a job that failed.
+#[tactic(auto, unfolding(crate::specs::Refusals::refusal_line, sched_edges::specs::Lines::line_of))]
+fn job_line(row: &Row, name: &Option<Name>) -> Line
+    ensures { result ≡ refusal_line (JobFault row.now name.now) }
+{
+    let mut line = begin(Status::JobFault, b"JobFault");
+    line.space();
+    line.text(b"task");
+    line.space();
+    line.text(printed_name(name));
+    add_number(&mut line, b"processor", u128::from(row.processor));
+    add_number(&mut line, b"row", row.start);
+    line.space();
+    line.number(row.end);
+    line.end();
+    line
+}
+
+// The name of a row's task, as it is printed.
+fn printed_name(name: &Option<Name>) -> &[u8]
+    ensures text { result.now ≡ printed_name name.now }
+    ensures short { length result.now ≤ 32 }
+{
+    match name {
+        Some(name) => name.as_slice(),
+        None => b"-",
+    }
 }
 
 // The line of an unknown key, each byte of its text printed.

@@ -25,6 +25,10 @@ pub enum Status {
     ScaleTooLarge,
     /// The schedule has more than 2,097,152 rows.
     TooLong,
+    /// A gate failed. Nothing was written.
+    GateFault,
+    /// A job failed, and no gate did. Nothing was written.
+    JobFault,
     /// The source gave more bytes than the command reads.
     InputTooLong,
 }
@@ -45,6 +49,8 @@ impl Status {
             Status::Overload => 7,
             Status::ScaleTooLarge => 8,
             Status::TooLong => 9,
+            Status::GateFault => 10,
+            Status::JobFault => 11,
             Status::InputTooLong => 12,
         }
     }

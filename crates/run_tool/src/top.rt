@@ -1,6 +1,6 @@
-//! The top call.
-ghost use Rattle.std.specs.Prelude.{◌≡◌, ◌≢◌, ◌↔◌, map, string_bytes, None, Some, IfOk, IfErr};
-ghost use Rattle.run_tool.specs.Words.{command_of};
+//! The top call for all commands but executions.
+ghost use Rattle.std.specs.Prelude.{◌≡◌, ◌≢◌, ◌↔◌, false, map, string_bytes, None, Some, IfOk, IfErr};
+ghost use Rattle.run_tool.specs.Words.{command_of, asks_to_execute, IsStill};
 ghost use Rattle.run_tool.specs.Ends.{streams, error_stream, IsDone, IsUsage, Stops, Ends, IsAnswered, TellsTruth};
 ghost use Rattle.run_tool.specs.Commands.{SetText};
 ghost use Rattle.run_tool.specs.declared.words.Command.{Command};
@@ -30,6 +30,8 @@ pub fn run_still<R: Source, W: Sink, E: Sink>(
     out: &mut W,
     err: &mut E,
 ) -> Status
+    requires still { asks_to_execute (map string_bytes words.now) ≡ false }
+
     // Usage comes exactly where the words are no command line, want of memory aside. All else is left as it was.
     ensures usage { result ≢ Status.NoMemory → ((result ≡ Status.Usage) ↔ (command_of (map string_bytes words.now) ≡ None)) }
     ensures unread { command_of (map string_bytes words.now) ≡ None → IsUsage (streams (R.left source.old) (R.faults source.old) (W.taken out.old) (W.faults out.old)) (streams (R.left source.new) (R.faults source.new) (W.taken out.new) (W.faults out.new)) (error_stream (E.taken err.old) (E.faults err.old)) (error_stream (E.taken err.new) (E.faults err.new)) result }
@@ -66,6 +68,7 @@ fn run_command<R: Source, W: Sink>(
     source: &mut R,
     out: &mut W,
 ) -> Result<Status, Refusal>
+    requires still { IsStill command }
     ensures done { IfOk result (λ status. IsDone command status (streams (R.left source.old) (R.faults source.old) (W.taken out.old) (W.faults out.old)) (streams (R.left source.new) (R.faults source.new) (W.taken out.new) (W.faults out.new))) }
     ensures stops { IfErr result (Stops command (streams (R.left source.old) (R.faults source.old) (W.taken out.old) (W.faults out.old)) (streams (R.left source.new) (R.faults source.new) (W.taken out.new) (W.faults out.new))) }
 {
@@ -75,5 +78,7 @@ fn run_command<R: Source, W: Sink>(
         Command::Trace => trace(alloc, source, false, out).map(|()| Status::Done),
         Command::TraceMet => trace(alloc, source, true, out).map(|()| Status::Done),
         Command::Check => check(alloc, source, out),
+        Command::Exec { .. } => unreachable!(),
+        Command::ExecMet => unreachable!(),
     }
 }

@@ -78,8 +78,8 @@ fn rows_of(alloc: Global, plan: &Plan, rounds: u64) -> Result<(RowTable, Totals)
     Ok((table, totals))
 }
 
-// Writes the rows of a plan.
-fn write_rows<W: Sink>(
+/// Writes the rows of a plan.
+pub(crate) fn write_rows<W: Sink>(
     plan: &Plan,
     table: &RowTable,
     totals: &[u128],

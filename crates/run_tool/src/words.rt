@@ -1,10 +1,18 @@
 //! Command lines.
 ghost use Rattle.std.specs.Prelude.{◌≡◌, ◌↔◌, map, string_bytes, Some, IfOk, IsTrue};
-ghost use Rattle.run_tool.specs.Words.{command_of, command_named, command_with};
+ghost use Rattle.run_tool.specs.declared.words.Command.TheVariants.{Exec};
+ghost use Rattle.run_tool.specs.Words.{window_of, exec_with, exec_by, command_of, command_named, command_with, command_with_value, asks_to_execute};
 
 use crate::command_line::read_line;
 use sched_base::NoMemory;
 use std::alloc::Global;
+use trace_text::read_number;
+
+/// Where no window is asked for, a lane may run up to that many rounds ahead.
+pub(crate) const USUAL_WINDOW: u32 = 32;
+
+/// The largest window.
+const WINDOW_LIMIT: u128 = 1024;
 
 /// What a command line asks for.
 #[derive(Clone, Copy, Debug, PartialEq, Eq)]
@@ -19,6 +27,10 @@ pub enum Command {
     TraceMet,
     /// `check`: read a trace text, and tell whether its rows are a valid schedule of its set.
     Check,
+    /// `exec`: read a task set, run its schedule, and tell it. A lane may run up to `window` rounds ahead of the others.
+    Exec { window: u32 },
+    /// `exec --met`: the same with the usual window, and when each period was done.
+    ExecMet,
 }
 
 /// The command that these words are, the words after the program's name; none where they are no command line.
@@ -38,10 +50,20 @@ pub fn command_of(alloc: Global, words: &[String]) -> Result<Option<Command>, No
 fn is_spelled(command: Command, words: &[String]) -> bool
     ensures { IsTrue result ↔ (command_of (map string_bytes words.now) ≡ Some command) }
 {
-    match words.len() {
-        1 => is_name(command, words[0].as_str()),
-        2 => is_name_with(command, words[0].as_str(), words[1].as_str()),
-        _ => false,
+    let count = words.len();
+    if count == 1 {
+        is_name(command, words[0].as_str())
+    } else if count == 2 {
+        is_name_with(command, words[0].as_str(), words[1].as_str())
+    } else if count == 3 {
+        is_name_with_value(
+            command,
+            words[0].as_str(),
+            words[1].as_str(),
+            words[2].as_str(),
+        )
+    } else {
+        false
     }
 }
 
@@ -55,6 +77,8 @@ fn is_name(command: Command, word: &str) -> bool
         Command::Trace => word == "trace",
         Command::TraceMet => false,
         Command::Check => word == "check",
+        Command::Exec { window } => word == "exec" && window == USUAL_WINDOW,
+        Command::ExecMet => false,
     }
 }
 
@@ -64,6 +88,57 @@ fn is_name_with(command: Command, word: &str, option: &str) -> bool
 {
     match command {
         Command::TraceMet => word == "trace" && option == "--met",
+        Command::Exec { window } => word == "exec" && is_window_option(option, window),
+        Command::ExecMet => word == "exec" && option == "--met",
         _ => false,
+    }
+}
+
+// Whether this option is `--window=` with this window.
+fn is_window_option(option: &str, window: u32) -> bool
+    ensures { IsTrue result ↔ (exec_by option.now ≡ Some (Exec window)) }
+{
+    match option.as_bytes().strip_prefix(b"--window=".as_slice()) {
+        Some(value) => window_of(value) == Some(window),
+        None => false,
+    }
+}
+
+// Whether this word with this option and its value is the line of this command.
+fn is_name_with_value(command: Command, word: &str, option: &str, value: &str) -> bool
+    ensures { IsTrue result ↔ (command_with_value word.now option.now value.now ≡ Some command) }
+{
+    match command {
+        Command::Exec { window } => {
+            word == "exec" && option == "--window" && window_of(value.as_bytes()) == Some(window)
+        }
+        _ => false,
+    }
+}
+
+/// `exec` with the window that a word writes.
+pub(crate) fn exec_with(word: &[u8]) -> Option<Command>
+    ensures { result ≡ exec_with word.now }
+{
+    window_of(word).map(|window| Command::Exec { window })
+}
+
+// The window that a word writes.
+fn window_of(word: &[u8]) -> Option<u32>
+    ensures { result ≡ window_of word.now }
+{
+    match read_number(word) {
+        Some(number) if 1 <= number && number <= WINDOW_LIMIT => Some(number as u32),
+        _ => None,
+    }
+}
+
+/// Whether the words ask for an execution, by the first of them.
+pub(crate) fn asks_to_execute(words: &[String]) -> bool
+    ensures { result ≡ asks_to_execute (map string_bytes words.now) }
+{
+    match words.first() {
+        Some(word) => word.as_str() == "exec",
+        None => false,
     }
 }

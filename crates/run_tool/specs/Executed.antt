@@ -1,0 +1,110 @@
+-- What `exec` writes, and why it stops: with what the gates and the jobs did.
+use Rattle.std.specs.Prelude.{ℕ, ◌≡◌, ◌⊎◌, ◌≤◌, Bool, true, false, List, Option, Some, None}
+use Rattle.std.specs.declared.result.Result.{Result}
+use Rattle.std.specs.Io.KnownBytes.{Appends, Keeps}
+use Rattle.sched_base.specs.declared.rows.Leaf.{Leaf}
+use Rattle.sched_base.specs.declared.rows.Leaf.TheVariants as leaf
+use Rattle.sched_base.specs.declared.rows.Row.{Row}
+use Rattle.sched_base.specs.declared.sets.Task.{Task}
+use Rattle.sched_base.specs.Sets.{SetContents, task_at}
+use Rattle.sched_base.specs.Scale.{Fits}
+use Rattle.sched_edges.specs.Causes.{Rose}
+use Rattle.sched_edges.specs.Streams.{TookPart}
+use Rattle.run_tool.specs.declared.words.Command.{Command}
+use Rattle.run_tool.specs.declared.words.Command.TheVariants.{Exec, ExecMet}
+use Rattle.run_tool.specs.declared.refusal.Refusal.{Refusal}
+use Rattle.run_tool.specs.declared.refusal.Refusal.TheVariants as why
+use Rattle.run_tool.specs.declared.status.Status.{Status}
+use Rattle.run_tool.specs.declared.status.Status.TheVariants.{Done, WriteFault, GateFault, JobFault}
+use Rattle.run_tool.specs.Commands.{schedule_rows, set_limit, ReadsSet, HasRoom, text_of, plan_of, RefusesText}
+use Rattle.run_tool.specs.Refusals.{status_of, refusal_line}
+use Rattle.run_tool.specs.Ends.{Streams, ErrorStream, IsQuiet, Tells, IsTold, StopsAs, Ends}
+use Rattle.run_tree.specs.Plans.{PlanContents}
+use Rattle.run_tool.specs.Input.{IsRun, IsRefusedSet, IsTooLongSet}
+use Rattle.run_tool.specs.Executions.{Crew, RanAll, GateStopped, JobStopped}
+
+-- the name of the task that a leaf runs, if it runs one
+abbrev pub name_at : List Task → Leaf → Option (List ℕ)
+name_at tasks (leaf.Task task) = Some (task_at tasks task.0).name
+name_at tasks (leaf.Wait task) = None
+name_at tasks (leaf.Idle number) = None
+name_at tasks leaf.Empty = None
+
+-- the bytes are a set that fits, whose schedule has room
+pub record IsToRun (met : Bool) (bytes : List ℕ) (s : SetContents) (scale : ℕ) : Type 0 where
+  pub reads : ReadsSet bytes s scale
+  pub fits : Fits scale s
+  pub room : HasRoom (schedule_rows met) s scale
+
+-- this text is written for these bytes once the gates and the jobs have run the whole schedule of their set
+abbrev pub WritesRun : Bool → Crew → Crew → List ℕ → Status → List ℕ → Type 0
+WritesRun met old new bytes status text = (status ≡ Done) × ((s : SetContents) × (scale : ℕ) × IsToRun met bytes s scale × (text ≡ text_of (schedule_rows met) s scale) × RanAll (plan_of s scale) old new)
+
+-- why no text is written for these bytes: a gate or a job failed, or they are refused
+abbrev pub RefusesRun : Bool → Crew → Crew → List ℕ → Refusal → Type 0
+RefusesRun met old new bytes (why.GateFault row name) = (s : SetContents) × (scale : ℕ) × IsToRun met bytes s scale × GateStopped (plan_of s scale) old new row × (name ≡ name_at s.tasks row.leaf)
+RefusesRun met old new bytes (why.JobFault row name) = (s : SetContents) × (scale : ℕ) × IsToRun met bytes s scale × JobStopped (plan_of s scale) old new row × (name ≡ name_at s.tasks row.leaf)
+RefusesRun met old new bytes refusal = RefusesText (schedule_rows met) bytes refusal
+
+-- a set's schedule was run, and its text written
+abbrev pub RanSet : Bool → Option (List ℕ) → Option (List ℕ) → Crew → Crew → SetContents → Type 0
+RanSet met out out' old new s = (scale : ℕ) × IsRun s scale × HasRoom (schedule_rows met) s scale × Appends out out' (text_of (schedule_rows met) s scale) × RanAll (plan_of s scale) old new
+
+-- why running a plan's schedule stopped
+abbrev pub StopsInRun : PlanContents → Crew → Crew → Refusal → Type 0
+StopsInRun p old new (why.GateFault row name) = GateStopped p old new row × (name ≡ name_at p.set.tasks row.leaf)
+StopsInRun p old new (why.JobFault row name) = JobStopped p old new row × (name ≡ name_at p.set.tasks row.leaf)
+StopsInRun p old new why.NoMemory = Unit {0}
+StopsInRun p old new _ = ⊥
+
+-- why a set's schedule wasn't run, or its text not written
+abbrev pub StopsAtRun : Bool → Option (List ℕ) → Option (List ℕ) → ℕ → ℕ → Crew → Crew → SetContents → Refusal → Type 0
+StopsAtRun met out out' faults faults' old new s why.WriteFault =
+    (scale : ℕ) × IsRun s scale × HasRoom (schedule_rows met) s scale × TookPart out out' (text_of (schedule_rows met) s scale) × Rose faults faults' × RanAll (plan_of s scale) old new
+StopsAtRun met out out' faults faults' old new s (why.GateFault row name) =
+    (scale : ℕ) × IsRun s scale × HasRoom (schedule_rows met) s scale × StopsInRun (plan_of s scale) old new (why.GateFault row name) × Keeps out out'
+StopsAtRun met out out' faults faults' old new s (why.JobFault row name) =
+    (scale : ℕ) × IsRun s scale × HasRoom (schedule_rows met) s scale × StopsInRun (plan_of s scale) old new (why.JobFault row name) × Keeps out out'
+StopsAtRun met out out' faults faults' old new s (why.TooLong rows) = IsTooLongSet (schedule_rows met) s rows × Keeps out out'
+StopsAtRun met out out' faults faults' old new s refusal = IsRefusedSet s refusal × Keeps out out'
+
+-- the command is an execution
+abbrev pub IsExecuting : Command → Type 0
+IsExecuting (Exec window) = (1 ≤ window) × (window ≤ 1024)
+IsExecuting ExecMet = Unit {0}
+IsExecuting _ = ⊥
+
+-- whether an execution tells when each period was done
+abbrev pub is_met : Command → Bool
+is_met ExecMet = true
+is_met _ = false
+
+-- an execution was done, and `out` took its whole text
+pub record IsRunDone (met : Bool) (old new : Streams) (err err' : ErrorStream) (before now : Crew) (status : Status) : Type 0 where
+  pub done : status ≡ Done
+  pub told : IsTold set_limit (WritesRun met before now) Done old new
+  pub quiet : IsQuiet err err'
+
+-- an execution stopped for this reason, which gives its status, and `err` took its line
+pub record IsRunStopped (met : Bool) (old new : Streams) (err err' : ErrorStream) (before now : Crew) (status : Status) (refusal : Refusal) : Type 0 where
+  pub status_is : status ≡ status_of refusal
+  pub stops : StopsAs set_limit (WritesRun met before now) (RefusesRun met before now) old new refusal
+  pub tells : Tells err err' (refusal_line refusal)
+
+-- how an execution ends with this status
+abbrev pub EndsRun : Bool → Streams → Streams → ErrorStream → ErrorStream → Crew → Crew → Status → Type 0
+EndsRun met old new err err' before now status = IsRunDone met old new err err' before now status ⊎ ((refusal : Refusal) × IsRunStopped met old new err err' before now status refusal)
+
+-- how each command ends with this status, and what the gates and the jobs did
+abbrev pub EndsWith : Command → Streams → Streams → ErrorStream → ErrorStream → Crew → Crew → Status → Type 0
+EndsWith (Exec window) old new err err' before now status = EndsRun false old new err err' before now status
+EndsWith ExecMet old new err err' before now status = EndsRun true old new err err' before now status
+EndsWith c old new err err' before now status = Ends c old new err err' status
+
+-- whether a gate or a job may have been called: by an execution that was done, that failed on the way, or whose text wasn't taken
+abbrev pub may_have_called : Status → Bool
+may_have_called Done = true
+may_have_called WriteFault = true
+may_have_called GateFault = true
+may_have_called JobFault = true
+may_have_called status = false

@@ -1,0 +1,100 @@
+-- What an execution does with the gates and the jobs.
+use Rattle.std.specs.Prelude.{ℕ, ◌≡◌, ◌<◌, ◌≤◌, ◌+◌, List, [], Option, Some, None, IfSome, option_map, length, map, slice_get, slice_index, take}
+use Rattle.sched_base.specs.declared.rows.Leaf.{Leaf}
+use Rattle.sched_base.specs.declared.rows.Leaf.TheVariants.{Task}
+use Rattle.sched_base.specs.declared.rows.TaskId.{TaskId}
+use Rattle.sched_base.specs.declared.rows.Row.{Row}
+use Rattle.sched_base.specs.Tables.{all_rows, lane_of, RowAt, ticks_in, ticks_of}
+use Rattle.sched_base.specs.Valid.{IsValid}
+use Rattle.sched_edges.specs.Causes.{Rose}
+use Rattle.sched_edges.specs.Gates.{grown}
+use Rattle.run_tree.specs.Plans.{PlanContents, stop_of}
+use Rattle.exec_book.specs.PlanRows.{plan_rows}
+use Rattle.exec_workers.specs.declared.kits.Kit.{Kit}
+use Rattle.exec_workers.specs.Fronts.{IsFrontAt}
+
+-- what contracts see of a gate: the rows that it ran, where it tells them, and how often it has failed
+pub record GateSeen : Type 0 where
+  pub ran : Option (List Row)
+  pub faults : ℕ
+
+-- what contracts see of a job: whose it is, the ticks that it has worked, and how often it has failed
+pub record JobSeen : Type 0 where
+  pub id : ℕ
+  pub used : ℕ
+  pub faults : ℕ
+
+-- the gates in their kits and the jobs in their places, at one moment
+pub record Crew : Type 0 where
+  pub gates : List (Option GateSeen)
+  pub jobs : List (Option JobSeen)
+
+abbrev pub gates_of : {G : Type 0} → (G → Option (List Row)) → (G → ℕ) → List (Kit G) → List (Option GateSeen)
+gates_of ran faults kits = map (λ kit. option_map (λ gate. record { ran = ran gate; faults = faults gate }) kit.gate) kits
+
+abbrev pub jobs_of : {J : Type 0} → (J → ℕ) → (J → ℕ) → (J → ℕ) → List (Option J) → List (Option JobSeen)
+jobs_of id used faults places = map (λ place. option_map (λ job. record { id = id job; used = used job; faults = faults job }) place) places
+
+abbrev pub crew : List (Option GateSeen) → List (Option JobSeen) → Crew
+crew gates jobs = record { gates = gates; jobs = jobs }
+
+-- place i holds this
+abbrev pub Holds : {T : Type 0} → List (Option T) → ℕ → T → Type 0
+Holds places i t = slice_get places i ≡ Some (Some t)
+
+-- there is a gate for each of 32 processors, which has run nothing yet where it tells its rows, and 256 jobs, which have
+-- worked no tick
+pub record IsReady (c : Crew) : Type 0 where
+  pub gates : (p : ℕ) → p < 32 → (g : GateSeen) × Holds c.gates p g × IfSome g.ran (λ rows. rows ≡ [])
+  pub count : length c.jobs ≡ 256
+  pub jobs : (i : ℕ) → i < 256 → (j : JobSeen) × Holds c.jobs i j × (j.id ≡ i) × (j.used ≡ 0)
+
+-- each kit that held a gate holds it again, and each job is in its place. No count of faults fell
+pub record AreBack (old new : Crew) : Type 0 where
+  pub gates : (p : ℕ) (g : GateSeen) → Holds old.gates p g → (h : GateSeen) × Holds new.gates p h × (g.faults ≤ h.faults)
+  pub jobs : (i : ℕ) (j : JobSeen) → Holds old.jobs i j → (k : JobSeen) × Holds new.jobs i k × (k.id ≡ j.id) × (j.faults ≤ k.faults)
+
+-- each gate ran all rows of its processor in their order, which are a valid schedule, and each job has worked the ticks of its
+-- task's rows. Nothing failed
+pub record RanAll (p : PlanContents) (old new : Crew) : Type 0 where
+  pub gates : (q : ℕ) (g : GateSeen) → Holds old.gates q g → Holds new.gates q (record { ran = grown g.ran (lane_of (plan_rows p) q); faults = g.faults })
+  pub jobs : (i : ℕ) (j : JobSeen) → Holds old.jobs i j → Holds new.jobs i (record { id = j.id; used = j.used + ticks_in i (all_rows (plan_rows p)); faults = j.faults })
+  pub valid : IsValid p.set p.tree.scale (stop_of p) (stop_of p) (all_rows (plan_rows p))
+
+-- each gate ran the first rows of its processor, as many as `ran` says. As many of them as `posted` says are posted, all but one
+-- at most. Each job has worked the ticks of its task's posted rows, which are the first of the task
+pub record RanPart (p : PlanContents) (old new : Crew) (posted ran : List ℕ) : Type 0 where
+  pub beside : (q : ℕ) → (slice_index posted q ≤ slice_index ran q) × (slice_index ran q ≤ slice_index posted q + 1)
+  pub gates : (q : ℕ) (g : GateSeen) → Holds old.gates q g → (h : GateSeen) × Holds new.gates q h × (h.ran ≡ grown g.ran (take (slice_index ran q) (lane_of (plan_rows p) q)))
+  pub jobs : (i : ℕ) (j : JobSeen) → Holds old.jobs i j → (k : JobSeen) × Holds new.jobs i k × (k.used ≡ j.used + ticks_of i (plan_rows p) posted)
+  pub front : (horizon : ℕ) × IsFrontAt p posted horizon
+
+-- the gate of processor q failed
+abbrev pub GateRose : Crew → Crew → ℕ → Type 0
+GateRose old new q = (g h : GateSeen) × Holds old.gates q g × Holds new.gates q h × Rose g.faults h.faults
+
+-- the gate of processor q didn't fail
+abbrev pub GateKept : Crew → Crew → ℕ → Type 0
+GateKept old new q = (g h : GateSeen) → Holds old.gates q g → Holds new.gates q h → h.faults ≡ g.faults
+
+-- job i failed
+abbrev pub JobRose : Crew → Crew → ℕ → Type 0
+JobRose old new i = (j k : JobSeen) × Holds old.jobs i j × Holds new.jobs i k × Rose j.faults k.faults
+
+-- the gate of the row's processor failed at this row, the next after those that it ran, and none of a lower processor failed
+pub record GateStopped (p : PlanContents) (old new : Crew) (row : Row) : Type 0 where
+  pub rose : GateRose old new row.processor
+  pub lowest : (q : ℕ) → q < row.processor → GateKept old new q
+  pub at : (posted ran : List ℕ) × RanPart p old new posted ran × RowAt (plan_rows p) row.processor (slice_index ran row.processor) row
+
+-- no gate failed. The job of the row's task failed at this row, the last one that the gate of the row's processor ran, and on
+-- no lower processor a job failed
+pub record JobStopped (p : PlanContents) (old new : Crew) (row : Row) : Type 0 where
+  pub task : (task : TaskId) × (row.leaf ≡ Task task) × JobRose old new task.0
+  pub gates : (q : ℕ) → GateKept old new q
+  pub at : (posted ran : List ℕ) × RanPart p old new posted ran × RowAt (plan_rows p) row.processor (slice_index posted row.processor) row × (slice_index ran row.processor ≡ slice_index posted row.processor + 1) × ((q : ℕ) → q < row.processor → slice_index ran q ≡ slice_index posted q)
+
+-- no gate and no job failed
+pub record NothingRose (old new : Crew) : Type 0 where
+  pub gates : (q : ℕ) → ¬ (GateRose old new q)
+  pub jobs : (i : ℕ) → ¬ (JobRose old new i)

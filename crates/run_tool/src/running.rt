@@ -1,0 +1,138 @@
+//! The top call, with the runtime, the gates and the jobs.
+ghost use Rattle.std.specs.Prelude.{◌≡◌, ◌≢◌, ◌≤◌, ◌↔◌, false, map, string_bytes, None, Some, OnOk, IfErr};
+ghost use Rattle.run_tool.specs.Words.{command_of, asks_to_execute};
+ghost use Rattle.run_tool.specs.Commands.{SetText, set_limit};
+ghost use Rattle.run_tool.specs.Refusals.{status_of};
+ghost use Rattle.run_tool.specs.Ends.{streams, error_stream, IsDone, IsTold, StopsAs, IsUsage, IsAnswered, TellsTruth};
+ghost use Rattle.run_tool.specs.Executions.{crew, gates_of, jobs_of, IsReady, AreBack, NothingRose};
+ghost use Rattle.run_tool.specs.Executed.{IsExecuting, is_met, WritesRun, RefusesRun, EndsWith, may_have_called};
+ghost use Rattle.run_tool.specs.declared.words.Command.{Command};
+ghost use Rattle.run_tool.specs.declared.words.Command.TheVariants.{Check};
+ghost use Rattle.run_tool.specs.declared.status.Status.TheVariants.{Done, Invalid};
+
+use crate::exec::exec;
+use crate::refusal::Refusal;
+use crate::refusal_line::refuse;
+use crate::sound::sound_law;
+use crate::status::Status;
+use crate::top::run_still;
+use crate::words::{Command, USUAL_WINDOW, asks_to_execute, command_of};
+use exec_workers::Kit;
+use sched_edges::{Gate, Jobs, Sink, Source};
+use std::alloc::Global;
+use std::sync::Wait;
+use std::thread::Threads;
+
+/// Does what the words, those after the program's name, ask for: reads the source, writes the whole text to `out`, or one line
+/// that says why not to `err`. `exec` has the gates of the kits and the jobs run the schedule of the set before its text is
+/// written: gate p runs the rows of processor p, and job i works for task i. It takes all its memory before the first gate is
+/// called.
+///
+/// The clauses speak of bytes, rows and ticks where a stream, a gate or a job tells them. Want of memory alone has no cause.
+/// An execution takes a lock, so its clauses hold if it returns. All else is done by `run_still`, which returns.
+pub fn run<R: Source, W: Sink, E: Sink, G: Gate + Send, X: Threads + Wait + Sync>(
+    rt: &X,
+    alloc: Global,
+    words: &[String],
+    source: &mut R,
+    out: &mut W,
+    err: &mut E,
+    kits: &mut Vec<Kit<G>>,
+    jobs: &mut Jobs,
+) -> Status
+    requires ready { IsReady (crew (gates_of G.ran G.faults kits.old.items) (jobs_of (λ j. (Job-box j).id j.value) (λ j. (Job-box j).used j.value) (λ j. (Job-box j).faults j.value) jobs.old.places)) }
+
+    // Usage comes exactly where the words are no command line, want of memory aside. All else is left as it was.
+    ensures usage { result ≢ Status.NoMemory → ((result ≡ Status.Usage) ↔ (command_of (map string_bytes words.now) ≡ None)) }
+    ensures unread { command_of (map string_bytes words.now) ≡ None → IsUsage (streams (R.left source.old) (R.faults source.old) (W.taken out.old) (W.faults out.old)) (streams (R.left source.new) (R.faults source.new) (W.taken out.new) (W.faults out.new)) (error_stream (E.taken err.old) (E.faults err.old)) (error_stream (E.taken err.new) (E.faults err.new)) result }
+
+    // Done: `out` took exactly the text that the command writes for the bytes that the source gave.
+    ensures done { result ≡ Status.Done → (c : Command) × (command_of (map string_bytes words.now) ≡ Some c) × IsDone c Done (streams (R.left source.old) (R.faults source.old) (W.taken out.old) (W.faults out.old)) (streams (R.left source.new) (R.faults source.new) (W.taken out.new) (W.faults out.new)) }
+
+    // Invalid: `check` read a trace whose rows aren't a valid schedule, and `out` took exactly the line that says where and why.
+    ensures invalid { result ≡ Status.Invalid → (command_of (map string_bytes words.now) ≡ Some Check) × IsDone Check Invalid (streams (R.left source.old) (R.faults source.old) (W.taken out.old) (W.faults out.old)) (streams (R.left source.new) (R.faults source.new) (W.taken out.new) (W.faults out.new)) }
+
+    // What is told of a set is sound: a tree is a reduction tree of it, and a schedule is valid.
+    ensures sound { (what : SetText) → TellsTruth what }
+
+    // Each status comes only for its reason, and `err` took its line. Where a schedule was run, its text comes after each gate ran
+    // the rows of its processor and each job worked the ticks of its task; where a gate or a job failed, this is the one named, and
+    // the others ran first rows.
+    ensures ends { (c : Command) → command_of (map string_bytes words.now) ≡ Some c → EndsWith c (streams (R.left source.old) (R.faults source.old) (W.taken out.old) (W.faults out.old)) (streams (R.left source.new) (R.faults source.new) (W.taken out.new) (W.faults out.new)) (error_stream (E.taken err.old) (E.faults err.old)) (error_stream (E.taken err.new) (E.faults err.new)) (crew (gates_of G.ran G.faults kits.old.items) (jobs_of (λ j. (Job-box j).id j.value) (λ j. (Job-box j).used j.value) (λ j. (Job-box j).faults j.value) jobs.old.places)) (crew (gates_of G.ran G.faults kits.new.items) (jobs_of (λ j. (Job-box j).id j.value) (λ j. (Job-box j).used j.value) (λ j. (Job-box j).faults j.value) jobs.new.places)) result }
+
+    // No gate and no job is called but by an execution, and by none that is refused before.
+    ensures still { asks_to_execute (map string_bytes words.now) ≡ false → (kits.new.items ≡ kits.old.items) × (jobs.new.places ≡ jobs.old.places) }
+    ensures uncalled { may_have_called result ≡ false → (kits.new.items ≡ kits.old.items) × (jobs.new.places ≡ jobs.old.places) }
+
+    // At every status each gate is back in its kit, and each job in its place.
+    ensures back { AreBack (crew (gates_of G.ran G.faults kits.old.items) (jobs_of (λ j. (Job-box j).id j.value) (λ j. (Job-box j).used j.value) (λ j. (Job-box j).faults j.value) jobs.old.places)) (crew (gates_of G.ran G.faults kits.new.items) (jobs_of (λ j. (Job-box j).id j.value) (λ j. (Job-box j).used j.value) (λ j. (Job-box j).faults j.value) jobs.new.places)) }
+
+    // Where nothing fails, the answer for the bytes is given.
+    ensures answered { NothingRose (crew (gates_of G.ran G.faults kits.old.items) (jobs_of (λ j. (Job-box j).id j.value) (λ j. (Job-box j).used j.value) (λ j. (Job-box j).faults j.value) jobs.old.places)) (crew (gates_of G.ran G.faults kits.new.items) (jobs_of (λ j. (Job-box j).id j.value) (λ j. (Job-box j).used j.value) (λ j. (Job-box j).faults j.value) jobs.new.places)) → IsAnswered (command_of (map string_bytes words.now)) (R.left source.old) (streams (R.left source.old) (R.faults source.old) (W.taken out.old) (W.faults out.old)) (streams (R.left source.new) (R.faults source.new) (W.taken out.new) (W.faults out.new)) result }
+{
+    if !asks_to_execute(words) {
+        return run_still(alloc, words, source, out, err);
+    }
+    sound_law();
+    match command_of(alloc, words) {
+        Err(_) => refuse(alloc, &Refusal::NoMemory, err),
+        Ok(None) => refuse(alloc, &Refusal::Usage, err),
+        Ok(Some(command)) => {
+            match run_command(rt, alloc, command, source, out, kits, jobs) {
+                Ok(()) => Status::Done,
+                Err(refusal) => refuse(alloc, &refusal, err),
+            }
+        }
+    }
+}
+
+// Does an execution.
+fn run_command<R: Source, W: Sink, G: Gate + Send, X: Threads + Wait + Sync>(
+    rt: &X,
+    alloc: Global,
+    command: Command,
+    source: &mut R,
+    out: &mut W,
+    kits: &mut Vec<Kit<G>>,
+    jobs: &mut Jobs,
+) -> Result<(), Refusal>
+    requires ready { IsReady (crew (gates_of G.ran G.faults kits.old.items) (jobs_of (λ j. (Job-box j).id j.value) (λ j. (Job-box j).used j.value) (λ j. (Job-box j).faults j.value) jobs.old.places)) }
+    requires executing { IsExecuting command }
+    ensures done { OnOk result (IsTold set_limit (WritesRun (is_met command) (crew (gates_of G.ran G.faults kits.old.items) (jobs_of (λ j. (Job-box j).id j.value) (λ j. (Job-box j).used j.value) (λ j. (Job-box j).faults j.value) jobs.old.places)) (crew (gates_of G.ran G.faults kits.new.items) (jobs_of (λ j. (Job-box j).id j.value) (λ j. (Job-box j).used j.value) (λ j. (Job-box j).faults j.value) jobs.new.places))) Done (streams (R.left source.old) (R.faults source.old) (W.taken out.old) (W.faults out.old)) (streams (R.left source.new) (R.faults source.new) (W.taken out.new) (W.faults out.new))) }
+    ensures stops { IfErr result (StopsAs set_limit (WritesRun (is_met command) (crew (gates_of G.ran G.faults kits.old.items) (jobs_of (λ j. (Job-box j).id j.value) (λ j. (Job-box j).used j.value) (λ j. (Job-box j).faults j.value) jobs.old.places)) (crew (gates_of G.ran G.faults kits.new.items) (jobs_of (λ j. (Job-box j).id j.value) (λ j. (Job-box j).used j.value) (λ j. (Job-box j).faults j.value) jobs.new.places))) (RefusesRun (is_met command) (crew (gates_of G.ran G.faults kits.old.items) (jobs_of (λ j. (Job-box j).id j.value) (λ j. (Job-box j).used j.value) (λ j. (Job-box j).faults j.value) jobs.old.places)) (crew (gates_of G.ran G.faults kits.new.items) (jobs_of (λ j. (Job-box j).id j.value) (λ j. (Job-box j).used j.value) (λ j. (Job-box j).faults j.value) jobs.new.places))) (streams (R.left source.old) (R.faults source.old) (W.taken out.old) (W.faults out.old)) (streams (R.left source.new) (R.faults source.new) (W.taken out.new) (W.faults out.new))) }
+    ensures uncalled { IfErr result (λ refusal. may_have_called (status_of refusal) ≡ false → (kits.new.items ≡ kits.old.items) × (jobs.new.places ≡ jobs.old.places)) }
+    ensures back { AreBack (crew (gates_of G.ran G.faults kits.old.items) (jobs_of (λ j. (Job-box j).id j.value) (λ j. (Job-box j).used j.value) (λ j. (Job-box j).faults j.value) jobs.old.places)) (crew (gates_of G.ran G.faults kits.new.items) (jobs_of (λ j. (Job-box j).id j.value) (λ j. (Job-box j).used j.value) (λ j. (Job-box j).faults j.value) jobs.new.places)) }
+{
+    exec(
+        rt,
+        alloc,
+        source,
+        window_of(command),
+        is_met(command),
+        out,
+        kits,
+        jobs,
+    )
+}
+
+// How many rounds a lane may run ahead of the others in an execution.
+fn window_of(command: Command) -> u32
+    requires executing { IsExecuting command }
+    ensures some { 1 ≤ result }
+    ensures small { result ≤ 1024 }
+{
+    match command {
+        Command::Exec { window } => window,
+        _ => USUAL_WINDOW,
+    }
+}
+
+// Whether an execution tells when each period was done.
+fn is_met(command: Command) -> bool
+    ensures { result ≡ is_met command }
+{
+    match command {
+        Command::ExecMet => true,
+        _ => false,
+    }
+}
