@@ -6,3 +6,4 @@ pub mod CommandLineLemmas
 pub mod RunLemmas
 pub mod CrewLemmas
 pub mod CrewEndLemmas
+pub mod ReadyLemmas

@@ -10,4 +10,5 @@ pub mod Ends
 pub mod Refuse
 pub mod Closing
 pub mod Executions
+pub mod Ready
 pub mod Executed
