@@ -27,6 +27,3 @@ pub use sound::sound_law;
 pub use status::Status;
 pub use top::run_still;
 pub use words::{Command, command_of};
-
-#[cfg(test)]
-mod tests;

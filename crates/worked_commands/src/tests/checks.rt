@@ -1,7 +1,8 @@
 //! Checks of traces: the worked ones, hostile ones, and faults in mid-stream.
 
-use super::{Fails, NONE, call};
-use crate::Status;
+use super::calls::{Outside, SURE, call};
+use super::texts::LATE_ROWS;
+use run_tool::Status;
 use std::alloc::{AllocError, Global};
 use std::test::Fail;
 
@@ -27,10 +28,6 @@ const LINES: [&str; 16] = [
 
 const REPORT: &str =
     "valid\nrows 4\npreemptions 1\nmigrations 1\nresponse a 9\nresponse b 9\nresponse c 6\nchart 0 baa\nchart 1 ccb\n";
-
-/// The trace of two tasks of which the first is released late.
-const LATE_ROWS: &str =
-    "run-trace 2\nprocessors 1\nhorizon 5\nscale 2\ntasks 2\ntask a 1 2 1\ntask b 1 2 0\nrow 0 0 1 -\nrow 0 1 3 b\nrow 0 3 5 a\nrow 0 5 7 b\nrow 0 7 9 a\nrow 0 9 10 b\ntotal a 4\ntotal b 5\nmet a 0 5\nmet a 1 9\nmet b 0 3\nmet b 1 7\nrows 6\n";
 
 // The trace of three tasks, with other lines at these numbers.
 fn changed(alloc: Global, changes: &[(usize, &str)]) -> Result<Vec<u8>, AllocError> {
@@ -162,7 +159,7 @@ fn verdicts_of_three_tasks(rt: HostRuntime) -> Result<(), Fail> {
     ];
     for (changes, status, out, err) in rows {
         let text = changed(rt.alloc(), changes)?;
-        let left = call(rt.alloc(), &["check"], &text, NONE)?;
+        let left = call(&rt, rt.alloc(), &["check"], &text, &SURE)?;
         assert_eq!(rt; left.status, status);
         assert_eq!(rt; left.out.as_slice(), out.as_bytes());
         assert_eq!(rt; left.err.as_slice(), err.as_bytes());
@@ -194,15 +191,15 @@ fn texts_cut_and_doubled(rt: HostRuntime) -> Result<(), Fail> {
         ("", "refused 6 BadLine 17\n"),
     ];
     let mut cut = Vec::new(rt.alloc());
-    let left = call(rt.alloc(), &["check"], &cut, NONE)?;
+    let left = call(&rt, rt.alloc(), &["check"], &cut, &SURE)?;
     assert_eq!(rt; left.err.as_slice(), b"refused 6 BadLine 1\n".as_slice());
     for (i, (at_cut, at_double)) in faults.iter().enumerate() {
         cut.extend_from_slice(LINES[i].as_bytes())?;
         // The last line feed may be missing.
-        let left = call(rt.alloc(), &["check"], &cut, NONE)?;
+        let left = call(&rt, rt.alloc(), &["check"], &cut, &SURE)?;
         assert_eq!(rt; left.err.as_slice(), at_cut.as_bytes());
         cut.push(b'\n')?;
-        let left = call(rt.alloc(), &["check"], &cut, NONE)?;
+        let left = call(&rt, rt.alloc(), &["check"], &cut, &SURE)?;
         assert_eq!(rt; left.err.as_slice(), at_cut.as_bytes());
 
         let mut doubled = cut.clone()?;
@@ -210,12 +207,12 @@ fn texts_cut_and_doubled(rt: HostRuntime) -> Result<(), Fail> {
             doubled.extend_from_slice(line.as_bytes())?;
             doubled.push(b'\n')?;
         }
-        let left = call(rt.alloc(), &["check"], &doubled, NONE)?;
+        let left = call(&rt, rt.alloc(), &["check"], &doubled, &SURE)?;
         assert_eq!(rt; left.status, Status::BadInput);
         assert_eq!(rt; left.err.as_slice(), at_double.as_bytes());
         assert_eq!(rt; left.out.as_slice(), b"".as_slice());
     }
-    let left = call(rt.alloc(), &["check"], &cut, NONE)?;
+    let left = call(&rt, rt.alloc(), &["check"], &cut, &SURE)?;
     assert_eq!(rt; left.out.as_slice(), REPORT.as_bytes());
     Ok(())
 }
@@ -260,7 +257,7 @@ fn checks_of_other_traces(rt: HostRuntime) -> Result<(), Fail> {
         ("\n", Status::BadInput, "", "refused 6 BadLine 1\n"),
     ];
     for (input, status, out, err) in rows {
-        let left = call(rt.alloc(), &["check"], input.as_bytes(), NONE)?;
+        let left = call(&rt, rt.alloc(), &["check"], input.as_bytes(), &SURE)?;
         assert_eq!(rt; left.status, status, "of {input}");
         assert_eq!(rt; left.out.as_slice(), out.as_bytes(), "of {input}");
         assert_eq!(rt; left.err.as_slice(), err.as_bytes(), "of {input}");
@@ -275,9 +272,9 @@ fn a_fault_leaves_the_lines_before(rt: HostRuntime) -> Result<(), Fail> {
     let rows = [
         (
             valid,
-            Fails {
+            Outside {
                 source: &[2],
-                ..NONE
+                ..SURE
             },
             Status::ReadFault,
             "",
@@ -285,14 +282,14 @@ fn a_fault_leaves_the_lines_before(rt: HostRuntime) -> Result<(), Fail> {
         ),
         (
             valid,
-            Fails { out: &[1], ..NONE },
+            Outside { out: &[1], ..SURE },
             Status::WriteFault,
             "",
             "refused 4 WriteFault\n",
         ),
         (
             valid,
-            Fails { out: &[3], ..NONE },
+            Outside { out: &[3], ..SURE },
             Status::WriteFault,
             "valid\nrows 4\n",
             "refused 4 WriteFault\n",
@@ -300,14 +297,14 @@ fn a_fault_leaves_the_lines_before(rt: HostRuntime) -> Result<(), Fail> {
         // The last line of the report.
         (
             valid,
-            Fails { out: &[9], ..NONE },
+            Outside { out: &[9], ..SURE },
             Status::WriteFault,
             "valid\nrows 4\npreemptions 1\nmigrations 1\nresponse a 9\nresponse b 9\nresponse c 6\nchart 0 baa\n",
             "refused 4 WriteFault\n",
         ),
         (
             invalid,
-            Fails { out: &[1], ..NONE },
+            Outside { out: &[1], ..SURE },
             Status::WriteFault,
             "",
             "refused 4 WriteFault\n",
@@ -315,7 +312,7 @@ fn a_fault_leaves_the_lines_before(rt: HostRuntime) -> Result<(), Fail> {
         // Nothing goes to `err`, so it isn't called.
         (
             invalid,
-            Fails { err: &[1], ..NONE },
+            Outside { err: &[1], ..SURE },
             Status::Invalid,
             "invalid line 12 processor-overlap\n",
             "",
@@ -323,7 +320,7 @@ fn a_fault_leaves_the_lines_before(rt: HostRuntime) -> Result<(), Fail> {
     ];
     for (changes, fails, status, out, err) in rows {
         let text = changed(rt.alloc(), changes)?;
-        let left = call(rt.alloc(), &["check"], &text, fails)?;
+        let left = call(&rt, rt.alloc(), &["check"], &text, &fails)?;
         assert_eq!(rt; left.status, status);
         assert_eq!(rt; left.out.as_slice(), out.as_bytes());
         assert_eq!(rt; left.err.as_slice(), err.as_bytes());

@@ -1,0 +1,10 @@
+//! The commands, from the words and the bytes to the status, the bytes written, the rows that gates ran and the ticks that jobs
+//! worked.
+mod calls;
+mod checks;
+mod ends;
+mod lanes;
+mod sets;
+mod texts;
+mod traces;
+mod usage;

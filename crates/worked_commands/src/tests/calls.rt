@@ -1,0 +1,188 @@
+//! One call of the commands: what is outside, and what it leaves.
+
+use exec_workers::Kit;
+use run_tool::{Status, run};
+use sched_base::{NoMemory, Row};
+use sched_edges::{CountJob, FailJob, Jobs, ListGate, MemSink, MemSource, read_all};
+use std::alloc::{AllocError, Global};
+use std::process::Abort;
+use std::sync::Wait;
+use std::test::Fail;
+use std::thread::Threads;
+
+/// The most processors, each of which has a gate.
+const GATES: u32 = 32;
+
+/// The most tasks, each of which has a job.
+const JOBS: u32 = 256;
+
+/// What is outside a call. Calls are numbered from 1.
+#[derive(Clone, Copy)]
+pub(super) struct Outside {
+    /// The calls of the source that fail.
+    pub source: &'static [u64],
+    /// The calls of `out` that fail.
+    pub out: &'static [u64],
+    /// The calls of `err` that fail.
+    pub err: &'static [u64],
+    /// The bytes that `out` has room for.
+    pub out_room: usize,
+    /// The bytes that `err` has room for.
+    pub err_room: usize,
+    /// The gate of a processor, and its call that fails.
+    pub gate: Option<(u32, u64)>,
+    /// The rows that each gate has room for.
+    pub gate_room: usize,
+    /// The job of a task, and its call that fails.
+    pub job: Option<(u32, u64)>,
+}
+
+/// Nothing fails.
+pub(super) const SURE: Outside = Outside {
+    source: &[],
+    out: &[],
+    err: &[],
+    out_room: 1_048_576,
+    err_room: 4096,
+    gate: None,
+    gate_room: 16,
+    job: None,
+};
+
+/// What a job tells after a call.
+#[derive(Clone, Copy, Debug, PartialEq, Eq)]
+pub(super) struct Worked {
+    pub id: u32,
+    pub ticks: u128,
+    pub faults: u64,
+}
+
+/// What a call left.
+#[derive(Drop)]
+pub(super) struct Left {
+    pub status: Status,
+    /// What `out` took.
+    pub out: Vec<u8>,
+    /// What `err` took.
+    pub err: Vec<u8>,
+    /// How many bytes the source has still to give.
+    pub unread: usize,
+    /// The rows that each gate ran.
+    pub gates: Vec<Vec<Row>>,
+    /// What each job tells.
+    pub jobs: Vec<Worked>,
+}
+
+/// Calls the commands with these words, with a gate for each processor and a job for each task.
+pub(super) fn call<X: Abort + Threads + Wait + Sync>(
+    rt: &X,
+    alloc: Global,
+    words: &[&str],
+    input: &[u8],
+    outside: &Outside,
+) -> Result<Left, Fail> {
+    let mut source = MemSource::new(alloc, input, outside.source)?;
+    let mut out = MemSink::new(alloc, outside.out_room, outside.out)?;
+    let mut err = MemSink::new(alloc, outside.err_room, outside.err)?;
+    let words = owned(alloc, words)?;
+    let mut kits = kits_of(alloc, outside)?;
+    let mut jobs = Jobs::with_room(alloc, JOBS)?;
+    for id in 0..JOBS {
+        add_job(alloc, &mut jobs, id, outside.job)?;
+    }
+    let status = run(
+        rt,
+        alloc,
+        &words,
+        &mut source,
+        &mut out,
+        &mut err,
+        &mut kits,
+        &mut jobs,
+    );
+    Ok(Left {
+        status,
+        out: Vec::from_slice(alloc, out.taken())?,
+        err: Vec::from_slice(alloc, err.taken())?,
+        unread: unread(alloc, &mut source),
+        gates: lists_of(rt, alloc, &kits)?,
+        jobs: told_by(alloc, &mut jobs)?,
+    })
+}
+
+fn owned(alloc: Global, words: &[&str]) -> Result<Vec<String>, AllocError> {
+    let mut owned = Vec::new(alloc);
+    for word in words {
+        owned.push(String::from_str(alloc, word)?)?;
+    }
+    Ok(owned)
+}
+
+// A kit for each processor, with a gate that lists its rows.
+fn kits_of(alloc: Global, outside: &Outside) -> Result<Vec<Kit<ListGate>>, NoMemory> {
+    let mut kits = Vec::new(alloc);
+    for p in 0..GATES {
+        let gate = match outside.gate {
+            Some((failing, call)) if failing == p => {
+                ListGate::new(alloc, outside.gate_room, &[call])?
+            }
+            _ => ListGate::new(alloc, outside.gate_room, &[])?,
+        };
+        kits.push(Kit::new(gate))?;
+    }
+    Ok(kits)
+}
+
+// Adds the job of a task: one that counts, or the one that fails at a call.
+fn add_job(
+    alloc: Global,
+    jobs: &mut Jobs,
+    id: u32,
+    failing: Option<(u32, u64)>,
+) -> Result<(), NoMemory> {
+    match failing {
+        Some((task, call)) if task == id => {
+            jobs.add(Box::new(alloc, FailJob::new(alloc, id, &[call])?)?);
+        }
+        _ => jobs.add(Box::new(alloc, CountJob::new(id))?),
+    }
+    Ok(())
+}
+
+// How many bytes the source has still to give.
+fn unread(alloc: Global, source: &mut MemSource) -> usize {
+    match read_all(alloc, source, 2_097_152) {
+        Ok(bytes) => bytes.as_slice().len(),
+        Err(_) => 0,
+    }
+}
+
+// The lists of the gates, each in its kit.
+fn lists_of(
+    rt: &impl Abort,
+    alloc: Global,
+    kits: &[Kit<ListGate>],
+) -> Result<Vec<Vec<Row>>, AllocError> {
+    let mut lists = Vec::new(alloc);
+    for kit in kits {
+        match &kit.gate {
+            Some(gate) => lists.push(Vec::from_slice(alloc, gate.ran())?)?,
+            None => panic!(rt; "a gate is not in its kit"),
+        }
+    }
+    Ok(lists)
+}
+
+// What the jobs tell, each lifted out of its place.
+fn told_by(alloc: Global, jobs: &mut Jobs) -> Result<Vec<Worked>, AllocError> {
+    let mut told = Vec::new(alloc);
+    for i in 0..JOBS {
+        let job = jobs.lift(i);
+        told.push(Worked {
+            id: job.id(),
+            ticks: job.used(),
+            faults: job.faults(),
+        })?;
+    }
+    Ok(told)
+}
