@@ -3,8 +3,11 @@
 mod calls;
 mod checks;
 mod ends;
+mod executions;
 mod lanes;
 mod sets;
+mod stops;
+mod streams;
 mod texts;
 mod traces;
 mod usage;
