@@ -1,4 +1,4 @@
-//! Scripts over books.
+//! Scripts over books, and what the tests of books share.
 ghost use Rattle.std.specs.Prelude.{◌≡◌, ◌≤◌, ◌<◌, ◌*◌, ℕ, [], length, false, IfOk};
 ghost use Rattle.run_tree.specs.Plans.{rounds_of};
 ghost use Rattle.event_core.specs.Rounds.{row_limit};
@@ -7,6 +7,9 @@ ghost use Rattle.unit_ledger.specs.Seats.{seats_at_start};
 ghost use Rattle.exec_book.specs.Books.{IsDismissed};
 ghost use Rattle.sched_edges.specs.Jobs.{JobAt};
 ghost use Rattle.exec_book.specs.PlanRows.{IsCompiled};
+
+mod halts;
+mod worker_calls;
 
 use event_core::count_rounds;
 use exec_book::{Book, Look};

@@ -1,106 +1,119 @@
-//! Worked sets executed on gates with lists.
+//! The three tasks executed on gates with lists: what the tests share.
+ghost use Rattle.std.specs.Prelude.{◌≡◌, ◌<◌, ℕ, [], length, IfOk};
+ghost use Rattle.sched_edges.specs.Gates.{GateHeld};
+ghost use Rattle.exec_book.specs.PlanRows.{IsCompiled};
+ghost use Rattle.exec_workers.specs.Kits.{KitAt};
+
+mod faults;
+mod whole_runs;
+
 use event_core::count_rounds;
-use exec_workers::{ExecFault, Kit, execute};
+use exec_workers::{ExecFault, Executed, Kit, execute};
 use run_compile::compile;
 use run_tree::Plan;
-use sched_base::{Leaf, NoMemory, Row, TaskId, TaskSet};
-use sched_edges::{CountJob, FailJob, Jobs, ListGate};
+use sched_base::{Leaf, NoMemory, Row, TaskId, TaskSet, lawful_name};
+use sched_edges::{FailJob, Jobs, ListGate};
 use std::alloc::Global;
+use std::process::Abort;
+use std::sync::Wait;
 use std::test::Fail;
+use std::thread::Threads;
 
-fn plan_of(alloc: Global, processors: u32, names: &[&str], work: u64, period: u64) -> Result<Plan, Fail> {
-    let mut set = TaskSet::start(alloc, processors, period);
-    for name in names {
-        set.add(name.as_bytes(), work, period)?;
+/// Tasks by their places.
+const A: u32 = 0;
+
+const B: u32 = 1;
+
+const C: u32 = 2;
+
+/// A row of three ticks.
+fn row(processor: u32, start: u128, task: u32) -> Row {
+    Row {
+        processor,
+        start,
+        end: start.saturating_add(3),
+        leaf: Leaf::Task(TaskId(task)),
+    }
+}
+
+/// The rows of the two processors.
+fn lanes() -> [[Row; 3]; 2] {
+    [
+        [row(0, 0, B), row(0, 3, A), row(0, 6, A)],
+        [row(1, 0, C), row(1, 3, C), row(1, 6, B)],
+    ]
+}
+
+/// The plan of three tasks of rate 2/3 on two processors, over one period.
+fn three_tasks(rt: &impl Abort, alloc: Global) -> Result<Plan, Fail>
+    ensures { IfOk result (λ p. IsCompiled p) }
+{
+    let mut set = TaskSet::start(alloc, 2, 3);
+    for name in ["a", "b", "c"] {
+        assert!(rt; lawful_name(name.as_bytes()) && set.find(name.as_bytes()).is_none());
+        assert!(rt; set.count() < 256);
+        set.add(name.as_bytes(), 2, 3)?;
     }
     Ok(compile(alloc, set)?)
 }
 
-fn kits_of(alloc: Global, fails: &[&[u64]]) -> Result<Vec<Kit<ListGate>>, NoMemory> {
+/// Kits with gates of which these calls fail.
+fn kits_of(alloc: Global, fails: &[&[u64]]) -> Result<Vec<Kit<ListGate>>, NoMemory>
+    ensures { IfOk result (λ kits. (p : ℕ) → p < length fails.now → (gate : GateHeld) × KitAt kits.items p gate × (gate.ran ≡ [])) }
+{
     let mut kits = Vec::new(alloc);
     for calls in fails {
-        kits.push(Kit::new(ListGate::new(alloc, 100, calls)?))?;
+        kits.push(Kit::new(ListGate::new(alloc, 3, calls)?))?;
     }
     Ok(kits)
 }
 
-const A: Leaf = Leaf::Task(TaskId(0));
-
-const B: Leaf = Leaf::Task(TaskId(1));
-
-const C: Leaf = Leaf::Task(TaskId(2));
-
-fn row(processor: u32, start: u128, end: u128, leaf: Leaf) -> Row {
-    Row { processor, start, end, leaf }
+/// What a run left.
+#[derive(Drop)]
+struct Left {
+    answer: Result<Executed, ExecFault>,
+    /// The rows that each gate ran.
+    ran: [Vec<Row>; 2],
+    /// The ticks that each job has worked, and how often it has failed.
+    jobs: [(u128, u64); 3],
 }
 
-#[test]
-fn runs_three_tasks(rt: HostRuntime) -> Result<(), Fail> {
-    let alloc = rt.alloc();
-    for window in [1, 2, 32, 1024] {
-        let plan = plan_of(alloc, 2, &["a", "b", "c"], 2, 3)?;
-        let rounds = count_rounds(alloc, &plan)?;
-        let mut kits = kits_of(alloc, &[&[], &[]])?;
-        let mut jobs = Jobs::with_room(alloc, 4)?;
-        for id in 0..4 {
-            jobs.add(Box::new(alloc, CountJob::new(id))?);
-        }
-        let done = execute(&rt, alloc, &plan, rounds, window, &mut kits, &mut jobs)?;
-        let first = [row(0, 0, 3, B), row(0, 3, 6, A), row(0, 6, 9, A)];
-        let second = [row(1, 0, 3, C), row(1, 3, 6, C), row(1, 6, 9, B)];
-        assert_eq!(rt; done.table.lane(0), first.as_slice());
-        assert_eq!(rt; done.table.lane(1), second.as_slice());
-        assert_eq!(rt; done.totals.as_slice(), [6, 6, 6].as_slice());
-        for (kit, want) in kits.iter().zip([first.as_slice(), second.as_slice()]) {
-            match &kit.gate {
-                Some(gate) => assert_eq!(rt; gate.ran(), want),
-                None => assert!(rt; false),
-            }
-        }
-        assert_eq!(rt; (jobs.used(0), jobs.used(1), jobs.used(2), jobs.used(3)), (6, 6, 6, 0));
+/// Executes the three tasks on gates and jobs of which these calls fail.
+fn run<X: Threads + Wait + Abort + Sync>(
+    rt: &X,
+    alloc: Global,
+    window: u32,
+    gate_fails: [&[u64]; 2],
+    job_fails: [&[u64]; 3],
+) -> Result<Left, Fail> {
+    assert!(rt; 1 <= window && window <= 1024);
+    let plan = three_tasks(rt, alloc)?;
+    assert_eq!(rt; (plan.tree().processors(), plan.set().count()), (2, 3));
+    let rounds = count_rounds(alloc, &plan)?;
+    let mut kits = kits_of(alloc, &gate_fails)?;
+    let mut jobs = Jobs::with_room(alloc, 3)?;
+    for t in 0..3 {
+        jobs.add(Box::new(alloc, FailJob::new(alloc, t, job_fails[t as usize])?)?);
     }
-    Ok(())
+    let answer = execute(rt, alloc, &plan, rounds, window, &mut kits, &mut jobs);
+    let told = |t| (jobs.used(t), jobs.faults(t));
+    Ok(Left {
+        answer,
+        ran: [rows_of(rt, alloc, &kits, 0)?, rows_of(rt, alloc, &kits, 1)?],
+        jobs: [told(0), told(1), told(2)],
+    })
 }
 
-#[test]
-fn stops_at_a_gate(rt: HostRuntime) -> Result<(), Fail> {
-    let alloc = rt.alloc();
-    for window in [1, 2, 32] {
-        for call in 1..4 {
-            let plan = plan_of(alloc, 2, &["a", "b", "c"], 2, 3)?;
-            let rounds = count_rounds(alloc, &plan)?;
-            let fails = [call];
-            let mut kits = kits_of(alloc, &[&[], &fails])?;
-            let mut jobs = Jobs::with_room(alloc, 3)?;
-            for id in 0..3 {
-                jobs.add(Box::new(alloc, CountJob::new(id))?);
-            }
-            let second = [row(1, 0, 3, C), row(1, 3, 6, C), row(1, 6, 9, B)];
-            match execute(&rt, alloc, &plan, rounds, window, &mut kits, &mut jobs) {
-                Ok(_) => assert!(rt; false),
-                Err(fault) => assert_eq!(rt; fault, ExecFault::Gate { processor: 1, row: second[(call - 1) as usize] }),
-            }
-        }
+/// The rows that the gate of kit p ran.
+fn rows_of(
+    rt: &impl Abort,
+    alloc: Global,
+    kits: &[Kit<ListGate>],
+    p: usize,
+) -> Result<Vec<Row>, Fail> {
+    assert!(rt; p < kits.len());
+    match &kits[p].gate {
+        Some(gate) => Ok(Vec::from_slice(alloc, gate.ran())?),
+        None => panic!(rt; "a gate that isn't back"),
     }
-    Ok(())
-}
-
-#[test]
-fn stops_at_a_job(rt: HostRuntime) -> Result<(), Fail> {
-    let alloc = rt.alloc();
-    for window in [1, 2, 32] {
-        let plan = plan_of(alloc, 2, &["a", "b", "c"], 2, 3)?;
-        let rounds = count_rounds(alloc, &plan)?;
-        let mut kits = kits_of(alloc, &[&[], &[]])?;
-        let mut jobs = Jobs::with_room(alloc, 3)?;
-        jobs.add(Box::new(alloc, CountJob::new(0))?);
-        jobs.add(Box::new(alloc, CountJob::new(1))?);
-        jobs.add(Box::new(alloc, FailJob::new(alloc, 2, &[2])?)?);
-        match execute(&rt, alloc, &plan, rounds, window, &mut kits, &mut jobs) {
-            Ok(_) => assert!(rt; false),
-            Err(fault) => assert_eq!(rt; fault, ExecFault::Job { task: 2, processor: 1, row: row(1, 3, 6, C) }),
-        }
-        assert_eq!(rt; (jobs.used(2), jobs.faults(2)), (3, 1));
-    }
-    Ok(())
 }
