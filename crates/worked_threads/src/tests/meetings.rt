@@ -1,0 +1,91 @@
+//! Executions whose gates wait for one another.
+
+use super::patient_gate::PatientGate;
+use super::{Left, THREE_ROWS, THREE_TASKS, call};
+use exec_workers::Kit;
+use run_tool::Status;
+use sched_edges::{CountJob, Jobs};
+use std::alloc::Global;
+use std::sync::atomic::AtomicU64;
+use std::sync::{Arc, Wait};
+use std::test::Fail;
+use std::thread::Threads;
+use std::time::Clock;
+
+/// Five tasks of rate 3/5 on three processors, over one period.
+const TWO_REDUCTIONS: &str =
+    "processors = 3\nhorizon = 5\ntask = [{name = \"a\", work = 3, period = 5}, {name = \"b\", work = 3, period = 5}, {name = \"c\", work = 3, period = 5}, {name = \"d\", work = 3, period = 5}, {name = \"e\", work = 3, period = 5}]\n";
+
+const TWO_REDUCTION_ROWS: &str =
+    "run-trace 1\nprocessors 3\nhorizon 5\nscale 5\ntasks 5\ntask a 3 5\ntask b 3 5\ntask c 3 5\ntask d 3 5\ntask e 3 5\nrow 0 0 5 a\nrow 0 5 10 c\nrow 0 10 25 e\nrow 1 0 15 b\nrow 1 15 25 a\nrow 2 0 15 d\nrow 2 15 25 c\ntotal a 15\ntotal b 15\ntotal c 15\ntotal d 15\ntotal e 15\nrows 7\n";
+
+/// Executes a set on gates of which the first waits, in its first call, for so many calls of the second, and the second for so
+/// many of the first. The other gates wait for none.
+fn run_waiting<X: Threads + Wait + Clock + Copy + Send + Sync>(
+    rt: X,
+    alloc: Global,
+    words: &[&str],
+    input: &str,
+    waits: [u64; 2],
+) -> Result<Left, Fail> {
+    let first = Arc::new(alloc, AtomicU64::new(0))?;
+    let second = Arc::new(alloc, AtomicU64::new(0))?;
+    let other = Arc::new(alloc, AtomicU64::new(0))?;
+    let mut kits = Vec::new(alloc);
+    for p in 0..32 {
+        let gate = match p {
+            0 => PatientGate::new(rt, &first, &second, waits[0])?,
+            1 => PatientGate::new(rt, &second, &first, waits[1])?,
+            _ => PatientGate::new(rt, &other, &other, 0)?,
+        };
+        kits.push(Kit::new(gate))?;
+    }
+    let mut jobs = Jobs::with_room(alloc, 256)?;
+    for id in 0..256 {
+        jobs.add(Box::new(alloc, CountJob::new(id))?);
+    }
+    call(&rt, alloc, words, input, &mut kits, &mut jobs)
+}
+
+/// Each of two gates waits for the first call of the other. Workers that serve one lane after the other can't end this.
+#[test]
+fn two_gates_meet(rt: HostRuntime) -> Result<(), Fail> {
+    let left = run_waiting(rt, rt.alloc(), &["exec"], THREE_TASKS, [1, 1])?;
+    assert_eq!(rt; left.status, Status::Done);
+    assert_eq!(rt; left.out.as_slice(), THREE_ROWS.as_bytes());
+    assert!(rt; left.err.is_empty());
+    Ok(())
+}
+
+/// Gate 0 waits in its first call for the third call of gate 1, which comes only where lane 1 may run two rounds ahead.
+#[test]
+fn the_window_bounds_how_far_a_lane_runs_ahead(rt: HostRuntime) -> Result<(), Fail> {
+    let rows: [(&[&str], Status, &str, &str); 4] = [
+        (&["exec"], Status::Done, TWO_REDUCTION_ROWS, ""),
+        (
+            &["exec", "--window=3"],
+            Status::Done,
+            TWO_REDUCTION_ROWS,
+            "",
+        ),
+        (
+            &["exec", "--window=2"],
+            Status::GateFault,
+            "",
+            "refused 10 GateFault processor 0 row 0 5 a\n",
+        ),
+        (
+            &["exec", "--window", "1"],
+            Status::GateFault,
+            "",
+            "refused 10 GateFault processor 0 row 0 5 a\n",
+        ),
+    ];
+    for (words, status, out, err) in rows {
+        let left = run_waiting(rt, rt.alloc(), words, TWO_REDUCTIONS, [3, 0])?;
+        assert_eq!(rt; left.status, status);
+        assert_eq!(rt; left.out.as_slice(), out.as_bytes());
+        assert_eq!(rt; left.err.as_slice(), err.as_bytes());
+    }
+    Ok(())
+}

@@ -1,0 +1,69 @@
+//! A gate that waits for the calls of another gate.
+ghost use Rattle.std.specs.Prelude.{◌≡◌, ◌≤◌, None};
+ghost use Rattle.sched_edges.specs.Causes.{Rose};
+
+use sched_base::Row;
+use sched_edges::{Failed, Gate};
+use std::alloc::{AllocError, Global};
+use std::sync::Arc;
+use std::sync::atomic::{AtomicU64, Ordering};
+use std::thread;
+use std::time::{Clock, Duration};
+
+/// How often a gate looks for the calls that it waits for, with a pause of a millisecond after each look.
+const PATIENCE: u32 = 1_000;
+
+/// A gate that counts its calls where other threads see it. In its first call it waits until another gate has been called a
+/// stated number of times, and fails where it has waited 1,000 turns for it.
+#[derive(Drop)]
+pub struct PatientGate<X: Clock + Copy> {
+    rt: X,
+    calls: Arc<AtomicU64>,
+    awaited: Arc<AtomicU64>,
+    wanted: u64,
+    faults: u64,
+}
+
+impl<X: Clock + Copy> PatientGate<X> {
+    /// A gate with this count of its calls, which waits until that one stands at the number wanted.
+    pub fn new(
+        rt: X,
+        calls: &Arc<AtomicU64>,
+        awaited: &Arc<AtomicU64>,
+        wanted: u64,
+    ) -> Result<PatientGate<X>, AllocError> {
+        Ok(PatientGate {
+            rt,
+            calls: Arc::try_clone(calls)?,
+            awaited: Arc::try_clone(awaited)?,
+            wanted,
+            faults: 0,
+        })
+    }
+
+    /// Waits for the calls of the other gate. False where they don't come.
+    fn meets(&self) -> bool {
+        for _ in 0..PATIENCE {
+            if self.awaited.load(Ordering::SeqCst) >= self.wanted {
+                return true;
+            }
+            thread::sleep(&self.rt, Duration::from_millis(1));
+        }
+        false
+    }
+}
+
+impl<X: Clock + Copy> Gate for PatientGate<X> {
+    ghost ran = { λ _. None };
+
+    ghost faults = { λ g. g.faults };
+
+    fn run(&mut self, row: &Row) -> Result<(), Failed> {
+        let _ = row;
+        if self.calls.fetch_add(1, Ordering::SeqCst) == 0 && !self.meets() {
+            self.faults = self.faults.saturating_add(1);
+            return Err(Failed);
+        }
+        Ok(())
+    }
+}
