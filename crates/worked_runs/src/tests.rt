@@ -1,6 +1,7 @@
 //! The three tasks executed on gates with lists: what the tests share.
 ghost use Rattle.std.specs.Prelude.{◌≡◌, ◌<◌, ℕ, [], length, IfOk};
 ghost use Rattle.sched_edges.specs.Gates.{GateHeld};
+ghost use Rattle.sched_edges.specs.Jobs.{JobAt};
 ghost use Rattle.exec_book.specs.PlanRows.{IsCompiled};
 ghost use Rattle.exec_workers.specs.Kits.{KitAt};
 
@@ -12,7 +13,7 @@ use exec_workers::{ExecFault, Executed, Kit, execute};
 use run_compile::compile;
 use run_tree::Plan;
 use sched_base::{Leaf, NoMemory, Row, TaskId, TaskSet, lawful_name};
-use sched_edges::{FailJob, Jobs, ListGate};
+use sched_edges::{FailJob, Job, JobList, Jobs, ListGate};
 use std::alloc::Global;
 use std::process::Abort;
 use std::sync::Wait;
@@ -68,13 +69,24 @@ fn kits_of(alloc: Global, fails: &[&[u64]]) -> Result<Vec<Kit<ListGate>>, NoMemo
     Ok(kits)
 }
 
+/// What the jobs of the three tasks tell: the ticks that each has worked, and how often it has failed.
+fn told<J: Job>(jobs: &JobList<J>) -> [(u128, u64); 3]
+    requires { (t : ℕ) → t < 3 → (job : J) × JobAt jobs.now.places t job }
+{
+    [
+        (jobs.used(A), jobs.faults(A)),
+        (jobs.used(B), jobs.faults(B)),
+        (jobs.used(C), jobs.faults(C)),
+    ]
+}
+
 /// What a run left.
 #[derive(Drop)]
 struct Left {
     answer: Result<Executed, ExecFault>,
     /// The rows that each gate ran.
     ran: [Vec<Row>; 2],
-    /// The ticks that each job has worked, and how often it has failed.
+    /// What the jobs tell.
     jobs: [(u128, u64); 3],
 }
 
@@ -96,11 +108,10 @@ fn run<X: Threads + Wait + Abort + Sync>(
         jobs.add(Box::new(alloc, FailJob::new(alloc, t, job_fails[t as usize])?)?);
     }
     let answer = execute(rt, alloc, &plan, rounds, window, &mut kits, &mut jobs);
-    let told = |t| (jobs.used(t), jobs.faults(t));
     Ok(Left {
         answer,
         ran: [rows_of(rt, alloc, &kits, 0)?, rows_of(rt, alloc, &kits, 1)?],
-        jobs: [told(0), told(1), told(2)],
+        jobs: told(&jobs),
     })
 }
 

@@ -46,7 +46,16 @@ fn call<G: Gate + Send, X: Threads + Wait + Sync>(
     for word in words {
         owned.push(String::from_str(alloc, word)?)?;
     }
-    let status = run(rt, alloc, &owned, &mut source, &mut out, &mut err, kits, jobs);
+    let status = run(
+        rt,
+        alloc,
+        &owned,
+        &mut source,
+        &mut out,
+        &mut err,
+        kits,
+        jobs,
+    );
     Ok(Left {
         status,
         out: Vec::from_slice(alloc, out.taken())?,

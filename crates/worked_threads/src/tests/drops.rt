@@ -96,10 +96,7 @@ fn assert_lasting<X: Threads + Wait + Abort + Sync>(
     }
     let mut jobs = Jobs::with_room(alloc, 256)?;
     for id in 0..256 {
-        jobs.add(Box::new(
-            alloc,
-            LastingJob::new(id, job_fails && id == 2, &drops)?,
-        )?);
+        jobs.add(Box::new(alloc, LastingJob::new(id, job_fails && id == 2, &drops)?)?);
     }
     let left = call(rt, alloc, &["exec"], THREE_TASKS, &mut kits, &mut jobs)?;
     let (status, out, err) = want;
