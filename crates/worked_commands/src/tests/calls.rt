@@ -1,9 +1,13 @@
 //! One call of the commands: what is outside, and what it leaves.
+ghost use Rattle.std.specs.Prelude.{◌≡◌, ◌≤◌, ◌<◌, ◌+◌, ℕ, [], OnOk, IfOk};
+ghost use Rattle.sched_edges.specs.Jobs.{JobAt};
+ghost use Rattle.run_tool.specs.Executions.{gates_of, jobs_of};
+ghost use Rattle.run_tool.specs.Ready.{AreFirstGates, AreFirstJobs};
 
 use exec_workers::Kit;
 use run_tool::{Status, run};
 use sched_base::{NoMemory, Row};
-use sched_edges::{CountJob, FailJob, Jobs, ListGate, MemSink, MemSource, read_all};
+use sched_edges::{CountJob, FailJob, Job, JobList, Jobs, ListGate, MemSink, MemSource, read_all};
 use std::alloc::{AllocError, Global};
 use std::process::Abort;
 use std::sync::Wait;
@@ -88,7 +92,95 @@ pub(super) fn call<X: Abort + Threads + Wait + Sync>(
     let mut kits = kits_of(alloc, outside)?;
     let mut jobs = Jobs::with_room(alloc, JOBS)?;
     for id in 0..JOBS {
-        add_job(alloc, &mut jobs, id, outside.job)?;
+        match failing(outside, id) {
+            Some(call) => jobs.add(Box::new(alloc, FailJob::new(alloc, id, &[call])?)?),
+            None => jobs.add(Box::new(alloc, CountJob::new(id))?),
+        }
+    }
+    let status = run(
+        rt,
+        alloc,
+        &words,
+        &mut source,
+        &mut out,
+        &mut err,
+        &mut kits,
+        &mut jobs,
+    );
+    Ok(Left {
+        status,
+        out: Vec::from_slice(alloc, out.taken())?,
+        err: Vec::from_slice(alloc, err.taken())?,
+        unread: unread(alloc, &mut source),
+        gates: lists_of(rt, alloc, &kits)?,
+        jobs: told_by(alloc, &mut jobs)?,
+    })
+}
+
+fn owned(alloc: Global, words: &[&str]) -> Result<Vec<String>, AllocError> {
+    let mut owned = Vec::new(alloc);
+    for word in words {
+        owned.push(String::from_str(alloc, word)?)?;
+    }
+    Ok(owned)
+}
+
+// A kit for each processor.
+fn kits_of(alloc: Global, outside: &Outside) -> Result<Vec<Kit<ListGate>>, NoMemory>
+    ensures { IfOk result (λ kits. AreFirstGates 32 (gates_of (λ g. Some g.ran) (λ g. g.faults) kits.items)) }
+{
+    let mut kits = Vec::new(alloc);
+    for p in 0..GATES {
+        kits.push(Kit::new(gate_of(alloc, outside, p)?))?;
+    }
+    Ok(kits)
+}
+
+// The gate of processor p, which lists its rows.
+fn gate_of(alloc: Global, outside: &Outside, p: u32) -> Result<ListGate, NoMemory>
+    ensures { IfOk result (λ gate. gate.ran ≡ []) }
+{
+    match outside.gate {
+        Some((failing, call)) if failing == p => ListGate::new(alloc, outside.gate_room, &[call]),
+        _ => ListGate::new(alloc, outside.gate_room, &[]),
+    }
+}
+
+// The call at which the job of this task fails, if it does.
+fn failing(outside: &Outside, id: u32) -> Option<u64> {
+    match outside.job {
+        Some((task, call)) if task == id => Some(call),
+        _ => None,
+    }
+}
+
+// How many bytes the source has still to give.
+    pub unread: usize,
+    /// The rows that each gate ran.
+    pub gates: Vec<Vec<Row>>,
+    /// What each job tells.
+    pub jobs: Vec<Worked>,
+}
+
+/// Calls the commands with these words, with a gate for each processor and a job for each task.
+pub(super) fn call<X: Abort + Threads + Wait + Sync>(
+    rt: &X,
+    alloc: Global,
+    words: &[&str],
+    input: &[u8],
+    outside: &Outside,
+) -> Result<Left, Fail> {
+    let mut source = MemSource::new(alloc, input, outside.source)?;
+    let mut out = MemSink::new(alloc, outside.out_room, outside.out)?;
+    let mut err = MemSink::new(alloc, outside.err_room, outside.err)?;
+    let words = owned(alloc, words)?;
+    let mut kits = kits_of(alloc, outside)?;
+    let mut jobs = Jobs::with_room(alloc, JOBS)?;
+    for id in 0..JOBS {
+        match failing(outside, id) {
+            Some(call) => jobs.add(Box::new(alloc, FailJob::new(alloc, id, &[call])?)?),
+            None => jobs.add(Box::new(alloc, CountJob::new(id))?),
+        }
     }
     let status = run(
         rt,
@@ -174,7 +266,9 @@ fn lists_of(
 }
 
 // What the jobs tell, each lifted out of its place.
-fn told_by(alloc: Global, jobs: &mut Jobs) -> Result<Vec<Worked>, AllocError> {
+fn told_by<J: Job>(alloc: Global, jobs: &mut JobList<J>) -> Result<Vec<Worked>, AllocError>
+    requires { (i : ℕ) → i < 256 → (job : J) × JobAt jobs.old.places i job }
+{
     let mut told = Vec::new(alloc);
     for i in 0..JOBS {
         let job = jobs.lift(i);

@@ -1,6 +1,6 @@
 //! The rows of each processor in worked sets, a round a row, and what a call left of them.
 
-use super::calls::{Left, Worked};
+use super::calls::Left;
 use sched_base::{Leaf, Row, TaskId};
 use std::process::Abort;
 
@@ -87,12 +87,9 @@ pub(super) fn assert_ran<const N: usize>(
 /// none failed.
 pub(super) fn assert_worked(rt: &impl Abort, left: &Left, ticks: &[u128]) {
     for (i, job) in left.jobs.iter().enumerate() {
-        let want = Worked {
-            id: i as u32,
-            ticks: ticks.get(i).copied().unwrap_or(0),
-            faults: 0,
-        };
-        assert_eq!(rt; *job, want);
+        assert_eq!(rt; job.id as usize, i);
+        let want = ticks.get(i).copied().unwrap_or(0);
+        assert_eq!(rt; (job.ticks, job.faults), (want, 0), "of job {i}");
     }
     assert_eq!(rt; left.jobs.len(), 256);
 }
@@ -116,7 +113,7 @@ pub(super) fn assert_ran_first<const N: usize>(
     }
     assert_eq!(rt; left.gates.len(), 32);
     for (i, job) in left.jobs.iter().enumerate() {
-        assert_eq!(rt; job.id, i as u32);
+        assert_eq!(rt; job.id as usize, i);
         assert!(rt;
             job.ticks <= ticks_run(left, Leaf::Task(TaskId(job.id))),
             "of job {i}"
