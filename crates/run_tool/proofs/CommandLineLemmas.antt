@@ -2,12 +2,10 @@
 use Rattle.std.proofs.Common.{◌≡◌, ◌≢◌, ◌⊎◌, inl, inr, ℕ, zero, suc, ◌+◌, ◌-◌, if◌then◌else◌, ◌≤◌, ◌<◌, List, [], ◌∷◌, ◌++◌, codes, take, drop, Option, Some, None, Bool, true, false, ◌&&◌, option_map, option_and_then, length, slice_index, refl, sym, ap, ap₂, subst, ◌∙◌, arith, rules, tests}
 use Rattle.std.specs.Char.{is_ascii_digit}
 use Rattle.std.specs.Str.{bytes_eq}
-use Rattle.std.proofs.lemmas.Bool.{cases_Bool}
-use Rattle.clap.specs.Words.{Row, Text, is_simple, first_of, one_of, subcommand_of, subcommand_rows, subcommand_rows_of, subcommand_name_of, takes}
+use Rattle.clap.specs.Words.{Row, Text, is_simple, first_of, one_of, subcommand_of, subcommand_rows_of, subcommand_name_of, takes}
 use Rattle.clap.specs.declared.parser.matches.ArgMatches.{ArgMatches}
 use Rattle.clap.specs.declared.parser.matches.ArgMatches.TheViews.{out-ArgMatches}
 use Rattle.clap.proofs.OnLiterals.{clap_on_literals}
-use Rattle.trace_text.specs.Words.{number_of}
 use Rattle.run_tool.specs.declared.words.Command.{Command}
 use Rattle.run_tool.specs.declared.words.Command.TheVariants.{Rate, Tree, Trace, TraceMet, Check, Exec, ExecMet}
 use Rattle.run_tool.specs.Words.{window_of, exec_with, exec_by, after_text, command_of, command_named, command_with, command_with_value}

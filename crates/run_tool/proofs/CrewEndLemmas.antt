@@ -1,5 +1,5 @@
 -- How a run ends, as the crew shows it.
-use Rattle.std.proofs.Common.{◌≡◌, ◌⊎◌, inl, inr, ℕ, zero, suc, ◌+◌, ◌*◌, ◌-◌, ◌≤◌, ◌<◌, Bool, true, false, List, [], ◌∷◌, ◌++◌, Option, Some, None, Result, Ok, Err, length, take, map, refl, sym, ◌∙◌, ap, subst, arith, append-nil, mul_comm}
+use Rattle.std.proofs.Common.{◌≡◌, inl, inr, ℕ, zero, suc, ◌+◌, ◌*◌, ◌-◌, ◌≤◌, ◌<◌, false, List, [], ◌∷◌, ◌++◌, Option, Some, None, Result, Ok, Err, length, take, map, refl, sym, ◌∙◌, ap, subst, arith, append-nil, mul_comm}
 use Rattle.std.specs.Prelude.{slice_get, slice_index, IfSome}
 use Rattle.std.specs.List.{AllByRecursion}
 use Rattle.std.proofs.lemmas.List.{get_or_past, get_or-map, length-map}
@@ -7,14 +7,11 @@ use Rattle.std.proofs.lemmas.Bool.{cases_Bool, eqb-true}
 use Rattle.sched_base.specs.declared.rows.Leaf.{Leaf}
 use Rattle.sched_base.specs.declared.rows.Leaf.TheVariants.{Task, Wait, Idle, Empty}
 use Rattle.sched_base.specs.declared.rows.Row.{Row}
-use Rattle.sched_base.specs.declared.rows.TaskId.{TaskId}
 use Rattle.sched_base.specs.declared.sets.Task as declared
 use Rattle.sched_base.specs.Counting.{bit}
 use Rattle.sched_base.specs.Rows.{is_of_task}
 use Rattle.sched_base.specs.Tables.{all_rows, lane_of, rounds_of as rounds_in, row_ticks, ticks_in, ticks_of, RowAt}
-use Rattle.sched_edges.specs.Causes.{Rose}
 use Rattle.sched_edges.specs.Gates.{grown}
-use Rattle.sched_edges.specs.Jobs.{JobAt}
 use Rattle.run_tree.specs.Plans.{PlanContents, IsPlan, rounds_of}
 use Rattle.event_core.specs.Rounds.{row_limit}
 use Rattle.round_table.specs.Lanes.{NamesOneOf}
@@ -28,10 +25,10 @@ use Rattle.exec_workers.specs.declared.causes.Cause.{Cause}
 use Rattle.exec_workers.specs.declared.causes.Cause.TheVariants as cause
 use Rattle.exec_workers.specs.declared.kits.Kit.{Kit}
 use Rattle.exec_workers.specs.Kits.{KitAt, AreFilled}
-use Rattle.exec_workers.specs.Lanes.{LaneContents, HasRisen, FailsNext, IsOfTask, NoneFailed, AllAt, lane_in, no_lane, unposted}
-use Rattle.exec_workers.specs.Ends.{posted_by, GateFailed, JobFailed, NoGateBefore, NoJobBefore, NamesLowest}
+use Rattle.exec_workers.specs.Lanes.{LaneContents, HasRisen, FailsNext, IsOfTask, lane_in, no_lane, unposted}
+use Rattle.exec_workers.specs.Ends.{posted_by, GateFailed, JobFailed, NoGateBefore, NoJobBefore}
 use Rattle.exec_workers.specs.Runs.{CountsGate, Ran, RanAll as RunsAll, Outcome, AreFresh}
-use Rattle.exec_workers.proofs.StageLemmas.{same_gate, same_job}
+use Rattle.exec_workers.proofs.StageLemmas.{same_job}
 use Rattle.exec_workers.proofs.HeadlineLemmas.{take_next}
 use Rattle.exec_workers.proofs.WholeLemmas.{ticks_at_end, posted_at_end}
 use Rattle.run_tool.specs.Executions.{GateSeen, JobSeen, Crew, crew, gates_of, jobs_of, Holds, IsReady, AreBack, RanAll, RanPart, GateRose, GateKept, JobRose, GateStopped, JobStopped}

@@ -1,11 +1,9 @@
 -- What a run does to kits and jobs, as the crew shows it.
-use Rattle.std.proofs.Common.{◌≡◌, ◌⊎◌, inl, inr, ℕ, zero, suc, ◌+◌, ◌≤◌, ◌<◌, List, [], ◌∷◌, ◌++◌, Option, Some, None, option_map, length, take, map, refl, sym, ◌∙◌, ap, subst, arith, append-nil}
-use Rattle.std.specs.Prelude.{slice_get, slice_index}
-use Rattle.std.proofs.lemmas.List.{take_all, get_or_past, get_or-map, length-map}
-use Rattle.sched_base.specs.declared.rows.Leaf.TheVariants.{Task}
+use Rattle.std.proofs.Common.{◌≡◌, ◌⊎◌, inl, inr, ℕ, zero, suc, ◌≤◌, ◌<◌, List, [], ◌∷◌, ◌++◌, Option, Some, None, option_map, length, take, map, refl, sym, ◌∙◌, ap, subst, arith, append-nil}
+use Rattle.std.specs.Prelude.{slice_get}
+use Rattle.std.proofs.lemmas.List.{take_all, get_or_past}
 use Rattle.sched_base.specs.declared.rows.Row.{Row}
-use Rattle.sched_base.specs.Tables.{all_rows, lane_of, rounds_of as rounds_in, ticks_in, ticks_of, RowAt}
-use Rattle.sched_edges.specs.Causes.{Rose}
+use Rattle.sched_base.specs.Tables.{lane_of}
 use Rattle.sched_edges.specs.Gates.{grown}
 use Rattle.sched_edges.specs.Jobs.{JobAt}
 use Rattle.run_tree.specs.Plans.{PlanContents, IsPlan, rounds_of}
@@ -16,8 +14,7 @@ use Rattle.exec_workers.specs.declared.causes.Cause.{Cause}
 use Rattle.exec_workers.specs.declared.causes.Cause.TheVariants as cause
 use Rattle.exec_workers.specs.declared.kits.Kit.{Kit}
 use Rattle.exec_workers.specs.Kits.{KitAt}
-use Rattle.exec_workers.specs.Lanes.{LaneContents, FailsNext, NoneFailed, AllAt, lane_in, no_lane, unposted}
-use Rattle.exec_workers.specs.Ends.{posted_by}
+use Rattle.exec_workers.specs.Lanes.{LaneContents, NoneFailed, AllAt, lane_in, unposted}
 use Rattle.exec_workers.specs.Runs.{CountsGate, Ran}
 use Rattle.run_tool.specs.Executions.{GateSeen, JobSeen, Crew, crew, gates_of, jobs_of, Holds, AreBack}
 

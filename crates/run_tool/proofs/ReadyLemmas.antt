@@ -1,11 +1,11 @@
 -- Gates and jobs that are made one after the other, until there is one for each processor and each task: for the invariants of the
 -- loops that make them. That a box holds a job of this number is `read_made` at the list of what the function boxes, as in the program.
-use Rattle.std.proofs.Common.{◌≡◌, ◌⊎◌, inl, inr, ℕ, zero, suc, ◌+◌, ◌<◌, ◌≤◌, List, [], ◌∷◌, ◌++◌, Option, Some, None, IfSome, option_map, length, map, refl, sym, ◌∙◌, ap, subst, arith}
+use Rattle.std.proofs.Common.{◌≡◌, ◌⊎◌, inl, inr, ℕ, zero, suc, ◌+◌, ◌<◌, ◌≤◌, List, [], ◌∷◌, ◌++◌, Option, Some, None, IfSome, option_map, length, refl, sym, ◌∙◌, ap, subst, arith}
 use Rattle.std.specs.Prelude.{slice_get}
 use Rattle.std.proofs.lemmas.List.{map-append, length-append}
 use Rattle.sched_base.specs.declared.rows.Row.{Row}
 use Rattle.exec_workers.specs.declared.kits.Kit.{Kit}
-use Rattle.run_tool.specs.Executions.{GateSeen, JobSeen, Crew, crew, gates_of, jobs_of, Holds, IsReady}
+use Rattle.run_tool.specs.Executions.{GateSeen, JobSeen, crew, gates_of, jobs_of, IsReady}
 use Rattle.run_tool.specs.Ready.{AreFirstGates, AreFirstJobs}
 
 get-push_before : {X : Type 0} (xs : List X) (x y : X) (i : ℕ) → slice_get xs i ≡ Some y → slice_get (xs ++ x ∷ []) i ≡ Some y

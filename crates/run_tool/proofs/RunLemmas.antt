@@ -1,7 +1,7 @@
 -- What an execution told, and why it stopped, as the clauses of the top call say it.
-use Rattle.std.proofs.Common.{◌≡◌, ◌⊎◌, inl, inr, ℕ, ◌≤◌, ◌<◌, Bool, true, false, List, [], ◌∷◌, Option, Some, None, Result, Ok, Err, codes, refl, sym, ◌∙◌, ap, subst, arith, rules, tests}
+use Rattle.std.proofs.Common.{◌≡◌, inl, inr, ℕ, ◌≤◌, Bool, true, false, List, Option, Some, Result, refl, sym, ◌∙◌, ap, subst, arith, rules, tests}
 use Rattle.std.specs.Prelude.{OnOk, IfErr}
-use Rattle.std.specs.Io.KnownBytes.{Appends, Keeps}
+use Rattle.std.specs.Io.KnownBytes.{Keeps}
 use Rattle.task_reader.specs.declared.refusals.ReadSet.{ReadSet}
 use Rattle.task_reader.specs.declared.refusals.ReadSet.TheVariants as set
 use Rattle.sched_base.specs.Sets.{SetContents}
@@ -12,7 +12,7 @@ use Rattle.run_tool.specs.declared.refusal.Refusal.TheVariants as why
 use Rattle.run_tool.specs.declared.status.Status.{Status}
 use Rattle.run_tool.specs.declared.status.Status.TheVariants.{Done}
 use Rattle.run_tool.specs.Words.{command_of, asks_to_execute, window_of, IsStill}
-use Rattle.run_tool.specs.CommandLine.{Spells, SpellsExec}
+use Rattle.run_tool.specs.CommandLine.{Spells}
 use Rattle.run_tool.specs.Commands.{schedule_rows, set_limit, text_of, WritesSet, RefusesText}
 use Rattle.run_tool.specs.Input.{GaveSet, GaveNoSet}
 use Rattle.run_tool.specs.Refusals.{status_of, set_status}

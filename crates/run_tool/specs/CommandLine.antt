@@ -1,7 +1,7 @@
 -- Command lines, as `clap` reads them.
 use Rattle.std.specs.Prelude.{◌≡◌, ◌⊎◌, ℕ, true, List, [], ◌∷◌, ◌++◌, Some, codes}
 use Rattle.clap.specs.Words.{App, Rule, new_app, new_rule, with_rule, with_subcommand}
-use Rattle.clap.specs.Simple.{new_shape, on_top}
+use Rattle.clap.specs.Simple.{on_top}
 use Rattle.clap.specs.declared.builder.action.ArgAction.TheVariants.{Set, SetTrue}
 use Rattle.run_tool.specs.declared.words.Command.{Command}
 use Rattle.run_tool.specs.declared.words.Command.TheVariants.{Rate, Tree, Trace, TraceMet, Check, Exec, ExecMet}

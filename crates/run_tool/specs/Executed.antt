@@ -1,10 +1,8 @@
 -- What `exec` writes, and why it stops: with what the gates and the jobs did.
 use Rattle.std.specs.Prelude.{ℕ, ◌≡◌, ◌⊎◌, ◌≤◌, Bool, true, false, List, Option, Some, None}
-use Rattle.std.specs.declared.result.Result.{Result}
 use Rattle.std.specs.Io.KnownBytes.{Appends, Keeps}
 use Rattle.sched_base.specs.declared.rows.Leaf.{Leaf}
 use Rattle.sched_base.specs.declared.rows.Leaf.TheVariants as leaf
-use Rattle.sched_base.specs.declared.rows.Row.{Row}
 use Rattle.sched_base.specs.declared.sets.Task.{Task}
 use Rattle.sched_base.specs.Sets.{SetContents, task_at}
 use Rattle.sched_base.specs.Scale.{Fits}

@@ -1,6 +1,5 @@
 -- What an execution does with the gates and the jobs.
-use Rattle.std.specs.Prelude.{ℕ, ◌≡◌, ◌<◌, ◌≤◌, ◌+◌, List, [], Option, Some, None, IfSome, option_map, length, map, slice_get, slice_index, take}
-use Rattle.sched_base.specs.declared.rows.Leaf.{Leaf}
+use Rattle.std.specs.Prelude.{ℕ, ◌≡◌, ◌<◌, ◌≤◌, ◌+◌, List, [], Option, Some, IfSome, option_map, length, map, slice_get, slice_index, take}
 use Rattle.sched_base.specs.declared.rows.Leaf.TheVariants.{Task}
 use Rattle.sched_base.specs.declared.rows.TaskId.{TaskId}
 use Rattle.sched_base.specs.declared.rows.Row.{Row}

@@ -1,5 +1,5 @@
-use Rattle.std.proofs.Common.{rules, ◌≡◌, ℕ, true, false, List, codes, Option, Some, None, option_map, ◌∙◌, sym, ap}
-use Rattle.clap.specs.Words.{first_of, found_of, one_of, rows_of}
+use Rattle.std.proofs.Common.{◌≡◌, ℕ, true, false, List, codes, Option, Some, None, option_map, ◌∙◌, sym, ap}
+use Rattle.clap.specs.Words.{found_of}
 use Rattle.clap.proofs.WalkLemmas.{one_text-rows, first_value-rows}
 use Rattle.run_tool.specs.Words.{exec_with}
 use Rattle.run_tool.proofs.command_line.exec_in.Goals as goal

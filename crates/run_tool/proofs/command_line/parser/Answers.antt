@@ -1,8 +1,8 @@
 use Rattle.std.proofs.Common.{◌≡◌, ◌||◌, true, codes, ap, ap₂, ◌∙◌}
 use Rattle.std.proofs.lemmas.Result.{IfOk-weaker}
-use Rattle.clap.specs.Words.{App, Shape, app_of, rule_of, new_app, with_rule, with_subcommand}
+use Rattle.clap.specs.Words.{App, app_of, new_app, with_rule, with_subcommand}
 use Rattle.clap.specs.Simple.{app_of_fields, on_top}
-use Rattle.run_tool.specs.CommandLine.{met, window, program, parser}
+use Rattle.run_tool.specs.CommandLine.{met, window, program}
 use Rattle.run_tool.proofs.command_line.parser.Goals as goal
 
 pub returns : goal.returns

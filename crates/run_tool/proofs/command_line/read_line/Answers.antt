@@ -1,4 +1,4 @@
-use Rattle.std.proofs.Common.{◌≡◌, List, true, map, string_bytes, refl, ap, ap₂, ◌∙◌, rules}
+use Rattle.std.proofs.Common.{◌≡◌, List, map, string_bytes, ap, ◌∙◌, rules}
 use Rattle.clap.specs.Words.{App, Text, is_simple, subcommand_of, takes, kind_of}
 use Rattle.clap.specs.declared.error.kind.ErrorKind.TheVariants.{OutOfMemory}
 use Rattle.run_tool.proofs.CommandLineLemmas.{simple, taken, spelled}

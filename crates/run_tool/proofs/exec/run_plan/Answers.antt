@@ -1,4 +1,4 @@
-use Rattle.std.proofs.Common.{◌≡◌, Err, ap, sym, ◌∙◌, subst}
+use Rattle.std.proofs.Common.{Err, ap, sym, ◌∙◌, subst}
 use Rattle.sched_base.specs.Sets.{SetContents}
 use Rattle.round_table.specs.Lanes.{NamesOneOf}
 use Rattle.run_tool.specs.Executed.{name_at}
