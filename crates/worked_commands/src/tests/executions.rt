@@ -104,12 +104,6 @@ fn a_set_that_is_refused_calls_no_gate(rt: HostRuntime) -> Result<(), Fail> {
             Status::Overload,
             "refused 7 Overload total 7 room 6\n",
         ),
-        // One round past the limit of rows.
-        (
-            "processors = 1\nhorizon = 2097153\ntask = [{name = \"a\", work = 1, period = 1}]\n",
-            Status::TooLong,
-            "refused 9 TooLong rows 2097153\n",
-        ),
         (
             "processors = 1\nhorizon = 1\ntask = [{name = \"a\", work = 1, period = 4294967295}, {name = \"b\", work = 1, period = 4294967294}, {name = \"c\", work = 1, period = 4294967293}]\n",
             Status::ScaleTooLarge,
@@ -124,5 +118,21 @@ fn a_set_that_is_refused_calls_no_gate(rt: HostRuntime) -> Result<(), Fail> {
         assert_eq!(rt; left.err.as_slice(), err.as_bytes(), "of {input}");
         assert_idle(&rt, &left);
     }
+    Ok(())
+}
+
+#[test]
+fn rounds_past_the_limit_call_no_gate(rt: HostRuntime) -> Result<(), Fail> {
+    // One round, which is one row, more than a table may have rows.
+    let input =
+        "processors = 1\nhorizon = 2097153\ntask = [{name = \"a\", work = 1, period = 1}]\n";
+    let left = call(&rt, rt.alloc(), &["exec"], input.as_bytes(), &SURE)?;
+    assert_eq!(rt; left.status, Status::TooLong);
+    assert_eq!(rt; left.out.as_slice(), b"".as_slice());
+    assert_eq!(rt;
+        left.err.as_slice(),
+        b"refused 9 TooLong rows 2097153\n".as_slice()
+    );
+    assert_idle(&rt, &left);
     Ok(())
 }

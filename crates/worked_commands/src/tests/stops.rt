@@ -1,6 +1,6 @@
 //! Executions that a gate or a job stops.
 
-use super::calls::{Outside, SURE, Worked, call};
+use super::calls::{Left, Outside, SURE, Worked, call};
 use super::lanes::{assert_ran_first, assert_stands, three_lanes, two_lanes};
 use super::texts::{THREE_TASKS, TWO_REDUCTIONS};
 use run_tool::Status;
@@ -61,20 +61,76 @@ fn a_job_of_three_tasks_fails(rt: HostRuntime) -> Result<(), Fail> {
     Ok(())
 }
 
-/// The calls of gates that fail, the processor and the call, and the line of each.
-const GATE_FAULTS: [(u32, u64, &str); 12] = [
-    (0, 1, "refused 10 GateFault processor 0 row 0 5 a\n"),
-    (0, 2, "refused 10 GateFault processor 0 row 5 10 c\n"),
-    (0, 3, "refused 10 GateFault processor 0 row 10 15 e\n"),
-    (0, 4, "refused 10 GateFault processor 0 row 15 25 e\n"),
-    (1, 1, "refused 10 GateFault processor 1 row 0 5 b\n"),
-    (1, 2, "refused 10 GateFault processor 1 row 5 10 b\n"),
-    (1, 3, "refused 10 GateFault processor 1 row 10 15 b\n"),
-    (1, 4, "refused 10 GateFault processor 1 row 15 25 a\n"),
-    (2, 1, "refused 10 GateFault processor 2 row 0 5 d\n"),
-    (2, 2, "refused 10 GateFault processor 2 row 5 10 d\n"),
-    (2, 3, "refused 10 GateFault processor 2 row 10 15 d\n"),
-    (2, 4, "refused 10 GateFault processor 2 row 15 25 c\n"),
+/// A call of a gate that fails.
+#[derive(Clone, Copy)]
+struct GateFault {
+    processor: u32,
+    /// The number of the call, from 1.
+    call: u64,
+    line: &'static str,
+}
+
+const GATE_FAULTS: [GateFault; 12] = [
+    GateFault {
+        processor: 0,
+        call: 1,
+        line: "refused 10 GateFault processor 0 row 0 5 a\n",
+    },
+    GateFault {
+        processor: 0,
+        call: 2,
+        line: "refused 10 GateFault processor 0 row 5 10 c\n",
+    },
+    GateFault {
+        processor: 0,
+        call: 3,
+        line: "refused 10 GateFault processor 0 row 10 15 e\n",
+    },
+    GateFault {
+        processor: 0,
+        call: 4,
+        line: "refused 10 GateFault processor 0 row 15 25 e\n",
+    },
+    GateFault {
+        processor: 1,
+        call: 1,
+        line: "refused 10 GateFault processor 1 row 0 5 b\n",
+    },
+    GateFault {
+        processor: 1,
+        call: 2,
+        line: "refused 10 GateFault processor 1 row 5 10 b\n",
+    },
+    GateFault {
+        processor: 1,
+        call: 3,
+        line: "refused 10 GateFault processor 1 row 10 15 b\n",
+    },
+    GateFault {
+        processor: 1,
+        call: 4,
+        line: "refused 10 GateFault processor 1 row 15 25 a\n",
+    },
+    GateFault {
+        processor: 2,
+        call: 1,
+        line: "refused 10 GateFault processor 2 row 0 5 d\n",
+    },
+    GateFault {
+        processor: 2,
+        call: 2,
+        line: "refused 10 GateFault processor 2 row 5 10 d\n",
+    },
+    GateFault {
+        processor: 2,
+        call: 3,
+        line: "refused 10 GateFault processor 2 row 10 15 d\n",
+    },
+    GateFault {
+        processor: 2,
+        call: 4,
+        line: "refused 10 GateFault processor 2 row 15 25 c\n",
+    },
 ];
 
 #[test]
@@ -92,9 +148,10 @@ fn fail_gates<X: Abort + Threads + Wait + Sync>(
     word: &str,
     rounds: usize,
 ) -> Result<(), Fail> {
-    for (processor, at, line) in GATE_FAULTS {
+    for fault in GATE_FAULTS {
+        let line = fault.line;
         let outside = Outside {
-            gate: Some((processor, at)),
+            gate: Some((fault.processor, fault.call)),
             ..SURE
         };
         let words = ["exec", "--window", word];
@@ -103,29 +160,65 @@ fn fail_gates<X: Abort + Threads + Wait + Sync>(
         assert_eq!(rt; left.out.as_slice(), b"".as_slice(), "of {line}");
         assert_eq!(rt; left.err.as_slice(), line.as_bytes());
         // The rows before the failed one were run, and no processor was further ahead than the window.
-        let ran = at.saturating_sub(1) as usize;
-        assert_stands(rt, &left, &two_lanes(), processor, ran);
+        let ran = fault.call.saturating_sub(1) as usize;
+        assert_stands(rt, &left, &two_lanes(), fault.processor, ran);
         assert_ran_first(rt, &left, &two_lanes(), ran.saturating_add(rounds));
-        for job in &left.jobs {
-            assert_eq!(rt; job.faults, 0, "of {line}");
-        }
+        assert_faults(rt, &left, None);
     }
     Ok(())
 }
 
-/// The tasks whose job fails at its first call, with the processor of the task's first row and the rows before it there, and
-/// the line of each.
-const JOB_FAULTS: [(u32, u32, usize, &str); 5] = [
-    (0, 0, 0, "refused 11 JobFault task a processor 0 row 0 5\n"),
-    (1, 1, 0, "refused 11 JobFault task b processor 1 row 0 5\n"),
-    (2, 0, 1, "refused 11 JobFault task c processor 0 row 5 10\n"),
-    (3, 2, 0, "refused 11 JobFault task d processor 2 row 0 5\n"),
-    (
-        4,
-        0,
-        2,
-        "refused 11 JobFault task e processor 0 row 10 15\n",
-    ),
+// Makes sure that this job failed once, where one is to fail, and worked nothing, and that no other failed.
+fn assert_faults(rt: &impl Abort, left: &Left, failed: Option<u32>) {
+    for job in &left.jobs {
+        let is_failed = Some(job.id) == failed;
+        assert_eq!(rt; job.faults, u64::from(is_failed), "of job {job:?}");
+        assert!(rt; !is_failed || job.ticks == 0, "of job {job:?}");
+    }
+}
+
+/// A job that fails at its first call.
+#[derive(Clone, Copy)]
+struct JobFault {
+    task: u32,
+    /// The processor of the task's first row.
+    processor: u32,
+    /// The rows before it there.
+    before: usize,
+    line: &'static str,
+}
+
+const JOB_FAULTS: [JobFault; 5] = [
+    JobFault {
+        task: 0,
+        processor: 0,
+        before: 0,
+        line: "refused 11 JobFault task a processor 0 row 0 5\n",
+    },
+    JobFault {
+        task: 1,
+        processor: 1,
+        before: 0,
+        line: "refused 11 JobFault task b processor 1 row 0 5\n",
+    },
+    JobFault {
+        task: 2,
+        processor: 0,
+        before: 1,
+        line: "refused 11 JobFault task c processor 0 row 5 10\n",
+    },
+    JobFault {
+        task: 3,
+        processor: 2,
+        before: 0,
+        line: "refused 11 JobFault task d processor 2 row 0 5\n",
+    },
+    JobFault {
+        task: 4,
+        processor: 0,
+        before: 2,
+        line: "refused 11 JobFault task e processor 0 row 10 15\n",
+    },
 ];
 
 #[test]
@@ -143,9 +236,10 @@ fn fail_jobs<X: Abort + Threads + Wait + Sync>(
     word: &str,
     rounds: usize,
 ) -> Result<(), Fail> {
-    for (task, processor, before, line) in JOB_FAULTS {
+    for fault in JOB_FAULTS {
+        let line = fault.line;
         let outside = Outside {
-            job: Some((task, 1)),
+            job: Some((fault.task, 1)),
             ..SURE
         };
         let words = ["exec", "--window", word];
@@ -154,14 +248,10 @@ fn fail_jobs<X: Abort + Threads + Wait + Sync>(
         assert_eq!(rt; left.out.as_slice(), b"".as_slice(), "of {line}");
         assert_eq!(rt; left.err.as_slice(), line.as_bytes());
         // The gate ran the row at which the job failed.
-        assert_stands(rt, &left, &two_lanes(), processor, before.saturating_add(1));
-        assert_ran_first(rt, &left, &two_lanes(), before.saturating_add(rounds));
-        for job in &left.jobs {
-            let faults = if job.id == task { 1 } else { 0 };
-            assert_eq!(rt; job.faults, faults, "of {line}");
-        }
-        let worked = left.jobs.get(task as usize).map(|job| job.ticks);
-        assert_eq!(rt; worked, Some(0), "of {line}");
+        let ran = fault.before.saturating_add(1);
+        assert_stands(rt, &left, &two_lanes(), fault.processor, ran);
+        assert_ran_first(rt, &left, &two_lanes(), fault.before.saturating_add(rounds));
+        assert_faults(rt, &left, Some(fault.task));
     }
     Ok(())
 }
