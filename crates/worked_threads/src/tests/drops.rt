@@ -1,9 +1,12 @@
 //! Jobs that count when they are let go.
-ghost use Rattle.std.specs.Prelude.{◌≡◌, ◌+◌, ◌<◌, ◌^◌, None};
+ghost use Rattle.std.specs.Prelude.{◌≡◌, ◌+◌, ◌<◌, ◌^◌, None, Some, IfOk};
+ghost use Rattle.run_tool.specs.Executions.{gates_of};
+ghost use Rattle.run_tool.specs.Ready.{AreFirstGates};
 
 use super::{THREE_ROWS, THREE_TASKS, call};
 use exec_workers::Kit;
 use run_tool::Status;
+use sched_base::NoMemory;
 use sched_edges::{Failed, Job, Jobs, ListGate};
 use std::alloc::{AllocError, Global};
 use std::process::Abort;
@@ -79,6 +82,18 @@ impl Job for LastingJob {
     }
 }
 
+/// Kits with gates that list their rows, of which gate 1 fails at these calls.
+fn kits_of(alloc: Global, fails: &[u64]) -> Result<Vec<Kit<ListGate>>, NoMemory>
+    ensures { IfOk result (λ kits. AreFirstGates 32 (gates_of (λ g. Some g.ran) (λ g. g.faults) kits.items)) }
+{
+    let mut kits = Vec::new(alloc);
+    for p in 0..32 {
+        let calls = if p == 1 { fails } else { &[] };
+        kits.push(Kit::new(ListGate::new(alloc, 3, calls)?))?;
+    }
+    Ok(kits)
+}
+
 /// Executes the three tasks with these calls of gate 1 failing, and with the first call of task c's job failing or not. The jobs
 /// are let go by the end and no sooner.
 fn assert_lasting<X: Threads + Wait + Abort + Sync>(
@@ -89,11 +104,7 @@ fn assert_lasting<X: Threads + Wait + Abort + Sync>(
     want: (Status, &str, &str),
 ) -> Result<(), Fail> {
     let drops = Arc::new(alloc, AtomicU64::new(0))?;
-    let mut kits = Vec::new(alloc);
-    for p in 0..32 {
-        let fails = if p == 1 { gate_fails } else { &[] };
-        kits.push(Kit::new(ListGate::new(alloc, 3, fails)?))?;
-    }
+    let mut kits = kits_of(alloc, gate_fails)?;
     let mut jobs = Jobs::with_room(alloc, 256)?;
     for id in 0..256 {
         jobs.add(Box::new(alloc, LastingJob::new(id, job_fails && id == 2, &drops)?)?);

@@ -1,11 +1,14 @@
 //! Executions whose gates wait for one another.
+ghost use Rattle.std.specs.Prelude.{None, IfOk};
+ghost use Rattle.run_tool.specs.Executions.{gates_of};
+ghost use Rattle.run_tool.specs.Ready.{AreFirstGates};
 
 use super::patient_gate::PatientGate;
 use super::{Left, THREE_ROWS, THREE_TASKS, call};
 use exec_workers::Kit;
 use run_tool::Status;
 use sched_edges::{CountJob, Jobs};
-use std::alloc::Global;
+use std::alloc::{AllocError, Global};
 use std::sync::atomic::AtomicU64;
 use std::sync::{Arc, Wait};
 use std::test::Fail;
@@ -19,15 +22,15 @@ const TWO_REDUCTIONS: &str =
 const TWO_REDUCTION_ROWS: &str =
     "run-trace 1\nprocessors 3\nhorizon 5\nscale 5\ntasks 5\ntask a 3 5\ntask b 3 5\ntask c 3 5\ntask d 3 5\ntask e 3 5\nrow 0 0 5 a\nrow 0 5 10 c\nrow 0 10 25 e\nrow 1 0 15 b\nrow 1 15 25 a\nrow 2 0 15 d\nrow 2 15 25 c\ntotal a 15\ntotal b 15\ntotal c 15\ntotal d 15\ntotal e 15\nrows 7\n";
 
-/// Executes a set on gates of which the first waits, in its first call, for so many calls of the second, and the second for so
-/// many of the first. The other gates wait for none.
-fn run_waiting<X: Threads + Wait + Clock + Copy + Send + Sync>(
+/// Kits with gates of which the first waits, in its first call, for so many calls of the second, and the second for so many of
+/// the first. The other gates wait for none.
+fn kits_of<X: Clock + Copy>(
     rt: X,
     alloc: Global,
-    words: &[&str],
-    input: &str,
     waits: [u64; 2],
-) -> Result<Left, Fail> {
+) -> Result<Vec<Kit<PatientGate<X>>>, AllocError>
+    ensures { IfOk result (λ kits. AreFirstGates 32 (gates_of (λ _. None) (λ g. g) kits.items)) }
+{
     let first = Arc::new(alloc, AtomicU64::new(0))?;
     let second = Arc::new(alloc, AtomicU64::new(0))?;
     let other = Arc::new(alloc, AtomicU64::new(0))?;
@@ -40,6 +43,18 @@ fn run_waiting<X: Threads + Wait + Clock + Copy + Send + Sync>(
         };
         kits.push(Kit::new(gate))?;
     }
+    Ok(kits)
+}
+
+/// Executes a set on gates of which two wait for each other's calls.
+fn run_waiting<X: Threads + Wait + Clock + Copy + Send + Sync>(
+    rt: X,
+    alloc: Global,
+    words: &[&str],
+    input: &str,
+    waits: [u64; 2],
+) -> Result<Left, Fail> {
+    let mut kits = kits_of(rt, alloc, waits)?;
     let mut jobs = Jobs::with_room(alloc, 256)?;
     for id in 0..256 {
         jobs.add(Box::new(alloc, CountJob::new(id))?);

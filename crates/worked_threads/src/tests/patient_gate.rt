@@ -1,10 +1,10 @@
 //! A gate that waits for the calls of another gate.
-ghost use Rattle.std.specs.Prelude.{◌≡◌, ◌≤◌, None};
-ghost use Rattle.sched_edges.specs.Causes.{Rose};
+ghost use Rattle.std.specs.Prelude.{◌≡◌, None, IfOk};
 
 use sched_base::Row;
 use sched_edges::{Failed, Gate};
-use std::alloc::{AllocError, Global};
+use std::alloc::AllocError;
+use std::marker::Model;
 use std::sync::Arc;
 use std::sync::atomic::{AtomicU64, Ordering};
 use std::thread;
@@ -14,7 +14,7 @@ use std::time::{Clock, Duration};
 const PATIENCE: u32 = 1_000;
 
 /// A gate that counts its calls where other threads see it. In its first call it waits until another gate has been called a
-/// stated number of times, and fails where it has waited 1,000 turns for it.
+/// stated number of times, and fails where it has waited 1,000 turns for it. It is seen as its count of faults.
 #[derive(Drop)]
 pub struct PatientGate<X: Clock + Copy> {
     rt: X,
@@ -22,6 +22,14 @@ pub struct PatientGate<X: Clock + Copy> {
     awaited: Arc<AtomicU64>,
     wanted: u64,
     faults: u64,
+}
+
+impl<X: Clock + Copy> Model for PatientGate<X> {
+    ghost use Rattle.std.specs.Prelude.{ℕ};
+
+    ghost Value = { ℕ };
+
+    ghost view = { λ g. g.faults };
 }
 
 impl<X: Clock + Copy> PatientGate<X> {
@@ -56,7 +64,7 @@ impl<X: Clock + Copy> PatientGate<X> {
 impl<X: Clock + Copy> Gate for PatientGate<X> {
     ghost ran = { λ _. None };
 
-    ghost faults = { λ g. g.faults };
+    ghost faults = { λ g. g };
 
     fn run(&mut self, row: &Row) -> Result<(), Failed> {
         let _ = row;
