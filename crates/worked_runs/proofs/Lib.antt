@@ -1,1 +1,1 @@
-pub mod OutcomeLemmas
+pub mod RunLemmas

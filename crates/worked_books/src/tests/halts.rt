@@ -37,8 +37,8 @@ fn fail<Q: PostLedger>(rt: &impl Abort, book: &mut Book<Q, CountJob>) {
         panic!(rt; "no task");
     };
     let _follows = book.log();
-    assert_eq!(rt; book.handed(0), 3);
     assert_eq!(rt; book.plan().set().count(), 3);
+    assert_eq!(rt; book.handed(0), 3);
     assert!(rt; book.faults_are(&[1, 0, 0]) && !book.faults_are(&[0, 1, 0]));
     book.halt(0, job);
 }

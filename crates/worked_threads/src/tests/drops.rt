@@ -26,7 +26,10 @@ struct LastingJob {
 
 impl LastingJob {
     /// A job that has worked no tick yet.
-    fn new(id: u32, fails: bool, drops: &Arc<AtomicU64>) -> Result<LastingJob, AllocError> {
+    fn new(id: u32, fails: bool, drops: &Arc<AtomicU64>) -> Result<LastingJob, AllocError>
+        ensures id { IfOk result (λ j. j.id ≡ id) }
+        ensures used { IfOk result (λ j. j.used ≡ 0) }
+    {
         Ok(LastingJob {
             id,
             used: 0,

@@ -1,0 +1,43 @@
+-- Gates and jobs that are made one after the other, and what a run leaves in the places of the jobs.
+use Rattle.std.proofs.Common.{◌≡◌, ℕ, ◌+◌, ◌<◌, List, [], ◌∷◌, ◌++◌, Option, Some, None, Result, Ok, Err, length, refl, sym, ap, ◌∙◌, subst}
+use Rattle.std.specs.Prelude.{slice_get}
+use Rattle.sched_base.specs.declared.rows.Row.{Row}
+use Rattle.sched_edges.specs.Gates.{GateHeld}
+use Rattle.sched_edges.specs.Jobs.{JobAt}
+use Rattle.run_tree.specs.Plans.{PlanContents}
+use Rattle.exec_book.specs.Jobs.{Made}
+use Rattle.exec_workers.specs.declared.answers.Executed.{Executed}
+use Rattle.exec_workers.specs.declared.answers.ExecFault.{ExecFault}
+use Rattle.exec_workers.specs.declared.answers.ExecFault.TheVariants as fault
+use Rattle.exec_workers.specs.declared.kits.Kit.{Kit}
+use Rattle.exec_workers.specs.Kits.{KitAt}
+use Rattle.exec_workers.specs.Lanes.{LaneContents}
+use Rattle.exec_workers.specs.Runs.{AreFresh, Ran, Outcome}
+use Rattle.exec_workers.proofs.PlaceLemmas.{each_push}
+
+-- the first n kits have gates that ran nothing yet
+abbrev pub AreUnrun : ℕ → List (Kit GateHeld) → Type 0
+AreUnrun n kits = (p : ℕ) → p < n → (gate : GateHeld) × KitAt kits p gate × (gate.ran ≡ [])
+
+-- one gate more
+pub unrun_more : (n : ℕ) (kits kits' : List (Kit GateHeld)) (gate : GateHeld) → length kits ≡ n → AreUnrun n kits → kits' ≡ kits ++ record { gate = Some gate } ∷ [] → gate.ran ≡ [] → AreUnrun (n + 1) kits'
+unrun_more n kits kits' gate long unrun is none =
+    subst (λ xs. AreUnrun (n + 1) xs) (sym is)
+    (each_push (λ q o. (g : GateHeld) × (o ≡ Some (record { gate = Some g })) × (g.ran ≡ [])) kits n (record { gate = Some gate }) long (gate, refl, none) unrun)
+
+-- one job more, which has the next number and has worked no tick
+pub fresh_more : {J : Type 0} (id used : J → ℕ) (n : ℕ) (places places' : List (Option J)) (job : J) → length places ≡ n → AreFresh id used n places → places' ≡ places ++ Some job ∷ [] → id job ≡ n → used job ≡ 0 → AreFresh id used (n + 1) places'
+fresh_more {J} id used n places places' job long fresh is own unused =
+    subst (λ xs. AreFresh id used (n + 1) xs) (sym is)
+    (each_push (λ q o. (j : J) × (o ≡ Some (Some j)) × (id j ≡ q) × (used j ≡ 0)) places n (Some job) long (job, refl, own, unused) fresh)
+
+module _ {G J : Type 0} (ran : G → Option (List Row)) (gate_faults : G → ℕ) (id used : J → ℕ) (made : J → Made) (job_faults : J → ℕ) (p : PlanContents) (kits kits' : List (Kit G)) (places places' : List (Option J)) where
+  left_by : (lanes : List LaneContents) → Ran ran gate_faults id used made job_faults p kits kits' places places' lanes → (t : ℕ) (job : J) → t < length p.set.tasks → JobAt places t job → (now : J) × JobAt places' t now
+  left_by lanes run t job within at = let now = run.jobs t job within at in (now.0, now.1)
+
+  -- the job of a task is in its place again, whatever the run answers
+  pub job_left : (result : Result Executed ExecFault) → Outcome ran gate_faults id used made job_faults p kits kits' places places' result → (t : ℕ) (job : J) → t < length p.set.tasks → JobAt places t job → (now : J) × JobAt places' t now
+  job_left (Ok e) o = left_by o.0 o.1
+  job_left (Err (fault.Gate processor row)) o = left_by o.0 o.1
+  job_left (Err (fault.Job task processor row)) o = left_by o.0 o.1
+  job_left (Err fault.NoMemory) o t job within at = (job, ap (λ xs. slice_get xs t) o.1 ∙ at)
