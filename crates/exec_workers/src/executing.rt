@@ -9,6 +9,7 @@ ghost use Rattle.exec_workers.specs.Runs.{Outcome, AreFresh, AreEmpty, GatesGrew
 
 use crate::answers::{ExecFault, Executed};
 use crate::kits::Kit;
+use crate::progress::none_posted;
 use crate::run::{Ended, run_gates};
 use crate::stage::{fault_counts, lay_jobs, lift_jobs, push_totals};
 use exec_book::{Book, JobsBack};
@@ -117,6 +118,7 @@ fn execute_in<G: Gate + Send, Q: PostLedger + Send + Sync, J: Job + Send, X: Thr
     let n = plan.set().count();
     let mut counts = fault_counts(alloc, jobs, n)?;
     let mut posted = vec![in alloc; 0u64; m as usize]?;
+    let told = none_posted(alloc, m)?;
     let mut totals = Totals::with_room(alloc, n)?;
     let mut lanes = Vec::with_capacity(alloc, m as usize)?;
     let mut out = JobList::with_room(alloc, n)?;
@@ -144,6 +146,7 @@ fn execute_in<G: Gate + Send, Q: PostLedger + Send + Sync, J: Job + Send, X: Thr
         lanes,
         &mut counts,
         &mut posted,
+        &told,
     );
     lay_jobs(&mut back, jobs, n);
     match fault {

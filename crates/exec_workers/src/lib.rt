@@ -14,6 +14,7 @@ mod found;
 mod kits;
 mod lanes;
 mod passes;
+mod progress;
 mod rows;
 mod run;
 mod serving;

@@ -5,10 +5,11 @@ ghost use Rattle.exec_book.specs.PlanRows.{IsCompiled, plan_rows};
 ghost use Rattle.exec_workers.specs.Lanes.{lane_in, AllServed, NoneFailed, AllAt};
 
 use crate::lanes::Lane;
-use crate::serving::serve;
+use crate::serving::serve_beside;
 use exec_book::Book;
 use run_tree::Plan;
 use sched_edges::{Gate, Job};
+use std::sync::atomic::AtomicU64;
 use std::sync::{Mutex, Wait};
 use std::thread;
 use std::thread::Threads;
@@ -27,6 +28,7 @@ pub(crate) fn serve_passes<
     plan: &Plan,
     lanes: &mut [Lane<G, Q>],
     counts: &[u64],
+    told: &[AtomicU64],
     rounds: u64,
 ) -> bool
     requires compiled { IsCompiled plan.now }
@@ -37,7 +39,7 @@ pub(crate) fn serve_passes<
     ensures failed { result ≡ false → (p : ℕ) × (p < length lanes.new) × ((lane_in lanes.new p).cause ≢ None) }
 {
     for _ in rt.forever() {
-        serve_all(rt, book, plan, lanes, counts);
+        serve_all(rt, book, plan, lanes, counts, told);
         if any_failed(lanes) {
             return false;
         }
@@ -55,6 +57,7 @@ fn serve_all<G: Gate + Send, Q: PostLedger + Send + Sync, J: Job + Send, R: Thre
     plan: &Plan,
     lanes: &mut [Lane<G, Q>],
     counts: &[u64],
+    told: &[AtomicU64],
 )
     requires compiled { IsCompiled plan.now }
     requires counts { length counts.now ≡ length plan.now.set.tasks }
@@ -69,7 +72,7 @@ fn serve_all<G: Gate + Send, Q: PostLedger + Send + Sync, J: Job + Send, R: Thre
         rt,
         lanes,
         workers,
-        &|_, lane: &mut Lane<G, Q>| serve(rt, book, plan, lane, counts),
+        &|_, lane: &mut Lane<G, Q>| serve_beside(rt, book, plan, lane, counts, told),
     );
 }
 

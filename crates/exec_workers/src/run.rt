@@ -24,6 +24,7 @@ use exec_book::{Book, Closing};
 use run_tree::Plan;
 use sched_base::RowTable;
 use sched_edges::{Gate, Job, JobList};
+use std::sync::atomic::AtomicU64;
 use std::sync::{Mutex, Wait};
 use std::thread::Threads;
 use unit_ledger::{PostLedger, Seats};
@@ -53,6 +54,7 @@ pub(crate) fn run_gates<
     lanes: Vec<Lane<G, Q>>,
     counts: &mut [u64],
     posted: &mut [u64],
+    told: &[AtomicU64],
 ) -> Ended<J>
     requires compiled { IsCompiled plan.now }
     requires rounds { rounds ≡ rounds_of plan.now }
@@ -68,7 +70,16 @@ pub(crate) fn run_gates<
     let mut seats = seats;
     let mut lanes = lanes;
     fill_lanes(kits, &mut seats, &mut lanes, m);
-    let (closing, fault) = serve_book(rt, book, plan, rounds, lanes.as_mut_slice(), counts, posted);
+    let (closing, fault) = serve_book(
+        rt,
+        book,
+        plan,
+        rounds,
+        lanes.as_mut_slice(),
+        counts,
+        posted,
+        told,
+    );
     empty_lanes(kits, &mut seats, lanes);
     let Closing { jobs, side, table } = closing;
     let _posts = unit_ledger::close(side, seats);
@@ -90,6 +101,7 @@ pub(crate) fn serve_book<
     lanes: &mut [Lane<G, Q>],
     counts: &mut [u64],
     posted: &mut [u64],
+    told: &[AtomicU64],
 ) -> (Closing<Q, J>, Option<ExecFault>)
     requires compiled { IsCompiled plan.now }
     requires rounds { rounds ≡ rounds_of plan.now }
@@ -109,7 +121,7 @@ pub(crate) fn serve_book<
     ensures none { IfNone result.1 (NoneFailed lanes.new × AllAt (rounds_of plan.now) lanes.new) }
 {
     let _few = plan.tree().processors();
-    serve_passes(rt, book, plan, lanes, counts, rounds);
+    serve_passes(rt, book, plan, lanes, counts, told, rounds);
     note_posted(lanes, posted);
     note_faults(lanes, counts);
     let fault = first_fault(lanes);

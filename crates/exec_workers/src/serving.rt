@@ -7,13 +7,14 @@ ghost use Rattle.exec_workers.specs.Promises.{IsNext};
 use crate::causes::Cause;
 use crate::found::ticks_of;
 use crate::lanes::Lane;
+use crate::progress::{tell, wait};
 use crate::rows::{halt_row, post_row, take_row};
 use exec_book::{Book, Look};
 use run_tree::Plan;
 use sched_base::Row;
 use sched_edges::{Failed, Gate, Job};
+use std::sync::atomic::AtomicU64;
 use std::sync::{Mutex, Wait};
-use std::thread;
 use unit_ledger::PostLedger;
 
 /// A worker ends after this many looks in a row that found its lane waiting.
@@ -36,6 +37,24 @@ pub fn serve<G: Gate, Q: PostLedger, J: Job, R: Wait>(
     requires fresh { lane.old.cause ≡ None }
     ensures { Served (plan_rows plan.now) counts.now lane.old lane.new }
 {
+    serve_beside(rt, book, plan, lane, counts, &[]);
+}
+
+/// Serves a lane, as `serve` does, with what the workers tell of the lanes: a worker that waits for a lane looks there, and not
+/// into the book.
+pub(crate) fn serve_beside<G: Gate, Q: PostLedger, J: Job, R: Wait>(
+    rt: &R,
+    book: &Mutex<Book<Q, J>>,
+    plan: &Plan,
+    lane: &mut Lane<G, Q>,
+    counts: &[u64],
+    told: &[AtomicU64],
+)
+    requires compiled { IsCompiled plan.now }
+    requires counts { length counts.now ≡ length plan.now.set.tasks }
+    requires fresh { lane.old.cause ≡ None }
+    ensures { Served (plan_rows plan.now) counts.now lane.old lane.new }
+{
     let mut waits = 0;
     for _ in rt.forever() {
         match take_row(rt, book, plan, &lane.seat, counts) {
@@ -44,13 +63,17 @@ pub fn serve<G: Gate, Q: PostLedger, J: Job, R: Wait>(
                 if !run_row(rt, book, plan, lane, counts, row, job) {
                     return;
                 }
+                tell(told, lane.seat.lane(), lane.seat.posted());
             }
-            Look::NotYet { .. } => {
+            Look::NotYet {
+                lane: other,
+                posted,
+            } => {
                 waits += 1;
                 if waits >= PATIENCE {
                     return;
                 }
-                thread::yield_now();
+                wait(told, other, posted);
             }
             Look::Done => return,
             Look::Halted => return,

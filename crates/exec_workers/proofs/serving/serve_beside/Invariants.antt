@@ -1,7 +1,7 @@
 use Rattle.std.proofs.Common.{◌≡◌, None, ◌≤◌}
 use Rattle.exec_book.specs.PlanRows.{plan_rows}
 use Rattle.exec_workers.specs.Lanes.{Served}
-use Rattle.exec_workers.proofs.serving.serve.Given as goal
+use Rattle.exec_workers.proofs.serving.serve_beside.Given as goal
 
 abbrev pub invariant-loop : goal.invariant-loop
 invariant-loop g l =
