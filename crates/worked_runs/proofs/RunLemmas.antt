@@ -1,5 +1,5 @@
 -- Gates and jobs that are made one after the other, and what a run leaves in the places of the jobs.
-use Rattle.std.proofs.Common.{◌≡◌, ℕ, ◌+◌, ◌<◌, List, [], ◌∷◌, ◌++◌, Option, Some, None, Result, Ok, Err, length, refl, sym, ap, ◌∙◌, subst}
+use Rattle.std.proofs.Common.{◌≡◌, ℕ, ◌+◌, ◌<◌, List, [], ◌∷◌, ◌++◌, Option, Some, Result, Ok, Err, length, refl, sym, ap, ◌∙◌, subst, arith, length-append}
 use Rattle.std.specs.Prelude.{slice_get}
 use Rattle.sched_base.specs.declared.rows.Row.{Row}
 use Rattle.sched_edges.specs.Gates.{GateHeld}
@@ -15,15 +15,20 @@ use Rattle.exec_workers.specs.Lanes.{LaneContents}
 use Rattle.exec_workers.specs.Runs.{AreFresh, Ran, Outcome}
 use Rattle.exec_workers.proofs.PlaceLemmas.{each_push}
 
+-- one place more
+pub length_more : {X : Type 0} (n : ℕ) (xs ys : List X) (x : X) → length xs ≡ n → ys ≡ xs ++ x ∷ [] → length ys ≡ n + 1
+length_more n xs ys x long is = ap length is ∙ (let l = length-append xs (x ∷ []) in omega (arith, l, long))
+
 -- the first n kits have gates that ran nothing yet
 abbrev pub AreUnrun : ℕ → List (Kit GateHeld) → Type 0
 AreUnrun n kits = (p : ℕ) → p < n → (gate : GateHeld) × KitAt kits p gate × (gate.ran ≡ [])
 
 -- one gate more
-pub unrun_more : (n : ℕ) (kits kits' : List (Kit GateHeld)) (gate : GateHeld) → length kits ≡ n → AreUnrun n kits → kits' ≡ kits ++ record { gate = Some gate } ∷ [] → gate.ran ≡ [] → AreUnrun (n + 1) kits'
-unrun_more n kits kits' gate long unrun is none =
-    subst (λ xs. AreUnrun (n + 1) xs) (sym is)
-    (each_push (λ q o. (g : GateHeld) × (o ≡ Some (record { gate = Some g })) × (g.ran ≡ [])) kits n (record { gate = Some gate }) long (gate, refl, none) unrun)
+pub unrun_more : (kits kits' : List (Kit GateHeld)) (gate : GateHeld) → AreUnrun (length kits) kits → kits' ≡ kits ++ record { gate = Some gate } ∷ [] → gate.ran ≡ [] → AreUnrun (length kits') kits'
+unrun_more kits kits' gate unrun is none =
+    let grown = each_push (λ q o. (g : GateHeld) × (o ≡ Some (record { gate = Some g })) × (g.ran ≡ [])) kits (length kits) (record { gate = Some gate }) refl (gate, refl, none) unrun in
+    subst (λ n. AreUnrun n kits') (sym (length_more (length kits) kits kits' (record { gate = Some gate }) refl is))
+    (subst (λ xs. AreUnrun (length kits + 1) xs) (sym is) grown)
 
 -- one job more, which has the next number and has worked no tick
 pub fresh_more : {J : Type 0} (id used : J → ℕ) (n : ℕ) (places places' : List (Option J)) (job : J) → length places ≡ n → AreFresh id used n places → places' ≡ places ++ Some job ∷ [] → id job ≡ n → used job ≡ 0 → AreFresh id used (n + 1) places'
@@ -40,4 +45,4 @@ module _ {G J : Type 0} (ran : G → Option (List Row)) (gate_faults : G → ℕ
   job_left (Ok e) o = left_by o.0 o.1
   job_left (Err (fault.Gate processor row)) o = left_by o.0 o.1
   job_left (Err (fault.Job task processor row)) o = left_by o.0 o.1
-  job_left (Err fault.NoMemory) o t job within at = (job, ap (λ xs. slice_get xs t) o.1 ∙ at)
+  job_left (Err fault.NoMemory) o = λ t job within at. (job, ap (λ xs. slice_get xs t) o.1 ∙ at)

@@ -60,7 +60,7 @@ fn three_tasks(rt: &impl Abort, alloc: Global) -> Result<Plan, Fail>
 
 /// Kits with gates of which these calls fail.
 fn kits_of(alloc: Global, fails: &[&[u64]]) -> Result<Vec<Kit<ListGate>>, NoMemory>
-    ensures { IfOk result (λ kits. (p : ℕ) → p < length fails.now → (gate : GateHeld) × KitAt kits.items p gate × (gate.ran ≡ [])) }
+    ensures { IfOk result (λ kits. (p : ℕ) → p < length kits.items → (gate : GateHeld) × KitAt kits.items p gate × (gate.ran ≡ [])) }
 {
     let mut kits = Vec::new(alloc);
     for calls in fails {
@@ -104,6 +104,7 @@ fn run<X: Threads + Wait + Abort + Sync>(
     assert_eq!(rt; plan.set().count(), 3);
     let rounds = count_rounds(alloc, &plan)?;
     let mut kits = kits_of(alloc, &gate_fails)?;
+    assert_eq!(rt; kits.len(), 2);
     let mut jobs = Jobs::with_room(alloc, 3)?;
     for t in 0..3 {
         jobs.add(Box::new(alloc, FailJob::new(alloc, t, job_fails[t as usize])?)?);

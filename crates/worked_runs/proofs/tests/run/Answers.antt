@@ -1,9 +1,10 @@
-use Rattle.std.proofs.Common.{◌≡◌, ◌<◌, ℕ, [], ◌∷◌, Some, refl, ap, ◌∙◌, arith, length, length-append, subst, sym}
+use Rattle.std.proofs.Common.{◌≡◌, ◌<◌, ℕ, [], refl, ap, ◌∙◌, arith, length, subst}
 use denote.Param.Object.{read_made}
 use Rattle.sched_base.specs.Sets.{SetContents}
-use Rattle.run_tree.specs.Plans.{PlanContents}
+use Rattle.sched_edges.specs.Gates.{GateHeld}
+use Rattle.run_tree.specs.Trees.{TreeContents}
 use Rattle.exec_workers.proofs.StageLemmas.{same_gate}
-use Rattle.worked_runs.proofs.RunLemmas.{fresh_more, job_left}
+use Rattle.worked_runs.proofs.RunLemmas.{length_more, fresh_more, job_left}
 use Rattle.worked_runs.proofs.tests.run.OwnLists.{own-1, at-1-1}
 use Rattle.worked_runs.proofs.tests.run.Goals as goal
 
@@ -19,20 +20,34 @@ loop-t-preserved g c =
     let inv = c.loop-t.invariant in
     record {
       room = let room = c.add.ensures.room in let before = inv.room in omega (arith, room, before);
-      long = ap length c.add.ensures.places ∙ (let l = length-append c.loop-t.jobs.places _ in let long = inv.long in omega (arith, l, long));
+      long = length_more c.loop-t.t _ _ _ inv.long c.add.ensures.places;
       fresh = fresh_more _ _ c.loop-t.t _ _ _ inv.long inv.fresh c.add.ensures.places
           (read_made own-1 (own-1.entry at-1-1) at-1-1 refl ℕ (λ e x. e.1.id x) _ _ _ c.into_dyn_box.ensures.1 ∙ ap (λ j. j.id) c.in_ok-new-2.ensures.ok ∙ c.in_ok-new.ensures.id)
           (read_made own-1 (own-1.entry at-1-1) at-1-1 refl ℕ (λ e x. e.1.used x) _ _ _ c.into_dyn_box.ensures.1 ∙ ap (λ j. j.used) c.in_ok-new-2.ensures.ok ∙ c.in_ok-new.ensures.used);
     }
 
-pub execute-requires-clause-kits : goal.execute-requires-clause-kits
-execute-requires-clause-kits g c = ?
+pub execute-answer-requires-clause-kits : goal.execute-answer-requires-clause-kits
+execute-answer-requires-clause-kits g c = λ _ _ p below.
+    let two = c.processors.ensures.value ∙ ap (λ (t : TreeContents). t.processors) c.tree.ensures.value in
+    let kit = c.in_ok-kits.ensures p (omega (arith, below, two)) in
+    (kit.0, kit.1)
 
-pub execute-requires-clause-empty : goal.execute-requires-clause-empty
-execute-requires-clause-empty g c = ?
+pub execute-answer-requires-clause-empty : goal.execute-answer-requires-clause-empty
+execute-answer-requires-clause-empty g c = λ _ _ q gate below at.
+    let two = c.processors.ensures.value ∙ ap (λ (t : TreeContents). t.processors) c.tree.ensures.value in
+    let kit = c.in_ok-kits.ensures q (omega (arith, below, two)) in
+    subst (λ (x : GateHeld). x.ran ≡ []) (same_gate c.in_ok-kits.kits.items q kit.0 gate kit.1 at) kit.2
 
-pub execute-requires-clause-jobs : goal.execute-requires-clause-jobs
-execute-requires-clause-jobs g c = ?
+pub execute-answer-requires-clause-jobs : goal.execute-answer-requires-clause-jobs
+execute-answer-requires-clause-jobs g c = λ _ _ t below.
+    let three = c.count.ensures.value ∙ ap (λ (s : SetContents). length s.tasks) c.set.ensures.value in
+    let past = c.loop-t-test.false in
+    c.loop-t.invariant.fresh t (omega (arith, below, three, past))
 
 pub told-requires : goal.told-requires
-told-requires g c = ?
+told-requires g c = λ t below.
+    let three = c.count.ensures.value ∙ ap (λ (s : SetContents). length s.tasks) c.set.ensures.value in
+    let past = c.loop-t-test.false in
+    let job = c.loop-t.invariant.fresh t (omega (arith, below, past)) in
+    job_left _ _ _ _ _ _ c.in_ok-plan.plan c.in_ok-kits.kits.items c.execute-answer.new.kits.items c.loop-t.jobs.places c.execute-answer.new.jobs.places
+    c.execute-answer.result c.execute-answer.ensures.outcome t job.0 (omega (arith, below, three)) job.1
