@@ -16,12 +16,12 @@ use Rattle.run_tool.specs.declared.refusal.Refusal.{Refusal}
 use Rattle.run_tool.specs.declared.refusal.Refusal.TheVariants as why
 use Rattle.run_tool.specs.declared.status.Status.{Status}
 use Rattle.run_tool.specs.declared.status.Status.TheVariants.{Done, Invalid, Usage, ReadFault, WriteFault, NoMemory, BadInput, Overload, ScaleTooLarge, TooLong, GateFault, JobFault, InputTooLong}
-use Rattle.run_tool.specs.declared.words.Command.TheVariants.{Rate, Tree, Trace, TraceMet, Check, Exec, ExecMet}
+use Rattle.run_tool.specs.declared.words.Command.TheVariants.{Rate, Tree, Trace, TraceMet, Check, Exec, ExecMet, Drill}
 use Rattle.event_core.specs.Rounds.{row_limit}
 use Rattle.run_tool.specs.Commands.{SetText, rates, server_tree, schedule_rows, limit_of, ReadsSet, plan_of, rows_of, HasRoom, HasTooManyRows, HasNoRoom, WritesSet, Writes, CallsFor, RefusesSet, RefusesText, Refuses}
 use Rattle.run_tool.specs.Checks.{TellsTrace, Judges, RefusesTrace}
 use Rattle.run_tool.specs.Refusals.{status_of, set_status}
-use Rattle.run_tool.specs.Ends.{Streams, ErrorStream, IsDone, Stops, IsAnswer, IsAnswered}
+use Rattle.run_tool.specs.Ends.{Streams, ErrorStream, IsTold, IsDone, StopsAs, StopsDrill, Stops, IsAnswer, AnswersBytes, IsAnswered}
 use Rattle.run_tool.specs.Refuse.{IsRefused}
 
 -- a source that tells its bytes gave just these
@@ -220,6 +220,7 @@ told_or_refused Trace bytes status r is refuses = set_writes_or_refuses (schedul
 told_or_refused TraceMet bytes status r is refuses = set_writes_or_refuses (schedule_rows true) bytes is.0 status r is.1 refuses
 told_or_refused (Exec window) bytes status r is refuses = set_writes_or_refuses (schedule_rows false) bytes is.0 status r is.1 refuses
 told_or_refused ExecMet bytes status r is refuses = set_writes_or_refuses (schedule_rows true) bytes is.0 status r is.1 refuses
+told_or_refused (Drill number) bytes status r is refuses = refuses
 told_or_refused Check bytes status r is refuses = judged_or_refused bytes status r is refuses
 
 -- each command tells of bytes with one status
@@ -230,6 +231,7 @@ one_telling Trace bytes a b x y = x.1.0 ∙ sym y.1.0
 one_telling TraceMet bytes a b x y = x.1.0 ∙ sym y.1.0
 one_telling (Exec window) bytes a b x y = x.1.0 ∙ sym y.1.0
 one_telling ExecMet bytes a b x y = x.1.0 ∙ sym y.1.0
+one_telling (Drill number) bytes a b x y = x.1.0 ∙ sym y.1.0
 one_telling Check bytes a b x y = one_judgment bytes a b x y
 
 -- each command refuses bytes with one status
@@ -240,6 +242,7 @@ one_status Trace bytes r q a b = one_text_status (schedule_rows false) bytes r q
 one_status TraceMet bytes r q a b = one_text_status (schedule_rows true) bytes r q a b
 one_status (Exec window) bytes r q a b = one_text_status (schedule_rows false) bytes r q a b
 one_status ExecMet bytes r q a b = one_text_status (schedule_rows true) bytes r q a b
+one_status (Drill number) bytes r q a b = absurd a
 one_status Check bytes r q a b = (refused_line bytes r a).1 ∙ sym (refused_line bytes q b).1
 
 -- bytes call for the status with which their text is written
@@ -250,6 +253,7 @@ called_for Trace bytes text status writes = (text, writes)
 called_for TraceMet bytes text status writes = (text, writes)
 called_for (Exec window) bytes text status writes = (text, writes)
 called_for ExecMet bytes text status writes = (text, writes)
+called_for (Drill number) bytes text status writes = (text, writes)
 called_for Check bytes text status writes = told_trace bytes text status writes.0 writes.1 writes.2
 
 -- the answer, where the bytes call for a status
@@ -300,7 +304,7 @@ answer_too_long c bytes NoMemory over is = absurd is
 answer_too_long c bytes GateFault over is = absurd is
 answer_too_long c bytes JobFault over is = absurd is
 
-done_asked : (c : Command) (status : Status) (left : Option (List ℕ)) (old new : Streams) → old.left ≡ left → IsDone c status old new → IsAnswered (Some c) left old new status
+done_asked : (c : Command) (status : Status) (left : Option (List ℕ)) (old new : Streams) → old.left ≡ left → IsTold (limit_of c) (Writes c) status old new → AnswersBytes c left old new status
 done_asked c status None old new e h = tt
 done_asked c status (Some bytes) old new e h = λ unread unwritten answer is.
     let (given, text, read, writes, took) = h.told in
@@ -310,9 +314,19 @@ done_asked c status (Some bytes) old new e h = λ unread unwritten answer is.
     let called : CallsFor c bytes status = subst (λ (b : List ℕ). CallsFor c b status) same (called_for c given text status writes) in
     inl (answer_called_for c bytes status answer within called is)
 
+done_by : (c : Command) (status : Status) (old new : Streams) → IsDone c status old new → IsAnswered (Some c) old.left old new status
+done_by Rate status old new h = done_asked Rate status old.left old new refl h
+done_by Tree status old new h = done_asked Tree status old.left old new refl h
+done_by Trace status old new h = done_asked Trace status old.left old new refl h
+done_by TraceMet status old new h = done_asked TraceMet status old.left old new refl h
+done_by Check status old new h = done_asked Check status old.left old new refl h
+done_by (Exec window) status old new h = done_asked (Exec window) status old.left old new refl h
+done_by ExecMet status old new h = done_asked ExecMet status old.left old new refl h
+done_by (Drill number) status old new h = let (text, writes, took) = h.told in λ unwritten. inl writes.0
+
 -- a command that was done answered
 pub done_answered : (asked : Option Command) (c : Command) (status : Status) (old new : Streams) → Some c ≡ asked → IsDone c status old new → IsAnswered asked old.left old new status
-done_answered asked c status old new e h = subst (λ (a : Option Command). IsAnswered a old.left old new status) e (done_asked c status old.left old new refl h)
+done_answered asked c status old new e h = subst (λ (a : Option Command). IsAnswered a old.left old new status) e (done_by c status old new h)
 
 refused_by : (c : Command) (bytes given : List ℕ) (left : Option (List ℕ)) (r : Refusal) (answer : Status) → GaveAll (Some bytes) left (limit_of c) given → Refuses c given r
     → IsAnswer c bytes answer → status_of r ≡ answer
@@ -321,7 +335,7 @@ refused_by c bytes given left r answer all refuses is =
     let within : length bytes ≤ limit_of c = subst (λ (b : List ℕ). length b ≤ limit_of c) same all.within in
     answer_refuses c bytes r answer within (subst (λ (b : List ℕ). Refuses c b r) same refuses) is
 
-stop_answered : (c : Command) (bytes : List ℕ) (old new : Streams) (r : Refusal) (answer : Status) → old.left ≡ Some bytes → Stops c old new r
+stop_answered : (c : Command) (bytes : List ℕ) (old new : Streams) (r : Refusal) (answer : Status) → old.left ≡ Some bytes → StopsAs (limit_of c) (Writes c) (Refuses c) old new r
     → ¬ (Rose old.read_faults new.read_faults) → ¬ (Rose old.out_faults new.out_faults) → IsAnswer c bytes answer → (status_of r ≡ answer) ⊎ (status_of r ≡ NoMemory)
 stop_answered c bytes old new why.Usage answer e stops unread unwritten is = absurd stops
 stop_answered c bytes old new why.ReadFault answer e stops unread unwritten is = absurd (unread stops.0)
@@ -345,8 +359,8 @@ stop_answered c bytes old new (why.TooLong rows) answer e stops unread unwritten
 stop_answered c bytes old new (why.ScaleTooLarge task) answer e stops unread unwritten is =
     inl (refused_by c bytes stops.0 new.left (why.ScaleTooLarge task) answer (subst (λ (l : Option (List ℕ)). GaveAll l new.left (limit_of c) stops.0) e stops.1) stops.2 is)
 
-stops_asked : (c : Command) (left : Option (List ℕ)) (old new : Streams) (err err' : ErrorStream) (r : Refusal) (status : Status) → old.left ≡ left → Stops c old new r → IsRefused r err err' status
-    → IsAnswered (Some c) left old new status
+stops_asked : (c : Command) (left : Option (List ℕ)) (old new : Streams) (err err' : ErrorStream) (r : Refusal) (status : Status) → old.left ≡ left → StopsAs (limit_of c) (Writes c) (Refuses c) old new r → IsRefused r err err' status
+    → AnswersBytes c left old new status
 stops_asked c None old new err err' r status e stops told = tt
 stops_asked c (Some bytes) old new err err' r status e stops told = λ unread unwritten answer is.
     elim (told.told) [
@@ -357,17 +371,43 @@ stops_asked c (Some bytes) old new err err' r status e stops told = λ unread un
       | inr wanting ↦ inr wanting.1
     ]
 
+-- a drill stops for want of memory alone, where nothing fails
+drill_wants : (number : ℕ) (old new : Streams) (r : Refusal) → StopsDrill number old new r → ¬ (Rose old.out_faults new.out_faults) → status_of r ≡ NoMemory
+drill_wants number old new why.NoMemory stops unwritten = refl
+drill_wants number old new why.WriteFault stops unwritten = let (unread, part, rose) = stops in absurd (unwritten rose)
+drill_wants number old new _ stops unwritten = absurd stops
+
+stops_by : (c : Command) (old new : Streams) (err err' : ErrorStream) (r : Refusal) (status : Status) → Stops c old new r → IsRefused r err err' status → IsAnswered (Some c) old.left old new status
+stops_by Rate old new err err' r status stops told = stops_asked Rate old.left old new err err' r status refl stops told
+stops_by Tree old new err err' r status stops told = stops_asked Tree old.left old new err err' r status refl stops told
+stops_by Trace old new err err' r status stops told = stops_asked Trace old.left old new err err' r status refl stops told
+stops_by TraceMet old new err err' r status stops told = stops_asked TraceMet old.left old new err err' r status refl stops told
+stops_by Check old new err err' r status stops told = stops_asked Check old.left old new err err' r status refl stops told
+stops_by (Exec window) old new err err' r status stops told = stops_asked (Exec window) old.left old new err err' r status refl stops told
+stops_by ExecMet old new err err' r status stops told = stops_asked ExecMet old.left old new err err' r status refl stops told
+stops_by (Drill number) old new err err' r status stops told = λ unwritten. inr (elim (told.told) [ inl own ↦ own.0 ∙ drill_wants number old new r stops unwritten | inr wanting ↦ wanting.1 ])
+
 -- a command that stopped answered
 pub stops_answered : (asked : Option Command) (c : Command) (old new : Streams) (err err' : ErrorStream) (r : Refusal) (status : Status) → Some c ≡ asked → Stops c old new r → IsRefused r err err' status
     → IsAnswered asked old.left old new status
 stops_answered asked c old new err err' r status e stops told =
-    subst (λ (a : Option Command). IsAnswered a old.left old new status) e (stops_asked c old.left old new err err' r status refl stops told)
+    subst (λ (a : Option Command). IsAnswered a old.left old new status) e (stops_by c old new err err' r status stops told)
 
-wanting_asked : (c : Command) (left : Option (List ℕ)) (old new : Streams) (err err' : ErrorStream) (status : Status) → IsRefused why.NoMemory err err' status → IsAnswered (Some c) left old new status
+wanting_asked : (c : Command) (left : Option (List ℕ)) (old new : Streams) (err err' : ErrorStream) (status : Status) → IsRefused why.NoMemory err err' status → AnswersBytes c left old new status
 wanting_asked c None old new err err' status told = tt
 wanting_asked c (Some bytes) old new err err' status told = λ unread unwritten answer is. inr (elim (told.told) [ inl own ↦ own.0 | inr wanting ↦ wanting.1 ])
+
+wanting_by : (c : Command) (old new : Streams) (err err' : ErrorStream) (status : Status) → IsRefused why.NoMemory err err' status → IsAnswered (Some c) old.left old new status
+wanting_by Rate old new err err' status told = wanting_asked Rate old.left old new err err' status told
+wanting_by Tree old new err err' status told = wanting_asked Tree old.left old new err err' status told
+wanting_by Trace old new err err' status told = wanting_asked Trace old.left old new err err' status told
+wanting_by TraceMet old new err err' status told = wanting_asked TraceMet old.left old new err err' status told
+wanting_by Check old new err err' status told = wanting_asked Check old.left old new err err' status told
+wanting_by (Exec window) old new err err' status told = wanting_asked (Exec window) old.left old new err err' status told
+wanting_by ExecMet old new err err' status told = wanting_asked ExecMet old.left old new err err' status told
+wanting_by (Drill number) old new err err' status told = λ unwritten. inr (elim (told.told) [ inl own ↦ own.0 | inr wanting ↦ wanting.1 ])
 
 -- where there was no memory to read the words, that is told
 pub unread_answered : (asked : Option Command) (old new : Streams) (err err' : ErrorStream) (status : Status) → IsRefused why.NoMemory err err' status → IsAnswered asked old.left old new status
 unread_answered None old new err err' status told = tt
-unread_answered (Some c) old new err err' status told = wanting_asked c old.left old new err err' status told
+unread_answered (Some c) old new err err' status told = wanting_by c old new err err' status told

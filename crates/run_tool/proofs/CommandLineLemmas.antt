@@ -7,9 +7,9 @@ use Rattle.clap.specs.declared.parser.matches.ArgMatches.{ArgMatches}
 use Rattle.clap.specs.declared.parser.matches.ArgMatches.TheViews.{out-ArgMatches}
 use Rattle.clap.proofs.OnLiterals.{clap_on_literals}
 use Rattle.run_tool.specs.declared.words.Command.{Command}
-use Rattle.run_tool.specs.declared.words.Command.TheVariants.{Rate, Tree, Trace, TraceMet, Check, Exec, ExecMet}
-use Rattle.run_tool.specs.Words.{window_of, exec_with, exec_by, after_text, command_of, command_named, command_with, command_with_value}
-use Rattle.run_tool.specs.CommandLine.{parser, Spells, SpellsExec}
+use Rattle.run_tool.specs.declared.words.Command.TheVariants.{Rate, Tree, Trace, TraceMet, Check, Exec, ExecMet, Drill}
+use Rattle.run_tool.specs.Words.{window_of, exec_with, exec_by, drill_of, drill_with, after_text, command_of, command_named, command_with, command_with_value}
+use Rattle.run_tool.specs.CommandLine.{parser, Spells, SpellsExec, SpellsDrill}
 
 pub simple : is_simple parser ≡ true
 unfolding clap_on_literals
@@ -72,6 +72,39 @@ taken_exec window words spells = elim spells [
   ]
 ]
 
+-- the words of `drill`, whose value stands in its place
+abbrev drilling : Text → List Text
+drilling v = codes "drill" ∷ v ∷ []
+
+number_begins_with_digit : (d : ℕ) (ds : List ℕ) (n : ℕ) → drill_of (d ∷ ds) ≡ Some n → is_ascii_digit d ≡ true
+number_begins_with_digit d ds n e = search (rules, tests)
+
+-- what `clap` makes of a number, which doesn't begin with a hyphen
+record IsReadNumber (v : Text) : Type 0 where
+  taken : takes parser (drilling v) ≡ true
+  named : option_map (λ p. p.0) (subcommand_of parser (drilling v)) ≡ Some (codes "drill")
+  value : option_and_then (first_of (codes "number")) (option_map (λ p. p.1) (subcommand_of parser (drilling v))) ≡ Some v
+
+number_digit : (k : ℕ) (ds : List ℕ) → k < 10 → IsReadNumber ((48 + k) ∷ ds)
+unfolding clap_on_literals
+number_digit zero ds low = record { taken = refl; named = refl; value = refl }
+number_digit (suc zero) ds low = record { taken = refl; named = refl; value = refl }
+number_digit (suc (suc zero)) ds low = record { taken = refl; named = refl; value = refl }
+number_digit (suc (suc (suc zero))) ds low = record { taken = refl; named = refl; value = refl }
+number_digit (suc (suc (suc (suc zero)))) ds low = record { taken = refl; named = refl; value = refl }
+number_digit (suc (suc (suc (suc (suc zero))))) ds low = record { taken = refl; named = refl; value = refl }
+number_digit (suc (suc (suc (suc (suc (suc zero)))))) ds low = record { taken = refl; named = refl; value = refl }
+number_digit (suc (suc (suc (suc (suc (suc (suc zero))))))) ds low = record { taken = refl; named = refl; value = refl }
+number_digit (suc (suc (suc (suc (suc (suc (suc (suc zero)))))))) ds low = record { taken = refl; named = refl; value = refl }
+number_digit (suc (suc (suc (suc (suc (suc (suc (suc (suc zero))))))))) ds low = record { taken = refl; named = refl; value = refl }
+number_digit (suc (suc (suc (suc (suc (suc (suc (suc (suc (suc k)))))))))) ds low = absurd (omega (arith, low))
+
+read_number : (v : Text) (n : ℕ) → drill_of v ≡ Some n → IsReadNumber v
+read_number [] n e = absurd (let h : ◌≡◌ {A = Option ℕ} None (Some n) = e in cc)
+read_number (d ∷ ds) n e =
+    let (k, low, is) = digit_is d (number_begins_with_digit d ds n e) in
+    subst (λ (b : ℕ). IsReadNumber (b ∷ ds)) (sym is) (number_digit k ds low)
+
 -- no command line is refused
 pub taken : (c : Command) (words : List Text) → Spells c words → takes parser words ≡ true
 unfolding clap_on_literals
@@ -82,6 +115,7 @@ taken TraceMet words e = ap (takes parser) e
 taken Check words e = ap (takes parser) e
 taken (Exec window) words e = taken_exec window words e
 taken ExecMet words e = ap (takes parser) e
+taken (Drill number) words e = ap (takes parser) e.2 ∙ (read_number e.0 number e.1).taken
 
 -- the first word of a command
 abbrev pub name_of : Command → Text
@@ -92,6 +126,7 @@ name_of TraceMet = codes "trace"
 name_of Check = codes "check"
 name_of (Exec window) = codes "exec"
 name_of ExecMet = codes "exec"
+name_of (Drill number) = codes "drill"
 
 -- the name of the subcommand that the words name
 abbrev named_by : List Text → Option Text
@@ -124,6 +159,7 @@ named TraceMet words e = ap named_by e
 named Check words e = ap named_by e
 named (Exec window) words e = named_exec window words e
 named ExecMet words e = ap named_by e
+named (Drill number) words e = ap named_by e.2 ∙ (read_number e.0 number e.1).named
 
 -- the value of `--met`, and that of `--window`, in the matches of a subcommand
 abbrev met_in : Option (List Row) → Option Text
@@ -180,6 +216,7 @@ only_rate TraceMet e = let h : 4 ≡ 5 = ap length e in absurd (omega (arith, h)
 only_rate Check e = let h : 4 ≡ 5 = ap length e in absurd (omega (arith, h))
 only_rate (Exec window) e = let h : 114 ≡ 101 = ap (λ t. slice_index t 0) e in absurd (omega (arith, h))
 only_rate ExecMet e = let h : 114 ≡ 101 = ap (λ t. slice_index t 0) e in absurd (omega (arith, h))
+only_rate (Drill number) e = let h : 4 ≡ 5 = ap length e in absurd (omega (arith, h))
 
 pub only_tree : (c : Command) → codes "tree" ≡ name_of c → Some Tree ≡ Some c
 only_tree Rate e = let h : 116 ≡ 114 = ap (λ t. slice_index t 0) e in absurd (omega (arith, h))
@@ -189,6 +226,7 @@ only_tree TraceMet e = let h : 4 ≡ 5 = ap length e in absurd (omega (arith, h)
 only_tree Check e = let h : 4 ≡ 5 = ap length e in absurd (omega (arith, h))
 only_tree (Exec window) e = let h : 116 ≡ 101 = ap (λ t. slice_index t 0) e in absurd (omega (arith, h))
 only_tree ExecMet e = let h : 116 ≡ 101 = ap (λ t. slice_index t 0) e in absurd (omega (arith, h))
+only_tree (Drill number) e = let h : 4 ≡ 5 = ap length e in absurd (omega (arith, h))
 
 pub only_check : (c : Command) → codes "check" ≡ name_of c → Some Check ≡ Some c
 only_check Rate e = let h : 5 ≡ 4 = ap length e in absurd (omega (arith, h))
@@ -198,6 +236,7 @@ only_check TraceMet e = let h : 99 ≡ 116 = ap (λ t. slice_index t 0) e in abs
 only_check Check e = refl
 only_check (Exec window) e = let h : 5 ≡ 4 = ap length e in absurd (omega (arith, h))
 only_check ExecMet e = let h : 5 ≡ 4 = ap length e in absurd (omega (arith, h))
+only_check (Drill number) e = let h : 99 ≡ 100 = ap (λ t. slice_index t 0) e in absurd (omega (arith, h))
 
 -- whether `--met` was used tells the two apart
 pub only_trace : (c : Command) (words : List Text) (rows : List Row) → Spells c words → codes "trace" ≡ name_of c → Some rows ≡ matches_by words
@@ -209,6 +248,7 @@ only_trace TraceMet words rows spells e is = inr (refl, ap met_in (is ∙ ap mat
 only_trace Check words rows spells e is = let h : 116 ≡ 99 = ap (λ t. slice_index t 0) e in absurd (omega (arith, h))
 only_trace (Exec window) words rows spells e is = let h : 5 ≡ 4 = ap length e in absurd (omega (arith, h))
 only_trace ExecMet words rows spells e is = let h : 5 ≡ 4 = ap length e in absurd (omega (arith, h))
+only_trace (Drill number) words rows spells e is = let h : 116 ≡ 100 = ap (λ t. slice_index t 0) e in absurd (omega (arith, h))
 
 -- what the matches of `exec` say of its options
 abbrev pub TellsExec : Command → List Row → Type 0
@@ -239,6 +279,20 @@ only_exec TraceMet words rows spells e is = let h : 4 ≡ 5 = ap length e in abs
 only_exec Check words rows spells e is = let h : 4 ≡ 5 = ap length e in absurd (omega (arith, h))
 only_exec (Exec window) words rows spells e is = tells_exec window words rows spells is
 only_exec ExecMet words rows spells e is = ap met_in (is ∙ ap matches_by spells) ∙ exec_met
+only_exec (Drill number) words rows spells e is = let h : 4 ≡ 5 = ap length e in absurd (omega (arith, h))
+
+-- what the matches of `drill` say of its number
+pub only_drill : (c : Command) (words : List Text) (rows : List Row) → Spells c words → codes "drill" ≡ name_of c → Some rows ≡ matches_by words
+    → (value : Text) × (first_of (codes "number") rows ≡ Some value) × (drill_with value ≡ Some c)
+only_drill Rate words rows spells e is = let h : 5 ≡ 4 = ap length e in absurd (omega (arith, h))
+only_drill Tree words rows spells e is = let h : 5 ≡ 4 = ap length e in absurd (omega (arith, h))
+only_drill Trace words rows spells e is = let h : 100 ≡ 116 = ap (λ t. slice_index t 0) e in absurd (omega (arith, h))
+only_drill TraceMet words rows spells e is = let h : 100 ≡ 116 = ap (λ t. slice_index t 0) e in absurd (omega (arith, h))
+only_drill Check words rows spells e is = let h : 100 ≡ 99 = ap (λ t. slice_index t 0) e in absurd (omega (arith, h))
+only_drill (Exec window) words rows spells e is = let h : 5 ≡ 4 = ap length e in absurd (omega (arith, h))
+only_drill ExecMet words rows spells e is = let h : 5 ≡ 4 = ap length e in absurd (omega (arith, h))
+only_drill (Drill number) words rows spells e is =
+    (spells.0, ap (option_and_then (first_of (codes "number"))) (is ∙ ap matches_by spells.2) ∙ (read_number spells.0 number spells.1).value, ap (option_map (λ n. Drill n)) spells.1)
 
 if_is : (b : Bool) (x y z : Option Command) → (if b then x else y) ≡ z → ((b ≡ true) × (x ≡ z)) ⊎ ((b ≡ false) × (y ≡ z))
 if_is true x y z e = inl (refl, e)
@@ -267,9 +321,9 @@ after_in false text word v begins e = absurd (let h : ◌≡◌ {A = Option Text
 after_is : (text word v : Text) → after_text text word ≡ Some v → word ≡ text ++ v
 after_is text word v e = after_in (bytes_eq (take (length text) word) text) text word v (same_text (take (length text) word) text) e
 
-mapped : (o : Option ℕ) (c : Command) → option_map (λ n. Exec n) o ≡ Some c → (n : ℕ) × (o ≡ Some n) × (Exec n ≡ c)
-mapped None c e = absurd (let h : ◌≡◌ {A = Option Command} None (Some c) = e in cc)
-mapped (Some n) c e = (n, refl, some_is (Exec n) c e)
+mapped : (f : ℕ → Command) (o : Option ℕ) (c : Command) → option_map f o ≡ Some c → (n : ℕ) × (o ≡ Some n) × (f n ≡ c)
+mapped f None c e = absurd (let h : ◌≡◌ {A = Option Command} None (Some c) = e in cc)
+mapped f (Some n) c e = (n, refl, some_is (f n) c e)
 
 followed : (o : Option Text) (c : Command) → option_and_then exec_with o ≡ Some c → (v : Text) × (o ≡ Some v) × (exec_with v ≡ Some c)
 followed None c e = absurd (let h : ◌≡◌ {A = Option Command} None (Some c) = e in cc)
@@ -277,7 +331,7 @@ followed (Some v) c e = (v, refl, e)
 
 exec_spelled : (v : Text) (c : Command) (words : List Text) → exec_with v ≡ Some c → (words ≡ apart v) ⊎ (words ≡ joined v) → Spells c words
 exec_spelled v c words e is =
-    let (n, writes, same) = mapped (window_of v) c e in
+    let (n, writes, same) = mapped (λ w. Exec w) (window_of v) c e in
     subst (λ (x : Command). Spells x words) same (inr (v, writes, is))
 
 by_spelled : (w o : Text) (c : Command) → w ≡ codes "exec" → exec_by o ≡ Some c → Spells c (w ∷ o ∷ [])
@@ -287,6 +341,11 @@ by_spelled w o c we e = elim (if_is (bytes_eq o (codes "--met")) _ _ _ e) [
       let (v, after, given) = followed (after_text (codes "--window=") o) c other.1 in
       exec_spelled v c (w ∷ o ∷ []) given (inr (ap₂ (λ a b. a ∷ b ∷ []) we (after_is (codes "--window=") o v after)))
 ]
+
+drill_spelled : (w v : Text) (c : Command) → w ≡ codes "drill" → drill_with v ≡ Some c → Spells c (w ∷ v ∷ [])
+drill_spelled w v c we e =
+    let (n, writes, same) = mapped (λ m. Drill m) (drill_of v) c e in
+    subst (λ (x : Command). Spells x (w ∷ v ∷ [])) same (v, writes, ap (λ a. a ∷ v ∷ []) we)
 
 no_command : (c : Command) → ◌≡◌ {A = Option Command} None (Some c) → ⊥
 no_command c e = cc
@@ -317,7 +376,10 @@ with_spelled w o c e = elim (if_is (bytes_eq w (codes "trace") && bytes_eq o (co
       subst (λ (x : Command). Spells x (w ∷ o ∷ [])) (some_is TraceMet c is.1) (ap₂ (λ a b. a ∷ b ∷ []) (same_text w _ we) (same_text o _ oe))
   | inr other ↦ elim (if_is (bytes_eq w (codes "exec")) _ _ _ other.1) [
     | inl is ↦ by_spelled w o c (same_text w _ is.0) is.1
-    | inr other ↦ absurd (no_command c other.1)
+    | inr other ↦ elim (if_is (bytes_eq w (codes "drill")) _ _ _ other.1) [
+      | inl is ↦ drill_spelled w o c (same_text w _ is.0) is.1
+      | inr other ↦ absurd (no_command c other.1)
+    ]
   ]
 ]
 

@@ -7,3 +7,5 @@ pub mod RunLemmas
 pub mod CrewLemmas
 pub mod CrewEndLemmas
 pub mod ReadyLemmas
+pub mod DrillLemmas
+pub mod DrillEndLemmas

@@ -4,14 +4,18 @@ use Rattle.clap.specs.Words.{App, Rule, new_app, new_rule, with_rule, with_subco
 use Rattle.clap.specs.Simple.{on_top}
 use Rattle.clap.specs.declared.builder.action.ArgAction.TheVariants.{Set, SetTrue}
 use Rattle.run_tool.specs.declared.words.Command.{Command}
-use Rattle.run_tool.specs.declared.words.Command.TheVariants.{Rate, Tree, Trace, TraceMet, Check, Exec, ExecMet}
-use Rattle.run_tool.specs.Words.{window_of}
+use Rattle.run_tool.specs.declared.words.Command.TheVariants.{Rate, Tree, Trace, TraceMet, Check, Exec, ExecMet, Drill}
+use Rattle.run_tool.specs.Words.{window_of, drill_of}
 
 -- the words are `exec` with a window: the usual one where none is written, as a value of its own or behind `=`
 abbrev pub SpellsExec : ℕ → List (List ℕ) → Type 0
 SpellsExec window words =
     ((window ≡ 32) × (words ≡ codes "exec" ∷ []))
     ⊎ ((value : List ℕ) × (window_of value ≡ Some window) × ((words ≡ codes "exec" ∷ codes "--window" ∷ value ∷ []) ⊎ (words ≡ codes "exec" ∷ (codes "--window=" ++ value) ∷ [])))
+
+-- the words are `drill` and a word that writes this number
+abbrev pub SpellsDrill : ℕ → List (List ℕ) → Type 0
+SpellsDrill number words = (value : List ℕ) × (drill_of value ≡ Some number) × (words ≡ codes "drill" ∷ value ∷ [])
 
 -- the words of a command
 abbrev pub Spells : Command → List (List ℕ) → Type 0
@@ -22,6 +26,7 @@ Spells TraceMet words = words ≡ codes "trace" ∷ codes "--met" ∷ []
 Spells Check words = words ≡ codes "check" ∷ []
 Spells (Exec window) words = SpellsExec window words
 Spells ExecMet words = words ≡ codes "exec" ∷ codes "--met" ∷ []
+Spells (Drill number) words = SpellsDrill number words
 
 -- the option `--met`
 abbrev pub met : Rule
@@ -31,6 +36,10 @@ met = record (new_rule (codes "met")) { long = Some (codes "met"); action = Some
 abbrev pub window : Rule
 window = record (new_rule (codes "window")) { long = Some (codes "window"); action = Some Set }
 
+-- the value of `drill`, which stands in its place
+abbrev pub number : Rule
+number = record (new_rule (codes "number")) { action = Some Set }
+
 -- the program, which wants a command and has no words of help
 abbrev pub program : App
 program = on_top (λ s. record s { no_binary_name = true; disable_help_flag = true; disable_help_subcommand = true; subcommand_required = true }) (new_app (codes "furnacelime"))
@@ -38,6 +47,6 @@ program = on_top (λ s. record s { no_binary_name = true; disable_help_flag = tr
 -- the program with its commands and their options
 abbrev pub parser : App
 parser =
-    with_subcommand (with_subcommand (with_subcommand (with_subcommand (with_subcommand program (new_app (codes "rate")).top) (new_app (codes "tree")).top)
+    with_subcommand (with_subcommand (with_subcommand (with_subcommand (with_subcommand (with_subcommand program (new_app (codes "rate")).top) (new_app (codes "tree")).top)
     (with_rule (new_app (codes "trace")) met).top) (new_app (codes "check")).top)
-    (with_rule (with_rule (new_app (codes "exec")) met) window).top
+    (with_rule (with_rule (new_app (codes "exec")) met) window).top) (with_rule (new_app (codes "drill")) number).top

@@ -6,7 +6,7 @@ use Rattle.sched_base.specs.Sets.{SetContents}
 use Rattle.sched_base.specs.Scale.{IsScale, PassesAt, total_of, room_of, Fits}
 use Rattle.task_reader.specs.Reading.{set_read_from}
 use Rattle.run_tool.specs.declared.words.Command.{Command}
-use Rattle.run_tool.specs.declared.words.Command.TheVariants.{Rate, Tree, Trace, TraceMet, Check, Exec, ExecMet}
+use Rattle.run_tool.specs.declared.words.Command.TheVariants.{Rate, Tree, Trace, TraceMet, Check, Exec, ExecMet, Drill}
 use Rattle.run_tool.specs.declared.refusal.Refusal.{Refusal}
 use Rattle.run_tool.specs.declared.refusal.Refusal.TheVariants.{BadSet, Overload, ScaleTooLarge, TooLong}
 use Rattle.sched_base.specs.Valid.{IsValid}
@@ -21,6 +21,7 @@ use Rattle.trace_lines.specs.Merging.{merged_lanes}
 use Rattle.trace_lines.specs.Text.{trace_text}
 use Rattle.tree_text.specs.Text.{tree_text}
 use Rattle.run_tool.specs.RateText.{rate_text}
+use Rattle.run_tool.specs.Drill.{WritesDrill}
 use Rattle.run_tool.specs.Checks.{WritesVerdict, Judges, RefusesTrace}
 use Rattle.run_tool.specs.declared.status.Status.{Status}
 use Rattle.run_tool.specs.declared.status.Status.TheVariants.{Done}
@@ -32,7 +33,7 @@ set_limit = 1048576
 abbrev pub trace_limit : ℕ
 trace_limit = 536870912
 
--- the most bytes that a command reads
+-- the most bytes that a command reads; a drill reads none
 abbrev pub limit_of : Command → ℕ
 limit_of Rate = set_limit
 limit_of Tree = set_limit
@@ -41,6 +42,7 @@ limit_of TraceMet = set_limit
 limit_of Check = trace_limit
 limit_of (Exec window) = set_limit
 limit_of ExecMet = set_limit
+limit_of (Drill number) = 0
 
 -- a text of a set that fits: its rates, its tree, or its schedule, with or without when each period was done
 pub data SetText : Type 0 where
@@ -99,6 +101,7 @@ Writes TraceMet bytes status text = WritesSet (schedule_rows true) bytes status 
 Writes Check bytes status text = WritesVerdict bytes status text
 Writes (Exec window) bytes status text = WritesSet (schedule_rows false) bytes status text
 Writes ExecMet bytes status text = WritesSet (schedule_rows true) bytes status text
+Writes (Drill number) bytes status text = WritesDrill number status text
 
 -- the bytes call for this status of a command that tells of them: that of `check` goes by whether the rows are a valid schedule
 abbrev pub CallsFor : Command → List ℕ → Status → Type 0
@@ -144,3 +147,4 @@ Refuses TraceMet bytes refusal = RefusesText (schedule_rows true) bytes refusal
 Refuses Check bytes refusal = RefusesTrace bytes refusal
 Refuses (Exec window) bytes refusal = RefusesText (schedule_rows false) bytes refusal
 Refuses ExecMet bytes refusal = RefusesText (schedule_rows true) bytes refusal
+Refuses (Drill number) bytes refusal = ⊥

@@ -5,12 +5,14 @@ use Rattle.std.specs.Io.KnownBytes.{Appends, Keeps}
 use Rattle.sched_edges.specs.Causes.{Rose}
 use Rattle.sched_edges.specs.Streams.{GaveAll, GaveCount, TookPart}
 use Rattle.run_tool.specs.declared.words.Command.{Command}
+use Rattle.run_tool.specs.declared.words.Command.TheVariants.{Drill}
 use Rattle.run_tool.specs.declared.refusal.Refusal.{Refusal}
 use Rattle.run_tool.specs.declared.refusal.Refusal.TheVariants as why
 use Rattle.run_tool.specs.declared.status.Status.{Status}
 use Rattle.run_tool.specs.declared.status.Status.TheVariants.{Done, Invalid, Usage, NoMemory, BadInput, Overload, ScaleTooLarge, TooLong, InputTooLong}
 use Rattle.sched_base.specs.Sets.{SetContents}
 use Rattle.sched_base.specs.Scale.{Fits}
+use Rattle.run_tool.specs.Drill.{WritesDrill}
 use Rattle.run_tool.specs.Commands.{SetText, limit_of, ReadsSet, Writes, CallsFor, Refuses, IsSound}
 use Rattle.run_tool.specs.Refusals.{status_of, refusal_line}
 
@@ -68,12 +70,25 @@ StopsAs limit Writes Refuses old new why.WriteFault =
     (bytes text : List ℕ) × (status : Status) × GaveAll old.left new.left limit bytes × Writes bytes status text × TookPart old.out new.out text × Rose old.out_faults new.out_faults
 StopsAs limit Writes Refuses old new refusal = (bytes : List ℕ) × GaveAll old.left new.left limit bytes × Refuses bytes refusal × Keeps old.out new.out
 
+-- nothing was read, and `out` took the whole text of a drill
+pub record IsDrilled (number : ℕ) (status : Status) (old new : Streams) : Type 0 where
+  pub unread : IsUnread old new
+  pub told : (text : List ℕ) × WritesDrill number status text × Appends old.out new.out text
+
+-- why a drill stopped, and what `out` took of its text; nothing was read
+abbrev pub StopsDrill : ℕ → Streams → Streams → Refusal → Type 0
+StopsDrill number old new why.NoMemory = IsUnread old new × Keeps old.out new.out
+StopsDrill number old new why.WriteFault = IsUnread old new × ((text : List ℕ) × WritesDrill number Done text × TookPart old.out new.out text) × Rose old.out_faults new.out_faults
+StopsDrill number old new _ = ⊥
+
 -- the command told what it has to tell, with this status: `out` took its whole text
 abbrev pub IsDone : Command → Status → Streams → Streams → Type 0
+IsDone (Drill number) status old new = IsDrilled number status old new
 IsDone c status old new = IsTold (limit_of c) (Writes c) status old new
 
 -- why a command stopped, and what `out` took of its text
 abbrev pub Stops : Command → Streams → Streams → Refusal → Type 0
+Stops (Drill number) old new refusal = StopsDrill number old new refusal
 Stops c old new refusal = StopsAs (limit_of c) (Writes c) (Refuses c) old new refusal
 
 -- what is told of each set that fits is sound
@@ -109,9 +124,14 @@ IsAnswer c bytes TooLong = Refused c bytes TooLong
 IsAnswer c bytes _ = ⊥
 
 -- where the source tells its bytes and nothing fails, their answer is given, or memory was refused
-abbrev pub IsAnswered : Option Command → Option (List ℕ) → Streams → Streams → Status → Type 0
-IsAnswered None left old new status = Unit {0}
-IsAnswered (Some c) None old new status = Unit {0}
-IsAnswered (Some c) (Some bytes) old new status =
+abbrev pub AnswersBytes : Command → Option (List ℕ) → Streams → Streams → Status → Type 0
+AnswersBytes c None old new status = Unit {0}
+AnswersBytes c (Some bytes) old new status =
     ¬ (Rose old.read_faults new.read_faults) → ¬ (Rose old.out_faults new.out_faults) →
     (answer : Status) → IsAnswer c bytes answer → (status ≡ answer) ⊎ (status ≡ NoMemory)
+
+-- a command that reads answers its bytes. A drill reads none: where nothing fails it is done, or memory was refused
+abbrev pub IsAnswered : Option Command → Option (List ℕ) → Streams → Streams → Status → Type 0
+IsAnswered None left old new status = Unit {0}
+IsAnswered (Some (Drill number)) left old new status = ¬ (Rose old.out_faults new.out_faults) → (status ≡ Done) ⊎ (status ≡ NoMemory)
+IsAnswered (Some c) left old new status = AnswersBytes c left old new status

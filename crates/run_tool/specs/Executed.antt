@@ -5,18 +5,19 @@ use Rattle.sched_base.specs.declared.rows.Leaf.{Leaf}
 use Rattle.sched_base.specs.declared.rows.Leaf.TheVariants as leaf
 use Rattle.sched_base.specs.declared.sets.Task.{Task}
 use Rattle.sched_base.specs.Sets.{SetContents, task_at}
-use Rattle.sched_base.specs.Scale.{Fits}
+use Rattle.sched_base.specs.Scale.{IsScale, Fits}
 use Rattle.sched_edges.specs.Causes.{Rose}
 use Rattle.sched_edges.specs.Streams.{TookPart}
 use Rattle.run_tool.specs.declared.words.Command.{Command}
-use Rattle.run_tool.specs.declared.words.Command.TheVariants.{Exec, ExecMet}
+use Rattle.run_tool.specs.declared.words.Command.TheVariants.{Exec, ExecMet, Drill}
 use Rattle.run_tool.specs.declared.refusal.Refusal.{Refusal}
 use Rattle.run_tool.specs.declared.refusal.Refusal.TheVariants as why
 use Rattle.run_tool.specs.declared.status.Status.{Status}
-use Rattle.run_tool.specs.declared.status.Status.TheVariants.{Done, WriteFault, GateFault, JobFault}
+use Rattle.run_tool.specs.declared.status.Status.TheVariants.{Done, WriteFault, NoMemory, GateFault, JobFault}
 use Rattle.run_tool.specs.Commands.{schedule_rows, set_limit, ReadsSet, HasRoom, text_of, plan_of, RefusesText}
 use Rattle.run_tool.specs.Refusals.{status_of, refusal_line}
-use Rattle.run_tool.specs.Ends.{Streams, ErrorStream, IsQuiet, Tells, IsTold, StopsAs, Ends}
+use Rattle.run_tool.specs.Drill.{drilled, drill_plan, IsDrill, drill_text}
+use Rattle.run_tool.specs.Ends.{Streams, ErrorStream, IsUnread, IsQuiet, Tells, IsTold, StopsAs, Ends}
 use Rattle.run_tree.specs.Plans.{PlanContents}
 use Rattle.run_tool.specs.Input.{IsRun, IsRefusedSet, IsTooLongSet}
 use Rattle.run_tool.specs.Executions.{Crew, RanAll, GateStopped, JobStopped}
@@ -66,37 +67,65 @@ StopsAtRun met out out' faults faults' old new s (why.JobFault row name) =
 StopsAtRun met out out' faults faults' old new s (why.TooLong rows) = IsTooLongSet (schedule_rows met) s rows × Keeps out out'
 StopsAtRun met out out' faults faults' old new s refusal = IsRefusedSet s refusal × Keeps out out'
 
+-- a drill's schedule was run, and its text written
+abbrev pub RanDrill : ℕ → Option (List ℕ) → Option (List ℕ) → Crew → Crew → Type 0
+RanDrill number out out' old new = (scale : ℕ) × IsDrill number scale × Appends out out' (drill_text number scale) × RanAll (drill_plan number scale) old new
+
+-- why a drill's text isn't written: a gate or a job failed, or memory was refused, before anything was called or once all was run
+abbrev pub FailsDrill : ℕ → Crew → Crew → Refusal → Type 0
+FailsDrill number old new (why.GateFault row name) = (scale : ℕ) × IsScale (drilled number).tasks scale × StopsInRun (drill_plan number scale) old new (why.GateFault row name)
+FailsDrill number old new (why.JobFault row name) = (scale : ℕ) × IsScale (drilled number).tasks scale × StopsInRun (drill_plan number scale) old new (why.JobFault row name)
+FailsDrill number old new why.NoMemory = (new ≡ old) ⊎ ((scale : ℕ) × IsScale (drilled number).tasks scale × RanAll (drill_plan number scale) old new)
+FailsDrill number old new _ = ⊥
+
+-- why a drill's schedule wasn't run, or its text not written
+abbrev pub StopsAtDrill : ℕ → Option (List ℕ) → Option (List ℕ) → ℕ → ℕ → Crew → Crew → Refusal → Type 0
+StopsAtDrill number out out' faults faults' old new why.WriteFault =
+    (scale : ℕ) × IsDrill number scale × TookPart out out' (drill_text number scale) × Rose faults faults' × RanAll (drill_plan number scale) old new
+StopsAtDrill number out out' faults faults' old new refusal = FailsDrill number old new refusal × Keeps out out'
+
 -- the command is an execution
 abbrev pub IsExecuting : Command → Type 0
 IsExecuting (Exec window) = (1 ≤ window) × (window ≤ 1024)
 IsExecuting ExecMet = Unit {0}
+IsExecuting (Drill number) = Unit {0}
 IsExecuting _ = ⊥
 
--- whether an execution tells when each period was done
-abbrev pub is_met : Command → Bool
-is_met ExecMet = true
-is_met _ = false
+-- an execution was done: `out` took its whole text, and the gates and the jobs ran the schedule. A drill read nothing
+abbrev pub ToldRun : Command → Streams → Streams → Crew → Crew → Type 0
+ToldRun (Exec window) old new before now = IsTold set_limit (WritesRun false before now) Done old new
+ToldRun ExecMet old new before now = IsTold set_limit (WritesRun true before now) Done old new
+ToldRun (Drill number) old new before now = IsUnread old new × RanDrill number old.out new.out before now
+ToldRun _ old new before now = ⊥
+
+-- why an execution stopped, what `out` took, and what the gates and the jobs did. A drill read nothing
+abbrev pub StopsRun : Command → Streams → Streams → Crew → Crew → Refusal → Type 0
+StopsRun (Exec window) old new before now refusal = StopsAs set_limit (WritesRun false before now) (RefusesRun false before now) old new refusal
+StopsRun ExecMet old new before now refusal = StopsAs set_limit (WritesRun true before now) (RefusesRun true before now) old new refusal
+StopsRun (Drill number) old new before now refusal = IsUnread old new × StopsAtDrill number old.out new.out old.out_faults new.out_faults before now refusal
+StopsRun _ old new before now refusal = ⊥
 
 -- an execution was done, and `out` took its whole text
-pub record IsRunDone (met : Bool) (old new : Streams) (err err' : ErrorStream) (before now : Crew) (status : Status) : Type 0 where
+pub record IsRunDone (c : Command) (old new : Streams) (err err' : ErrorStream) (before now : Crew) (status : Status) : Type 0 where
   pub done : status ≡ Done
-  pub told : IsTold set_limit (WritesRun met before now) Done old new
+  pub told : ToldRun c old new before now
   pub quiet : IsQuiet err err'
 
 -- an execution stopped for this reason, which gives its status, and `err` took its line
-pub record IsRunStopped (met : Bool) (old new : Streams) (err err' : ErrorStream) (before now : Crew) (status : Status) (refusal : Refusal) : Type 0 where
+pub record IsRunStopped (c : Command) (old new : Streams) (err err' : ErrorStream) (before now : Crew) (status : Status) (refusal : Refusal) : Type 0 where
   pub status_is : status ≡ status_of refusal
-  pub stops : StopsAs set_limit (WritesRun met before now) (RefusesRun met before now) old new refusal
+  pub stops : StopsRun c old new before now refusal
   pub tells : Tells err err' (refusal_line refusal)
 
 -- how an execution ends with this status
-abbrev pub EndsRun : Bool → Streams → Streams → ErrorStream → ErrorStream → Crew → Crew → Status → Type 0
-EndsRun met old new err err' before now status = IsRunDone met old new err err' before now status ⊎ ((refusal : Refusal) × IsRunStopped met old new err err' before now status refusal)
+abbrev pub EndsRun : Command → Streams → Streams → ErrorStream → ErrorStream → Crew → Crew → Status → Type 0
+EndsRun c old new err err' before now status = IsRunDone c old new err err' before now status ⊎ ((refusal : Refusal) × IsRunStopped c old new err err' before now status refusal)
 
 -- how each command ends with this status, and what the gates and the jobs did
 abbrev pub EndsWith : Command → Streams → Streams → ErrorStream → ErrorStream → Crew → Crew → Status → Type 0
-EndsWith (Exec window) old new err err' before now status = EndsRun false old new err err' before now status
-EndsWith ExecMet old new err err' before now status = EndsRun true old new err err' before now status
+EndsWith (Exec window) old new err err' before now status = EndsRun (Exec window) old new err err' before now status
+EndsWith ExecMet old new err err' before now status = EndsRun ExecMet old new err err' before now status
+EndsWith (Drill number) old new err err' before now status = EndsRun (Drill number) old new err err' before now status
 EndsWith c old new err err' before now status = Ends c old new err err' status
 
 -- whether a gate or a job may have been called: by an execution that was done, that failed on the way, or whose text wasn't taken
@@ -106,3 +135,13 @@ may_have_called WriteFault = true
 may_have_called GateFault = true
 may_have_called JobFault = true
 may_have_called status = false
+
+-- whether the command is a drill
+abbrev pub is_drill : Option Command → Bool
+is_drill (Some (Drill number)) = true
+is_drill _ = false
+
+-- the same by the command: a drill takes memory for the trace of its rows once they were run
+abbrev pub may_have_run : Option Command → Status → Bool
+may_have_run asked NoMemory = is_drill asked
+may_have_run asked status = may_have_called status

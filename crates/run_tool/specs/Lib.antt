@@ -4,6 +4,7 @@ pub mod CommandLine
 pub mod Refusals
 pub mod RateText
 pub mod Checks
+pub mod Drill
 pub mod Commands
 pub mod Input
 pub mod Ends

@@ -1,9 +1,9 @@
 -- Command lines.
-use Rattle.std.specs.Prelude.{ℕ, ◌&&◌, nat_le, if◌then◌else◌, Bool, false, List, [], ◌∷◌, length, take, drop, Option, Some, None, option_map, option_and_then, codes}
+use Rattle.std.specs.Prelude.{ℕ, ◌^◌, ◌&&◌, ◌||◌, nat_le, nat_lt, if◌then◌else◌, Bool, false, List, [], ◌∷◌, length, take, drop, Option, Some, None, option_map, option_and_then, codes}
 use Rattle.std.specs.Str.{bytes_eq}
 use Rattle.trace_text.specs.Words.{number_of}
 use Rattle.run_tool.specs.declared.words.Command.{Command}
-use Rattle.run_tool.specs.declared.words.Command.TheVariants.{Rate, Tree, Trace, TraceMet, Check, Exec, ExecMet}
+use Rattle.run_tool.specs.declared.words.Command.TheVariants.{Rate, Tree, Trace, TraceMet, Check, Exec, ExecMet, Drill}
 
 -- a window is from 1 to 1,024
 abbrev pub as_window : ℕ → Option ℕ
@@ -16,6 +16,18 @@ window_of word = option_and_then as_window (number_of word)
 -- `exec` with the window that a word writes
 abbrev pub exec_with : List ℕ → Option Command
 exec_with word = option_map (λ window. Exec window) (window_of word)
+
+-- the number of a drill is below 2 ^ 64
+abbrev pub as_drill : ℕ → Option ℕ
+as_drill n = if nat_lt n (2 ^ 64) then Some n else None
+
+-- the number of a drill that a word writes, in decimal digits, without a leading zero
+abbrev pub drill_of : List ℕ → Option ℕ
+drill_of word = option_and_then as_drill (number_of word)
+
+-- `drill` with the number that a word writes
+abbrev pub drill_with : List ℕ → Option Command
+drill_with word = option_map (λ number. Drill number) (drill_of word)
 
 -- what follows this text at the front of a word
 abbrev pub after_text : List ℕ → List ℕ → Option (List ℕ)
@@ -35,11 +47,12 @@ command_named word =
     else if bytes_eq word (codes "exec") then Some (Exec 32)
     else None
 
--- the command of this name with this option, if there is one
+-- the command of this name with this option or value, if there is one
 abbrev pub command_with : List ℕ → List ℕ → Option Command
 command_with word option =
     if bytes_eq word (codes "trace") && bytes_eq option (codes "--met") then Some TraceMet
     else if bytes_eq word (codes "exec") then exec_by option
+    else if bytes_eq word (codes "drill") then drill_with option
     else None
 
 -- the command of this name with this option and its value, if there is one
@@ -56,10 +69,11 @@ command_of _ = None
 -- whether the words ask for an execution, by the first of them
 abbrev pub asks_to_execute : List (List ℕ) → Bool
 asks_to_execute [] = false
-asks_to_execute (word ∷ words) = bytes_eq word (codes "exec")
+asks_to_execute (word ∷ words) = bytes_eq word (codes "exec") || bytes_eq word (codes "drill")
 
 -- the command is no execution
 abbrev pub IsStill : Command → Type 0
 IsStill (Exec window) = ⊥
 IsStill ExecMet = ⊥
+IsStill (Drill number) = ⊥
 IsStill _ = Unit {0}

@@ -1,12 +1,12 @@
 //! Command lines, as `clap` reads them.
 ghost use Rattle.std.specs.Prelude.{◌≡◌, ℕ, false, List, map, string_bytes, codes, Some, None, IfOk};
 ghost use Rattle.clap.specs.Words.{app_of, rule_of, subcommand_of, subcommand_rows_of, first_of, found_of, one_of, rows_of};
-ghost use Rattle.run_tool.specs.Words.{command_of, exec_with};
-ghost use Rattle.run_tool.specs.CommandLine.{met, window, parser, Spells};
+ghost use Rattle.run_tool.specs.Words.{command_of, exec_with, drill_with};
+ghost use Rattle.run_tool.specs.CommandLine.{met, window, number, parser, Spells};
 ghost use Rattle.run_tool.specs.declared.words.Command.{Command};
 ghost use Rattle.run_tool.specs.declared.words.Command.TheVariants.{Exec, ExecMet};
 
-use crate::words::{Command, USUAL_WINDOW, exec_with};
+use crate::words::{Command, USUAL_WINDOW, drill_with, exec_with};
 use clap::error::ErrorKind;
 use clap::{Arg, ArgAction, ArgMatches};
 use sched_base::NoMemory;
@@ -32,6 +32,7 @@ fn parser<'a>(alloc: Global) -> Result<clap::Command<'a>, AllocError>
     let exec = clap::Command::new(alloc, "exec")
         .arg(met(alloc))?
         .arg(window(alloc))?;
+    let drill = clap::Command::new(alloc, "drill").arg(number(alloc))?;
     clap::Command::new(alloc, "furnacelime")
         .no_binary_name(true)
         .disable_help_flag(true)
@@ -41,7 +42,8 @@ fn parser<'a>(alloc: Global) -> Result<clap::Command<'a>, AllocError>
         .subcommand(clap::Command::new(alloc, "tree"))?
         .subcommand(trace)?
         .subcommand(clap::Command::new(alloc, "check"))?
-        .subcommand(exec)
+        .subcommand(exec)?
+        .subcommand(drill)
 }
 
 // The option `--met`.
@@ -64,6 +66,14 @@ fn window<'a>(alloc: Global) -> Arg<'a>
         .action(ArgAction::Set)
 }
 
+// The value of `drill`, which stands in its place.
+fn number<'a>(alloc: Global) -> Arg<'a>
+    ensures rule { rule_of result ≡ number }
+    ensures local { result.global ≡ false }
+{
+    Arg::new(alloc, "number").action(ArgAction::Set)
+}
+
 // The command that was used, with its options.
 fn command_in(matches: &ArgMatches<'_>) -> Option<Command>
     ensures { (c : Command) (words : List (List ℕ)) → Spells c words → subcommand_rows_of matches.now ≡ subcommand_of parser words → result ≡ Some c }
@@ -76,7 +86,18 @@ fn command_in(matches: &ArgMatches<'_>) -> Option<Command>
         "trace" => Some(Command::Trace),
         "check" => Some(Command::Check),
         "exec" => exec_in(options),
+        "drill" => drill_in(options),
         _ => None,
+    }
+}
+
+// `drill` with its number.
+fn drill_in(options: &ArgMatches<'_>) -> Option<Command>
+    ensures { (value : List ℕ) → first_of (codes "number") (rows_of (found_of options.now)) ≡ Some value → result ≡ drill_with value }
+{
+    match options.get_str("number") {
+        Some(value) => drill_with(value.as_bytes()),
+        None => None,
     }
 }
 

@@ -91,8 +91,8 @@ fn run_set<W: Sink, G: Gate + Send, X: Threads + Wait + Sync>(
     }
 }
 
-// Has the gates and the jobs run the schedule of a plan.
-fn run_plan<G: Gate + Send, X: Threads + Wait + Sync>(
+/// Has the gates and the jobs run the schedule of a plan.
+pub(crate) fn run_plan<G: Gate + Send, X: Threads + Wait + Sync>(
     rt: &X,
     alloc: Global,
     plan: &Plan,

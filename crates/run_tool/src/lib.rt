@@ -4,6 +4,7 @@
 mod check;
 mod closing;
 mod command_line;
+mod drill;
 mod exec;
 mod input;
 mod plan;
@@ -14,6 +15,7 @@ mod refusal_line;
 mod running;
 mod sound;
 mod status;
+mod summary;
 mod top;
 mod trace;
 mod tree;

@@ -1,15 +1,16 @@
 //! The top call, with the runtime, the gates and the jobs.
-ghost use Rattle.std.specs.Prelude.{◌≡◌, ◌≢◌, ◌≤◌, ◌↔◌, false, map, string_bytes, None, Some, OnOk, IfErr};
+ghost use Rattle.std.specs.Prelude.{◌≡◌, ◌≢◌, ◌↔◌, false, map, string_bytes, None, Some, OnOk, IfErr};
 ghost use Rattle.run_tool.specs.Words.{command_of, asks_to_execute};
-ghost use Rattle.run_tool.specs.Commands.{SetText, set_limit};
+ghost use Rattle.run_tool.specs.Commands.{SetText};
 ghost use Rattle.run_tool.specs.Refusals.{status_of};
-ghost use Rattle.run_tool.specs.Ends.{streams, error_stream, IsDone, IsTold, StopsAs, IsUsage, IsAnswered, TellsTruth};
+ghost use Rattle.run_tool.specs.Ends.{streams, error_stream, IsDone, IsUsage, IsAnswered, TellsTruth};
 ghost use Rattle.run_tool.specs.Executions.{crew, gates_of, jobs_of, IsReady, AreBack, NothingRose};
-ghost use Rattle.run_tool.specs.Executed.{IsExecuting, is_met, WritesRun, RefusesRun, EndsWith, may_have_called};
+ghost use Rattle.run_tool.specs.Executed.{IsExecuting, ToldRun, StopsRun, EndsWith, may_have_run};
 ghost use Rattle.run_tool.specs.declared.words.Command.{Command};
 ghost use Rattle.run_tool.specs.declared.words.Command.TheVariants.{Check};
 ghost use Rattle.run_tool.specs.declared.status.Status.TheVariants.{Done, Invalid};
 
+use crate::drill::drill;
 use crate::exec::exec;
 use crate::refusal::Refusal;
 use crate::refusal_line::refuse;
@@ -26,7 +27,8 @@ use std::thread::Threads;
 /// Does what the words, those after the program's name, ask for: reads the source, writes the whole text to `out`, or one line
 /// that says why not to `err`. `exec` has the gates of the kits and the jobs run the schedule of the set before its text is
 /// written: gate p runs the rows of processor p, and job i works for task i. It takes all its memory before the first gate is
-/// called.
+/// called. `drill` does the same with a set that it draws from a number, and reads nothing; it takes the memory for the trace of the
+/// rows once they were run, and all its memory before the first byte goes to `out`.
 ///
 /// The clauses speak of bytes, rows and ticks where a stream, a gate or a job tells them. Want of memory alone has no cause.
 /// An execution takes a lock, so its clauses hold if it returns. All else is done by `run_still`, which returns.
@@ -46,7 +48,7 @@ pub fn run<R: Source, W: Sink, E: Sink, G: Gate + Send, X: Threads + Wait + Sync
     ensures usage { result ≢ Status.NoMemory → ((result ≡ Status.Usage) ↔ (command_of (map string_bytes words.now) ≡ None)) }
     ensures unread { command_of (map string_bytes words.now) ≡ None → IsUsage (streams (R.left source.old) (R.faults source.old) (W.taken out.old) (W.faults out.old)) (streams (R.left source.new) (R.faults source.new) (W.taken out.new) (W.faults out.new)) (error_stream (E.taken err.old) (E.faults err.old)) (error_stream (E.taken err.new) (E.faults err.new)) result }
 
-    // Done: `out` took exactly the text that the command writes for the bytes that the source gave.
+    // Done: `out` took exactly the text that the command writes for the bytes that the source gave. For a drill it gave none.
     ensures done { result ≡ Status.Done → (c : Command) × (command_of (map string_bytes words.now) ≡ Some c) × IsDone c Done (streams (R.left source.old) (R.faults source.old) (W.taken out.old) (W.faults out.old)) (streams (R.left source.new) (R.faults source.new) (W.taken out.new) (W.faults out.new)) }
 
     // Invalid: `check` read a trace whose rows aren't a valid schedule, and `out` took exactly the line that says where and why.
@@ -60,9 +62,10 @@ pub fn run<R: Source, W: Sink, E: Sink, G: Gate + Send, X: Threads + Wait + Sync
     // the others ran first rows.
     ensures ends { (c : Command) → command_of (map string_bytes words.now) ≡ Some c → EndsWith c (streams (R.left source.old) (R.faults source.old) (W.taken out.old) (W.faults out.old)) (streams (R.left source.new) (R.faults source.new) (W.taken out.new) (W.faults out.new)) (error_stream (E.taken err.old) (E.faults err.old)) (error_stream (E.taken err.new) (E.faults err.new)) (crew (gates_of G.ran G.faults kits.old.items) (jobs_of (λ j. (Job-box j).id j.value) (λ j. (Job-box j).used j.value) (λ j. (Job-box j).faults j.value) jobs.old.places)) (crew (gates_of G.ran G.faults kits.new.items) (jobs_of (λ j. (Job-box j).id j.value) (λ j. (Job-box j).used j.value) (λ j. (Job-box j).faults j.value) jobs.new.places)) result }
 
-    // No gate and no job is called but by an execution, and by none that is refused before.
+    // No gate and no job is called but by an execution, and by none that is refused before. A drill may have run all rows where
+    // memory was refused.
     ensures still { asks_to_execute (map string_bytes words.now) ≡ false → (kits.new.items ≡ kits.old.items) × (jobs.new.places ≡ jobs.old.places) }
-    ensures uncalled { may_have_called result ≡ false → (kits.new.items ≡ kits.old.items) × (jobs.new.places ≡ jobs.old.places) }
+    ensures uncalled { may_have_run (command_of (map string_bytes words.now)) result ≡ false → (kits.new.items ≡ kits.old.items) × (jobs.new.places ≡ jobs.old.places) }
 
     // At every status each gate is back in its kit, and each job in its place.
     ensures back { AreBack (crew (gates_of G.ran G.faults kits.old.items) (jobs_of (λ j. (Job-box j).id j.value) (λ j. (Job-box j).used j.value) (λ j. (Job-box j).faults j.value) jobs.old.places)) (crew (gates_of G.ran G.faults kits.new.items) (jobs_of (λ j. (Job-box j).id j.value) (λ j. (Job-box j).used j.value) (λ j. (Job-box j).faults j.value) jobs.new.places)) }
@@ -98,41 +101,15 @@ fn run_command<R: Source, W: Sink, G: Gate + Send, X: Threads + Wait + Sync>(
 ) -> Result<(), Refusal>
     requires ready { IsReady (crew (gates_of G.ran G.faults kits.old.items) (jobs_of (λ j. (Job-box j).id j.value) (λ j. (Job-box j).used j.value) (λ j. (Job-box j).faults j.value) jobs.old.places)) }
     requires executing { IsExecuting command }
-    ensures done { OnOk result (IsTold set_limit (WritesRun (is_met command) (crew (gates_of G.ran G.faults kits.old.items) (jobs_of (λ j. (Job-box j).id j.value) (λ j. (Job-box j).used j.value) (λ j. (Job-box j).faults j.value) jobs.old.places)) (crew (gates_of G.ran G.faults kits.new.items) (jobs_of (λ j. (Job-box j).id j.value) (λ j. (Job-box j).used j.value) (λ j. (Job-box j).faults j.value) jobs.new.places))) Done (streams (R.left source.old) (R.faults source.old) (W.taken out.old) (W.faults out.old)) (streams (R.left source.new) (R.faults source.new) (W.taken out.new) (W.faults out.new))) }
-    ensures stops { IfErr result (StopsAs set_limit (WritesRun (is_met command) (crew (gates_of G.ran G.faults kits.old.items) (jobs_of (λ j. (Job-box j).id j.value) (λ j. (Job-box j).used j.value) (λ j. (Job-box j).faults j.value) jobs.old.places)) (crew (gates_of G.ran G.faults kits.new.items) (jobs_of (λ j. (Job-box j).id j.value) (λ j. (Job-box j).used j.value) (λ j. (Job-box j).faults j.value) jobs.new.places))) (RefusesRun (is_met command) (crew (gates_of G.ran G.faults kits.old.items) (jobs_of (λ j. (Job-box j).id j.value) (λ j. (Job-box j).used j.value) (λ j. (Job-box j).faults j.value) jobs.old.places)) (crew (gates_of G.ran G.faults kits.new.items) (jobs_of (λ j. (Job-box j).id j.value) (λ j. (Job-box j).used j.value) (λ j. (Job-box j).faults j.value) jobs.new.places))) (streams (R.left source.old) (R.faults source.old) (W.taken out.old) (W.faults out.old)) (streams (R.left source.new) (R.faults source.new) (W.taken out.new) (W.faults out.new))) }
-    ensures uncalled { IfErr result (λ refusal. may_have_called (status_of refusal) ≡ false → (kits.new.items ≡ kits.old.items) × (jobs.new.places ≡ jobs.old.places)) }
+    ensures done { OnOk result (ToldRun command (streams (R.left source.old) (R.faults source.old) (W.taken out.old) (W.faults out.old)) (streams (R.left source.new) (R.faults source.new) (W.taken out.new) (W.faults out.new)) (crew (gates_of G.ran G.faults kits.old.items) (jobs_of (λ j. (Job-box j).id j.value) (λ j. (Job-box j).used j.value) (λ j. (Job-box j).faults j.value) jobs.old.places)) (crew (gates_of G.ran G.faults kits.new.items) (jobs_of (λ j. (Job-box j).id j.value) (λ j. (Job-box j).used j.value) (λ j. (Job-box j).faults j.value) jobs.new.places))) }
+    ensures stops { IfErr result (StopsRun command (streams (R.left source.old) (R.faults source.old) (W.taken out.old) (W.faults out.old)) (streams (R.left source.new) (R.faults source.new) (W.taken out.new) (W.faults out.new)) (crew (gates_of G.ran G.faults kits.old.items) (jobs_of (λ j. (Job-box j).id j.value) (λ j. (Job-box j).used j.value) (λ j. (Job-box j).faults j.value) jobs.old.places)) (crew (gates_of G.ran G.faults kits.new.items) (jobs_of (λ j. (Job-box j).id j.value) (λ j. (Job-box j).used j.value) (λ j. (Job-box j).faults j.value) jobs.new.places))) }
+    ensures uncalled { IfErr result (λ refusal. may_have_run (Some command) (status_of refusal) ≡ false → (kits.new.items ≡ kits.old.items) × (jobs.new.places ≡ jobs.old.places)) }
     ensures back { AreBack (crew (gates_of G.ran G.faults kits.old.items) (jobs_of (λ j. (Job-box j).id j.value) (λ j. (Job-box j).used j.value) (λ j. (Job-box j).faults j.value) jobs.old.places)) (crew (gates_of G.ran G.faults kits.new.items) (jobs_of (λ j. (Job-box j).id j.value) (λ j. (Job-box j).used j.value) (λ j. (Job-box j).faults j.value) jobs.new.places)) }
 {
-    exec(
-        rt,
-        alloc,
-        source,
-        window_of(command),
-        is_met(command),
-        out,
-        kits,
-        jobs,
-    )
-}
-
-// How many rounds a lane may run ahead of the others in an execution.
-fn window_of(command: Command) -> u32
-    requires executing { IsExecuting command }
-    ensures some { 1 ≤ result }
-    ensures small { result ≤ 1024 }
-{
     match command {
-        Command::Exec { window } => window,
-        _ => USUAL_WINDOW,
-    }
-}
-
-// Whether an execution tells when each period was done.
-fn is_met(command: Command) -> bool
-    ensures { result ≡ is_met command }
-{
-    match command {
-        Command::ExecMet => true,
-        _ => false,
+        Command::Exec { window } => exec(rt, alloc, source, window, false, out, kits, jobs),
+        Command::ExecMet => exec(rt, alloc, source, USUAL_WINDOW, true, out, kits, jobs),
+        Command::Drill { number } => drill(rt, alloc, number, out, kits, jobs),
+        _ => unreachable!(),
     }
 }

@@ -80,5 +80,6 @@ fn run_command<R: Source, W: Sink>(
         Command::Check => check(alloc, source, out),
         Command::Exec { .. } => unreachable!(),
         Command::ExecMet => unreachable!(),
+        Command::Drill { .. } => unreachable!(),
     }
 }

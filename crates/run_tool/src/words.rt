@@ -1,7 +1,7 @@
 //! Command lines.
 ghost use Rattle.std.specs.Prelude.{◌≡◌, ◌↔◌, map, string_bytes, Some, IfOk, IsTrue};
-ghost use Rattle.run_tool.specs.declared.words.Command.TheVariants.{Exec};
-ghost use Rattle.run_tool.specs.Words.{window_of, exec_with, exec_by, command_of, command_named, command_with, command_with_value, asks_to_execute};
+ghost use Rattle.run_tool.specs.declared.words.Command.TheVariants.{Exec, Drill};
+ghost use Rattle.run_tool.specs.Words.{window_of, exec_with, exec_by, drill_of, drill_with, command_of, command_named, command_with, command_with_value, asks_to_execute};
 
 use crate::command_line::read_line;
 use sched_base::NoMemory;
@@ -13,6 +13,9 @@ pub(crate) const USUAL_WINDOW: u32 = 32;
 
 /// The largest window.
 const WINDOW_LIMIT: u128 = 1024;
+
+/// The largest number of a drill.
+const DRILL_LIMIT: u128 = 18_446_744_073_709_551_615;
 
 /// What a command line asks for.
 #[derive(Clone, Copy, Debug, PartialEq, Eq)]
@@ -31,6 +34,8 @@ pub enum Command {
     Exec { window: u32 },
     /// `exec --met`: the same with the usual window, and when each period was done.
     ExecMet,
+    /// `drill N`: draw a task set from the number, run its schedule, and tell what is counted of it.
+    Drill { number: u64 },
 }
 
 /// The command that these words are, the words after the program's name; none where they are no command line.
@@ -79,10 +84,11 @@ fn is_name(command: Command, word: &str) -> bool
         Command::Check => word == "check",
         Command::Exec { window } => word == "exec" && window == USUAL_WINDOW,
         Command::ExecMet => false,
+        Command::Drill { .. } => false,
     }
 }
 
-// Whether this word with this option is the line of this command.
+// Whether this word with this option or value is the line of this command.
 fn is_name_with(command: Command, word: &str, option: &str) -> bool
     ensures { IsTrue result ↔ (command_with word.now option.now ≡ Some command) }
 {
@@ -90,6 +96,9 @@ fn is_name_with(command: Command, word: &str, option: &str) -> bool
         Command::TraceMet => word == "trace" && option == "--met",
         Command::Exec { window } => word == "exec" && is_window_option(option, window),
         Command::ExecMet => word == "exec" && option == "--met",
+        Command::Drill { number } => {
+            word == "drill" && drill_of(option.as_bytes()) == Some(number)
+        }
         _ => false,
     }
 }
@@ -133,12 +142,31 @@ fn window_of(word: &[u8]) -> Option<u32>
     }
 }
 
+/// `drill` with the number that a word writes.
+pub(crate) fn drill_with(word: &[u8]) -> Option<Command>
+    ensures { result ≡ drill_with word.now }
+{
+    drill_of(word).map(|number| Command::Drill { number })
+}
+
+// The number of a drill that a word writes.
+fn drill_of(word: &[u8]) -> Option<u64>
+    ensures { result ≡ drill_of word.now }
+{
+    let number = read_number(word)?;
+    if number <= DRILL_LIMIT {
+        Some(number as u64)
+    } else {
+        None
+    }
+}
+
 /// Whether the words ask for an execution, by the first of them.
 pub(crate) fn asks_to_execute(words: &[String]) -> bool
     ensures { result ≡ asks_to_execute (map string_bytes words.now) }
 {
     match words.first() {
-        Some(word) => word.as_str() == "exec",
+        Some(word) => word.as_str() == "exec" || word.as_str() == "drill",
         None => false,
     }
 }

@@ -1,7 +1,7 @@
 use Rattle.std.proofs.Common.{◌≡◌, true, false, Option, Some, None, List, ℕ, inl, inr, codes, sym, ap, option_map, ◌∙◌}
 use Rattle.clap.specs.Words.{found_of, rows_of}
 use Rattle.clap.proofs.WalkLemmas.{one_text-rows}
-use Rattle.run_tool.proofs.CommandLineLemmas.{names, name_of, only_rate, only_tree, only_trace, only_check, only_exec, exec_told}
+use Rattle.run_tool.proofs.CommandLineLemmas.{names, name_of, only_rate, only_tree, only_trace, only_check, only_exec, exec_told, only_drill}
 use Rattle.run_tool.proofs.command_line.command_in.Goals as goal
 
 pub returns-in_err-name : goal.returns-in_err-name
@@ -43,3 +43,9 @@ returns-in-exec c = λ used words spells e.
     let h : ◌≡◌ {A = Option (List ℕ)} (Some c.in_ok-name.name.now) (Some (name_of used)) = c.in_ok-name.ensures.name ∙ names c.args.matches.now used words spells e in
     let tells = only_exec used words (rows_of (found_of c.in_ok-name.options.now)) spells (sym c.in-exec.is ∙ cc) (c.in_ok-name.ensures.rows ∙ ap (option_map (λ p. p.1)) e) in
     exec_told used (rows_of (found_of c.in_ok-name.options.now)) c.exec_in.result tells c.exec_in.ensures.met c.exec_in.ensures.usual c.exec_in.ensures.window
+
+pub returns-in-drill : goal.returns-in-drill
+returns-in-drill c = λ used words spells e.
+    let h : ◌≡◌ {A = Option (List ℕ)} (Some c.in_ok-name.name.now) (Some (name_of used)) = c.in_ok-name.ensures.name ∙ names c.args.matches.now used words spells e in
+    let (value, given, is) = only_drill used words (rows_of (found_of c.in_ok-name.options.now)) spells (sym c.in-drill.is ∙ cc) (c.in_ok-name.ensures.rows ∙ ap (option_map (λ p. p.1)) e) in
+    c.drill_in.ensures value given ∙ is

@@ -1,7 +1,7 @@
-use Rattle.std.proofs.Common.{◌≡◌, Some, true, map, string_bytes, sym, ◌∙◌, rules}
+use Rattle.std.proofs.Common.{◌≡◌, Some, true, refl, map, string_bytes, sym, ◌∙◌, rules}
 use Rattle.run_tool.specs.Words.{command_of, asks_to_execute}
-use Rattle.run_tool.proofs.AnswerLemmas.{done_answered, stops_answered}
-use Rattle.run_tool.proofs.RunLemmas.{executing_is, done_is, stop_is, ends_still, ends_done_as, ends_stopped_as, still_is}
+use Rattle.run_tool.proofs.AnswerLemmas.{done_answered, stops_answered, unread_answered}
+use Rattle.run_tool.proofs.RunLemmas.{executing_is, done_is, stop_is, ends_still, ends_unread, ends_done_as, ends_stopped_as, still_is, unread_same, uncalled_by}
 use Rattle.run_tool.proofs.running.run.Goals as goal
 
 pub returns-then-not-asks_to_execute-clause-ends : goal.returns-then-not-asks_to_execute-clause-ends
@@ -46,3 +46,17 @@ returns-in-Ok-clause-ends g c k e =
     let both : Some c.in-Ok-Some.command ≡ Some k = asked ∙ e in
     let same : c.in-Ok-Some.command ≡ k = cc in
     ends_done_as c.in-Ok-Some.command k _ _ _ _ _ _ same (executing_is (map string_bytes c.args.words.now) c.in-Ok-Some.command (sym asked) asks) c.in-Ok.ensures.done (record { taken = search rules; faults = search rules })
+
+pub returns-in-Err-clause-ends : goal.returns-in-Err-clause-ends
+returns-in-Err-clause-ends g c k e =
+    let asks : asks_to_execute (map string_bytes c.args.words.now) ≡ true = search rules in
+    ends_unread k _ _ _ _ _ _ _ (executing_is (map string_bytes c.args.words.now) k e asks) (unread_same _ _ _ _ _ _) (search rules) refl c.refuse.ensures
+
+pub returns-in-Err-run_command-clause-uncalled : goal.returns-in-Err-run_command-clause-uncalled
+returns-in-Err-run_command-clause-uncalled g c =
+    let asked : Some c.in-Ok-Some.command ≡ command_of (map string_bytes c.args.words.now) = search rules in
+    let asks : asks_to_execute (map string_bytes c.args.words.now) ≡ true = search rules in
+    λ quiet. uncalled_by _ c.in-Ok-Some.command _ _ _ _ c.in-Err-run_command.refusal _ _ _ asked (executing_is (map string_bytes c.args.words.now) c.in-Ok-Some.command (sym asked) asks) c.in-Err-run_command.ensures.stops c.refuse-in-Err-run_command.ensures c.in-Err-run_command.ensures.uncalled quiet
+
+pub returns-in-Err-clause-answered : goal.returns-in-Err-clause-answered
+returns-in-Err-clause-answered g c = λ quiet. unread_answered (command_of (map string_bytes c.args.words.now)) _ _ _ _ _ c.refuse.ensures

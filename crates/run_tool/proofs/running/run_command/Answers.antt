@@ -1,12 +1,21 @@
+use Rattle.std.proofs.Common.{◌≡◌, ◌∙◌, true, false, sym}
+use Rattle.std.proofs.lemmas.Result.{IfErr-weaker}
 use Rattle.run_tool.specs.Ends.{streams}
-use Rattle.run_tool.proofs.RunLemmas.{done_as, stops_as}
+use Rattle.run_tool.proofs.RunLemmas.{unread_same, drill_done, drill_stopped, drill_ran}
 use Rattle.run_tool.proofs.running.run_command.Goals as goal
 
-pub returns-clause-done : goal.returns-clause-done
-returns-clause-done g c = done_as _ _ _ _ _ _ _ c.is_met.ensures c.exec.ensures.done
-
-pub returns-clause-stops : goal.returns-clause-stops
-returns-clause-stops g c = stops_as c.exec.result _ _
+pub returns-in-Drill-clause-done : goal.returns-in-Drill-clause-done
+returns-in-Drill-clause-done g c = drill_done c.drill.result c.in-Drill.number
     (streams (g.R.Source.left c.args.source.now) (g.R.Source.faults c.args.source.now) (g.W.Sink.taken c.args.out.now) (g.W.Sink.faults c.args.out.now))
-    (streams (g.R.Source.left c.exec.new.source) (g.R.Source.faults c.exec.new.source) (g.W.Sink.taken c.exec.new.out) (g.W.Sink.faults c.exec.new.out))
-    _ _ c.is_met.ensures c.exec.ensures.stops
+    (streams (g.R.Source.left c.args.source.now) (g.R.Source.faults c.args.source.now) (g.W.Sink.taken c.drill.new.out) (g.W.Sink.faults c.drill.new.out))
+    _ _ (unread_same _ _ _ _ _ _) c.drill.ensures.done
+
+pub returns-in-Drill-clause-stops : goal.returns-in-Drill-clause-stops
+returns-in-Drill-clause-stops g c = drill_stopped c.drill.result c.in-Drill.number
+    (streams (g.R.Source.left c.args.source.now) (g.R.Source.faults c.args.source.now) (g.W.Sink.taken c.args.out.now) (g.W.Sink.faults c.args.out.now))
+    (streams (g.R.Source.left c.args.source.now) (g.R.Source.faults c.args.source.now) (g.W.Sink.taken c.drill.new.out) (g.W.Sink.faults c.drill.new.out))
+    _ _ (unread_same _ _ _ _ _ _) c.drill.ensures.stops
+
+pub returns-in-Drill-clause-uncalled : goal.returns-in-Drill-clause-uncalled
+returns-in-Drill-clause-uncalled g c =
+    IfErr-weaker c.drill.result _ _ (λ r stops quiet. absurd (let bad : true ≡ false = sym (drill_ran c.in-Drill.number _ _ _ _ _ _ r stops) ∙ quiet in cc)) c.drill.ensures.stops

@@ -1,0 +1,125 @@
+//! The command `drill`.
+ghost use Rattle.std.specs.Prelude.{◌≡◌, ◌≤◌, ◌*◌, length, OnOk, IfErr, IfOk};
+ghost use Rattle.sched_base.specs.Scale.{IsScale};
+ghost use Rattle.sched_base.specs.Tables.{all_rows, rounds_of as rounds_in};
+ghost use Rattle.sched_base.specs.Valid.{IsValid};
+ghost use Rattle.run_tree.specs.Plans.{rounds_of, stop_of};
+ghost use Rattle.event_core.specs.Rounds.{row_limit};
+ghost use Rattle.exec_book.specs.PlanRows.{plan_rows};
+ghost use Rattle.trace_lines.specs.Merging.{merged_lanes};
+ghost use Rattle.trace_check.specs.RoundTrip.{trace_again};
+ghost use Rattle.stat_report.specs.Report.{IsValidTrace};
+ghost use Rattle.run_tool.specs.Drill.{drilled, drill_plan, summary_by};
+ghost use Rattle.run_tool.specs.Executions.{crew, gates_of, jobs_of, IsReady, AreBack};
+ghost use Rattle.run_tool.specs.Executed.{RanDrill, StopsAtDrill};
+
+use crate::exec::run_plan;
+use crate::refusal::Refusal;
+use crate::summary::{Summary, summary_of, write_summary};
+use crate::words::USUAL_WINDOW;
+use event_core::{CountFault, count_rounds};
+use exec_workers::Kit;
+use round_table::table_law;
+use run_compile::{CompileFault, compile};
+use run_tree::Plan;
+use sched_base::{NoMemory, RowTable};
+use sched_edges::{Gate, Jobs, Sink};
+use std::alloc::Global;
+use std::sync::Wait;
+use std::thread::Threads;
+use task_gen::{drill_law, make, words_of};
+use trace_check::ReadTrace;
+use trace_laws::merged_law;
+
+/// Draws a task set from a number, has the gates and the jobs run its schedule, judges the trace of its rows, and writes what is
+/// counted of it. A lane may run up to 32 rounds ahead of the others. Nothing is read.
+pub(crate) fn drill<W: Sink, G: Gate + Send, X: Threads + Wait + Sync>(
+    rt: &X,
+    alloc: Global,
+    number: u64,
+    out: &mut W,
+    kits: &mut Vec<Kit<G>>,
+    jobs: &mut Jobs,
+) -> Result<(), Refusal>
+    requires ready { IsReady (crew (gates_of G.ran G.faults kits.old.items) (jobs_of (λ j. (Job-box j).id j.value) (λ j. (Job-box j).used j.value) (λ j. (Job-box j).faults j.value) jobs.old.places)) }
+    ensures done { OnOk result (RanDrill number (W.taken out.old) (W.taken out.new) (crew (gates_of G.ran G.faults kits.old.items) (jobs_of (λ j. (Job-box j).id j.value) (λ j. (Job-box j).used j.value) (λ j. (Job-box j).faults j.value) jobs.old.places)) (crew (gates_of G.ran G.faults kits.new.items) (jobs_of (λ j. (Job-box j).id j.value) (λ j. (Job-box j).used j.value) (λ j. (Job-box j).faults j.value) jobs.new.places))) }
+    ensures stops { IfErr result (StopsAtDrill number (W.taken out.old) (W.taken out.new) (W.faults out.old) (W.faults out.new) (crew (gates_of G.ran G.faults kits.old.items) (jobs_of (λ j. (Job-box j).id j.value) (λ j. (Job-box j).used j.value) (λ j. (Job-box j).faults j.value) jobs.old.places)) (crew (gates_of G.ran G.faults kits.new.items) (jobs_of (λ j. (Job-box j).id j.value) (λ j. (Job-box j).used j.value) (λ j. (Job-box j).faults j.value) jobs.new.places))) }
+    ensures back { AreBack (crew (gates_of G.ran G.faults kits.old.items) (jobs_of (λ j. (Job-box j).id j.value) (λ j. (Job-box j).used j.value) (λ j. (Job-box j).faults j.value) jobs.old.places)) (crew (gates_of G.ran G.faults kits.new.items) (jobs_of (λ j. (Job-box j).id j.value) (λ j. (Job-box j).used j.value) (λ j. (Job-box j).faults j.value) jobs.new.places)) }
+{
+    let plan = match drawn_plan(alloc, number) {
+        Ok(plan) => plan,
+        Err(_) => return Err(Refusal::NoMemory),
+    };
+    let rounds = match few_rounds(alloc, &plan) {
+        Ok(rounds) => rounds,
+        Err(_) => return Err(Refusal::NoMemory),
+    };
+    let executed = match run_plan(rt, alloc, &plan, rounds, USUAL_WINDOW, kits, jobs) {
+        Ok(executed) => executed,
+        Err(refusal) => return Err(refusal),
+    };
+    let told = match judged(alloc, number, &plan, rounds, &executed.table) {
+        Ok(told) => told,
+        Err(_) => return Err(Refusal::NoMemory),
+    };
+    match write_summary(&told, out) {
+        Ok(()) => Ok(()),
+        Err(_) => Err(Refusal::WriteFault),
+    }
+}
+
+// The plan of the set that a number draws: each such set fits, and its scale is small.
+fn drawn_plan(alloc: Global, number: u64) -> Result<Plan, NoMemory>
+    ensures plan { IfOk result (λ plan. plan ≡ drill_plan number plan.tree.scale) }
+    ensures scale { IfOk result (λ plan. IsScale (drilled number).tasks plan.tree.scale) }
+    ensures few { IfOk result (λ plan. rounds_of plan * plan.tree.processors ≤ row_limit) }
+{
+    drill_law();
+    let words = words_of(number);
+    let set = make(alloc, &words)?;
+    match compile(alloc, set) {
+        Ok(plan) => {
+            let _lawful = plan.scale();
+            Ok(plan)
+        }
+        Err(CompileFault::ScaleTooLarge { .. }) => unreachable!(),
+        Err(CompileFault::Overload { .. }) => unreachable!(),
+        Err(CompileFault::NoMemory) => Err(NoMemory),
+    }
+}
+
+// The rounds of a plan that has no more rows than a schedule may have.
+fn few_rounds(alloc: Global, plan: &Plan) -> Result<u64, NoMemory>
+    requires few { rounds_of plan.now * plan.now.tree.processors ≤ row_limit }
+    ensures { IfOk result (λ rounds. rounds ≡ rounds_of plan.now) }
+{
+    match count_rounds(alloc, plan) {
+        Ok(rounds) => Ok(rounds),
+        Err(CountFault::TooLong { .. }) => unreachable!(),
+        Err(CountFault::NoMemory) => Err(NoMemory),
+    }
+}
+
+// Judges the trace of a plan's rows, which are a valid schedule, and counts what the report counts.
+fn judged(
+    alloc: Global,
+    number: u64,
+    plan: &Plan,
+    rounds: u64,
+    table: &RowTable,
+) -> Result<Summary, NoMemory>
+    requires lanes { table.now.lanes ≡ plan_rows plan.now }
+    requires few { length table.now.lanes * rounds_in table.now.lanes ≤ row_limit }
+    requires valid { IsValid plan.now.set plan.now.tree.scale (stop_of plan.now) (stop_of plan.now) (all_rows (plan_rows plan.now)) }
+    ensures told { IfOk result (λ told. told ≡ summary_by number rounds (trace_again plan.now.set plan.now.tree.scale (merged_lanes (plan_rows plan.now)))) }
+    ensures judged { IfOk result (λ _. IsValidTrace (trace_again plan.now.set plan.now.tree.scale (merged_lanes (plan_rows plan.now)))) }
+{
+    table_law();
+    merged_law();
+    let _lawful = table.rounds();
+    let trace = ReadTrace::of_table(alloc, plan.set(), plan.scale(), table)?;
+    match summary_of(number, rounds, &trace) {
+        Some(told) => Ok(told),
+        None => unreachable!(),
+    }
+}
