@@ -2,6 +2,7 @@
 //! worked.
 mod calls;
 mod checks;
+mod drills;
 mod ends;
 mod executions;
 mod lanes;

@@ -127,3 +127,34 @@ fn other_words_before_an_execution(rt: HostRuntime) -> Result<(), Fail> {
     }
     Ok(())
 }
+
+#[test]
+fn other_words_are_no_drill(rt: HostRuntime) -> Result<(), Fail> {
+    let rows: [&[&str]; 20] = [
+        &["drill"],
+        &["drill", "1", "2"],
+        &["drill", "07"],
+        &["drill", "00"],
+        &["drill", "-1"],
+        &["drill", "+1"],
+        &["drill", ""],
+        &["drill", " 1"],
+        &["drill", "1 "],
+        &["drill", "0x1"],
+        &["drill", "1.0"],
+        &["drill", "one"],
+        // 2^64, and 2^128 + 1.
+        &["drill", "18446744073709551616"],
+        &["drill", "340282366920938463463374607431768211457"],
+        &["drill", "--", "1"],
+        &["drill", "1", "--met"],
+        &["drill", "1", "--window", "2"],
+        &["drill", "--number", "1"],
+        &["1", "drill"],
+        &["Drill", "1"],
+    ];
+    for words in rows {
+        assert_refused(&rt, rt.alloc(), words)?;
+    }
+    Ok(())
+}
