@@ -35,7 +35,9 @@ const FIRST: Drill = Drill {
     head: "tasks 9\nscale 60\n",
     rounds: 8600,
     counts: "rows 9101\npreemptions 4300\nmigrations 2700\n",
-    ticks: &[270000, 360000, 36000, 90000, 150000, 252000, 132000, 72000, 72000],
+    ticks: &[
+        270000, 360000, 36000, 90000, 150000, 252000, 132000, 72000, 72000,
+    ],
 };
 
 const SECOND: Drill = Drill {
@@ -53,7 +55,10 @@ const LAST: Drill = Drill {
     head: "tasks 13\nscale 60\n",
     rounds: 7500,
     counts: "rows 9101\npreemptions 3800\nmigrations 1900\n",
-    ticks: &[54000, 60000, 180000, 48000, 60000, 216000, 180000, 36000, 360000, 18000, 72000, 132000, 24000],
+    ticks: &[
+        54000, 60000, 180000, 48000, 60000, 216000, 180000, 36000, 360000, 18000, 72000, 132000,
+        24000,
+    ],
 };
 
 /// The bytes are these texts, one after the other.
@@ -121,10 +126,7 @@ fn drills_are_valid(rt: HostRuntime) -> Result<(), Fail> {
 fn drills_that_stop(rt: HostRuntime) -> Result<(), Fail> {
     let rows = [
         (
-            Outside {
-                out: &[3],
-                ..ROOMY
-            },
+            Outside { out: &[3], ..ROOMY },
             Status::WriteFault,
             "drill 1\ntasks 9\n",
             "refused 4 WriteFault\n",
