@@ -2,7 +2,7 @@ use Rattle.std.proofs.Common.{◌≡◌, ◌<◌, ℕ, [], refl, ap, ◌∙◌, 
 use denote.Param.Object.{read_made}
 use Rattle.sched_base.specs.Sets.{SetContents}
 use Rattle.sched_edges.specs.Gates.{GateHeld}
-use Rattle.run_tree.specs.Trees.{TreeContents}
+use Rattle.run_tree.specs.Tree.{Tree}
 use Rattle.exec_workers.proofs.StageLemmas.{same_gate}
 use Rattle.worked_runs.proofs.RunLemmas.{length_more, fresh_more, job_left}
 use Rattle.worked_runs.proofs.tests.run.OwnLists.{own-1, at-1-1}
@@ -28,13 +28,13 @@ loop-t-preserved g c =
 
 pub execute-answer-requires-clause-kits : goal.execute-answer-requires-clause-kits
 execute-answer-requires-clause-kits g c = λ _ _ p below.
-    let two = c.processors.ensures.value ∙ ap (λ (t : TreeContents). t.processors) c.tree.ensures.value in
+    let two = c.processors.ensures.value ∙ ap (λ (t : Tree). t.processors) c.tree.ensures.value in
     let kit = c.in_ok-kits.ensures p (omega (arith, below, two)) in
     (kit.0, kit.1)
 
 pub execute-answer-requires-clause-empty : goal.execute-answer-requires-clause-empty
 execute-answer-requires-clause-empty g c = λ _ _ q gate below at.
-    let two = c.processors.ensures.value ∙ ap (λ (t : TreeContents). t.processors) c.tree.ensures.value in
+    let two = c.processors.ensures.value ∙ ap (λ (t : Tree). t.processors) c.tree.ensures.value in
     let kit = c.in_ok-kits.ensures q (omega (arith, below, two)) in
     subst (λ (x : GateHeld). x.ran ≡ []) (same_gate c.in_ok-kits.kits.items q kit.0 gate kit.1 at) kit.2
 
