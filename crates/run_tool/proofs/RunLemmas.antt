@@ -1,5 +1,5 @@
 -- What an execution told, and why it stopped, as the clauses of the top call say it.
-use Rattle.std.proofs.Common.{◌≡◌, inl, inr, ℕ, ◌≤◌, Bool, true, false, List, Option, Some, Result, refl, sym, ◌∙◌, ap, subst, arith, rules, tests}
+use Rattle.std.proofs.Common.{◌≡◌, inl, inr, ℕ, ◌≤◌, Bool, true, false, List, Option, Some, Result, refl, sym, ◌∙◌, ap, subst, arith, rules, tests, None, Ok, Err}
 use Rattle.std.specs.Prelude.{OnOk, IfErr}
 use Rattle.std.specs.Io.KnownBytes.{Keeps}
 use Rattle.task_reader.specs.declared.refusals.ReadSet.{ReadSet}

@@ -1,6 +1,9 @@
-use Rattle.std.proofs.Common.{◌≡◌, ◌∙◌, true, false, sym}
+use Rattle.std.proofs.Common.{◌≡◌, ◌∙◌, true, false, Some, sym, ap}
 use Rattle.std.proofs.lemmas.Result.{IfErr-weaker}
+use Rattle.run_tool.specs.declared.words.Command.{Command}
+use Rattle.run_tool.specs.Refusals.{status_of}
 use Rattle.run_tool.specs.Ends.{streams}
+use Rattle.run_tool.specs.Executed.{may_have_run}
 use Rattle.run_tool.proofs.RunLemmas.{unread_same, drill_done, drill_stopped, drill_ran}
 use Rattle.run_tool.proofs.running.run_command.Goals as goal
 
@@ -18,4 +21,4 @@ returns-in-Drill-clause-stops g c = drill_stopped c.drill.result c.in-Drill.numb
 
 pub returns-in-Drill-clause-uncalled : goal.returns-in-Drill-clause-uncalled
 returns-in-Drill-clause-uncalled g c =
-    IfErr-weaker c.drill.result _ _ (λ r stops quiet. absurd (let bad : true ≡ false = sym (drill_ran c.in-Drill.number _ _ _ _ _ _ r stops) ∙ quiet in cc)) c.drill.ensures.stops
+    IfErr-weaker c.drill.result _ _ (λ r stops quiet. absurd (let bad : true ≡ false = sym (drill_ran c.in-Drill.number _ _ _ _ _ _ r stops) ∙ ap (λ (k : Command). may_have_run (Some k) (status_of r)) (sym c.in-Drill.is) ∙ quiet in cc)) c.drill.ensures.stops
