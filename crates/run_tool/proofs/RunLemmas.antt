@@ -233,10 +233,17 @@ keeps_same (Some bytes) = refl
 pub unread_same : (left : Option (List ℕ)) (faults : ℕ) (out out' : Option (List ℕ)) (out_faults out_faults' : ℕ) → IsUnread (streams left faults out out_faults) (streams left faults out' out_faults')
 unread_same left faults out out' out_faults out_faults' = record { left = keeps_same left; faults = refl }
 
-pub drill_done : {T E : Type 0} (result : Result T E) (number : ℕ) (old new : Streams) (b n : Crew) → IsUnread old new → OnOk result (RanDrill number old.out new.out b n) → OnOk result (ToldRun (Drill number) old new b n)
-drill_done (Ok x) number old new b n unread ran = (unread, ran)
-drill_done (Err e) number old new b n unread ran = tt
+drill_done_as : {T E : Type 0} (result : Result T E) (number : ℕ) (old new : Streams) (b n : Crew) → IsUnread old new → OnOk result (RanDrill number old.out new.out b n) → OnOk result (ToldRun (Drill number) old new b n)
+drill_done_as (Ok x) number old new b n unread ran = (unread, ran)
+drill_done_as (Err e) number old new b n unread ran = tt
 
-pub drill_stopped : {T : Type 0} (result : Result T Refusal) (number : ℕ) (old new : Streams) (b n : Crew) → IsUnread old new → IfErr result (StopsAtDrill number old.out new.out old.out_faults new.out_faults b n) → IfErr result (StopsRun (Drill number) old new b n)
-drill_stopped (Ok x) number old new b n unread stops = tt
-drill_stopped (Err r) number old new b n unread stops = (unread, stops)
+pub drill_done : {T E : Type 0} (result : Result T E) (c : Command) (number : ℕ) (old new : Streams) (b n : Crew) → c ≡ Drill number → IsUnread old new → OnOk result (RanDrill number old.out new.out b n) → OnOk result (ToldRun c old new b n)
+drill_done result c number old new b n is unread ran = subst (λ (k : Command). OnOk result (ToldRun k old new b n)) (sym is) (drill_done_as result number old new b n unread ran)
+
+drill_stopped_as : {T : Type 0} (result : Result T Refusal) (number : ℕ) (old new : Streams) (b n : Crew) → IsUnread old new → IfErr result (StopsAtDrill number old.out new.out old.out_faults new.out_faults b n) → IfErr result (StopsRun (Drill number) old new b n)
+drill_stopped_as (Ok x) number old new b n unread stops = tt
+drill_stopped_as (Err r) number old new b n unread stops = (unread, stops)
+
+pub drill_stopped : {T : Type 0} (result : Result T Refusal) (c : Command) (number : ℕ) (old new : Streams) (b n : Crew) → c ≡ Drill number → IsUnread old new
+    → IfErr result (StopsAtDrill number old.out new.out old.out_faults new.out_faults b n) → IfErr result (StopsRun c old new b n)
+drill_stopped result c number old new b n is unread stops = subst (λ (k : Command). IfErr result (StopsRun k old new b n)) (sym is) (drill_stopped_as result number old new b n unread stops)

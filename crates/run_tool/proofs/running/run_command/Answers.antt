@@ -8,16 +8,16 @@ use Rattle.run_tool.proofs.RunLemmas.{unread_same, drill_done, drill_stopped, dr
 use Rattle.run_tool.proofs.running.run_command.Goals as goal
 
 pub returns-in-Drill-clause-done : goal.returns-in-Drill-clause-done
-returns-in-Drill-clause-done g c = drill_done c.drill.result c.in-Drill.number
+returns-in-Drill-clause-done g c = drill_done c.drill.result c.args.command c.in-Drill.number
     (streams (g.R.Source.left c.args.source.now) (g.R.Source.faults c.args.source.now) (g.W.Sink.taken c.args.out.now) (g.W.Sink.faults c.args.out.now))
     (streams (g.R.Source.left c.args.source.now) (g.R.Source.faults c.args.source.now) (g.W.Sink.taken c.drill.new.out) (g.W.Sink.faults c.drill.new.out))
-    _ _ (unread_same _ _ _ _ _ _) c.drill.ensures.done
+    _ _ c.in-Drill.is (unread_same _ _ _ _ _ _) c.drill.ensures.done
 
 pub returns-in-Drill-clause-stops : goal.returns-in-Drill-clause-stops
-returns-in-Drill-clause-stops g c = drill_stopped c.drill.result c.in-Drill.number
+returns-in-Drill-clause-stops g c = drill_stopped c.drill.result c.args.command c.in-Drill.number
     (streams (g.R.Source.left c.args.source.now) (g.R.Source.faults c.args.source.now) (g.W.Sink.taken c.args.out.now) (g.W.Sink.faults c.args.out.now))
     (streams (g.R.Source.left c.args.source.now) (g.R.Source.faults c.args.source.now) (g.W.Sink.taken c.drill.new.out) (g.W.Sink.faults c.drill.new.out))
-    _ _ (unread_same _ _ _ _ _ _) c.drill.ensures.stops
+    _ _ c.in-Drill.is (unread_same _ _ _ _ _ _) c.drill.ensures.stops
 
 pub returns-in-Drill-clause-uncalled : goal.returns-in-Drill-clause-uncalled
 returns-in-Drill-clause-uncalled g c =
