@@ -119,7 +119,7 @@ fn rows_of(rows: &[Row], task: u32) -> u128 {
 fn assert_worked(rt: &impl Abort, left: &Left, failed: Option<u32>) {
     let [first, second] = &left.ran;
     for ((used, faults), task) in left.jobs.into_iter().zip([A, B, C]) {
-        let rows = rows_of(first, task) + rows_of(second, task);
+        let rows = rows_of(first, task).saturating_add(rows_of(second, task));
         let missed = if failed == Some(task) { 1 } else { 0 };
         assert_eq!(rt; used, rows.saturating_sub(missed).saturating_mul(3));
         assert_eq!(rt; u128::from(faults), missed);
