@@ -90,7 +90,7 @@ fn kits_of(alloc: Global, fails: &[u64]) -> Result<Vec<Kit<ListGate>>, NoMemory>
     ensures { IfOk result (λ kits. AreFirstGates 32 (gates_of (λ g. Some g.ran) (λ g. g.faults) kits.items)) }
 {
     let mut kits = Vec::new(alloc);
-    for p in 0..32 {
+    for p in 0..32_u32 {
         let calls = if p == 1 { fails } else { &[] };
         kits.push(Kit::new(ListGate::new(alloc, 3, calls)?))?;
     }

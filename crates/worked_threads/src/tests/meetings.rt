@@ -35,7 +35,7 @@ fn kits_of<X: Clock + Copy>(
     let second = Arc::new(alloc, AtomicU64::new(0))?;
     let other = Arc::new(alloc, AtomicU64::new(0))?;
     let mut kits = Vec::new(alloc);
-    for p in 0..32 {
+    for p in 0..32_u32 {
         let gate = match p {
             0 => PatientGate::new(rt, &first, &second, waits[0])?,
             1 => PatientGate::new(rt, &second, &first, waits[1])?,
