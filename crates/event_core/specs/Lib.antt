@@ -1,4 +1,5 @@
 pub mod Rounds
+pub mod Serving
 pub mod Cores
 pub mod Steps
 pub mod States

@@ -1,2 +1,4 @@
 pub mod NextLemmas
 pub mod TurnLemmas
+pub mod OrderLemmas
+pub mod BegunLemmas

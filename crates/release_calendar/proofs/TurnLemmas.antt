@@ -7,8 +7,15 @@ use Rattle.run_tree.specs.Windows.{window_begin, window_end}
 use Rattle.run_tree.specs.Tree.{IsMember, kind_at, is_pack}
 use Rattle.run_tree.specs.Plans.{PlanContents, IsPlan, boundary_of}
 use Rattle.run_tree.proofs.WindowLemmas.{begin_is, end_is, windows_of, same_IsBegin}
-use Rattle.release_calendar.specs.Calendars.{CalendarContents, HasWindow, IsNext, BelongsTo, AreReady, AreTurned}
+use Rattle.release_calendar.specs.Calendars.{CalendarContents, HasWindow, IsNext, PacksNeverEnd, BelongsTo, AreReady, AreTurned}
 use Rattle.release_calendar.proofs.NextLemmas.{have, next-le-end}
+
+-- a turn of a node leaves what stands at packs
+pub packs_kept : (p : PlanContents) (ends ends' : List ℕ) (x : ℕ) → (is_pack (kind_at p.tree x) ≡ true → get_or ends' x 0 ≡ get_or ends x 0) → ((y : ℕ) → (y ≡ x → ⊥) → get_or ends' y 0 ≡ get_or ends y 0) → PacksNeverEnd p.tree ends → PacksNeverEnd p.tree ends'
+packs_kept p ends ends' x own others packs y i = elim (cases_eq y x) [
+  | inl same ↦ (let P : ℕ → Type 0 = λ z. is_pack (kind_at p.tree z) ≡ true → get_or ends' z 0 ≡ get_or ends z 0 in subst P (sym same) own i.1 ∙ packs y i)
+  | inr ne ↦ others y ne ∙ packs y i
+]
 
 module _ (p : PlanContents) (h : IsPlan p) where
   -- a window begins at its first boundary
@@ -104,13 +111,13 @@ module _ (p : PlanContents) (h : IsPlan p) where
       same_number v = eq-eqb v v refl
 
   -- what is written belongs to the plan
-  pub belongs_written : {Z : Type 0} (vb ve : Vec ℕ Z) (begins ends : List ℕ) (u d : ℕ) → u ≤ p.set.horizon → length begins ≡ length p.tree.nodes → length ends ≡ length p.tree.nodes →
+  pub belongs_written : {Z : Type 0} (vb ve : Vec ℕ Z) (begins ends begun : List ℕ) (u d : ℕ) → u ≤ p.set.horizon → length begins ≡ length p.tree.nodes → length ends ≡ length p.tree.nodes →
       length vb.items ≡ length begins → length ve.items ≡ length ends →
-      ((x : ℕ) → IsMember p.tree x → HasWindow p begins ends u x) → IsNext p.set.tasks u d →
-      BelongsTo p (record { unit = u; next = d; begins = (with_items vb begins).items; ends = (with_items ve ends).items })
-  belongs_written vb ve begins ends u d early b e sb se w n =
-      let P : List ℕ → List ℕ → Type 0 = λ xs ys. BelongsTo p (record { unit = u; next = d; begins = xs; ends = ys }) in
+      ((x : ℕ) → IsMember p.tree x → HasWindow p begins ends u x) → PacksNeverEnd p.tree ends → IsNext p.set.tasks u d →
+      BelongsTo p (record { unit = u; next = d; begins = (with_items vb begins).items; ends = (with_items ve ends).items; begun = begun })
+  belongs_written vb ve begins ends begun u d early b e sb se w packs n =
+      let P : List ℕ → List ℕ → Type 0 = λ xs ys. BelongsTo p (record { unit = u; next = d; begins = xs; ends = ys; begun = begun }) in
       let kb = vb.ok.0 in
       let ke = ve.ok.0 in
-      let whole : BelongsTo p (record { unit = u; next = d; begins = begins; ends = ends }) = record { unit_fits = early; begins_long = b; ends_long = e; windows = w; next = n } in
+      let whole : BelongsTo p (record { unit = u; next = d; begins = begins; ends = ends; begun = begun }) = record { unit_fits = early; begins_long = b; ends_long = e; windows = w; packs = packs; next = n } in
       subst₂ P (sym (with_items_is vb begins (omega (arith, kb, sb)))) (sym (with_items_is ve ends (omega (arith, ke, se)))) whole

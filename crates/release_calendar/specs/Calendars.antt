@@ -1,18 +1,22 @@
 -- Calendars, and how they belong to a plan.
-use Rattle.std.specs.Prelude.{◌≡◌, ℕ, ◌<◌, ◌≤◌, ◌^◌, ◌⊎◌, true, false, List, length, slice_index}
+use Rattle.std.specs.Prelude.{◌≡◌, ℕ, ◌<◌, ◌≤◌, ◌^◌, ◌⊎◌, ◌+◌, ◌==◌, ◌&&◌, not, Bool, true, false, List, [], ◌∷◌, length, slice_index, slice_index_or}
+use Rattle.knockout.specs.Knockouts.{never}
+use Rattle.sched_base.specs.Counting.{bit}
 use Rattle.sched_base.specs.declared.sets.Task as declared
 use Rattle.sched_base.specs.Sets.{task_at}
 use Rattle.run_tree.specs.Windows.{window_begin, window_end}
-use Rattle.run_tree.specs.Tree.{Tree, IsLeaf, IsMember}
-use Rattle.run_tree.specs.Boundaries.{task_boundary}
+use Rattle.sched_base.specs.Boundaries.{task_boundary}
+use Rattle.run_tree.specs.Tree.{Tree, kind_at, is_pack, IsPack, IsLeaf, IsMember}
 use Rattle.run_tree.specs.Plans.{PlanContents, boundary_of}
 
--- the present unit, the next unit with a boundary of a task, and the window of each leaf and dual, by its number
+-- the present unit, the next unit with a boundary of a task, the window of each leaf and dual, by its number, and the leaves
+-- and duals whose windows began at the present unit, once it was moved to
 pub record CalendarContents : Type 0 where
   pub unit : ℕ
   pub next : ℕ
   pub begins : List ℕ
   pub ends : List ℕ
+  pub begun : List ℕ
 
 -- leaf or dual x has its window of unit u
 pub record HasWindow (p : PlanContents) (begins ends : List ℕ) (u x : ℕ) : Type 0 where
@@ -26,13 +30,23 @@ pub record IsNext (tasks : List declared.Task) (u d : ℕ) : Type 0 where
   pub quiet : (j v : ℕ) → j < length tasks → u < v → v < d → task_boundary (task_at tasks j) v ≡ false
   pub here : (d ≡ 2 ^ 33) ⊎ ((j : ℕ) × (j < length tasks) × (task_boundary (task_at tasks j) d ≡ true))
 
+-- the ends at packs, which have no windows of their own here, never come
+abbrev pub PacksNeverEnd : Tree → List ℕ → Type 0
+PacksNeverEnd t ends = (x : ℕ) → IsPack t x → slice_index ends x ≡ never
+
 -- the calendar's windows, and its next unit, are those of the plan at its unit
 pub record BelongsTo (p : PlanContents) (c : CalendarContents) : Type 0 where
   pub unit_fits : c.unit ≤ p.set.horizon
   pub begins_long : length c.begins ≡ length p.tree.nodes
   pub ends_long : length c.ends ≡ length p.tree.nodes
   pub windows : (x : ℕ) → IsMember p.tree x → HasWindow p c.begins c.ends c.unit x
+  pub packs : PacksNeverEnd p.tree c.ends
   pub next : IsNext p.set.tasks c.unit c.next
+
+-- the list has all nodes that are marked, and no other
+pub record AreListed (due : List Bool) (begun : List ℕ) : Type 0 where
+  pub all : (x : ℕ) → slice_index_or due x false ≡ true → (k : ℕ) × (k < length begun) × (slice_index begun k ≡ x)
+  pub marked : (k : ℕ) → k < length begun → slice_index_or due (slice_index begun k) false ≡ true
 
 -- the ends fit 64 bits
 abbrev pub EndsFit : List ℕ → Type 0
@@ -53,6 +67,18 @@ pub record AreTurned (p : PlanContents) (begins ends begins' ends' : List ℕ) (
   pub done : (x : ℕ) → x < n → IsMember p.tree x → HasWindow p begins' ends' u x
   pub same_begin : (x : ℕ) → (x < n → ⊥) → slice_index begins' x ≡ slice_index begins x
   pub same_end : (x : ℕ) → (x < n → ⊥) → slice_index ends' x ≡ slice_index ends x
+
+-- while windows that end at unit u turn: each leaf or dual ends its window there or has its window of the unit, and those of
+-- the latter are marked whose window begins there
+pub record IsTurning (p : PlanContents) (begins ends : List ℕ) (due : List Bool) (u : ℕ) : Type 0 where
+  pub ready : AreReady p begins ends u
+  pub packs : PacksNeverEnd p.tree ends
+  pub marked : (x : ℕ) → x < length p.tree.nodes → slice_index_or due x false ≡ (not (is_pack (kind_at p.tree x)) && slice_index begins x == u)
+
+-- how many of these ends are at unit u
+abbrev pub ending : ℕ → List ℕ → ℕ
+ending u [] = 0
+ending u (end ∷ ends) = bit (end == u) + ending u ends
 
 -- the least end of the leaves below number n, or 2 ^ 33 where none is less
 pub record IsFirstEnd (t : Tree) (ends : List ℕ) (n d : ℕ) : Type 0 where

@@ -6,8 +6,9 @@ mod turns;
 ghost use Rattle.std.specs.Prelude.{◌≡◌, ℕ, ◌<◌, ◌≤◌, ◌&&◌, not, false, length, slice_index, slice_index_or, IfOk};
 ghost use Rattle.run_tree.specs.Tree.{kind_at, is_pack};
 ghost use Rattle.run_tree.specs.Plans.{boundary_of};
-ghost use Rattle.release_calendar.specs.Calendars.{BelongsTo};
+ghost use Rattle.release_calendar.specs.Calendars.{AreListed, BelongsTo};
 
+use knockout::Knockout;
 use run_tree::Plan;
 use sched_base::{NoMemory, NodeId};
 use std::alloc::Global;
@@ -20,17 +21,23 @@ pub struct Calendar {
     next: u64,
     begins: Vec<u64>,
     ends: Vec<u128>,
+    // The same ends, of which the first is known.
+    order: Knockout,
+    // Of these, the first `turned` have windows that began at the present unit.
+    begun: Vec<NodeId>,
+    turned: usize,
 }
 
 impl Model for Calendar {
-    ghost use Rattle.std.specs.Prelude.{◌≡◌, length};
+    ghost use Rattle.std.specs.Prelude.{◌≡◌, ◌≤◌, length, take};
+    ghost use Rattle.run_tree.specs.Tree.{numbers};
     ghost use Rattle.release_calendar.specs.Calendars.{CalendarContents, EndsFit};
 
     ghost Value = { CalendarContents };
 
-    ghost view = { λ c. record { unit = c.unit; next = c.next; begins = c.begins.items; ends = c.ends.items } };
+    ghost view = { λ c. record { unit = c.unit; next = c.next; begins = c.begins.items; ends = c.ends.items; begun = numbers (take c.turned c.begun.items) } };
 
-    ghost invariant = { λ c. (length c.ends.items ≡ length c.begins.items) × EndsFit c.ends.items };
+    ghost invariant = { λ c. (length c.ends.items ≡ length c.begins.items) × EndsFit c.ends.items × (c.order ≡ c.ends.items) × (length c.begun.items ≡ length c.begins.items) × (c.turned ≤ length c.begun.items) };
 }
 
 impl Calendar {
@@ -41,12 +48,16 @@ impl Calendar {
         let count = plan.tree().nodes() as usize;
         let mut begins = turns::first_begins(alloc, count)?;
         let mut ends = turns::first_ends(alloc, count)?;
-        let next = turns::turn(plan, 0, &mut begins, &mut ends);
+        let begun = turns::no_nodes(alloc, count)?;
+        let (next, order) = turns::turn_first(alloc, plan, &mut begins, &mut ends)?;
         Ok(Calendar {
             unit: 0,
             next,
             begins,
             ends,
+            order,
+            begun,
+            turned: 0,
         })
     }
 
@@ -66,12 +77,37 @@ impl Calendar {
         ensures unit { self.new.unit ≡ self.old.next }
         ensures belongs { BelongsTo plan.now self.new }
         ensures due { (x : ℕ) → x < length plan.now.tree.nodes → slice_index_or due.new x false ≡ (not (is_pack (kind_at plan.now.tree x)) && boundary_of plan.now x self.old.next) }
+        ensures begun { AreListed due.new self.new.begun }
     {
         let _lawful = plan.tree();
         let at = self.next;
-        let next = turns::turn_marked(plan, at, &mut self.begins, &mut self.ends, due);
+        let (next, turned) = turns::turn_marked(
+            plan,
+            at,
+            &mut self.begins,
+            &mut self.ends,
+            &mut self.order,
+            due,
+            &mut self.begun,
+        );
         self.unit = at;
         self.next = next;
+        self.turned = turned;
+    }
+
+    /// How many leaves and duals have windows that began at the present unit, once it was moved to.
+    pub fn begun_count(&self) -> usize
+        ensures { result ≡ length self.now.begun }
+    {
+        self.turned
+    }
+
+    /// Leaf or dual k of these, in the order in which the earlier windows ended.
+    pub fn begun(&self, k: usize) -> NodeId
+        requires { k < length self.now.begun }
+        ensures { result.0 ≡ slice_index self.now.begun k }
+    {
+        turns::node_at(&self.begun, self.turned, k)
     }
 
     /// The window of leaf or dual n, in units: its begin, and its end, which is excluded.

@@ -1,10 +1,12 @@
 //! How windows turn: those that end at a unit are followed by the next ones.
-ghost use Rattle.std.specs.Prelude.{◌≡◌, ℕ, ◌<◌, ◌≤◌, ◌&&◌, ◌==◌, not, true, false, length, replicate, slice_index, slice_index_or, IfOk};
+ghost use Rattle.std.specs.Prelude.{◌≡◌, ◌≢◌, ℕ, ◌<◌, ◌≤◌, ◌^◌, ◌+◌, ◌++◌, ◌&&◌, [], ◌∷◌, not, true, false, length, replicate, take, slice_index, slice_index_or, slice_set, IfOk};
 ghost use Rattle.run_tree.specs.Windows.{window_end};
-ghost use Rattle.run_tree.specs.Tree.{kind_at, is_pack, is_leaf, IsMember};
+ghost use Rattle.run_tree.specs.Tree.{kind_at, is_pack, is_leaf, numbers, IsMember};
 ghost use Rattle.run_tree.specs.Plans.{IsPlan, boundary_of};
-ghost use Rattle.release_calendar.specs.Calendars.{HasWindow, EndsFit, AreReady, AreTurned, IsFirstEnd, IsNext};
+ghost use Rattle.knockout.specs.Knockouts.{IsFirst, never};
+ghost use Rattle.release_calendar.specs.Calendars.{HasWindow, EndsFit, PacksNeverEnd, AreListed, AreReady, AreTurned, IsTurning, IsFirstEnd, IsNext};
 
+use knockout::{Entry, Knockout, NEVER};
 use run_tree::{Kind, Plan, next_boundary};
 use sched_base::{NoMemory, NodeId};
 use std::alloc::Global;
@@ -24,6 +26,24 @@ pub(crate) fn first_ends(alloc: Global, count: usize) -> Result<Vec<u128>, NoMem
     ensures { IfOk result (λ v. v.items ≡ replicate count 0) }
 {
     Ok(vec![in alloc; 0u128; count]?)
+}
+
+/// Room for as many nodes.
+pub(crate) fn no_nodes(alloc: Global, count: usize) -> Result<Vec<NodeId>, NoMemory>
+    ensures { IfOk result (λ v. length v.items ≡ count) }
+{
+    Ok(vec![in alloc; NodeId(0); count]?)
+}
+
+/// Node k of the first `count`.
+#[tactic(auto, using(crate::proofs::BegunLemmas::node_among))]
+pub(crate) fn node_at(begun: &[NodeId], count: usize, k: usize) -> NodeId
+    requires count { count ≤ length begun.now }
+    requires node { k < length (numbers (take count begun.now)) }
+    ensures { result.0 ≡ slice_index (numbers (take count begun.now)) k }
+{
+    let _count = count;
+    begun[k]
 }
 
 // Whether node n is a leaf or a dual.
@@ -59,6 +79,7 @@ fn turn_node(plan: &Plan, n: NodeId, at: u64, begins: &mut [u64], ends: &mut [u1
     ensures turned { is_pack (kind_at plan.now.tree n.0) ≡ false → slice_index ends.old n.0 ≡ at → (slice_index begins.new n.0 ≡ at) × (slice_index ends.new n.0 ≡ window_end (boundary_of plan.now n.0) at) }
     ensures kept { is_pack (kind_at plan.now.tree n.0) ≡ false → (slice_index ends.old n.0 ≡ at → ⊥) → (slice_index begins.new n.0 ≡ slice_index begins.old n.0) × (slice_index ends.new n.0 ≡ slice_index ends.old n.0) }
     ensures others { (x : ℕ) → (x ≡ n.0 → ⊥) → (slice_index begins.new x ≡ slice_index begins.old x) × (slice_index ends.new x ≡ slice_index ends.old x) }
+    ensures packs { is_pack (kind_at plan.now.tree n.0) ≡ true → slice_index ends.new n.0 ≡ slice_index ends.old n.0 }
     ensures fit { EndsFit ends.old → EndsFit ends.new }
 {
     if is_member(plan, n) {
@@ -76,6 +97,7 @@ fn turn_all(plan: &Plan, at: u64, begins: &mut [u64], ends: &mut [u128])
     requires ends { length ends.old ≡ length plan.now.tree.nodes }
     requires ready { AreReady plan.now begins.old ends.old at }
     ensures turned { AreTurned plan.now begins.old ends.old begins.new ends.new at (length plan.now.tree.nodes) }
+    ensures packs { PacksNeverEnd plan.now.tree ends.old → PacksNeverEnd plan.now.tree ends.new }
     ensures fit { EndsFit ends.old → EndsFit ends.new }
 {
     for x in 0..plan.tree().nodes() {
@@ -108,6 +130,7 @@ pub(crate) fn turn(plan: &Plan, at: u64, begins: &mut [u64], ends: &mut [u128]) 
     requires ready { AreReady plan.now begins.old ends.old at }
     ensures windows { (x : ℕ) → IsMember plan.now.tree x → HasWindow plan.now begins.new ends.new at x }
     ensures next { IsNext plan.now.set.tasks at result }
+    ensures packs { PacksNeverEnd plan.now.tree ends.old → PacksNeverEnd plan.now.tree ends.new }
     ensures fit { EndsFit ends.old → EndsFit ends.new }
 {
     let _lawful = plan.tree();
@@ -115,46 +138,185 @@ pub(crate) fn turn(plan: &Plan, at: u64, begins: &mut [u64], ends: &mut [u128]) 
     first_end(plan, ends)
 }
 
-// Whether node n is a leaf or a dual whose window begins at a unit.
-fn is_due(plan: &Plan, n: NodeId, at: u64, begins: &[u64]) -> bool
-    requires node { n.0 < length plan.now.tree.nodes }
-    requires begins { length begins.now ≡ length plan.now.tree.nodes }
-    ensures { result ≡ (not (is_pack (kind_at plan.now.tree n.0)) && slice_index begins.now n.0 == at) }
-{
-    is_member(plan, n) && begins[n.0 as usize] == at
-}
-
-// Marks the leaves and duals whose window begins at a unit.
-fn mark(plan: &Plan, at: u64, begins: &[u64], due: &mut [bool])
-    requires begins { length begins.now ≡ length plan.now.tree.nodes }
-    requires due { length due.old ≡ length plan.now.tree.nodes }
-    ensures { (x : ℕ) → x < length plan.now.tree.nodes → slice_index_or due.new x false ≡ (not (is_pack (kind_at plan.now.tree x)) && slice_index begins.now x == at) }
+// The ends of packs are no windows' ends: they never come.
+fn part_packs(plan: &Plan, ends: &mut [u128])
+    requires ends { length ends.old ≡ length plan.now.tree.nodes }
+    ensures members { (x : ℕ) → IsMember plan.now.tree x → slice_index ends.new x ≡ slice_index ends.old x }
+    ensures packs { PacksNeverEnd plan.now.tree ends.new }
+    ensures fit { EndsFit ends.old → EndsFit ends.new }
 {
     for x in 0..plan.tree().nodes() {
-        due[x as usize] = is_due(plan, NodeId(x), at, begins);
+        part_node(plan, NodeId(x), ends);
     }
 }
 
-/// The same as `turn`, and marks the leaves and duals that have a boundary at the unit.
+fn part_node(plan: &Plan, n: NodeId, ends: &mut [u128])
+    requires node { n.0 < length plan.now.tree.nodes }
+    requires ends { length ends.old ≡ length plan.now.tree.nodes }
+    ensures member { is_pack (kind_at plan.now.tree n.0) ≡ false → ends.new ≡ ends.old }
+    ensures pack { is_pack (kind_at plan.now.tree n.0) ≡ true → ends.new ≡ slice_set ends.old n.0 never }
+{
+    if !is_member(plan, n) {
+        ends[n.0 as usize] = u128::from(NEVER);
+    }
+}
+
+/// The windows of unit 0, the next unit with a boundary of a task, and the order of the ends.
+pub(crate) fn turn_first(
+    alloc: Global,
+    plan: &Plan,
+    begins: &mut [u64],
+    ends: &mut [u128],
+) -> Result<(u64, Knockout), NoMemory>
+    requires plan { IsPlan plan.now }
+    requires begins { length begins.old ≡ length plan.now.tree.nodes }
+    requires ends { length ends.old ≡ length plan.now.tree.nodes }
+    requires none { ends.old ≡ replicate (length plan.now.tree.nodes) 0 }
+    ensures windows { (x : ℕ) → IsMember plan.now.tree x → HasWindow plan.now begins.new ends.new 0 x }
+    ensures next { IfOk result (λ r. IsNext plan.now.set.tasks 0 r.0) }
+    ensures order { IfOk result (λ r. r.1 ≡ ends.new) }
+    ensures packs { PacksNeverEnd plan.now.tree ends.new }
+    ensures fit { EndsFit ends.new }
+{
+    let _lawful = plan.tree();
+    part_packs(plan, ends);
+    let next = turn(plan, 0, begins, ends);
+    let order = order_of(alloc, ends)?;
+    Ok((next, order))
+}
+
+// The ends in a knockout.
+fn order_of(alloc: Global, ends: &[u128]) -> Result<Knockout, NoMemory>
+    requires some { 1 ≤ length ends.now }
+    requires few { length ends.now < 2 ^ 32 }
+    requires fit { EndsFit ends.now }
+    ensures { IfOk result (λ order. order ≡ ends.now) }
+{
+    let mut order = Knockout::new(alloc, ends.len())?;
+    put_ends(&mut order, ends);
+    Ok(order)
+}
+
+fn put_ends(order: &mut Knockout, ends: &[u128])
+    requires long { length order.old ≡ length ends.now }
+    requires few { length ends.now < 2 ^ 32 }
+    requires fit { EndsFit ends.now }
+    ensures { order.new ≡ ends.now }
+{
+    for x in 0..ends.len() {
+        order.set(x as u32, ends[x] as u64);
+    }
+}
+
+// A leaf or dual gets the window that begins at a unit, and its mark.
+fn turn_due(
+    plan: &Plan,
+    n: NodeId,
+    at: u64,
+    begins: &mut [u64],
+    ends: &mut [u128],
+    order: &mut Knockout,
+    due: &mut [bool],
+)
+    requires node { n.0 < length plan.now.tree.nodes }
+    requires at { at ≤ plan.now.set.horizon }
+    requires begins { length begins.old ≡ length plan.now.tree.nodes }
+    requires ends { length ends.old ≡ length plan.now.tree.nodes }
+    requires order { length order.old ≡ length plan.now.tree.nodes }
+    requires due { length due.old ≡ length plan.now.tree.nodes }
+    ensures begins { begins.new ≡ slice_set begins.old n.0 at }
+    ensures ends { ends.new ≡ slice_set ends.old n.0 (window_end (boundary_of plan.now n.0) at) }
+    ensures order { order.new ≡ slice_set order.old n.0 (window_end (boundary_of plan.now n.0) at) }
+    ensures due { due.new ≡ slice_set due.old n.0 true }
+    ensures fits { window_end (boundary_of plan.now n.0) at < 2 ^ 64 }
+{
+    let end = next_boundary(plan, n, at);
+    begins[n.0 as usize] = at;
+    ends[n.0 as usize] = u128::from(end);
+    order.set(n.0, end);
+    due[n.0 as usize] = true;
+}
+
+// Puts a node behind the first `count`.
+#[tactic(auto, using(crate::proofs::BegunLemmas::one_more))]
+fn list_one(begun: &mut [NodeId], count: usize, n: NodeId)
+    requires { count < length begun.old }
+    ensures { numbers (take (count + 1) begun.new) ≡ numbers (take count begun.old) ++ n.0 ∷ [] }
+{
+    begun[count] = n;
+}
+
+// All windows that end at a unit turn, one by one, as they come first in the order, and their nodes are listed. The end that
+// then comes first, and how many turned.
+fn turn_in_order(
+    plan: &Plan,
+    at: u64,
+    begins: &mut [u64],
+    ends: &mut [u128],
+    order: &mut Knockout,
+    due: &mut [bool],
+    begun: &mut [NodeId],
+) -> (Entry, usize)
+    requires plan { IsPlan plan.now }
+    requires at { at ≤ plan.now.set.horizon }
+    requires begins { length begins.old ≡ length plan.now.tree.nodes }
+    requires ends { length ends.old ≡ length plan.now.tree.nodes }
+    requires due { length due.old ≡ length plan.now.tree.nodes }
+    requires order { order.old ≡ ends.old }
+    requires turning { IsTurning plan.now begins.old ends.old due.old at }
+    requires clear { (x : ℕ) → slice_index_or due.old x false ≡ false }
+    requires begun { length begun.old ≡ length plan.now.tree.nodes }
+    ensures order { order.new ≡ ends.new }
+    ensures turning { IsTurning plan.now begins.new ends.new due.new at }
+    ensures first { IsFirst ends.new result.0 }
+    ensures later { result.0.end ≢ at }
+    ensures fit { EndsFit ends.old → EndsFit ends.new }
+    ensures listed { AreListed due.new (numbers (take result.1 begun.new)) }
+    ensures count { result.1 ≤ length begun.new }
+{
+    let mut first = order.first();
+    let mut turned: usize = 0;
+    while first.end == at {
+        let n = NodeId(first.index);
+        turn_due(plan, n, at, begins, ends, order, due);
+        list_one(begun, turned, n);
+        turned += 1;
+        first = order.first();
+    }
+    (first, turned)
+}
+
+/// Gives each leaf and dual its window of a unit, where some end, and the others are those of the unit already, and marks
+/// and lists those that have a boundary there. The next unit with a boundary of a task, and how many are listed.
 pub(crate) fn turn_marked(
     plan: &Plan,
     at: u64,
     begins: &mut [u64],
     ends: &mut [u128],
+    order: &mut Knockout,
     due: &mut [bool],
-) -> u64
+    begun: &mut [NodeId],
+) -> (u64, usize)
     requires plan { IsPlan plan.now }
     requires at { at ≤ plan.now.set.horizon }
     requires begins { length begins.old ≡ length plan.now.tree.nodes }
     requires ends { length ends.old ≡ length plan.now.tree.nodes }
+    requires order { order.old ≡ ends.old }
     requires ready { AreReady plan.now begins.old ends.old at }
+    requires packs { PacksNeverEnd plan.now.tree ends.old }
+    requires earlier { (x : ℕ) → IsMember plan.now.tree x → slice_index begins.old x < at }
     requires due { length due.old ≡ length plan.now.tree.nodes }
+    requires begun { length begun.old ≡ length plan.now.tree.nodes }
     ensures windows { (x : ℕ) → IsMember plan.now.tree x → HasWindow plan.now begins.new ends.new at x }
-    ensures next { IsNext plan.now.set.tasks at result }
+    ensures next { IsNext plan.now.set.tasks at result.0 }
+    ensures order { order.new ≡ ends.new }
+    ensures packs { PacksNeverEnd plan.now.tree ends.new }
     ensures fit { EndsFit ends.old → EndsFit ends.new }
     ensures due { (x : ℕ) → x < length plan.now.tree.nodes → slice_index_or due.new x false ≡ (not (is_pack (kind_at plan.now.tree x)) && boundary_of plan.now x at) }
+    ensures listed { AreListed due.new (numbers (take result.1 begun.new)) }
+    ensures count { result.1 ≤ length begun.new }
 {
-    let next = turn(plan, at, begins, ends);
-    mark(plan, at, begins, due);
-    next
+    due.fill(false);
+    let (first, turned) = turn_in_order(plan, at, begins, ends, order, due, begun);
+    (first.end.min(NO_TASKS), turned)
 }

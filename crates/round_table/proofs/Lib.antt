@@ -1,4 +1,3 @@
-pub mod LaneLemmas
 pub mod PlanRounds
 pub mod RowNames
 pub mod TableRows

@@ -8,8 +8,8 @@ use Rattle.run_tree.specs.Plans.{IsPlan, PlanContents, stop_of}
 use Rattle.sched_laws.proofs.WholeRounds.{length-round, round_get, set_round}
 use Rattle.event_core.specs.Rounds.{IsRoundUpTo, rows_before, rows_of_round}
 use Rattle.event_core.proofs.RoundsInOrder.{next_rows}
-use Rattle.round_table.specs.Lanes.{lanes_of}
-use Rattle.round_table.proofs.LaneLemmas.{end_of-with_round, lane_of-lanes_of, lanes_of-round}
+use Rattle.sched_base.specs.Lanes.{lanes_of}
+use Rattle.sched_base.proofs.ScheduleLanes.{end_of-with_round, lane_of-lanes_of, lanes_of-round}
 
 -- all ticks of a plan's rounds fit
 pub stop_fits : (p : PlanContents) → IsPlan p → stop_of p < 2 ^ 127

@@ -19,7 +19,7 @@ use Rattle.run_tree.proofs.SetBoundaryLemmas.{set_leaves}
 use Rattle.sched_laws.proofs.PlacedPacks.{onto_within}
 use Rattle.sched_laws.proofs.RoundRows.{from_rounds, over_rounds}
 use Rattle.sched_laws.proofs.TaskRows.{leaf_in, leaf_in_runs}
-use Rattle.round_table.specs.Lanes.{NamesOneOf}
+use Rattle.sched_base.specs.Lanes.{NamesOneOf}
 
 -- a leaf as a row shows it names the same task
 shown_names : (tasks : List declared.Task) (scale start : ℕ) (l : Leaf) → NamesOneOf tasks l → NamesOneOf tasks (shown tasks scale start l)

@@ -4,7 +4,7 @@ ghost use Rattle.std.specs.List.{AllByRecursion};
 ghost use Rattle.sched_base.specs.Tables.{lane_of};
 ghost use Rattle.sched_base.specs.Valid.{IsValid};
 ghost use Rattle.run_tree.specs.Plans.{PlanContents, IsPlan, schedule_of, stop_of};
-ghost use Rattle.round_table.specs.Lanes.{NamesOneOf, lanes_of, rows_on};
+ghost use Rattle.sched_base.specs.Lanes.{NamesOneOf, lanes_of, rows_on};
 
 /// The rows of a plan's schedule are a valid schedule of its set up to its horizon. The table has a lane for each
 /// processor of the set, with the rows of the processor in their order and nothing else, and each row is one of these

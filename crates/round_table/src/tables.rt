@@ -4,7 +4,7 @@ ghost use Rattle.sched_base.specs.Tables.{all_rows, rounds_of as rounds_in};
 ghost use Rattle.sched_base.specs.Valid.{IsValid};
 ghost use Rattle.run_tree.specs.Plans.{rounds_of, schedule_of, stop_of};
 ghost use Rattle.event_core.specs.Cores.{IsCoreOf};
-ghost use Rattle.round_table.specs.Lanes.{lanes_of};
+ghost use Rattle.sched_base.specs.Lanes.{lanes_of};
 
 use event_core::Core;
 use run_tree::Plan;

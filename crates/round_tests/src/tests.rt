@@ -49,19 +49,27 @@ fn add(
     Ok(())
 }
 
-/// Gives node x the due of its window, where it is a leaf or a dual.
+/// How long the window of a leaf or dual is, in units.
+fn length_of_window(rt: &impl Abort, calendar: &Calendar, n: NodeId) -> u64
+    requires { n.0 < length calendar.now.begins }
+    ensures { result ≤ 2 ^ 33 }
+{
+    let (begin, end) = calendar.window(n);
+    assert!(rt; begin <= end && end - begin <= 8_589_934_592);
+    end - begin
+}
+
+/// Gives node x the due of its window, where it is a leaf or a dual. A pack has no window.
 fn refill(rt: &impl Abort, plan: &Plan, calendar: &Calendar, budgets: &mut Budgets, x: u32)
     requires node { x < length plan.now.tree.nodes }
     requires calendar { BelongsTo plan.now calendar.now }
 {
     let n = NodeId(x);
-    let (begin, end) = calendar.window(n);
-    assert!(rt; begin <= end && end - begin <= 8_589_934_592);
     assert!(rt; budgets.remains().len() == plan.tree().nodes() as usize);
     match plan.tree().kind(n) {
         Kind::Pack(_) => {}
-        Kind::Leaf(_) => budgets.refill(plan.tree(), n, end - begin),
-        Kind::Dual(_) => budgets.refill(plan.tree(), n, end - begin),
+        Kind::Leaf(_) => budgets.refill(plan.tree(), n, length_of_window(rt, calendar, n)),
+        Kind::Dual(_) => budgets.refill(plan.tree(), n, length_of_window(rt, calendar, n)),
     }
 }
 

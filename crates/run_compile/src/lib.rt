@@ -6,9 +6,11 @@ mod faults;
 mod higher;
 mod homes;
 mod level_0;
+mod migration;
 
 pub use compiler::{compile, levels};
 pub use faults::CompileFault;
+pub use migration::no_migration_law;
 
 #[cfg(test)]
 mod tests;

@@ -8,7 +8,8 @@ use Rattle.sched_base.specs.declared.rows.Leaf.TheVariants.{Empty, Idle, Task, W
 use Rattle.sched_base.specs.Sets.{IsLawfulTask, task_at}
 use Rattle.run_tree.specs.Windows.{HasBoundaries}
 use Rattle.run_tree.specs.Tree.{Tree, leaf}
-use Rattle.run_tree.specs.Boundaries.{HaveBoundaries, set_boundary, task_boundary}
+use Rattle.sched_base.specs.Boundaries.{task_boundary}
+use Rattle.run_tree.specs.Boundaries.{HaveBoundaries, set_boundary}
 use Rattle.run_tree.specs.TreeOfSet.{HoldsTasks, is_real}
 use Rattle.sched_base.specs.declared.sets.Task as declared
 

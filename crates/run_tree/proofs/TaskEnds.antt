@@ -6,7 +6,8 @@ use Rattle.sched_base.specs.declared.rows.Leaf.TheVariants.{Idle}
 use Rattle.sched_base.specs.declared.sets.Task as declared
 use Rattle.sched_base.specs.Sets.{IsLawfulTask}
 use Rattle.run_tree.specs.Windows.{window_end}
-use Rattle.run_tree.specs.Boundaries.{task_boundary, set_boundary}
+use Rattle.sched_base.specs.Boundaries.{task_boundary}
+use Rattle.run_tree.specs.Boundaries.{set_boundary}
 use Rattle.run_tree.proofs.WindowLemmas.{IsEnd, end_is, same_IsEnd}
 use Rattle.run_tree.proofs.SetBoundaryLemmas.{offset_at, offset_multiples, multiples, mod_itself, idle_late}
 

@@ -1,9 +1,10 @@
 -- The boundaries of a tree's nodes, in units. What the boundaries of a leaf are is a parameter, `of_leaf`.
-use Rattle.std.specs.Prelude.{ℕ, zero, suc, ◌-◌, ◌%◌, ◌^◌, ◌==◌, ◌&&◌, ◌||◌, nat_le, Bool, true, false, List, [], ◌∷◌}
+use Rattle.std.specs.Prelude.{ℕ, zero, suc, ◌%◌, ◌^◌, ◌==◌, Bool, true, false, List, [], ◌∷◌}
 use Rattle.sched_base.specs.declared.rows.Leaf.{Leaf}
 use Rattle.sched_base.specs.declared.rows.Leaf.TheVariants.{Task, Wait, Idle, Empty}
 use Rattle.sched_base.specs.declared.sets.Task as declared
 use Rattle.sched_base.specs.Sets.{task_at}
+use Rattle.sched_base.specs.Boundaries.{task_boundary}
 use Rattle.run_tree.specs.declared.kinds.Kind.{Kind}
 use Rattle.run_tree.specs.declared.kinds.Kind.TheVariants as kind
 use Rattle.run_tree.specs.Tree.{Tree, kind_at, leaf, level, primal, members, IsLeaf}
@@ -37,10 +38,6 @@ is_boundary of_leaf t x u = node_boundary of_leaf t x (kind_at t x) u
 -- all that the laws use of the boundaries of leaves
 abbrev pub HaveBoundaries : (Leaf → ℕ → Bool) → Tree → Type 0
 HaveBoundaries of_leaf t = (x : ℕ) → IsLeaf t x → HasBoundaries (of_leaf (leaf t x))
-
--- a task has boundaries at 0, at its offset, and a period after each further one
-abbrev pub task_boundary : declared.Task → ℕ → Bool
-task_boundary task u = u == 0 || (nat_le task.offset u && (u - task.offset) % task.period == 0)
 
 -- the boundaries of a set's leaves; an idle leaf has them at the multiples of 2 ^ 33
 abbrev pub set_boundary : List declared.Task → Leaf → ℕ → Bool

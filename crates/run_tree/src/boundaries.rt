@@ -3,7 +3,8 @@ ghost use Rattle.std.specs.Prelude.{◌≡◌, ◌≤◌, ◌<◌, ◌^◌, ℕ,
 ghost use Rattle.std.specs.List.{AllByRecursion};
 ghost use Rattle.sched_base.specs.Sets.{IsLawful, IsLawfulTask};
 ghost use Rattle.run_tree.specs.Windows.{window_end};
-ghost use Rattle.run_tree.specs.Boundaries.{task_boundary, set_boundary};
+ghost use Rattle.sched_base.specs.Boundaries.{task_boundary};
+ghost use Rattle.run_tree.specs.Boundaries.{set_boundary};
 ghost use Rattle.run_tree.specs.TreeOfSet.{IsKnown};
 ghost use Rattle.run_tree.specs.Plans.{boundary_of};
 

@@ -4,7 +4,9 @@ pub mod Sets
 pub mod Scale
 pub mod Rows
 pub mod Valid
+pub mod Boundaries
 pub mod Tables
+pub mod Lanes
 pub mod Fronts
 pub mod Candidates
 pub mod Places

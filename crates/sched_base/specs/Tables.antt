@@ -111,3 +111,7 @@ pub record IsHeld (lanes : List LaneHeld) (room : ℕ) : Type 0 where
   pub few : length lanes < 2 ^ 32
   pub table : IsTable (rows_of lanes)
   pub reserved : HaveRoom room lanes
+
+-- how many rows a schedule may have
+abbrev pub row_limit : ℕ
+row_limit = 2097152

@@ -29,7 +29,8 @@ pub enum Leaf {
 #[derive(Clone, Copy, Debug, PartialEq, Eq)]
 pub struct Row {
     pub processor: u32,
+    // beside the processor, where it fits without a gap: a row takes 48 bytes and not 64
+    pub leaf: Leaf,
     pub start: u128,
     pub end: u128,
-    pub leaf: Leaf,
 }

@@ -12,7 +12,8 @@ use Rattle.sched_base.specs.Rows.{is_of_task}
 use Rattle.sched_base.proofs.BoolLemmas.{same_Bool}
 use Rattle.sched_base.proofs.RowLemmas.{is_of_task_same}
 use Rattle.run_tree.specs.Tree.{IsLeaf, IsTree, Tree, is_leaf, kind_at, leaf}
-use Rattle.run_tree.specs.Boundaries.{set_boundary, task_boundary}
+use Rattle.sched_base.specs.Boundaries.{task_boundary}
+use Rattle.run_tree.specs.Boundaries.{set_boundary}
 use Rattle.run_tree.specs.Rounds.{is_event, is_task, task_begins}
 use Rattle.run_tree.specs.Schedule.{shown}
 use Rattle.run_tree.specs.TreeOfSet.{task_id}

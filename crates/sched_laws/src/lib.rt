@@ -5,6 +5,7 @@
 //! is a boundary and that one comes within 2^33 units of each unit.
 #![tactic(auto)]
 
+mod boundaries;
 mod height;
 mod levels;
 mod migration;
@@ -13,6 +14,7 @@ mod servers;
 mod stillness;
 mod validity;
 
+pub use boundaries::boundaries_law;
 pub use height::height_law;
 pub use levels::{count_law, levels_law};
 pub use migration::one_level_law;

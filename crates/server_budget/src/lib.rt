@@ -1,11 +1,14 @@
 //! What is left of each due: of the ticks that a leaf or a dual is given in its window, those that it hasn't run yet.
 #![tactic(auto)]
 
+mod dues;
+
 ghost use Rattle.std.specs.Prelude.{◌≡◌, ℕ, ◌<◌, ◌≤◌, ◌^◌, ◌*◌, ◌-◌, not, true, length, replicate, slice_index, slice_set, IfOk};
 ghost use Rattle.sched_base.specs.Counting.{bit};
 ghost use Rattle.run_tree.specs.Tree.{kind_at, is_pack, rate, IsMember};
 ghost use Rattle.server_budget.specs.Spent.{spends, IsSpent};
 
+pub use dues::Dues;
 use run_tree::{Kind, Tree};
 use sched_base::{NoMemory, NodeId};
 use std::alloc::Global;
@@ -39,7 +42,8 @@ impl Budgets {
     pub fn budget_of(tree: &Tree, n: NodeId, units: u64) -> u128
         requires node { n.0 < length tree.now.nodes }
         requires units { units ≤ 2 ^ 33 }
-        ensures { result ≡ rate tree.now n.0 * units }
+        ensures value { result ≡ rate tree.now n.0 * units }
+        ensures fits { result ≤ 2 ^ 127 }
     {
         let _lawful = tree.scale();
         tree.rate(n) * u128::from(units)

@@ -1,8 +1,8 @@
 use Rattle.std.proofs.Common.{◌∙◌}
 use Rattle.run_tree.specs.Plans.{schedule_of}
 use Rattle.sched_laws.proofs.ValidRows.{set_valid}
-use Rattle.round_table.specs.Lanes.{NamesOneOf}
-use Rattle.round_table.proofs.LaneLemmas.{lane_of-lanes_of, lanes_of-all, length-lanes_of}
+use Rattle.sched_base.specs.Lanes.{NamesOneOf}
+use Rattle.sched_base.proofs.ScheduleLanes.{lane_of-lanes_of, lanes_of-all, length-lanes_of}
 use Rattle.round_table.proofs.RowNames.{schedule_names}
 use Rattle.round_table.proofs.TableRows.{schedule_within}
 use Rattle.round_table.proofs.laws.table_law.Goals as goal

@@ -6,8 +6,8 @@ use Rattle.event_core.specs.Rounds.{rounds_before, rows_before, rows_of_round}
 use Rattle.event_core.proofs.NextCores.{event_before_end}
 use Rattle.event_core.proofs.RoundsInOrder.{more_rounds, next_rounds, no_rounds, no_rows}
 use Rattle.sched_laws.proofs.WholeRounds.{length-round}
-use Rattle.round_table.specs.Lanes.{lanes_of}
-use Rattle.round_table.proofs.LaneLemmas.{lanes_of-none, length-lanes_of}
+use Rattle.sched_base.specs.Lanes.{lanes_of}
+use Rattle.sched_base.proofs.ScheduleLanes.{lanes_of-none, length-lanes_of}
 use Rattle.round_table.proofs.PlanRounds.{is_round, next_count, next_end, next_lanes, no_end, no_round}
 use Rattle.round_table.proofs.tables.push_rounds.Goals as goal
 

@@ -3,7 +3,7 @@ use Rattle.sched_base.specs.Tables.{end_of, rounds_of as rounds_in}
 use Rattle.run_tree.specs.Plans.{rounds_of, stop_of}
 use Rattle.event_core.specs.Rounds.{rounds_before, rows_before}
 use Rattle.event_core.specs.Cores.{IsCoreOf}
-use Rattle.round_table.specs.Lanes.{lanes_of}
+use Rattle.sched_base.specs.Lanes.{lanes_of}
 use Rattle.round_table.proofs.tables.push_rounds.Given as goal
 
 abbrev pub invariant-rounds : goal.invariant-rounds

@@ -1,0 +1,15 @@
+use Rattle.std.proofs.Common.{ap₂, refl, ◌∙◌}
+use Rattle.sched_base.specs.Places.{unplaced}
+use Rattle.event_core.proofs.NextCores.{first_core}
+use Rattle.event_core.proofs.firsts.first_state.Goals as goal
+
+pub returns : goal.returns
+returns c = (
+  c.in_ok-dues.ensures.tick,
+  record {
+    at = first_core c.args.plan.now c.requires.plan c.in_ok-calendar.calendar c.in_ok-calendar.ensures.1 c.in_ok-calendar.ensures.0 c.in_ok-dues.dues.remains c.in_ok-dues.ensures.nodes c.in_ok-dues.ensures.left
+        c.in_ok-places.places (c.in_ok-places.ensures ∙ ap₂ unplaced c.pack_count.ensures c.processor_count.ensures.value) c.in_ok-dues.dues.tick c.in_ok-dues.ensures.tick c.in_ok-dues.dues.runs c.in_ok-dues.serving;
+    long = c.in_ok-dues.ensures.long;
+    serving = c.in_ok-dues.ensures.serving;
+  },
+)

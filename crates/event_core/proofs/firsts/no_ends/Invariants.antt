@@ -1,0 +1,7 @@
+use Rattle.std.proofs.Common.{◌≡◌, ◌<◌, ℕ, [], get_or, length, replicate}
+use Rattle.run_tree.specs.Tree.{IsPack, members}
+use Rattle.knockout.specs.Knockouts.{never}
+use Rattle.event_core.proofs.firsts.no_ends.Given as goal
+
+abbrev pub invariant-loop-x : goal.invariant-loop-x
+invariant-loop-x l = (length l.ready.items ≡ l.x) × ((p : ℕ) → p < l.x → IsPack l.plan.tree p → get_or l.ready.items p [] ≡ replicate (length (members l.plan.tree p)) never)

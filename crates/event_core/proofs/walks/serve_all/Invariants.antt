@@ -1,0 +1,12 @@
+use Rattle.std.proofs.Common.{◌≡◌, ◌≤◌, length}
+use Rattle.tree_select.specs.Reselected.{AreFreshFrom}
+use Rattle.event_core.specs.Serving.{lists, IsServing}
+use Rattle.event_core.proofs.walks.serve_all.Given as goal
+
+abbrev pub invariant-loop-level : goal.invariant-loop-level
+invariant-loop-level l =
+    (l.level ≤ l.tree.levels) × (l.dues.tick ≡ l.fn.dues.tick) × (l.dues.remains ≡ l.fn.dues.remains) × (length l.dues.runs ≡ length l.fn.dues.runs)
+    × IsServing l.tree l.dues l.ends (lists l.ready l.serves l.dry l.stale l.runs) × AreFreshFrom l.tree l.stale l.level
+
+abbrev pub decreases-loop-level : goal.decreases-loop-level
+decreases-loop-level l = l.level

@@ -1,0 +1,28 @@
+use Rattle.std.proofs.Common.{arith, ap, length, refl, List, subst, sym, true, ℕ, ◌∙◌, eq-eqb}
+use Rattle.std.proofs.Math.ListN.{set}
+use Rattle.edf_pick.specs.Ready.{AreReady}
+use Rattle.sched_base.specs.Candidates.{is_at}
+use Rattle.tree_select.specs.Selected.{candidates}
+use Rattle.event_core.specs.Serving.{lists}
+use Rattle.event_core.proofs.ServingLemmas.{member_of}
+use Rattle.event_core.proofs.WalkLemmas.{ready_long, serving_step}
+use Rattle.event_core.proofs.walks.serve_pack.Goals as goal
+
+pub serve-next-requires-clause-ready : goal.serve-next-requires-clause-ready
+serve-next-requires-clause-ready c =
+    ap (λ (xs : List ℕ). length xs) c.ready_at.ensures ∙ ready_long c.args.tree.now c.args.dues.now.remains c.args.ends.now c.args.p.0 _ (c.requires.serving.picks c.args.p.0 c.requires.pack)
+
+pub dry_of-requires-clause-runs : goal.dry_of-requires-clause-runs
+dry_of-requires-clause-runs c = λ j e.
+    let l = c.serve-next.ensures.within j e in
+    c.serve-next.ensures.agree _ (member_of c.args.tree.now c.requires.tree c.args.p.0 c.requires.pack j l) ∙ c.serve-next.ensures.now j l ∙ ap (λ o. is_at o j) e ∙ eq-eqb j j refl
+
+pub returns-clause-serving : goal.returns-clause-serving
+returns-clause-serving c =
+    let b = c.requires.pack.0 in
+    let long = c.requires.serves in
+    let long' = c.requires.dry in
+    serving_step c.args.tree.now c.args.dues.now c.serve-next.new.dues c.args.ends.now (lists c.args.ready.now c.args.serves.now c.args.dry.now c.args.stale.now c.args.runs.now) (lists c.args.ready.now _ _ c.serve-next.new.stale c.serve-next.new.runs) c.args.p.0 c.serve-next.result
+    c.requires.pack (omega (arith, b, long)) (omega (arith, b, long')) c.serve-next.ensures.tick c.serve-next.ensures.remains refl refl (ap (λ (n : ℕ). set c.args.dry.now c.args.p.0 n) c.dry_of.ensures)
+    c.serve-next.ensures.within c.serve-next.ensures.now c.serve-next.ensures.others c.serve-next.ensures.agree c.serve-next.ensures.rest c.serve-next.ensures.unmarked c.serve-next.ensures.led
+    (c.serve-next.ensures.served c.args.ends.now (subst (λ (xs : List ℕ). AreReady (candidates c.args.tree.now c.args.dues.now.remains c.args.ends.now c.args.p.0) xs) (sym c.ready_at.ensures) (c.requires.serving.picks c.args.p.0 c.requires.pack)) c.requires.serving.served) c.requires.serving

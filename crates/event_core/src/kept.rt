@@ -1,0 +1,151 @@
+//! What a core keeps of packs and nodes from round to round.
+ghost use Rattle.std.specs.Prelude.{ℕ, [], ◌≡◌, ◌≢◌, ◌<◌, ◌≤◌, ◌^◌, length, replicate, false, None, slice_index, slice_index_or};
+ghost use Rattle.run_tree.specs.Tree.{IsMember, home, level as level_of, place};
+ghost use Rattle.run_tree.specs.Plans.{IsPlan};
+ghost use Rattle.run_tree.specs.Runs.{runs_now};
+ghost use Rattle.release_calendar.specs.Calendars.{BelongsTo};
+ghost use Rattle.tree_select.specs.Reselected.{AreFreshFrom};
+ghost use Rattle.event_core.specs.Serving.{due_of, AreBegun, AreFitting, AreLong, IsBlank, IsDrying, IsServing, IsSoonest};
+
+use crate::begun::begin_all;
+use crate::dried::run_dry;
+use crate::ends::first_dry;
+use crate::firsts::begin_first;
+use crate::walks::serve_all;
+use knockout::Knockout;
+use release_calendar::Calendar;
+use run_tree::Plan;
+use sched_base::NodeId;
+use server_budget::Dues;
+use std::marker::Model;
+
+/// Lists by the numbers of nodes.
+#[derive(Drop)]
+pub(crate) struct Serving {
+    // Of each pack, the ends of the members that have something left.
+    pub(crate) ready: Vec<Knockout>,
+    // The place of the member that runs.
+    pub(crate) serves: Vec<Option<u32>>,
+    // The tick at which that one has nothing left.
+    pub(crate) dry: Vec<u128>,
+    // Whether the pack is to be looked at.
+    pub(crate) stale: Vec<bool>,
+    // Whether the node runs.
+    pub(crate) runs: Vec<bool>,
+}
+
+impl Model for Serving {
+    ghost use Rattle.event_core.specs.Serving.{ServingContents, lists};
+
+    ghost Value = { ServingContents };
+
+    ghost view = { λ s. lists s.ready.items s.serves.items s.dry.items s.stale.items s.runs.items };
+}
+
+impl Serving {
+    /// Says again of each node whether it runs, and lets members stop and start.
+    pub(crate) fn select(&mut self, plan: &Plan, ends: &[u128], dues: &mut Dues)
+        requires long { AreLong plan.now.tree dues.old self.old }
+        requires fits { AreFitting plan.now.tree dues.old }
+        requires serving { IsServing plan.now.tree dues.old ends.now self.old }
+        ensures long { AreLong plan.now.tree dues.new self.new }
+        ensures tick { dues.new.tick ≡ dues.old.tick }
+        ensures remains { dues.new.remains ≡ dues.old.remains }
+        ensures serving { IsServing plan.now.tree dues.new ends.now self.new }
+        ensures fresh { AreFreshFrom plan.now.tree self.new.stale 0 }
+        ensures selected { (n : ℕ) → n < length plan.now.tree.nodes → slice_index_or self.new.runs n false ≡ runs_now plan.now.tree (λ x. slice_index dues.old.remains x) (λ x. slice_index ends.now x) n }
+    {
+        serve_all(
+            plan.tree(),
+            ends,
+            &self.ready,
+            &mut self.serves,
+            &mut self.dry,
+            dues,
+            &mut self.stale,
+            &mut self.runs,
+        );
+    }
+
+    /// The first of a tick and of those at which members that run have nothing left.
+    pub(crate) fn first_dry(&self, plan: &Plan, most: u128) -> u128
+        requires { length self.now.dry ≡ length plan.now.tree.nodes }
+        ensures { IsSoonest plan.now.tree self.now.dry (λ q. 0 ≤ level_of plan.now.tree q) most result }
+    {
+        first_dry(plan.tree(), &self.dry, most)
+    }
+
+    /// Members that ran dry at the present tick are ready no more, and their packs are marked.
+    pub(crate) fn run_dry(&mut self, plan: &Plan, ends: &[u128], dues: &Dues)
+        requires long { AreLong plan.now.tree dues.now self.old }
+        requires drying { IsDrying plan.now.tree dues.now ends.now self.old (λ q. ⊥) }
+        ensures long { AreLong plan.now.tree dues.now self.new }
+        ensures serving { IsServing plan.now.tree dues.now ends.now self.new }
+        ensures serves { self.new.serves ≡ self.old.serves }
+        ensures runs { self.new.runs ≡ self.old.runs }
+    {
+        run_dry(
+            plan.tree(),
+            ends,
+            dues,
+            &self.serves,
+            &self.dry,
+            &self.runs,
+            &mut self.ready,
+            &mut self.stale,
+        );
+    }
+
+    /// Windows that begin at the calendar's unit.
+    pub(crate) fn begin(&mut self, plan: &Plan, calendar: &Calendar, dues: &mut Dues)
+        requires plan { IsPlan plan.now }
+        requires calendar { BelongsTo plan.now calendar.now }
+        requires members { (k : ℕ) → k < length calendar.now.begun → IsMember plan.now.tree (slice_index calendar.now.begun k) }
+        requires early { dues.old.tick ≤ 2 ^ 126 }
+        requires remains { length dues.old.remains ≡ length plan.now.tree.nodes }
+        requires long { AreLong plan.now.tree dues.old self.old }
+        requires places { (x : ℕ) → IsMember plan.now.tree x → place plan.now.tree x < length (slice_index_or self.old.ready (home plan.now.tree x) []) }
+        ensures long { AreLong plan.now.tree dues.new self.new }
+        ensures tick { dues.new.tick ≡ dues.old.tick }
+        ensures dues { dues.new.runs ≡ dues.old.runs }
+        ensures serves { self.new.serves ≡ self.old.serves }
+        ensures dry { self.new.dry ≡ self.old.dry }
+        ensures runs { self.new.runs ≡ self.old.runs }
+        ensures begun { AreBegun plan.now.tree calendar.now.begins calendar.now.ends calendar.now.begun dues.old.remains self.old.ready self.old.stale dues.new.remains self.new.ready self.new.stale (length calendar.now.begun) }
+    {
+        begin_all(plan, calendar, dues, &mut self.ready, &mut self.stale);
+    }
+
+    /// The first windows of all leaves and duals begin.
+    pub(crate) fn begin_first(&mut self, plan: &Plan, calendar: &Calendar, dues: &mut Dues)
+        requires plan { IsPlan plan.now }
+        requires calendar { BelongsTo plan.now calendar.now }
+        requires first { dues.old.tick ≡ 0 }
+        requires remains { dues.old.remains ≡ replicate (length plan.now.tree.nodes) 0 }
+        requires dues { dues.old.runs ≡ replicate (length plan.now.tree.nodes) false }
+        requires blank { IsBlank plan.now.tree self.old }
+        ensures tick { dues.new.tick ≡ 0 }
+        ensures filled { (x : ℕ) → IsMember plan.now.tree x → slice_index dues.new.remains x ≡ due_of plan.now.tree calendar.now.begins calendar.now.ends x }
+        ensures nodes { length dues.new.remains ≡ length plan.now.tree.nodes }
+        ensures long { AreLong plan.now.tree dues.new self.new }
+        ensures serving { IsServing plan.now.tree dues.new calendar.now.ends self.new }
+    {
+        begin_first(plan, calendar, dues, &mut self.ready, &mut self.stale);
+    }
+
+    /// Whether node n runs.
+    pub(crate) fn runs(&self, n: NodeId) -> bool
+        requires { n.0 < length self.now.runs }
+        ensures { result ≡ slice_index_or self.now.runs n.0 false }
+    {
+        self.runs[n.0 as usize]
+    }
+
+    /// The place of the member of pack p that runs.
+    pub(crate) fn served(&self, p: NodeId) -> Option<u32>
+        requires { p.0 < length self.now.serves }
+        ensures { result ≡ slice_index_or self.now.serves p.0 None }
+    {
+        self.serves[p.0 as usize]
+    }
+}

@@ -1,0 +1,136 @@
+//! Which member of a pack runs, and what is left of its due.
+ghost use Rattle.std.specs.Prelude.{ℕ, List, ◌≡◌, ◌≢◌, ◌<◌, ◌≤◌, length, true, false, Some, slice_index_or};
+ghost use Rattle.sched_base.specs.Candidates.{is_at, earliest};
+ghost use Rattle.run_tree.specs.Tree.{IsTree, IsPack, IsMember, level, member, members};
+ghost use Rattle.edf_pick.specs.Ready.{AreReady};
+ghost use Rattle.tree_select.specs.Selected.{candidates};
+ghost use Rattle.tree_select.specs.Reselected.{AreLed, AreServed};
+ghost use Rattle.event_core.specs.Serving.{with_place, AreFitting, IsOver};
+
+use edf_pick::first_ready;
+use knockout::Knockout;
+use run_tree::Tree;
+use sched_base::NodeId;
+use server_budget::Dues;
+use tree_select::hand_over;
+
+// Member k of pack p, where there is one, stops.
+fn stop_place(tree: &Tree, p: NodeId, k: Option<u32>, dues: &mut Dues)
+    requires tree { IsTree tree.now }
+    requires pack { IsPack tree.now p.0 }
+    requires member { (j : ℕ) → k ≡ Some j → j < length (members tree.now p.0) }
+    requires nodes { length dues.old.runs ≡ length tree.now.nodes }
+    requires runs { (j : ℕ) → k ≡ Some j → slice_index_or dues.old.runs (member tree.now p.0 j) false ≡ true }
+    ensures tick { dues.new.tick ≡ dues.old.tick }
+    ensures remains { dues.new.remains ≡ dues.old.remains }
+    ensures runs { dues.new.runs ≡ with_place tree.now p.0 k false dues.old.runs }
+{
+    if let Some(k) = k {
+        dues.stop(id_of(tree, p, k));
+    }
+}
+
+// Member k of pack p, where there is one, starts.
+fn start_place(tree: &Tree, p: NodeId, k: Option<u32>, dues: &mut Dues)
+    requires tree { IsTree tree.now }
+    requires pack { IsPack tree.now p.0 }
+    requires member { (j : ℕ) → k ≡ Some j → j < length (members tree.now p.0) }
+    requires nodes { length dues.old.runs ≡ length tree.now.nodes }
+    requires rests { (j : ℕ) → k ≡ Some j → slice_index_or dues.old.runs (member tree.now p.0 j) false ≡ false }
+    requires fits { AreFitting tree.now dues.old }
+    ensures tick { dues.new.tick ≡ dues.old.tick }
+    ensures remains { dues.new.remains ≡ dues.old.remains }
+    ensures runs { dues.new.runs ≡ with_place tree.now p.0 k true dues.old.runs }
+{
+    if let Some(k) = k {
+        dues.start(id_of(tree, p, k));
+    }
+}
+
+// Member k of pack p.
+pub(crate) fn id_of(tree: &Tree, p: NodeId, k: u32) -> NodeId
+    requires tree { IsTree tree.now }
+    requires pack { IsPack tree.now p.0 }
+    requires member { k < length (members tree.now p.0) }
+    ensures value { result.0 ≡ member tree.now p.0 k }
+    ensures member { IsMember tree.now result.0 }
+{
+    tree.member(p, k as usize)
+}
+
+// Of pack p, the member at `was` stops, and the one at `next` starts.
+fn change_over(tree: &Tree, p: NodeId, was: Option<u32>, next: Option<u32>, dues: &mut Dues)
+    requires tree { IsTree tree.now }
+    requires pack { IsPack tree.now p.0 }
+    requires before { (j : ℕ) → was ≡ Some j → j < length (members tree.now p.0) }
+    requires after { (j : ℕ) → next ≡ Some j → j < length (members tree.now p.0) }
+    requires other { was ≢ next }
+    requires nodes { length dues.old.runs ≡ length tree.now.nodes }
+    requires runs { (j : ℕ) → j < length (members tree.now p.0) → slice_index_or dues.old.runs (member tree.now p.0 j) false ≡ is_at was j }
+    requires fits { AreFitting tree.now dues.old }
+    ensures tick { dues.new.tick ≡ dues.old.tick }
+    ensures remains { dues.new.remains ≡ dues.old.remains }
+    ensures over { IsOver tree.now p.0 next dues.old.runs dues.new.runs }
+{
+    stop_place(tree, p, was, dues);
+    start_place(tree, p, next, dues);
+}
+
+// The same, and nothing where it is the same member.
+fn change_if(tree: &Tree, p: NodeId, was: Option<u32>, next: Option<u32>, dues: &mut Dues)
+    requires tree { IsTree tree.now }
+    requires pack { IsPack tree.now p.0 }
+    requires before { (j : ℕ) → was ≡ Some j → j < length (members tree.now p.0) }
+    requires after { (j : ℕ) → next ≡ Some j → j < length (members tree.now p.0) }
+    requires nodes { length dues.old.runs ≡ length tree.now.nodes }
+    requires runs { (j : ℕ) → j < length (members tree.now p.0) → slice_index_or dues.old.runs (member tree.now p.0 j) false ≡ is_at was j }
+    requires fits { AreFitting tree.now dues.old }
+    ensures tick { dues.new.tick ≡ dues.old.tick }
+    ensures remains { dues.new.remains ≡ dues.old.remains }
+    ensures over { IsOver tree.now p.0 next dues.old.runs dues.new.runs }
+{
+    if was != next {
+        change_over(tree, p, was, next, dues);
+    }
+}
+
+/// Pack p, of whose members the one at `was` ran, serves the one that it picks now, where it runs; it returns which that is. What
+/// is left stays, and the list of the dues says the same of members as the list of all nodes.
+pub(crate) fn serve(
+    tree: &Tree,
+    p: NodeId,
+    ready: &Knockout,
+    was: Option<u32>,
+    dues: &mut Dues,
+    stale: &mut [bool],
+    runs: &mut [bool],
+) -> Option<u32>
+    requires tree { IsTree tree.now }
+    requires pack { IsPack tree.now p.0 }
+    requires ready { length ready.now ≡ length (members tree.now p.0) }
+    requires before { (j : ℕ) → was ≡ Some j → j < length (members tree.now p.0) }
+    requires nodes { length dues.old.runs ≡ length tree.now.nodes }
+    requires stale { length stale.old ≡ length tree.now.nodes }
+    requires runs { length runs.old ≡ length tree.now.nodes }
+    requires was { (j : ℕ) → j < length (members tree.now p.0) → slice_index_or runs.old (member tree.now p.0 j) false ≡ is_at was j }
+    requires agree { (x : ℕ) → IsMember tree.now x → slice_index_or dues.old.runs x false ≡ slice_index_or runs.old x false }
+    requires fits { AreFitting tree.now dues.old }
+    requires led { AreLed tree.now runs.old }
+    ensures now { (j : ℕ) → j < length (members tree.now p.0) → slice_index_or runs.new (member tree.now p.0 j) false ≡ is_at result j }
+    ensures within { (j : ℕ) → result ≡ Some j → j < length (members tree.now p.0) }
+    ensures nodes { length dues.new.runs ≡ length dues.old.runs }
+    ensures tick { dues.new.tick ≡ dues.old.tick }
+    ensures remains { dues.new.remains ≡ dues.old.remains }
+    ensures agree { (x : ℕ) → IsMember tree.now x → slice_index_or dues.new.runs x false ≡ slice_index_or runs.new x false }
+    ensures rest { (x : ℕ) → (IsMember tree.now x → ⊥) → slice_index_or dues.new.runs x false ≡ slice_index_or dues.old.runs x false }
+    ensures led { AreLed tree.now runs.new }
+    ensures served { (ends : List ℕ) → AreReady (candidates tree.now dues.old.remains ends p.0) ready.now → AreServed tree.now dues.old.remains ends stale.old runs.old → AreServed tree.now dues.old.remains ends stale.new runs.new }
+    ensures others { (q j : ℕ) → IsPack tree.now q → q ≢ p.0 → j < length (members tree.now q) → slice_index_or runs.new (member tree.now q j) false ≡ slice_index_or runs.old (member tree.now q j) false }
+    ensures own { slice_index_or stale.new p.0 false ≡ false }
+    ensures unmarked { (q : ℕ) → IsPack tree.now q → q ≢ p.0 → slice_index_or stale.new q false ≡ false → slice_index_or stale.old q false ≡ false }
+    ensures marks { (q : ℕ) → IsPack tree.now q → q ≢ p.0 → level tree.now p.0 ≤ level tree.now q → slice_index_or stale.new q false ≡ slice_index_or stale.old q false }
+{
+    let next = hand_over(tree, p, was, first_ready(ready), stale, runs);
+    change_if(tree, p, was, next, dues);
+    next
+}

@@ -1,0 +1,186 @@
+//! The walk over the packs that are to be looked at again.
+ghost use Rattle.std.specs.Prelude.{ℕ, [], ◌≡◌, ◌≢◌, ◌+◌, ◌<◌, ◌≤◌, length, true, false, Some, slice_index, slice_index_or};
+ghost use Rattle.run_tree.specs.Tree.{IsTree, IsPack, member, members, level};
+ghost use Rattle.run_tree.specs.Schedule.{packs_at};
+ghost use Rattle.run_tree.specs.Runs.{runs_now};
+ghost use Rattle.tree_select.specs.Reselected.{AreFresh, AreFreshFrom};
+ghost use Rattle.event_core.specs.Serving.{dry_by, lists, AreFitting, IsServing};
+
+use crate::serving::{id_of, serve};
+use knockout::Knockout;
+use run_tree::Tree;
+use sched_base::NodeId;
+use server_budget::Dues;
+
+// The knockout of pack p.
+fn ready_at(ready: &[Knockout], p: NodeId) -> &Knockout
+    requires { p.0 < length ready.now }
+    ensures { result.now ≡ slice_index_or ready.now p.0 [] }
+{
+    &ready[p.0 as usize]
+}
+
+// The tick at which the member at this place of pack p, which runs, has nothing left.
+fn dry_of(tree: &Tree, p: NodeId, k: Option<u32>, dues: &Dues) -> u128
+    requires tree { IsTree tree.now }
+    requires pack { IsPack tree.now p.0 }
+    requires member { (j : ℕ) → k ≡ Some j → j < length (members tree.now p.0) }
+    requires nodes { length dues.now.runs ≡ length tree.now.nodes }
+    requires runs { (j : ℕ) → k ≡ Some j → slice_index_or dues.now.runs (member tree.now p.0 j) false ≡ true }
+    ensures { result ≡ dry_by tree.now dues.now p.0 k }
+{
+    match k {
+        None => u128::MAX,
+        Some(k) => dues.dry(id_of(tree, p, k)),
+    }
+}
+
+// Pack p serves the member that it picks now. The ends are only spoken of.
+fn serve_pack(
+    tree: &Tree,
+    p: NodeId,
+    ends: &[u128],
+    ready: &[Knockout],
+    serves: &mut [Option<u32>],
+    dry: &mut [u128],
+    dues: &mut Dues,
+    stale: &mut [bool],
+    runs: &mut [bool],
+)
+    requires tree { IsTree tree.now }
+    requires pack { IsPack tree.now p.0 }
+    requires ready { length ready.now ≡ length tree.now.nodes }
+    requires serves { length serves.old ≡ length tree.now.nodes }
+    requires dry { length dry.old ≡ length tree.now.nodes }
+    requires nodes { length dues.old.runs ≡ length tree.now.nodes }
+    requires stale { length stale.old ≡ length tree.now.nodes }
+    requires runs { length runs.old ≡ length tree.now.nodes }
+    requires fits { AreFitting tree.now dues.old }
+    requires serving { IsServing tree.now dues.old ends.now (lists ready.now serves.old dry.old stale.old runs.old) }
+    ensures tick { dues.new.tick ≡ dues.old.tick }
+    ensures remains { dues.new.remains ≡ dues.old.remains }
+    ensures nodes { length dues.new.runs ≡ length dues.old.runs }
+    ensures serving { IsServing tree.now dues.new ends.now (lists ready.now serves.new dry.new stale.new runs.new) }
+    ensures own { slice_index_or stale.new p.0 false ≡ false }
+    ensures marks { (q : ℕ) → IsPack tree.now q → q ≢ p.0 → level tree.now p.0 ≤ level tree.now q → slice_index_or stale.new q false ≡ slice_index_or stale.old q false }
+{
+    let _ends = ends.len();
+    let was = serves[p.0 as usize];
+    let next = serve(tree, p, ready_at(ready, p), was, dues, stale, runs);
+    serves[p.0 as usize] = next;
+    dry[p.0 as usize] = dry_of(tree, p, next, dues);
+}
+
+// The same, where the pack is marked.
+fn serve_marked(
+    tree: &Tree,
+    p: NodeId,
+    ends: &[u128],
+    ready: &[Knockout],
+    serves: &mut [Option<u32>],
+    dry: &mut [u128],
+    dues: &mut Dues,
+    stale: &mut [bool],
+    runs: &mut [bool],
+)
+    requires tree { IsTree tree.now }
+    requires pack { IsPack tree.now p.0 }
+    requires ready { length ready.now ≡ length tree.now.nodes }
+    requires serves { length serves.old ≡ length tree.now.nodes }
+    requires dry { length dry.old ≡ length tree.now.nodes }
+    requires nodes { length dues.old.runs ≡ length tree.now.nodes }
+    requires stale { length stale.old ≡ length tree.now.nodes }
+    requires runs { length runs.old ≡ length tree.now.nodes }
+    requires fits { AreFitting tree.now dues.old }
+    requires serving { IsServing tree.now dues.old ends.now (lists ready.now serves.old dry.old stale.old runs.old) }
+    ensures tick { dues.new.tick ≡ dues.old.tick }
+    ensures remains { dues.new.remains ≡ dues.old.remains }
+    ensures nodes { length dues.new.runs ≡ length dues.old.runs }
+    ensures serving { IsServing tree.now dues.new ends.now (lists ready.now serves.new dry.new stale.new runs.new) }
+    ensures own { slice_index_or stale.new p.0 false ≡ false }
+    ensures marks { (q : ℕ) → IsPack tree.now q → q ≢ p.0 → level tree.now p.0 ≤ level tree.now q → slice_index_or stale.new q false ≡ slice_index_or stale.old q false }
+{
+    if stale[p.0 as usize] {
+        serve_pack(tree, p, ends, ready, serves, dry, dues, stale, runs);
+    }
+}
+
+/// Pack i of a level.
+pub(crate) fn pack_of(tree: &Tree, level: u32, i: u32) -> NodeId
+    requires tree { IsTree tree.now }
+    requires level { level < tree.now.levels }
+    requires pack { i < length (packs_at tree.now level) }
+    ensures value { result.0 ≡ slice_index (packs_at tree.now level) i }
+    ensures pack { IsPack tree.now result.0 }
+{
+    tree.pack(level, i)
+}
+
+// The marked packs of one level, once none above it is marked.
+fn serve_level(
+    tree: &Tree,
+    level: u32,
+    ends: &[u128],
+    ready: &[Knockout],
+    serves: &mut [Option<u32>],
+    dry: &mut [u128],
+    dues: &mut Dues,
+    stale: &mut [bool],
+    runs: &mut [bool],
+)
+    requires tree { IsTree tree.now }
+    requires level { level < tree.now.levels }
+    requires ready { length ready.now ≡ length tree.now.nodes }
+    requires serves { length serves.old ≡ length tree.now.nodes }
+    requires dry { length dry.old ≡ length tree.now.nodes }
+    requires nodes { length dues.old.runs ≡ length tree.now.nodes }
+    requires stale { length stale.old ≡ length tree.now.nodes }
+    requires runs { length runs.old ≡ length tree.now.nodes }
+    requires fits { AreFitting tree.now dues.old }
+    requires serving { IsServing tree.now dues.old ends.now (lists ready.now serves.old dry.old stale.old runs.old) }
+    requires above { AreFreshFrom tree.now stale.old (level + 1) }
+    ensures tick { dues.new.tick ≡ dues.old.tick }
+    ensures remains { dues.new.remains ≡ dues.old.remains }
+    ensures nodes { length dues.new.runs ≡ length dues.old.runs }
+    ensures serving { IsServing tree.now dues.new ends.now (lists ready.now serves.new dry.new stale.new runs.new) }
+    ensures fresh { AreFreshFrom tree.now stale.new level }
+{
+    for i in 0..tree.packs(level) {
+        let p = pack_of(tree, level, i);
+        serve_marked(tree, p, ends, ready, serves, dry, dues, stale, runs);
+    }
+}
+
+/// Says again of each node whether it runs, where the lists are right but for the marked packs, and lets members stop and start.
+/// No mark is left at a pack.
+pub(crate) fn serve_all(
+    tree: &Tree,
+    ends: &[u128],
+    ready: &[Knockout],
+    serves: &mut [Option<u32>],
+    dry: &mut [u128],
+    dues: &mut Dues,
+    stale: &mut [bool],
+    runs: &mut [bool],
+)
+    requires ready { length ready.now ≡ length tree.now.nodes }
+    requires serves { length serves.old ≡ length tree.now.nodes }
+    requires dry { length dry.old ≡ length tree.now.nodes }
+    requires nodes { length dues.old.runs ≡ length tree.now.nodes }
+    requires stale { length stale.old ≡ length tree.now.nodes }
+    requires runs { length runs.old ≡ length tree.now.nodes }
+    requires fits { AreFitting tree.now dues.old }
+    requires serving { IsServing tree.now dues.old ends.now (lists ready.now serves.old dry.old stale.old runs.old) }
+    ensures tick { dues.new.tick ≡ dues.old.tick }
+    ensures remains { dues.new.remains ≡ dues.old.remains }
+    ensures nodes { length dues.new.runs ≡ length dues.old.runs }
+    ensures serving { IsServing tree.now dues.new ends.now (lists ready.now serves.new dry.new stale.new runs.new) }
+    ensures fresh { AreFreshFrom tree.now stale.new 0 }
+    ensures selected { (n : ℕ) → n < length tree.now.nodes → slice_index_or runs.new n false ≡ runs_now tree.now (λ x. slice_index dues.old.remains x) (λ x. slice_index ends.now x) n }
+{
+    let mut level = tree.levels();
+    while level > 0 {
+        level -= 1;
+        serve_level(tree, level, ends, ready, serves, dry, dues, stale, runs);
+    }
+}

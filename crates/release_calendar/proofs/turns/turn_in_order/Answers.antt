@@ -1,0 +1,75 @@
+use Rattle.std.proofs.Common.{arith, ap, subst, sym, take, ◌+◌, ◌∙◌, ◌<◌, List, ℕ}
+use Rattle.std.proofs.Math.ListN.{set}
+use Rattle.knockout.specs.Knockouts.{IsFirst}
+use Rattle.run_tree.specs.Windows.{window_end}
+use Rattle.run_tree.specs.Tree.{numbers}
+use Rattle.run_tree.specs.Plans.{boundary_of}
+use Rattle.release_calendar.specs.Calendars.{EndsFit, ending}
+use Rattle.release_calendar.proofs.OrderLemmas.{ending_less, ends_later, turning_step, fit_set}
+use Rattle.release_calendar.proofs.BegunLemmas.{ending_most, ending_some, listed_none, listed_step}
+use Rattle.release_calendar.proofs.turns.turn_in_order.Goals as goal
+
+pub loop-first-smaller : goal.loop-first-smaller
+loop-first-smaller c =
+    let x = c.loop-first.first.index in
+    let f = c.loop-first.invariant.2 in
+    let here = f.here in
+    let within = f.within in
+    let long = c.requires.ends in
+    let kept = c.loop-first.auto.ends in
+    let at = c.loop-first-test.true in
+    let less = ending_less c.args.at c.loop-first.ends x (window_end (boundary_of c.args.plan.now x) c.args.at) within (omega (arith, here, at))
+    (ends_later c.args.plan.now c.requires.plan c.loop-first.ends c.args.at x c.loop-first.invariant.1.packs c.requires.at (omega (arith, within, long, kept)) (omega (arith, here, at))) in
+    subst (λ (xs : List ℕ). ending c.args.at xs < ending c.args.at c.loop-first.ends) (sym c.turn_due.ensures.ends) less
+
+pub loop-first-init : goal.loop-first-init
+loop-first-init c =
+    let most = ending_most c.args.at c.args.ends.now in
+    let ends = c.requires.ends in
+    let begun = c.requires.begun in (
+      c.requires.order,
+      c.requires.turning,
+      subst (λ (xs : List ℕ). IsFirst xs c.first-first.result) c.requires.order c.first-first.ensures,
+      λ fit. fit,
+      listed_none c.args.due.now c.args.begun.now c.requires.clear,
+      omega (arith, most, ends, begun),
+    )
+
+pub list_one-requires : goal.list_one-requires
+list_one-requires c =
+    let f = c.loop-first.invariant.2 in
+    let here = f.here in
+    let at = c.loop-first-test.true in
+    let some = ending_some c.args.at c.loop-first.ends c.loop-first.first.index f.within (omega (arith, here, at)) in
+    let room = c.loop-first.invariant.5 in
+    omega (arith, some, room)
+
+pub loop-first-preserved : goal.loop-first-preserved
+loop-first-preserved c =
+    let x = c.loop-first.first.index in
+    let f = c.loop-first.invariant.2 in
+    let here = f.here in
+    let within = f.within in
+    let long = c.requires.ends in
+    let kept = c.loop-first.auto.ends in
+    let long_b = c.requires.begins in
+    let kept_b = c.loop-first.auto.begins in
+    let long_d = c.requires.due in
+    let kept_d = c.loop-first.auto.due in
+    let at = c.loop-first-test.true in
+    let end = window_end (boundary_of c.args.plan.now x) c.args.at in
+    let order = c.turn_due.ensures.order ∙ ap (λ (xs : List ℕ). set xs x end) c.loop-first.invariant.0 ∙ sym c.turn_due.ensures.ends in (
+      order,
+      turning_step c.args.plan.now c.requires.plan c.loop-first.begins c.loop-first.ends c.turn_due.new.begins c.turn_due.new.ends c.loop-first.due c.turn_due.new.due c.args.at x c.requires.at
+          (omega (arith, long_b, kept_b)) (omega (arith, long, kept)) (omega (arith, long_d, kept_d)) (omega (arith, within, long, kept)) (omega (arith, here, at)) c.turn_due.ensures.begins c.turn_due.ensures.ends c.turn_due.ensures.due c.loop-first.invariant.1,
+      subst (λ (xs : List ℕ). IsFirst xs c.first-first-in-loop-first.result) order c.first-first-in-loop-first.ensures,
+      λ fit. subst (λ (xs : List ℕ). EndsFit xs) (sym c.turn_due.ensures.ends) (fit_set c.loop-first.ends x end (c.loop-first.invariant.3 fit) c.turn_due.ensures.fits within),
+      listed_step c.loop-first.due c.turn_due.new.due (numbers (take c.loop-first.turned c.loop-first.begun)) (numbers (take (c.loop-first.turned + 1) c.list_one.new.begun)) x
+          (omega (arith, within, long, kept, long_d, kept_d)) c.turn_due.ensures.due c.list_one.ensures c.loop-first.invariant.4,
+      (let less = ending_less c.args.at c.loop-first.ends x end within (omega (arith, here, at))
+          (ends_later c.args.plan.now c.requires.plan c.loop-first.ends c.args.at x c.loop-first.invariant.1.packs c.requires.at (omega (arith, within, long, kept)) (omega (arith, here, at))) in
+          let is = ap (λ (xs : List ℕ). ending c.args.at xs) c.turn_due.ensures.ends in
+          let room = c.loop-first.invariant.5 in
+          let same = c.list_one.auto.begun in
+          omega (arith, less, is, room, same)),
+    )

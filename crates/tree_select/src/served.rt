@@ -1,0 +1,118 @@
+//! Selection again by packs that know which of their members runs: two members change at most.
+ghost use Rattle.std.specs.Prelude.{ℕ, List, ◌≡◌, ◌≢◌, ◌<◌, ◌≤◌, ◌&&◌, length, true, false, None, Some, slice_index_or};
+ghost use Rattle.sched_base.specs.Candidates.{is_at};
+ghost use Rattle.run_tree.specs.Tree.{IsTree, IsPack, level, member, members};
+ghost use Rattle.tree_select.specs.Selected.{picked};
+ghost use Rattle.tree_select.specs.Reselected.{AreLed, AreServed, IsPlaced, IsHanded, served_by};
+
+use crate::marked::{id_of, set_member};
+use run_tree::Tree;
+use sched_base::NodeId;
+
+// Which member runs of those of a pack that runs or rests and has picked.
+fn served_by(on: bool, picked: Option<u32>) -> Option<u32>
+    ensures value { result ≡ served_by on picked }
+    ensures within { (j : ℕ) → result ≡ Some j → picked ≡ Some j }
+{
+    if on { picked } else { None }
+}
+
+// Member k of pack p, where there is one, runs or rests.
+fn set_place(
+    tree: &Tree,
+    p: NodeId,
+    k: Option<u32>,
+    on: bool,
+    stale: &mut [bool],
+    runs: &mut [bool],
+)
+    requires tree { IsTree tree.now }
+    requires pack { IsPack tree.now p.0 }
+    requires member { (j : ℕ) → k ≡ Some j → j < length (members tree.now p.0) }
+    requires stale { length stale.old ≡ length tree.now.nodes }
+    requires runs { length runs.old ≡ length tree.now.nodes }
+    ensures { IsPlaced tree.now p.0 k on stale.old runs.old stale.new runs.new }
+{
+    if let Some(k) = k {
+        set_member(tree, id_of(tree, p, k as usize), on, stale, runs);
+    }
+}
+
+// Of pack p, the member at `was` ran, and now the one at `next` does.
+fn hand_on(
+    tree: &Tree,
+    p: NodeId,
+    was: Option<u32>,
+    next: Option<u32>,
+    stale: &mut [bool],
+    runs: &mut [bool],
+)
+    requires tree { IsTree tree.now }
+    requires pack { IsPack tree.now p.0 }
+    requires was { (j : ℕ) → j < length (members tree.now p.0) → slice_index_or runs.old (member tree.now p.0 j) false ≡ is_at was j }
+    requires before { (j : ℕ) → was ≡ Some j → j < length (members tree.now p.0) }
+    requires after { (j : ℕ) → next ≡ Some j → j < length (members tree.now p.0) }
+    requires stale { length stale.old ≡ length tree.now.nodes }
+    requires runs { length runs.old ≡ length tree.now.nodes }
+    ensures { IsHanded tree.now p.0 next stale.old runs.old stale.new runs.new }
+{
+    set_place(tree, p, was, false, stale, runs);
+    set_place(tree, p, next, true, stale, runs);
+}
+
+// The same, and nothing where it is the same member.
+fn hand_if(
+    tree: &Tree,
+    p: NodeId,
+    was: Option<u32>,
+    next: Option<u32>,
+    stale: &mut [bool],
+    runs: &mut [bool],
+)
+    requires tree { IsTree tree.now }
+    requires pack { IsPack tree.now p.0 }
+    requires was { (j : ℕ) → j < length (members tree.now p.0) → slice_index_or runs.old (member tree.now p.0 j) false ≡ is_at was j }
+    requires before { (j : ℕ) → was ≡ Some j → j < length (members tree.now p.0) }
+    requires after { (j : ℕ) → next ≡ Some j → j < length (members tree.now p.0) }
+    requires stale { length stale.old ≡ length tree.now.nodes }
+    requires runs { length runs.old ≡ length tree.now.nodes }
+    ensures { IsHanded tree.now p.0 next stale.old runs.old stale.new runs.new }
+{
+    if was != next {
+        hand_on(tree, p, was, next, stale, runs);
+    }
+}
+
+/// Pack p, of whose members the one at `was` ran, loses its mark, and lets the one run that is picked now, where the pack
+/// runs. It returns which that is.
+pub fn hand_over(
+    tree: &Tree,
+    p: NodeId,
+    was: Option<u32>,
+    chosen: Option<u32>,
+    stale: &mut [bool],
+    runs: &mut [bool],
+) -> Option<u32>
+    requires tree { IsTree tree.now }
+    requires pack { IsPack tree.now p.0 }
+    requires was { (j : ℕ) → j < length (members tree.now p.0) → slice_index_or runs.old (member tree.now p.0 j) false ≡ is_at was j }
+    requires within { (j : ℕ) → was ≡ Some j → j < length (members tree.now p.0) }
+    requires chosen { (j : ℕ) → chosen ≡ Some j → j < length (members tree.now p.0) }
+    requires stale { length stale.old ≡ length tree.now.nodes }
+    requires runs { length runs.old ≡ length tree.now.nodes }
+    requires led { AreLed tree.now runs.old }
+    ensures within { (j : ℕ) → result ≡ Some j → j < length (members tree.now p.0) }
+    ensures result { result ≡ served_by (slice_index_or runs.old p.0 false) chosen }
+    ensures now { (j : ℕ) → j < length (members tree.now p.0) → slice_index_or runs.new (member tree.now p.0 j) false ≡ is_at result j }
+    ensures led { AreLed tree.now runs.new }
+    ensures served { (remains ends : List ℕ) → chosen ≡ picked tree.now remains ends p.0 → AreServed tree.now remains ends stale.old runs.old → AreServed tree.now remains ends stale.new runs.new }
+    ensures others { (q j : ℕ) → IsPack tree.now q → q ≢ p.0 → j < length (members tree.now q) → slice_index_or runs.new (member tree.now q j) false ≡ slice_index_or runs.old (member tree.now q j) false }
+    ensures own { slice_index_or stale.new p.0 false ≡ false }
+    ensures unmarked { (q : ℕ) → IsPack tree.now q → q ≢ p.0 → slice_index_or stale.new q false ≡ false → slice_index_or stale.old q false ≡ false }
+    ensures marks { (q : ℕ) → IsPack tree.now q → q ≢ p.0 → level tree.now p.0 ≤ level tree.now q → slice_index_or stale.new q false ≡ slice_index_or stale.old q false }
+{
+    stale[p.0 as usize] = false;
+    let next = served_by(runs[p.0 as usize], chosen);
+    hand_if(tree, p, was, next, stale, runs);
+    next
+}
