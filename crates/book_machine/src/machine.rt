@@ -1,6 +1,7 @@
 //! The state of the machine, and its steps.
 ghost use Rattle.std.specs.Prelude.{◌≡◌, ◌≤◌, ◌<◌, ◌+◌, ◌↔◌, ℕ, length, true, IsTrue, IfOk, IfSome, IfNone};
-ghost use Rattle.book_machine.specs.Machine.{IsLegal, MayTake, IsReady, WaitsFor, IsOut, IsStuck, after, start, posted_at, least_posted as least_count, horizon_of};
+ghost use Rattle.book_machine.specs.Machine.{IsLegal, MayTake, IsReady, WaitsFor, IsOut, IsStuck};
+ghost use Rattle.book_machine.specs.Machine.{after, start, posted_at, least_posted as least_count, horizon_of};
 ghost use Rattle.sched_base.specs.declared.rows.Row.{Row};
 ghost use Rattle.sched_base.specs.Tables.{rounds_of};
 
@@ -22,16 +23,18 @@ pub struct LaneState {
 pub struct MachineState {
     lanes: Vec<LaneState>,
     halted: bool,
+    // The least posted count.
+    least: u64,
 }
 
 impl Model for MachineState {
-    ghost use Rattle.book_machine.specs.Machine.{State, CanPost};
+    ghost use Rattle.book_machine.specs.Machine.{State, IsKept};
 
     ghost Value = { State };
 
     ghost view = { λ s. record { lanes = s.lanes.items; halted = s.halted } };
 
-    ghost invariant = { λ s. CanPost s.lanes.items };
+    ghost invariant = { λ s. IsKept s.lanes.items s.least };
 }
 
 impl MachineState {
@@ -51,6 +54,7 @@ impl MachineState {
         Ok(MachineState {
             lanes,
             halted: false,
+            least: 0,
         })
     }
 
@@ -84,8 +88,12 @@ impl MachineState {
             }
             Event::Post(p) => {
                 let lane = &mut self.lanes[p.0 as usize];
+                let is_least = lane.posted == self.least;
                 lane.posted += 1;
                 lane.out = false;
+                if is_least {
+                    self.least = least_posted(self.lanes.as_slice());
+                }
             }
             Event::Halt(p) => {
                 let lane = &mut self.lanes[p.0 as usize];
@@ -115,7 +123,7 @@ impl MachineState {
     pub fn least(&self) -> u64
         ensures { result ≡ least_count self.now }
     {
-        least_posted(self.lanes.as_slice())
+        self.least
     }
 
     /// Whether a row has failed.
@@ -165,7 +173,7 @@ impl MachineState {
     {
         let lanes = self.lanes.as_slice();
         let round = lanes[p as usize].posted;
-        let least = least_posted(lanes);
+        let least = self.least;
         if round - least < window as u64 {
             waits_for(table, lanes, p, round, table.row(p, round).leaf)
         } else {

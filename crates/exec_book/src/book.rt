@@ -5,7 +5,7 @@ ghost use Rattle.sched_base.specs.Rows.{is_of_task};
 ghost use Rattle.sched_base.specs.Tables.{IsTable, rounds_of as rounds_in};
 ghost use Rattle.sched_edges.specs.Jobs.{FaultsAre};
 ghost use Rattle.run_tree.specs.Plans.{IsPlan, rounds_of};
-ghost use Rattle.event_core.specs.Rounds.{row_limit};
+ghost use Rattle.sched_base.specs.Tables.{row_limit};
 ghost use Rattle.book_machine.specs.Machine.{IsOut, lane_at, posted_at, least_posted, start};
 ghost use Rattle.book_machine.specs.Reached.{OutRow};
 ghost use Rattle.book_machine.specs.Rounds.{AreFirstRounds};
@@ -46,7 +46,7 @@ pub(crate) struct Held<Q: PostLedger, J: Job> {
 }
 
 impl<Q: PostLedger, J: Job> Model for Book<Q, J> {
-    ghost use Rattle.std.specs.Prelude.{option_map, vec_capacity};
+    ghost use Rattle.std.specs.Prelude.{◌≡◌, option_map, vec_capacity};
     ghost use Rattle.exec_book.specs.Books.{BookContents, RowsPart, LogPart, PostsPart, JobsPart, table_in, jobs_in};
 
     ghost Value = { BookContents J };
@@ -58,6 +58,7 @@ impl<Q: PostLedger, J: Job> Model for Book<Q, J> {
       log : LogPart b.plan b.window b.state b.log.items (vec_capacity b.log);
       posts : PostsPart b.state (option_map (λ h. h.side) b.held);
       jobs : JobsPart J.id J.used J.made Q.made b.plan b.state (option_map (λ h. h.desk) b.held);
+      set : b.plan.set ≡ Q.set;
     } };
 }
 
@@ -79,6 +80,7 @@ impl<Q: PostLedger, J: Job> Book<Q, J> {
         jobs: JobList<J>,
     ) -> Result<Book<Q, J>, JobsBack<J>>
         requires compiled { IsCompiled plan }
+        requires set { plan.set ≡ Q.set }
         requires rounds { rounds ≡ rounds_of plan }
         requires few { rounds * plan.tree.processors ≤ row_limit }
         requires some_window { 1 ≤ window }
@@ -117,6 +119,7 @@ impl<Q: PostLedger, J: Job> Book<Q, J> {
         ensures value { result.now ≡ self.now.plan }
         ensures lawful { IsPlan self.now.plan }
         ensures compiled { IsCompiled self.now.plan }
+        ensures set { self.now.plan.set ≡ Q.set }
         ensures lanes { length self.now.state.lanes ≡ self.now.plan.tree.processors }
     {
         let _lawful = self.plan.scale();
@@ -150,6 +153,13 @@ impl<Q: PostLedger, J: Job> Book<Q, J> {
             posted: self.state.posted(p),
             out: self.state.is_out(p),
         }
+    }
+
+    /// The least number of rows that a lane has posted.
+    pub fn least(&self) -> u64
+        ensures { result ≡ least_posted self.now.state }
+    {
+        self.state.least()
     }
 
     /// Whether a row has failed.

@@ -22,10 +22,24 @@ FailedAsGiven {J} faults counts leaf o = (task : TaskId) (job : J) → leaf ≡ 
 
 -- the row is the next one of the seat's lane, and the job its task's, which has used the ticks of the task's rows in earlier
 -- rounds
-pub record IsNext {J : Type 0} (id used : J → ℕ) (made : J → Made) (faults : J → ℕ) (all_made : List Made) (p : PlanContents) (seat : Seat) (counts : List ℕ) (row : Row) (job : Option J) : Type 0 where
+pub record IsNext {J : Type 0} (id used : J → ℕ) (made : J → Made) (faults : J → ℕ) (all_made : List Made) (p : PlanContents) (seat : Seat)
+    (counts : List ℕ) (row : Row) (job : Option J) : Type 0 where
   pub at : RowAt (plan_rows p) seat.lane seat.posted row
   pub own : IsJobOf id used made all_made (λ t. ticks_before t seat.posted (plan_rows p)) row.leaf job
   pub as_given : FailedAsGiven faults counts row.leaf job
+
+-- the same, where nothing is said of the job's count of faults
+pub record IsNextRow {J : Type 0} (id used : J → ℕ) (made : J → Made) (all_made : List Made) (p : PlanContents) (seat : Seat) (row : Row)
+    (job : Option J) : Type 0 where
+  pub at : RowAt (plan_rows p) seat.lane seat.posted row
+  pub own : IsJobOf id used made all_made (λ t. ticks_before t seat.posted (plan_rows p)) row.leaf job
+
+-- what a look at a seat gives, where nothing is said of the job's count of faults
+abbrev pub GivesRow : {J : Type 0} → (J → ℕ) → (J → ℕ) → (J → Made) → List Made → PlanContents → Seat → Look J → Type 0
+GivesRow id used made all_made p seat (Ready row job) = IsNextRow id used made all_made p seat row job
+GivesRow id used made all_made p seat (NotYet lane posted) = posted < seat.posted
+GivesRow id used made all_made p seat Done = seat.posted ≡ rounds_of p
+GivesRow id used made all_made p seat Halted = Unit {0}
 
 -- what a look at a seat gives
 abbrev pub Gives : {J : Type 0} → (J → ℕ) → (J → ℕ) → (J → Made) → (J → ℕ) → List Made → PlanContents → Seat → List ℕ → Look J → Type 0

@@ -1,21 +1,21 @@
 //! The execution of a plan.
-ghost use Rattle.std.specs.Prelude.{◌≡◌, ◌≤◌, ◌<◌, ◌*◌, ℕ, None, length, slice_index_or, OnOk};
+ghost use Rattle.std.specs.Prelude.{◌≡◌, ◌≤◌, ◌<◌, ◌*◌, ℕ, None, length, slice_index_or, IfOk, OnOk};
 ghost use Rattle.sched_edges.specs.Jobs.{JobAt};
 ghost use Rattle.run_tree.specs.Plans.{rounds_of};
-ghost use Rattle.event_core.specs.Rounds.{row_limit};
+ghost use Rattle.sched_base.specs.Tables.{row_limit};
 ghost use Rattle.exec_book.specs.PlanRows.{IsCompiled, plan_rows};
 ghost use Rattle.exec_workers.specs.Kits.{AreFilled};
-ghost use Rattle.exec_workers.specs.Runs.{Outcome, AreFresh, AreEmpty, GatesGrew, GatesList, GatesListFirst, JobsUsedAll};
+ghost use Rattle.exec_workers.specs.Runs.{OutcomeOf, AreFresh, AreEmpty, GatesGrew, GatesList, GatesListFirst, JobsUsedAll};
 
 use crate::answers::{ExecFault, Executed};
 use crate::kits::Kit;
-use crate::progress::none_posted;
 use crate::run::{Ended, run_gates};
 use crate::stage::{fault_counts, lay_jobs, lift_jobs, push_totals};
+use crate::waiters::Waiters;
 use exec_book::{Book, JobsBack};
 use run_tree::Plan;
 use sched_base::Totals;
-use sched_edges::{Gate, Job, JobList, Jobs};
+use sched_edges::{BoxedJob, Gate, Job, JobList, Jobs};
 use std::alloc::Global;
 use std::marker::Brand;
 use std::sync::ledger::Blank;
@@ -41,11 +41,12 @@ pub fn execute<G: Gate + Send, X: Threads + Wait + Sync>(
     requires small_window { window ≤ 1024 }
     requires kits { AreFilled plan.now.tree.processors kits.old.items }
     requires empty { AreEmpty G.ran plan.now kits.old.items }
-    requires jobs { AreFresh (λ b. (Job-box b).id b.value) (λ b. (Job-box b).used b.value) (length plan.now.set.tasks) jobs.old.places }
-    ensures outcome { Outcome G.ran G.faults (λ b. (Job-box b).id b.value) (λ b. (Job-box b).used b.value) (λ b. (Job-box b).made b.value) (λ b. (Job-box b).faults b.value) plan.now kits.old.items kits.new.items jobs.old.places jobs.new.places result }
+    requires jobs { AreFresh ⟦<BoxedJob as Job>⟧.id ⟦<BoxedJob as Job>⟧.used (length plan.now.set.tasks) jobs.old.places }
+    ensures outcome { OutcomeOf G.Gate ⟦<BoxedJob as Job>⟧ plan.now kits.old kits.new jobs.old jobs.new result }
     ensures gates { OnOk result (GatesList G.ran plan.now kits.new.items) }
     ensures first { GatesListFirst G.ran plan.now kits.new.items }
-    ensures jobs { OnOk result (JobsUsedAll (λ b. (Job-box b).id b.value) (λ b. (Job-box b).used b.value) plan.now jobs.new.places) }
+    ensures jobs { OnOk result (JobsUsedAll ⟦<BoxedJob as Job>⟧.id ⟦<BoxedJob as Job>⟧.used plan.now jobs.new.places) }
+    ensures posts { IfOk result (λ executed. executed.posts ≡ rounds * plan.now.tree.processors) }
 {
     let _lawful = plan.scale();
     execute_on(rt, alloc, plan, rounds, window, kits, jobs)
@@ -56,7 +57,8 @@ pub fn execute<G: Gate + Send, X: Threads + Wait + Sync>(
 /// gates are those of the first kits, one for each processor, and the jobs those of the first places, one for each task.
 ///
 /// A failure is named only where the count of faults of that gate or of that job rose in this call. Memory is refused
-/// before any gate is called. The gates are back in their kits, and the jobs in their places, whatever is answered.
+/// before any gate is called. The gates are back in their kits, and the jobs in their places, whatever is answered. The
+/// ledger of posts is closed once the workers have ended, also after a failure, and the answer tells its number.
 pub fn execute_on<G: Gate + Send, X: Threads + Wait + Sync>(
     rt: &X,
     alloc: Global,
@@ -72,13 +74,14 @@ pub fn execute_on<G: Gate + Send, X: Threads + Wait + Sync>(
     requires some_window { 1 ≤ window }
     requires small_window { window ≤ 1024 }
     requires kits { AreFilled plan.now.tree.processors kits.old.items }
-    requires jobs { AreFresh (λ b. (Job-box b).id b.value) (λ b. (Job-box b).used b.value) (length plan.now.set.tasks) jobs.old.places }
-    ensures outcome { Outcome G.ran G.faults (λ b. (Job-box b).id b.value) (λ b. (Job-box b).used b.value) (λ b. (Job-box b).made b.value) (λ b. (Job-box b).faults b.value) plan.now kits.old.items kits.new.items jobs.old.places jobs.new.places result }
+    requires jobs { AreFresh ⟦<BoxedJob as Job>⟧.id ⟦<BoxedJob as Job>⟧.used (length plan.now.set.tasks) jobs.old.places }
+    ensures outcome { OutcomeOf G.Gate ⟦<BoxedJob as Job>⟧ plan.now kits.old kits.new jobs.old jobs.new result }
     ensures gates { OnOk result (GatesGrew G.ran plan.now kits.old.items kits.new.items) }
-    ensures jobs { OnOk result (JobsUsedAll (λ b. (Job-box b).id b.value) (λ b. (Job-box b).used b.value) plan.now jobs.new.places) }
+    ensures jobs { OnOk result (JobsUsedAll ⟦<BoxedJob as Job>⟧.id ⟦<BoxedJob as Job>⟧.used plan.now jobs.new.places) }
+    ensures posts { IfOk result (λ executed. executed.posts ≡ rounds * plan.now.tree.processors) }
 {
     let m = plan.tree().processors();
-    execute_in::<G, Brand, Box<dyn Job + Send>, X>(
+    execute_in::<G, Brand, BoxedJob, X>(
         rt,
         alloc,
         Blank::new(u64::from(m)),
@@ -105,6 +108,7 @@ fn execute_in<G: Gate + Send, Q: PostLedger + Send + Sync, J: Job + Send, X: Thr
     requires parts { blank.parts ≡ Q.parts }
     requires a_part_each { blank.parts ≡ plan.now.tree.processors }
     requires compiled { IsCompiled plan.now }
+    requires set { plan.now.set ≡ Q.set }
     requires rounds { rounds ≡ rounds_of plan.now }
     requires few { rounds * plan.now.tree.processors ≤ row_limit }
     requires some_window { 1 ≤ window }
@@ -112,13 +116,13 @@ fn execute_in<G: Gate + Send, Q: PostLedger + Send + Sync, J: Job + Send, X: Thr
     requires kits { AreFilled plan.now.tree.processors kits.old.items }
     requires jobs { AreFresh J.id J.used (length plan.now.set.tasks) jobs.old.places }
     requires made { (t : ℕ) (job : J) → t < length plan.now.set.tasks → JobAt jobs.old.places t job → J.made job ≡ slice_index_or Q.made t None }
-    ensures { Outcome G.ran G.faults J.id J.used J.made J.faults plan.now kits.old.items kits.new.items jobs.old.places jobs.new.places result }
+    ensures { OutcomeOf G.Gate J.Job plan.now kits.old kits.new jobs.old jobs.new result }
 {
     let m = plan.tree().processors();
     let n = plan.set().count();
     let mut counts = fault_counts(alloc, jobs, n)?;
     let mut posted = vec![in alloc; 0u64; m as usize]?;
-    let told = none_posted(alloc, m)?;
+    let waiters = Waiters::of_lanes(alloc, m)?;
     let mut totals = Totals::with_room(alloc, n)?;
     let mut lanes = Vec::with_capacity(alloc, m as usize)?;
     let mut out = JobList::with_room(alloc, n)?;
@@ -136,6 +140,7 @@ fn execute_in<G: Gate + Send, Q: PostLedger + Send + Sync, J: Job + Send, X: Thr
         jobs: mut back,
         table,
         fault,
+        posts,
     } = run_gates(
         rt,
         &book,
@@ -146,14 +151,18 @@ fn execute_in<G: Gate + Send, Q: PostLedger + Send + Sync, J: Job + Send, X: Thr
         lanes,
         &mut counts,
         &mut posted,
-        &told,
+        &waiters,
     );
     lay_jobs(&mut back, jobs, n);
     match fault {
-        Some(fault) => Err(fault),
+        Some(fault) => Err(fault.with_posts(posts)),
         None => {
             push_totals(jobs, &mut totals, n);
-            Ok(Executed { table, totals })
+            Ok(Executed {
+                table,
+                totals,
+                posts,
+            })
         }
     }
 }

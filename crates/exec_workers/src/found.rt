@@ -1,5 +1,5 @@
 //! What is tested of a book that is found under the lock.
-ghost use Rattle.std.specs.Prelude.{◌≡◌, ◌<◌, ◌≤◌, ◌+◌, ◌-◌, ◌↔◌, ℕ, length, false, true, IsTrue, slice_index};
+ghost use Rattle.std.specs.Prelude.{◌≡◌, ◌<◌, ◌≤◌, ◌+◌, ◌-◌, ℕ, length, false, true, IsTrue, slice_index};
 ghost use Rattle.sched_base.specs.Tables.{RowAt};
 ghost use Rattle.sched_edges.specs.Jobs.{FaultsAre};
 ghost use Rattle.run_tree.specs.Plans.{IsPlan};
@@ -10,6 +10,7 @@ ghost use Rattle.exec_book.specs.Jobs.{IsJobOf, posted_ticks};
 ghost use Rattle.exec_book.specs.Books.{IsDismissed};
 ghost use Rattle.exec_workers.specs.Promises.{Agrees};
 
+use crate::same_plan::is_same_plan;
 use exec_book::Book;
 use run_tree::Plan;
 use sched_base::{Leaf, Row};
@@ -23,31 +24,44 @@ pub(crate) fn ticks_of(row: &Row) -> u128
     row.end.saturating_sub(row.start)
 }
 
-// Whether the book is one of this plan's set, and so of this plan.
-fn is_of_plan<Q: PostLedger, J: Job>(book: &Book<Q, J>, plan: &Plan) -> bool
-    requires { IsCompiled plan.now }
-    ensures same { IsTrue result ↔ (book.now.plan ≡ plan.now) }
-    ensures lawful { IsPlan book.now.plan }
-    ensures lanes { length book.now.state.lanes ≡ book.now.plan.tree.processors }
+/// Whether the book is one of this plan.
+pub(crate) fn is_of_plan<Q: PostLedger, J: Job>(book: &Book<Q, J>, plan: &Plan) -> bool
+    ensures same { IsTrue result → book.now.plan ≡ plan.now }
+    ensures set { IsTrue result → plan.now.set ≡ Q.set }
+    ensures compiled { IsTrue result → IsCompiled plan.now }
 {
-    let _lawful = plan.scale();
-    book.plan().set().is_same(plan.set())
+    is_same_plan(book.plan(), plan)
 }
 
-/// Whether the book is of this plan and not dismissed, and stands at the seat's count with no row out on the seat's lane.
+// A book of the ledger is one of the compiled plan with the ledger's set. Whether it isn't dismissed.
+fn is_of_run<Q: PostLedger, J: Job>(book: &Book<Q, J>, plan: &Plan) -> bool
+    requires compiled { IsCompiled plan.now }
+    requires set { plan.now.set ≡ Q.set }
+    ensures plan { book.now.plan ≡ plan.now }
+    ensures lawful { IsPlan book.now.plan }
+    ensures lanes { length book.now.state.lanes ≡ book.now.plan.tree.processors }
+    ensures open { IsTrue result → ¬ (IsDismissed book.now) }
+{
+    let _lawful = plan.scale();
+    let _of_run = book.plan();
+    !book.dismissed()
+}
+
+/// Whether the book is not dismissed, and stands at the seat's count with no row out on the seat's lane.
 pub(crate) fn is_free_at<Q: PostLedger, J: Job>(
     book: &Book<Q, J>,
     plan: &Plan,
     seat: &LaneSeat<Q>,
 ) -> bool
-    requires { IsCompiled plan.now }
-    ensures plan { IsTrue result → book.now.plan ≡ plan.now }
+    requires compiled { IsCompiled plan.now }
+    requires set { plan.now.set ≡ Q.set }
+    ensures plan { book.now.plan ≡ plan.now }
     ensures open { IsTrue result → ¬ (IsDismissed book.now) }
     ensures lane { IsTrue result → seat.now.lane < length book.now.state.lanes }
     ensures free { IsTrue result → (lane_at book.now.state.lanes seat.now.lane).out ≡ false }
     ensures count { IsTrue result → posted_at book.now.state seat.now.lane ≡ seat.now.posted }
 {
-    if !is_of_plan(book, plan) || book.dismissed() || seat.lane() >= plan.tree().processors() {
+    if !is_of_run(book, plan) || seat.lane() >= plan.tree().processors() {
         return false;
     }
     let lane = book.lane(seat.lane());
@@ -63,20 +77,22 @@ pub(crate) fn is_halted_or_told<Q: PostLedger, J: Job>(book: &Book<Q, J>, counts
     book.halted() || book.faults_are(counts)
 }
 
-/// Whether the book is of this plan, and this row is out on the seat's lane at the seat's count.
+/// Whether this row is out on the seat's lane at the seat's count.
 pub(crate) fn is_out_at<Q: PostLedger, J: Job>(
     book: &Book<Q, J>,
     plan: &Plan,
     seat: &LaneSeat<Q>,
     row: &Row,
 ) -> bool
-    requires { IsCompiled plan.now }
-    ensures plan { IsTrue result → book.now.plan ≡ plan.now }
+    requires compiled { IsCompiled plan.now }
+    requires set { plan.now.set ≡ Q.set }
+    ensures plan { book.now.plan ≡ plan.now }
+    ensures open { IsTrue result → ¬ (IsDismissed book.now) }
     ensures count { IsTrue result → posted_at book.now.state seat.now.lane ≡ seat.now.posted }
     ensures row { IsTrue result → OutRow (plan_rows book.now.plan) book.now.state seat.now.lane row.now }
 {
     let p = seat.lane();
-    if !is_of_plan(book, plan) || book.dismissed() || p >= plan.tree().processors() {
+    if !is_of_run(book, plan) || p >= plan.tree().processors() {
         return false;
     }
     let lane = book.lane(p);
@@ -115,20 +131,21 @@ pub(crate) fn is_job_of<Q: PostLedger, J: Job>(
     }
 }
 
-/// Whether the book is of this plan and not dismissed, no row is out, and these are the posted counts.
+/// Whether the book is not dismissed, no row is out, and these are the posted counts.
 pub(crate) fn is_whole_at<Q: PostLedger, J: Job>(
     book: &Book<Q, J>,
     plan: &Plan,
     posted: &[u64],
 ) -> bool
     requires compiled { IsCompiled plan.now }
+    requires set { plan.now.set ≡ Q.set }
     requires lanes { length posted.now ≡ plan.now.tree.processors }
-    ensures plan { IsTrue result → book.now.plan ≡ plan.now }
+    ensures plan { book.now.plan ≡ plan.now }
     ensures open { IsTrue result → ¬ (IsDismissed book.now) }
     ensures none_out { IsTrue result → (p : ℕ) → ¬ (IsOut book.now.state p) }
     ensures counts { IsTrue result → counts_of book.now.state.lanes ≡ posted.now }
 {
-    if !is_of_plan(book, plan) || book.dismissed() {
+    if !is_of_run(book, plan) {
         return false;
     }
     for p in 0..plan.tree().processors() {

@@ -2,7 +2,8 @@
 //! and the task's job run it, and posts it.
 //!
 //! A book is found under a lock, where no more is known of it than its type says. So each call tests the book that it finds,
-//! and tries again where the test fails.
+//! and tries again where the test fails. That it is a book of the given plan is tested once: the type of a book says that its
+//! task set is the one that its ledger names, which never changes.
 #![tactic(auto)]
 
 mod answers;
@@ -14,11 +15,12 @@ mod found;
 mod kits;
 mod lanes;
 mod passes;
-mod progress;
 mod rows;
 mod run;
+mod same_plan;
 mod serving;
 mod stage;
+mod waiters;
 
 pub use answers::{ExecFault, Executed};
 pub use causes::Cause;

@@ -1,15 +1,15 @@
 //! Serving all lanes.
 ghost use Rattle.std.specs.Prelude.{◌≡◌, ◌≢◌, ◌<◌, ℕ, None, length, IsTrue, true, false};
 ghost use Rattle.run_tree.specs.Plans.{rounds_of};
-ghost use Rattle.exec_book.specs.PlanRows.{IsCompiled, plan_rows};
+ghost use Rattle.exec_book.specs.PlanRows.{plan_rows};
 ghost use Rattle.exec_workers.specs.Lanes.{lane_in, AllServed, NoneFailed, AllAt};
 
 use crate::lanes::Lane;
 use crate::serving::serve_beside;
+use crate::waiters::Waiters;
 use exec_book::Book;
 use run_tree::Plan;
 use sched_edges::{Gate, Job};
-use std::sync::atomic::AtomicU64;
 use std::sync::{Mutex, Wait};
 use std::thread;
 use std::thread::Threads;
@@ -28,10 +28,9 @@ pub(crate) fn serve_passes<
     plan: &Plan,
     lanes: &mut [Lane<G, Q>],
     counts: &[u64],
-    told: &[AtomicU64],
+    waiters: &Waiters,
     rounds: u64,
 ) -> bool
-    requires compiled { IsCompiled plan.now }
     requires counts { length counts.now ≡ length plan.now.set.tasks }
     requires fresh { NoneFailed lanes.old }
     ensures served { AllServed (plan_rows plan.now) counts.now lanes.old lanes.new }
@@ -39,7 +38,7 @@ pub(crate) fn serve_passes<
     ensures failed { result ≡ false → (p : ℕ) × (p < length lanes.new) × ((lane_in lanes.new p).cause ≢ None) }
 {
     for _ in rt.forever() {
-        serve_all(rt, book, plan, lanes, counts, told);
+        serve_all(rt, book, plan, lanes, counts, waiters);
         if any_failed(lanes) {
             return false;
         }
@@ -57,9 +56,8 @@ fn serve_all<G: Gate + Send, Q: PostLedger + Send + Sync, J: Job + Send, R: Thre
     plan: &Plan,
     lanes: &mut [Lane<G, Q>],
     counts: &[u64],
-    told: &[AtomicU64],
+    waiters: &Waiters,
 )
-    requires compiled { IsCompiled plan.now }
     requires counts { length counts.now ≡ length plan.now.set.tasks }
     requires fresh { NoneFailed lanes.old }
     ensures { AllServed (plan_rows plan.now) counts.now lanes.old lanes.new }
@@ -72,7 +70,7 @@ fn serve_all<G: Gate + Send, Q: PostLedger + Send + Sync, J: Job + Send, R: Thre
         rt,
         lanes,
         workers,
-        &|_, lane: &mut Lane<G, Q>| serve_beside(rt, book, plan, lane, counts, told),
+        &|_, lane: &mut Lane<G, Q>| serve_beside(rt, book, plan, lane, counts, Some(waiters)),
     );
 }
 

@@ -1,9 +1,10 @@
 //! Taking a row from the book, and putting it back.
 ghost use Rattle.std.specs.Prelude.{◌≡◌, ◌+◌, length};
 ghost use Rattle.exec_book.specs.PlanRows.{IsCompiled};
-ghost use Rattle.exec_workers.specs.Promises.{Agrees, Gives};
+ghost use Rattle.exec_workers.specs.Promises.{Agrees, Gives, GivesRow};
 
-use crate::found::{is_free_at, is_halted_or_told, is_job_of, is_out_at, ticks_of};
+use crate::found::{is_free_at, is_halted_or_told, is_job_of, is_of_plan, is_out_at, ticks_of};
+use crate::waiters::{Waiters, lock_soon, tell};
 use exec_book::{Book, Look};
 use run_tree::Plan;
 use sched_base::Row;
@@ -13,9 +14,8 @@ use unit_ledger::{LaneSeat, PostLedger};
 
 /// Takes the next row of a seat's lane, with its task's job. `counts` says how often the job of each task has failed.
 ///
-/// It tries again until it finds a book of this plan's set that isn't dismissed, has no row out on the lane and stands at
-/// the seat's count, and is halted or has jobs that have failed as often as is given. A book found halted says nothing
-/// further.
+/// It tries again until it finds a book of this plan that isn't dismissed, has no row out on the lane and stands at the
+/// seat's count, and is halted or has jobs that have failed as often as is given. A book found halted says nothing further.
 pub fn take_row<Q: PostLedger, J: Job, R: Wait>(
     rt: &R,
     book: &Mutex<Book<Q, J>>,
@@ -23,11 +23,11 @@ pub fn take_row<Q: PostLedger, J: Job, R: Wait>(
     seat: &LaneSeat<Q>,
     counts: &[u64],
 ) -> Look<J>
-    requires compiled { IsCompiled plan.now }
     requires counts { length counts.now ≡ length plan.now.set.tasks }
     ensures { Gives J.id J.used J.made J.faults Q.made plan.now seat.now counts.now result }
 {
     let _lawful = plan.scale();
+    agree(rt, book, plan);
     for _ in rt.forever() {
         let mut guard = book.lock(rt);
         let held = &mut *guard;
@@ -40,8 +40,8 @@ pub fn take_row<Q: PostLedger, J: Job, R: Wait>(
 
 /// Posts a row that is out on a seat's lane, with its job, which has worked the row's ticks.
 ///
-/// It tries again until it finds a book of this plan's set with this row out on the lane, which stands at the seat's count
-/// and to which the job belongs.
+/// It tries again until it finds a book of this plan with this row out on the lane, which stands at the seat's count and to
+/// which the job belongs.
 pub fn post_row<Q: PostLedger, J: Job, R: Wait>(
     rt: &R,
     book: &Mutex<Book<Q, J>>,
@@ -50,11 +50,11 @@ pub fn post_row<Q: PostLedger, J: Job, R: Wait>(
     row: &Row,
     job: Option<J>,
 )
-    requires compiled { IsCompiled plan.now }
     requires agrees { Agrees J.made Q.made row.now.leaf job }
     ensures { seat.new ≡ record seat.old { posted = seat.old.posted + 1 } }
 {
     let ticks = ticks_of(row);
+    agree(rt, book, plan);
     for _ in rt.forever() {
         let mut guard = book.lock(rt);
         let held = &mut *guard;
@@ -78,9 +78,9 @@ pub fn halt_row<Q: PostLedger, J: Job, R: Wait>(
     row: &Row,
     job: Option<J>,
 )
-    requires compiled { IsCompiled plan.now }
     requires agrees { Agrees J.made Q.made row.now.leaf job }
 {
+    agree(rt, book, plan);
     for _ in rt.forever() {
         let mut guard = book.lock(rt);
         let held = &mut *guard;
@@ -88,6 +88,78 @@ pub fn halt_row<Q: PostLedger, J: Job, R: Wait>(
         if is_out_at(held, plan, seat, row) && is_job_of(held, p, row, &job, 0) {
             held.halt(p, job);
             return;
+        }
+    }
+    unreachable!()
+}
+
+/// Waits for a book of this plan: then the set is the ledger's, and so each book of the ledger is of this plan.
+pub(crate) fn agree<Q: PostLedger, J: Job, R: Wait>(rt: &R, book: &Mutex<Book<Q, J>>, plan: &Plan)
+    ensures compiled { IsCompiled plan.now }
+    ensures set { plan.now.set ≡ Q.set }
+{
+    for _ in rt.forever() {
+        let guard = book.lock(rt);
+        let held = &*guard;
+        if is_of_plan(held, plan) {
+            return;
+        }
+    }
+    unreachable!()
+}
+
+/// Takes the next row of a seat's lane, of a plan with the ledger's set, with its task's job. How often the job has failed isn't
+/// looked at.
+///
+/// It tries again until it finds a book that isn't dismissed, has no row out on the lane and stands at the seat's count.
+pub(crate) fn take_next<Q: PostLedger, J: Job, R: Wait>(
+    rt: &R,
+    book: &Mutex<Book<Q, J>>,
+    plan: &Plan,
+    seat: &LaneSeat<Q>,
+) -> Look<J>
+    requires compiled { IsCompiled plan.now }
+    requires set { plan.now.set ≡ Q.set }
+    ensures { GivesRow J.id J.used J.made Q.made plan.now seat.now result }
+{
+    let _lawful = plan.scale();
+    for _ in rt.forever() {
+        let mut guard = lock_soon(rt, book);
+        let held = &mut *guard;
+        if is_free_at(held, plan, seat) {
+            return held.take(seat.lane());
+        }
+    }
+    unreachable!()
+}
+
+/// Posts a row that is out on a seat's lane, as `post_row` does, and takes the lane's next row, as `take_next` does: two events
+/// while the lock is held once.
+pub(crate) fn post_and_take<Q: PostLedger, J: Job, R: Wait>(
+    rt: &R,
+    waiters: Option<&Waiters>,
+    book: &Mutex<Book<Q, J>>,
+    plan: &Plan,
+    seat: &mut LaneSeat<Q>,
+    row: &Row,
+    job: Option<J>,
+) -> Look<J>
+    requires compiled { IsCompiled plan.now }
+    requires set { plan.now.set ≡ Q.set }
+    requires agrees { Agrees J.made Q.made row.now.leaf job }
+    ensures seat { seat.new ≡ record seat.old { posted = seat.old.posted + 1 } }
+    ensures gives { GivesRow J.id J.used J.made Q.made plan.now seat.new result }
+{
+    let _lawful = plan.scale();
+    let ticks = ticks_of(row);
+    for _ in rt.forever() {
+        let mut guard = lock_soon(rt, book);
+        let held = &mut *guard;
+        let lane = seat.lane();
+        if is_out_at(held, plan, seat, row) && is_job_of(held, lane, row, &job, ticks) {
+            held.post(lane, seat, job);
+            tell(waiters, held.least());
+            return held.take(lane);
         }
     }
     unreachable!()

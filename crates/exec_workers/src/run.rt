@@ -4,37 +4,39 @@ ghost use Rattle.sched_base.specs.Tables.{rounds_of as rounds_in, ticks_of};
 ghost use Rattle.sched_edges.specs.Jobs.{FaultsAre};
 ghost use Rattle.run_tree.specs.Plans.{rounds_of};
 ghost use Rattle.book_machine.specs.Rounds.{AreFirstRounds};
-ghost use Rattle.exec_book.specs.PlanRows.{IsCompiled, plan_rows};
+ghost use Rattle.exec_book.specs.PlanRows.{plan_rows};
 ghost use Rattle.exec_book.specs.Jobs.{AllAtHome};
 ghost use Rattle.unit_ledger.specs.Seats.{seats_at_start};
 ghost use Rattle.exec_workers.specs.Lanes.{LaneContents, AllServed, NoneFailed, AllAt};
 ghost use Rattle.exec_workers.specs.Kits.{AreFilled};
 ghost use Rattle.exec_workers.specs.Ends.{NamesLowest, KeepsCounts, posted_by};
 ghost use Rattle.exec_workers.specs.Fronts.{IsFrontAt};
-ghost use Rattle.exec_workers.specs.Runs.{GatesRan, HandedOut, NamesFirst};
+ghost use Rattle.exec_workers.specs.Runs.{GatesRan, HandedOut, NamesFirst, ClosedAt};
 
-use crate::answers::ExecFault;
+use crate::answers::FirstFault;
 use crate::close::close_book;
 use crate::ends::{first_fault, note_faults, note_posted};
 use crate::kits::Kit;
 use crate::lanes::Lane;
 use crate::passes::serve_passes;
 use crate::stage::{empty_lanes, fill_lanes};
+use crate::waiters::Waiters;
 use exec_book::{Book, Closing};
 use run_tree::Plan;
 use sched_base::RowTable;
 use sched_edges::{Gate, Job, JobList};
-use std::sync::atomic::AtomicU64;
 use std::sync::{Mutex, Wait};
 use std::thread::Threads;
 use unit_ledger::{PostLedger, Seats};
 
-/// What a run leaves beside the gates: the jobs, the rounds computed, and the failure that is to be named.
+/// What a run leaves beside the gates: the jobs, the rounds computed, the failure that is to be named, and the number of
+/// posted rows, with which the ledger closed.
 #[derive(Drop)]
 pub(crate) struct Ended<J> {
     pub(crate) jobs: JobList<J>,
     pub(crate) table: RowTable,
-    pub(crate) fault: Option<ExecFault>,
+    pub(crate) fault: Option<FirstFault>,
+    pub(crate) posts: u64,
 }
 
 /// Runs the gates of the first kits over a book that nobody has taken from. `counts` says how often each task's job has
@@ -54,9 +56,8 @@ pub(crate) fn run_gates<
     lanes: Vec<Lane<G, Q>>,
     counts: &mut [u64],
     posted: &mut [u64],
-    told: &[AtomicU64],
+    waiters: &Waiters,
 ) -> Ended<J>
-    requires compiled { IsCompiled plan.now }
     requires rounds { rounds ≡ rounds_of plan.now }
     requires counts { length counts.old ≡ length plan.now.set.tasks }
     requires seats { seats ≡ seats_at_start plan.now.tree.processors }
@@ -64,7 +65,9 @@ pub(crate) fn run_gates<
     requires none { vec_len lanes ≡ 0 }
     requires room { plan.now.tree.processors ≤ vec_capacity lanes }
     requires places { length posted.old ≡ plan.now.tree.processors }
-    ensures { (ends : List LaneContents) × GatesRan G.ran G.faults plan.now counts.old counts.new kits.old kits.new ends × HandedOut J.id J.used J.made J.faults Q.made plan.now counts.new ends result.jobs.places result.table × NamesFirst (rounds_of plan.now) ends result.fault }
+    ensures { (ends : List LaneContents) × GatesRan G.ran G.faults plan.now counts.old counts.new kits.old kits.new ends ×
+        HandedOut J.id J.used J.made J.faults Q.made plan.now counts.new ends result.jobs.places result.table ×
+        NamesFirst (rounds_of plan.now) ends result.fault × ClosedAt ends result.posts }
 {
     let m = plan.tree().processors();
     let mut seats = seats;
@@ -78,12 +81,17 @@ pub(crate) fn run_gates<
         lanes.as_mut_slice(),
         counts,
         posted,
-        told,
+        waiters,
     );
     empty_lanes(kits, &mut seats, lanes);
     let Closing { jobs, side, table } = closing;
-    let _posts = unit_ledger::close(side, seats);
-    Ended { jobs, table, fault }
+    let posts = unit_ledger::close(side, seats);
+    Ended {
+        jobs,
+        table,
+        fault,
+        posts,
+    }
 }
 
 /// Serves all lanes to the end, or until one has failed, and closes the book. `counts` says how often each task's job has
@@ -101,9 +109,8 @@ pub(crate) fn serve_book<
     lanes: &mut [Lane<G, Q>],
     counts: &mut [u64],
     posted: &mut [u64],
-    told: &[AtomicU64],
-) -> (Closing<Q, J>, Option<ExecFault>)
-    requires compiled { IsCompiled plan.now }
+    waiters: &Waiters,
+) -> (Closing<Q, J>, Option<FirstFault>)
     requires rounds { rounds ≡ rounds_of plan.now }
     requires counts { length counts.old ≡ length plan.now.set.tasks }
     requires width { length lanes.old ≡ plan.now.tree.processors }
@@ -112,16 +119,17 @@ pub(crate) fn serve_book<
     ensures served { AllServed (plan_rows plan.now) counts.old lanes.old lanes.new }
     ensures counts { KeepsCounts lanes.new (length lanes.new) counts.old counts.new }
     ensures side { result.0.side ≡ sum (posted_by lanes.new) }
-    ensures jobs { AllAtHome J.id J.used J.made Q.made (length plan.now.set.tasks) (λ t. ticks_of t (plan_rows plan.now) (posted_by lanes.new)) result.0.jobs.places }
+    ensures jobs { AllAtHome J.id J.used J.made Q.made (length plan.now.set.tasks)
+        (λ t. ticks_of t (plan_rows plan.now) (posted_by lanes.new)) result.0.jobs.places }
     ensures faults { FaultsAre J.faults result.0.jobs.places counts.new }
     ensures table { AreFirstRounds result.0.table.lanes (plan_rows plan.now) }
     ensures held { (p : ℕ) → slice_index (posted_by lanes.new) p ≤ rounds_in result.0.table.lanes }
-    ensures front { (horizon : ℕ) × IsFrontAt plan.now (posted_by lanes.new) horizon }
+    ensures front { IsFrontAt plan.now (posted_by lanes.new) }
     ensures some { IfSome result.1 (λ fault. NamesLowest lanes.new fault) }
     ensures none { IfNone result.1 (NoneFailed lanes.new × AllAt (rounds_of plan.now) lanes.new) }
 {
     let _few = plan.tree().processors();
-    serve_passes(rt, book, plan, lanes, counts, told, rounds);
+    serve_passes(rt, book, plan, lanes, counts, waiters, rounds);
     note_posted(lanes, posted);
     note_faults(lanes, counts);
     let fault = first_fault(lanes);

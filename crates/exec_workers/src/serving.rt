@@ -1,19 +1,18 @@
 //! Serving one lane.
-ghost use Rattle.std.specs.Prelude.{◌≡◌, ◌+◌, ◌<◌, ◌^◌, Some, None, length, IsTrue, IfErr};
+ghost use Rattle.std.specs.Prelude.{◌≡◌, ◌+◌, ◌<◌, ◌^◌, Some, None, length, IfSome, IfErr};
 ghost use Rattle.exec_book.specs.PlanRows.{IsCompiled, plan_rows};
-ghost use Rattle.exec_workers.specs.Lanes.{HasRisen, Served};
-ghost use Rattle.exec_workers.specs.Promises.{IsNext};
+ghost use Rattle.exec_workers.specs.Lanes.{HasRisen, JobRose, Served};
+ghost use Rattle.exec_workers.specs.Promises.{IsNextRow, GivesRow};
 
 use crate::causes::Cause;
 use crate::found::ticks_of;
 use crate::lanes::Lane;
-use crate::progress::{tell, wait};
-use crate::rows::{halt_row, post_row, take_row};
+use crate::rows::{agree, halt_row, post_and_take, take_next};
+use crate::waiters::{Waiters, wait, wake};
 use exec_book::{Book, Look};
 use run_tree::Plan;
-use sched_base::Row;
+use sched_base::{Leaf, Row};
 use sched_edges::{Failed, Gate, Job};
-use std::sync::atomic::AtomicU64;
 use std::sync::{Mutex, Wait};
 use unit_ledger::PostLedger;
 
@@ -32,48 +31,72 @@ pub fn serve<G: Gate, Q: PostLedger, J: Job, R: Wait>(
     lane: &mut Lane<G, Q>,
     counts: &[u64],
 )
-    requires compiled { IsCompiled plan.now }
     requires counts { length counts.now ≡ length plan.now.set.tasks }
     requires fresh { lane.old.cause ≡ None }
     ensures { Served (plan_rows plan.now) counts.now lane.old lane.new }
 {
-    serve_beside(rt, book, plan, lane, counts, &[]);
+    serve_beside(rt, book, plan, lane, counts, None);
 }
 
-/// Serves a lane, as `serve` does, with what the workers tell of the lanes: a worker that waits for a lane looks there, and not
-/// into the book.
+/// Serves a lane, as `serve` does, beside other workers: a worker that waits sleeps until it is woken.
 pub(crate) fn serve_beside<G: Gate, Q: PostLedger, J: Job, R: Wait>(
     rt: &R,
     book: &Mutex<Book<Q, J>>,
     plan: &Plan,
     lane: &mut Lane<G, Q>,
     counts: &[u64],
-    told: &[AtomicU64],
+    waiters: Option<&Waiters>,
+)
+    requires counts { length counts.now ≡ length plan.now.set.tasks }
+    requires fresh { lane.old.cause ≡ None }
+    ensures { Served (plan_rows plan.now) counts.now lane.old lane.new }
+{
+    agree(rt, book, plan);
+    if let Some(waiters) = waiters {
+        waiters.begin();
+    }
+    serve_rows(rt, waiters, book, plan, lane, counts);
+    if let Some(waiters) = waiters {
+        waiters.end();
+    }
+}
+
+// Serves a lane of a plan with the ledger's set.
+fn serve_rows<G: Gate, Q: PostLedger, J: Job, R: Wait>(
+    rt: &R,
+    waiters: Option<&Waiters>,
+    book: &Mutex<Book<Q, J>>,
+    plan: &Plan,
+    lane: &mut Lane<G, Q>,
+    counts: &[u64],
 )
     requires compiled { IsCompiled plan.now }
+    requires set { plan.now.set ≡ Q.set }
     requires counts { length counts.now ≡ length plan.now.set.tasks }
     requires fresh { lane.old.cause ≡ None }
     ensures { Served (plan_rows plan.now) counts.now lane.old lane.new }
 {
     let mut waits = 0;
+    let mut look = take_next(rt, book, plan, &lane.seat);
+    wake(waiters);
     for _ in rt.forever() {
-        match take_row(rt, book, plan, &lane.seat, counts) {
+        match look {
             Look::Ready { row, job } => {
                 waits = 0;
-                if !run_row(rt, book, plan, lane, counts, row, job) {
-                    return;
+                match run_row(rt, waiters, book, plan, lane, counts, row, job) {
+                    Some(next) => look = next,
+                    None => return,
                 }
-                tell(told, lane.seat.lane(), lane.seat.posted());
+                wake(waiters);
             }
-            Look::NotYet {
-                lane: other,
-                posted,
-            } => {
+            Look::NotYet { lane: _, posted: _ } => {
                 waits += 1;
                 if waits >= PATIENCE {
                     return;
                 }
-                wait(told, other, posted);
+                wait(rt, waiters, lane.seat.lane(), lane.seat.posted());
+                look = take_next(rt, book, plan, &lane.seat);
+                wake(waiters);
             }
             Look::Done => return,
             Look::Halted => return,
@@ -82,37 +105,56 @@ pub(crate) fn serve_beside<G: Gate, Q: PostLedger, J: Job, R: Wait>(
     unreachable!()
 }
 
-// Runs a row that was taken. False where the gate or the job failed.
+// Runs a row that was taken, posts it and looks for the lane's next one. None where the gate or the job failed.
 fn run_row<G: Gate, Q: PostLedger, J: Job, R: Wait>(
     rt: &R,
+    waiters: Option<&Waiters>,
     book: &Mutex<Book<Q, J>>,
     plan: &Plan,
     lane: &mut Lane<G, Q>,
     counts: &[u64],
     row: Row,
     job: Option<J>,
-) -> bool
+) -> Option<Look<J>>
     requires compiled { IsCompiled plan.now }
+    requires set { plan.now.set ≡ Q.set }
     requires counts { length counts.now ≡ length plan.now.set.tasks }
     requires fresh { lane.old.cause ≡ None }
-    requires next { IsNext J.id J.used J.made J.faults Q.made plan.now lane.old.seat counts.now row job }
+    requires next { IsNextRow J.id J.used J.made Q.made plan.now lane.old.seat row job }
     ensures served { Served (plan_rows plan.now) counts.now lane.old lane.new }
-    ensures more { IsTrue result → lane.new.cause ≡ None }
+    ensures more { IfSome result (λ look. lane.new.cause ≡ None) }
+    ensures look { IfSome result (λ look. GivesRow J.id J.used J.made Q.made plan.now lane.new.seat look) }
 {
     let _lawful = plan.scale();
     let mut job = job;
     if let Err(Failed) = lane.gate.run(&row) {
         halt_row(rt, book, plan, &lane.seat, &row, job);
         lane.cause = Some(Cause::Gate { row });
-        return false;
+        return None;
     }
     if let Err(faults) = work_on(&mut job, ticks_of(&row)) {
+        let faults = risen(rt, counts, &row, faults);
         halt_row(rt, book, plan, &lane.seat, &row, job);
         lane.cause = Some(Cause::Job { row, faults });
-        return false;
+        return None;
     }
-    post_row(rt, book, plan, &mut lane.seat, &row, job);
-    true
+    Some(post_and_take(rt, waiters, book, plan, &mut lane.seat, &row, job))
+}
+
+// The count of faults of the job that failed at a row, which is past the given one of its task: of another no cause is kept.
+fn risen<R: Wait>(rt: &R, counts: &[u64], row: &Row, faults: u64) -> u64
+    ensures { JobRose counts.now row.now result }
+{
+    for _ in rt.forever() {
+        if let Leaf::Task(task) = row.leaf {
+            if let Some(count) = counts.get(task.0 as usize) {
+                if faults > *count || faults == u64::MAX {
+                    return faults;
+                }
+            }
+        }
+    }
+    unreachable!()
 }
 
 // Has the job that goes with a row work for that many ticks. Where it fails, this is its count of faults since.

@@ -1,7 +1,7 @@
 //! Scripts over books, and what the tests of books share.
 ghost use Rattle.std.specs.Prelude.{◌≡◌, ◌≤◌, ◌<◌, ◌*◌, ℕ, [], length, false, IfOk};
 ghost use Rattle.run_tree.specs.Plans.{rounds_of};
-ghost use Rattle.event_core.specs.Rounds.{row_limit};
+ghost use Rattle.sched_base.specs.Tables.{row_limit};
 ghost use Rattle.book_machine.specs.Machine.{lane_at};
 ghost use Rattle.unit_ledger.specs.Seats.{seats_at_start};
 ghost use Rattle.exec_book.specs.Books.{IsDismissed};
@@ -66,6 +66,7 @@ fn book_of<Q: PostLedger>(
     side: BookSide<Q>,
 ) -> Result<Book<Q, CountJob>, NoMemory>
     requires made { Q.made ≡ [] }
+    requires set { plan.set ≡ Q.set }
     requires compiled { IsCompiled plan }
     requires rounds { rounds ≡ rounds_of plan }
     requires few { rounds * plan.tree.processors ≤ row_limit }
@@ -187,6 +188,7 @@ fn run<Q: PostLedger>(
     requires name { blank.name ≡ Q.name }
     requires parts { blank.parts ≡ Q.parts }
     requires made { Q.made ≡ [] }
+    requires set { plan.set ≡ Q.set }
     requires compiled { IsCompiled plan }
     requires some_window { 1 ≤ window }
     requires small_window { window ≤ 1024 }

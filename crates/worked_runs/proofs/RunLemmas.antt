@@ -43,6 +43,6 @@ module _ {G J : Type 0} (ran : G → Option (List Row)) (gate_faults : G → ℕ
   -- the job of a task is in its place again, whatever the run answers
   pub job_left : (result : Result Executed ExecFault) → Outcome ran gate_faults id used made job_faults p kits kits' places places' result → (t : ℕ) (job : J) → t < length p.set.tasks → JobAt places t job → (now : J) × JobAt places' t now
   job_left (Ok e) o = left_by o.0 o.1
-  job_left (Err (fault.Gate processor row)) o = left_by o.0 o.1
-  job_left (Err (fault.Job task processor row)) o = left_by o.0 o.1
+  job_left (Err (fault.Gate processor row posts)) o = left_by o.0 o.1
+  job_left (Err (fault.Job task processor row posts)) o = left_by o.0 o.1
   job_left (Err fault.NoMemory) o = λ t job within at. (job, ap (λ xs. slice_get xs t) o.1 ∙ at)

@@ -6,6 +6,8 @@ ghost use Rattle.exec_book.specs.PlanRows.{IsCompiled};
 ghost use Rattle.exec_workers.specs.Kits.{KitAt};
 
 mod faults;
+mod many_workers;
+mod paced_gate;
 mod whole_runs;
 
 use event_core::count_rounds;

@@ -1,5 +1,5 @@
 //! Executions by the top call: what the tests share.
-ghost use Rattle.run_tool.specs.Executions.{crew, gates_of, jobs_of, IsReady};
+ghost use Rattle.run_tool.specs.Executions.{crew_of, IsReady};
 
 mod drops;
 mod meetings;
@@ -7,7 +7,7 @@ mod patient_gate;
 
 use exec_workers::Kit;
 use run_tool::{Status, run};
-use sched_edges::{Gate, Jobs, MemSink, MemSource};
+use sched_edges::{BoxedJob, Gate, Job, Jobs, MemSink, MemSource};
 use std::alloc::Global;
 use std::sync::Wait;
 use std::test::Fail;
@@ -18,7 +18,8 @@ const THREE_TASKS: &str =
     "processors = 2\nhorizon = 3\ntask = [{name = \"a\", work = 2, period = 3}, {name = \"b\", work = 2, period = 3}, {name = \"c\", work = 2, period = 3}]\n";
 
 const THREE_ROWS: &str =
-    "run-trace 1\nprocessors 2\nhorizon 3\nscale 3\ntasks 3\ntask a 2 3\ntask b 2 3\ntask c 2 3\nrow 0 0 3 b\nrow 0 3 9 a\nrow 1 0 6 c\nrow 1 6 9 b\ntotal a 6\ntotal b 6\ntotal c 6\nrows 4\n";
+    "run-trace 1\nprocessors 2\nhorizon 3\nscale 3\ntasks 3\ntask a 2 3\ntask b 2 3\ntask c 2 3\nrow 0 0 3 b\nrow 0 3 9 a\nrow 1 0 6 c\n\
+        row 1 6 9 b\ntotal a 6\ntotal b 6\ntotal c 6\nrows 4\n";
 
 /// What a call left: its status, and what `out` and `err` took.
 #[derive(Drop)]
@@ -37,7 +38,7 @@ fn call<G: Gate + Send, X: Threads + Wait + Sync>(
     kits: &mut Vec<Kit<G>>,
     jobs: &mut Jobs,
 ) -> Result<Left, Fail>
-    requires ready { IsReady (crew (gates_of G.ran G.faults kits.old.items) (jobs_of (λ j. (Job-box j).id j.value) (λ j. (Job-box j).used j.value) (λ j. (Job-box j).faults j.value) jobs.old.places)) }
+    requires ready { IsReady (crew_of G.Gate ⟦<BoxedJob as Job>⟧ kits.old jobs.old) }
 {
     let mut source = MemSource::new(alloc, input.as_bytes(), &[])?;
     let mut out = MemSink::new(alloc, 4096, &[])?;

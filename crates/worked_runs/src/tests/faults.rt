@@ -72,6 +72,18 @@ fn of_processor<T>(of_each: &[T; 2], processor: u32) -> &T {
     if processor == 0 { first } else { second }
 }
 
+/// How many rows were posted: those that the gates ran, but for one whose job failed.
+fn posts_of(left: &Left) -> u64 {
+    let [first, second] = &left.ran;
+    let mut missed: u64 = 0;
+    for job in &left.jobs {
+        missed = missed.saturating_add(job.1);
+    }
+    (first.len() as u64)
+        .saturating_add(second.len() as u64)
+        .saturating_sub(missed)
+}
+
 /// Makes sure that the run ended at the failure, and that the gate which came to it ran just the rows up to there: the failed
 /// row too, where it is the job that failed.
 fn assert_stopped(rt: &impl Abort, left: &Left, stop: &Stop) {
@@ -80,19 +92,28 @@ fn assert_stopped(rt: &impl Abort, left: &Left, stop: &Stop) {
     let lane = of_processor(&all, stop.processor);
     let row = lane[stop.round];
     let processor = stop.processor;
+    let Err(found) = left.answer else {
+        panic!(rt; "a run that didn't fail");
+    };
+    let posts = posts_of(left);
     let (fault, ran) = match stop.task {
-        None => (ExecFault::Gate { processor, row }, stop.round),
+        None => (
+            ExecFault::Gate {
+                processor,
+                row,
+                posts,
+            },
+            stop.round,
+        ),
         Some(task) => (
             ExecFault::Job {
                 task,
                 processor,
                 row,
+                posts,
             },
             stop.round + 1,
         ),
-    };
-    let Err(found) = left.answer else {
-        panic!(rt; "a run that didn't fail");
     };
     assert_eq!(rt; found, fault);
     assert_eq!(rt; of_processor(&left.ran, processor).len(), ran);

@@ -83,6 +83,15 @@ impl Job for LastingJob {
         self.used += ticks;
         Ok(())
     }
+
+    fn load(&mut self, _code: &[u64], _scale: u128) -> Result<(), NoMemory> {
+        self.used = 0;
+        Ok(())
+    }
+
+    fn state(&self) -> [u64; 9] {
+        [0; 9]
+    }
 }
 
 /// Kits with gates that list their rows, of which gate 1 fails at these calls.

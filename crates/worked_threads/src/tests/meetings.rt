@@ -17,10 +17,13 @@ use std::time::Clock;
 
 /// Five tasks of rate 3/5 on three processors, over one period.
 const TWO_REDUCTIONS: &str =
-    "processors = 3\nhorizon = 5\ntask = [{name = \"a\", work = 3, period = 5}, {name = \"b\", work = 3, period = 5}, {name = \"c\", work = 3, period = 5}, {name = \"d\", work = 3, period = 5}, {name = \"e\", work = 3, period = 5}]\n";
+    "processors = 3\nhorizon = 5\ntask = [{name = \"a\", work = 3, period = 5}, {name = \"b\", work = 3, period = 5}, \
+        {name = \"c\", work = 3, period = 5}, {name = \"d\", work = 3, period = 5}, {name = \"e\", work = 3, period = 5}]\n";
 
 const TWO_REDUCTION_ROWS: &str =
-    "run-trace 1\nprocessors 3\nhorizon 5\nscale 5\ntasks 5\ntask a 3 5\ntask b 3 5\ntask c 3 5\ntask d 3 5\ntask e 3 5\nrow 0 0 5 a\nrow 0 5 10 c\nrow 0 10 25 e\nrow 1 0 15 b\nrow 1 15 25 a\nrow 2 0 15 d\nrow 2 15 25 c\ntotal a 15\ntotal b 15\ntotal c 15\ntotal d 15\ntotal e 15\nrows 7\n";
+    "run-trace 1\nprocessors 3\nhorizon 5\nscale 5\ntasks 5\ntask a 3 5\ntask b 3 5\ntask c 3 5\ntask d 3 5\ntask e 3 5\nrow 0 0 5 a\n\
+        row 0 5 10 c\nrow 0 10 25 e\nrow 1 0 15 b\nrow 1 15 25 a\nrow 2 0 15 d\nrow 2 15 25 c\ntotal a 15\ntotal b 15\ntotal c 15\n\
+        total d 15\ntotal e 15\nrows 7\n";
 
 /// Kits with gates of which the first waits, in its first call, for so many calls of the second, and the second for so many of
 /// the first. The other gates wait for none.

@@ -16,8 +16,10 @@ loop-id-preserved g c =
     record {
       room = let room = c.add.ensures.room in let before = inv.room in omega (arith, room, before);
       first = more_jobs _ _ _ c.loop-id.id _ _ _ inv.first c.add.ensures.places
-          (read_made own-1 (own-1.entry at-1-1) at-1-1 refl ℕ (λ e x. e.1.id x) _ _ _ c.into_dyn_box.ensures.1 ∙ ap (λ j. j.id) c.in_ok-new-2.ensures.ok ∙ c.in_ok-new.ensures.id)
-          (read_made own-1 (own-1.entry at-1-1) at-1-1 refl ℕ (λ e x. e.1.used x) _ _ _ c.into_dyn_box.ensures.1 ∙ ap (λ j. j.used) c.in_ok-new-2.ensures.ok ∙ c.in_ok-new.ensures.used);
+          (read_made own-1 (own-1.entry at-1-1) at-1-1 refl ℕ (λ e x. e.1.id x) _ _ _ c.into_dyn_box.ensures.1
+          ∙ ap (λ j. j.id) c.in_ok-new-2.ensures.ok ∙ c.in_ok-new.ensures.id)
+          (read_made own-1 (own-1.entry at-1-1) at-1-1 refl ℕ (λ e x. e.1.used x) _ _ _ c.into_dyn_box.ensures.1
+          ∙ ap (λ j. j.used) c.in_ok-new-2.ensures.ok ∙ c.in_ok-new.ensures.used);
     }
 
 pub call-requires-clause-ready : goal.call-requires-clause-ready

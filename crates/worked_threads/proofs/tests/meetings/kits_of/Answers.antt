@@ -8,7 +8,8 @@ pub loop-p-init : goal.loop-p-init
 loop-p-init g c = no_gates _ _ _ c.new-kits.ensures.items
 
 pub loop-p-preserved : goal.loop-p-preserved
-loop-p-preserved g c = more_gates _ _ c.loop-p.p _ _ _ c.loop-p.invariant (c.in_ok-push.ensures.items ∙ ap (λ kit. c.loop-p.kits.items ++ kit ∷ []) c.new-in-loop-p.ensures) tt
+loop-p-preserved g c =
+    more_gates _ _ c.loop-p.p _ _ _ c.loop-p.invariant (c.in_ok-push.ensures.items ∙ ap (λ kit. c.loop-p.kits.items ++ kit ∷ []) c.new-in-loop-p.ensures) tt
 
 pub returns : goal.returns
 returns g c =
