@@ -5,16 +5,20 @@ mod faults;
 mod head_lines;
 mod laws;
 mod met_lines;
+mod name_table;
 mod reading;
 mod row_lines;
+mod row_words;
 mod tables;
 mod tail_lines;
 mod task_lines;
 mod traces;
 
 pub use faults::TraceFault;
+pub use head_lines::{Head, next_number, next_scale, number_after};
 pub use laws::round_trip_law;
 pub use reading::read_trace;
+pub use task_lines::{is_scale, read_tasks};
 pub use trace_rows::{FaultKind, Verdict};
 pub use traces::{ReadTrace, check_trace};
 

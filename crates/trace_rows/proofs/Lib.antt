@@ -9,3 +9,7 @@ pub mod SupplyLemmas
 pub mod TickLemmas
 pub mod ValidLemmas
 pub mod VerdictLemmas
+mod AllEntries
+mod StandingLemmas
+mod SuppliedLemmas
+mod StackLemmas

@@ -3,12 +3,14 @@ ghost use Rattle.std.specs.Prelude.{◌≡◌, ◌*◌, ◌≤◌, ◌^◌, leng
 ghost use Rattle.sched_base.specs.Valid.{IsValid};
 ghost use Rattle.trace_rows.specs.Orders.{processor_key, task_key, IsOrder, IsProcessorOrder, IsTaskOrder};
 ghost use Rattle.trace_rows.specs.Faults.{IsTrace, IsVerdict};
-ghost use Rattle.trace_rows.specs.Searches.{kind_of, IsFirstHit};
+ghost use Rattle.trace_rows.specs.Searches.{kind_of, IsFirstHit, IsFirstUnfit};
 
 use crate::entries::Entry;
 use crate::faults::{FaultKind, Verdict};
 use crate::orders::{order_by_processor, order_by_task, places_of, starts_of};
 use crate::searches::{first_processor_hit, first_task_hit, first_unfit, first_unsupplied};
+use crate::standing::{all_places, stand};
+use crate::supplied::supplied_order;
 use sched_base::{NoMemory, Row, TaskSet};
 use std::alloc::Global;
 
@@ -41,16 +43,23 @@ fn row_kind(set: &TaskSet, scale: u128, row: &Row, hit: bool, task_hit: bool) ->
     }
 }
 
-// The verdict, once the first row is known that overlaps an earlier one of its processor. The row lines stand before the
-// totals, so the tasks are looked at only where no row is at fault.
-fn verdict_of(set: &TaskSet, scale: u128, rows: &[Row], hit: u32, by_task: &[Entry]) -> Verdict
+// The verdict, once the first row is known that has a fault by itself, and the first that overlaps an earlier one of its
+// processor. The row lines stand before the totals, so the tasks are looked at only where no row is at fault.
+fn verdict_of(
+    set: &TaskSet,
+    scale: u128,
+    rows: &[Row],
+    unfit: u32,
+    hit: u32,
+    by_task: &[Entry],
+) -> Verdict
     requires trace { IsTrace set.now scale rows.now }
+    requires unfit { IsFirstUnfit set.now scale rows.now unfit }
     requires hit { IsFirstHit processor_key rows.now hit }
     requires by_task { IsOrder task_key rows.now by_task.now }
     ensures { IsVerdict set.now scale rows.now result }
 {
     let count = rows.len() as u32;
-    let unfit = first_unfit(set, scale, rows);
     let task_hit = first_task_hit(set, scale, rows, by_task);
     let first = unfit.min(hit).min(task_hit);
     if first < count {
@@ -76,8 +85,8 @@ fn verdict_of(set: &TaskSet, scale: u128, rows: &[Row], hit: u32, by_task: &[Ent
     Verdict::Valid
 }
 
-// The order by processor, and the first row that overlaps an earlier one of its processor. The entries are let go before
-// those of the tasks are made.
+// The order by processor, and the first row that overlaps an earlier one of its processor. Where the rows
+// stand in order no entries are made, and else they are let go before those of the tasks are made.
 fn processor_order(
     alloc: Global,
     set: &TaskSet,
@@ -88,13 +97,17 @@ fn processor_order(
     ensures order { IfOk result (λ r. IsProcessorOrder rows.now r.0.items) }
     ensures hit { IfOk result (λ r. IsFirstHit processor_key rows.now r.1) }
 {
+    if stand(rows) {
+        return Ok((all_places(alloc, rows)?, rows.len() as u32));
+    }
     let entries = order_by_processor(alloc, rows)?;
     let hit = first_processor_hit(set, scale, rows, &entries);
     let places = places_of(alloc, &entries)?;
     Ok((places, hit))
 }
 
-/// The orders of the rows of a trace and the verdict on them.
+/// The orders of the rows of a trace and the verdict on them. Where no row is at fault and each task has what it is to have,
+/// no entries are made for tasks; else they find the first fault.
 pub fn judge(alloc: Global, set: &TaskSet, scale: u128, rows: &[Row]) -> Result<Judgment, NoMemory>
     requires trace { IsTrace set.now scale rows.now }
     ensures by_processor { IfOk result (λ j. IsProcessorOrder rows.now j.by_processor.items) }
@@ -103,8 +116,19 @@ pub fn judge(alloc: Global, set: &TaskSet, scale: u128, rows: &[Row]) -> Result<
     ensures valid { IfOk result (λ j. (j.verdict ≡ Verdict.Valid) ↔ IsValid set.now scale (set.now.horizon * scale) (set.now.horizon * scale) rows.now) }
 {
     let (by_processor, hit) = processor_order(alloc, set, scale, rows)?;
+    let unfit = first_unfit(set, scale, rows);
+    if unfit.min(hit) as usize == rows.len() {
+        if let Some(order) = supplied_order(alloc, set, scale, rows)? {
+            return Ok(Judgment {
+                by_processor,
+                by_task: order.places,
+                task_starts: order.starts,
+                verdict: Verdict::Valid,
+            });
+        }
+    }
     let entries = order_by_task(alloc, rows)?;
-    let verdict = verdict_of(set, scale, rows, hit, &entries);
+    let verdict = verdict_of(set, scale, rows, unfit, hit, &entries);
     Ok(Judgment {
         by_processor,
         by_task: places_of(alloc, &entries)?,

@@ -7,7 +7,7 @@ use crate::entries::Entry;
 use sched_base::{Leaf, NoMemory, Row};
 use std::alloc::Global;
 
-fn task_key(row: &Row) -> Option<u32>
+pub(crate) fn task_key(row: &Row) -> Option<u32>
     ensures { result ≡ task_key row.now }
 {
     match row.leaf {

@@ -1,0 +1,86 @@
+-- A walk through a task's rows, part by part.
+use Rattle.std.proofs.Common.{zero, suc, ℕ, ◌+◌, ◌-◌, ◌<◌, ◌≤◌, ◌≡◌, true, List, [], ◌∷◌, ◌++◌, length, map, take, drop, get_or, sym, ap, ◌∙◌, subst, arith, append_assoc}
+use Rattle.std.specs.List.{AllByRecursion}
+use Rattle.std.proofs.lemmas.Bool.{and_from}
+use Rattle.std.proofs.lemmas.List.{take-append-drop, take_more, map-append}
+use Rattle.sched_base.specs.declared.rows.Row.{Row}
+use Rattle.trace_rows.specs.declared.entries.Entry.{Entry}
+use Rattle.trace_rows.specs.declared.supply.Periods.{Periods}
+use Rattle.trace_rows.specs.declared.walks.Walk.{Walk}
+use Rattle.trace_rows.specs.Faults.{row_at}
+use Rattle.trace_rows.specs.Supply.{gap_holds, row_holds, holds_from, Follows}
+use Rattle.trace_rows.specs.Supplied.{IsPlaceOf, entry_for, entries_at, StandsAt, Holds, GoesPast}
+use Rattle.trace_rows.proofs.EntryLemmas.{AllByRecursion-append}
+
+pub past_none : (p : Periods) (w : Walk) → StandsAt p w → GoesPast p [] w w
+past_none p w s = record { stands = s; holds = λ rest h. h }
+
+pub past_then : (p : Periods) (xs ys : List Entry) (a b c : Walk) → GoesPast p xs a b → GoesPast p ys b c → GoesPast p (xs ++ ys) a c
+past_then p xs ys a b c g h = record {
+  stands = h.stands;
+  holds = λ rest r. subst (Holds p a) (sym (append_assoc xs ys rest)) (g.holds (ys ++ rest) (h.holds rest r));
+}
+
+-- one row: its gap and its ticks keep to what is due, so the rest decides
+pub past_one : (p : Periods) (e : Entry) (a b : Walk) → StandsAt p b → b.tick ≡ e.end → b.done ≡ a.done + (e.end - e.start) → a.tick ≤ e.start → e.start < e.end
+    → gap_holds p a.done a.tick e.start ≡ true → row_holds p a.done e.start e.end ≡ true → GoesPast p (e ∷ []) a b
+past_one p e a b s tick done low long gap row = record {
+  stands = s;
+  holds = λ rest h. record {
+    apart = (low, long, subst (λ x. Follows p.stop x rest) tick h.apart);
+    due = and_from _ _ (and_from _ _ gap row) (subst (λ x. holds_from p (a.done + (e.end - e.start)) x rest ≡ true) tick (subst (λ d. holds_from p d b.tick rest ≡ true) done h.due));
+  };
+}
+
+-- one place more
+pub own_more : (rows : List Row) (j : ℕ) (places : List ℕ) (i d : ℕ) → i < length places → AllByRecursion (IsPlaceOf rows j) (take i places) → IsPlaceOf rows j (get_or places i d)
+    → AllByRecursion (IsPlaceOf rows j) (take (i + 1) places)
+own_more rows j places i d h all one = subst (AllByRecursion (IsPlaceOf rows j)) (sym (take_more places i d h)) (AllByRecursion-append (IsPlaceOf rows j) (take i places) (get_or places i d ∷ []) all (one, tt))
+
+pub past_more : (p : Periods) (rows : List Row) (j : ℕ) (places : List ℕ) (i d : ℕ) (a b c : Walk) → i < length places → GoesPast p (entries_at rows j (take i places)) a b
+    → GoesPast p (entry_for j (row_at rows (get_or places i d)) (get_or places i d) ∷ []) b c → GoesPast p (entries_at rows j (take (i + 1) places)) a c
+past_more p rows j places i d a b c h g one =
+    let e : entries_at rows j (take (i + 1) places) ≡ entries_at rows j (take i places) ++ entry_for j (row_at rows (get_or places i d)) (get_or places i d) ∷ []
+    = ap (entries_at rows j) (take_more places i d h) ∙ map-append (λ place. entry_for j (row_at rows place) place) (take i places) (get_or places i d ∷ []) in
+    subst (λ es. GoesPast p es a c) (sym e) (past_then p _ _ a b c g one)
+
+-- what is left, by the part that is taken and what comes later
+pub left_is : (n : ℕ) (left now later : List ℕ) → now ≡ take n left → later ≡ drop n left → left ≡ now ++ later
+left_is n left now later e f = sym (ap (λ w. w ++ later) e ∙ (ap (λ w. take n left ++ w) f ∙ take-append-drop n left))
+
+-- where what is left holds, all of it does
+pub record Leaves (p : Periods) (rows : List Row) (j : ℕ) (places left : List ℕ) (w : Walk) : Type 0 where
+  pub stands : StandsAt p w
+  pub own : AllByRecursion (IsPlaceOf rows j) left → AllByRecursion (IsPlaceOf rows j) places
+  pub apart : Holds p w (entries_at rows j left) → Follows p.stop p.base (entries_at rows j places)
+  pub due : Holds p w (entries_at rows j left) → holds_from p 0 p.base (entries_at rows j places) ≡ true
+
+pub leaves_all : (p : Periods) (rows : List Row) (j : ℕ) (places : List ℕ) (w : Walk) → StandsAt p w → w.tick ≡ p.base → w.done ≡ 0 → Leaves p rows j places places w
+leaves_all p rows j places w s tick done = record {
+  stands = s;
+  own = λ h. h;
+  apart = λ h. subst (λ x. Follows p.stop x (entries_at rows j places)) tick h.apart;
+  due = λ h. subst (λ x. holds_from p 0 x (entries_at rows j places) ≡ true) tick (subst (λ d. holds_from p d w.tick (entries_at rows j places) ≡ true) done h.due);
+}
+
+pub leaves_less : (p : Periods) (rows : List Row) (j : ℕ) (places left now later : List ℕ) (a b : Walk) → left ≡ now ++ later → Leaves p rows j places left a
+    → AllByRecursion (IsPlaceOf rows j) now → GoesPast p (entries_at rows j now) a b → Leaves p rows j places later b
+leaves_less p rows j places left now later a b e l own past =
+    let split : entries_at rows j left ≡ entries_at rows j now ++ entries_at rows j later
+    = ap (entries_at rows j) e ∙ map-append (λ place. entry_for j (row_at rows place) place) now later in
+    let back : Holds p b (entries_at rows j later) → Holds p a (entries_at rows j left) = λ h. subst (Holds p a) (sym split) (past.holds (entries_at rows j later) h) in
+    record {
+      stands = past.stands;
+      own = λ h. l.own (subst (AllByRecursion (IsPlaceOf rows j)) (sym e) (AllByRecursion-append (IsPlaceOf rows j) now later own h));
+      apart = λ h. l.apart (back h);
+      due = λ h. l.due (back h);
+    }
+
+-- the row that was fetched from a place
+pub fetched : (rows part : List Row) (places : List ℕ) (i : ℕ) (d : Row) → take (length places) part ≡ map (row_at rows) places → i < length places → get_or part i d ≡ row_at rows (get_or places i 0)
+fetched rows part [] i d e h = absurd (omega arith)
+fetched rows [] (x ∷ places) i d e h = cc
+fetched rows (r ∷ part) (x ∷ places) zero d e h = cc
+fetched rows (r ∷ part) (x ∷ places) (suc i) d e h =
+    let rest : take (length places) part ≡ map (row_at rows) places = cc in
+    fetched rows part places i d rest (omega arith)

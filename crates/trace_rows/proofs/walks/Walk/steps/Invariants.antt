@@ -1,0 +1,7 @@
+use Rattle.std.proofs.Common.{take}
+use Rattle.std.specs.List.{AllByRecursion}
+use Rattle.trace_rows.specs.Supplied.{IsPlaceOf, entries_at, GoesPast}
+use Rattle.trace_rows.proofs.walks.Walk.steps.Given as goal
+
+abbrev pub invariant-loop-i : goal.invariant-loop-i
+invariant-loop-i l = AllByRecursion (IsPlaceOf l.rows l.task) (take l.i l.places) × GoesPast l.periods (entries_at l.rows l.task (take l.i l.places)) l.fn.self l.self
