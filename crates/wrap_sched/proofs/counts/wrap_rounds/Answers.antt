@@ -1,0 +1,31 @@
+use Rattle.std.proofs.Common.{ap, arith, length, subst, ℕ, ◌+◌, ◌*◌, ◌/◌, ◌<◌, ◌∙◌, ◌≡◌, ◌≤◌}
+use Rattle.sched_base.specs.Tables.{row_limit}
+use Rattle.wrap_sched.specs.Steps.{cuts, points, rates}
+use Rattle.wrap_sched.specs.Wrapped.{wrapped_rounds}
+use Rattle.wrap_sched.proofs.CountLemmas.{past_limit, within_limit, wrapped_rounds_are}
+use Rattle.wrap_sched.proofs.counts.wrap_rounds.Goals as goal
+
+pub returns-in-Some-clause-count : goal.returns-in-Some-clause-count
+returns-in-Some-clause-count c =
+    let s = c.args.set.now in
+    let m_is = c.from-processors.ensures ∙ c.processors.ensures.value in
+    let same : length c.as_slice.result.now ≡ length (cuts c.args.scale (rates c.args.scale s.tasks)) = ap length (c.as_slice.ensures.value ∙ c.in_ok-cuts.ensures ∙ ap (cuts c.args.scale) (c.deref.ensures.value ∙ c.in_ok-rates.ensures.value)) in
+    let all = wrapped_rounds_are s c.args.scale c.processors.ensures.lawful c.requires.scale in
+    let each = ap (λ n. n * length (points s)) same in
+    let (count, most) = c.in-Some.ensures.count in
+    let P : ℕ → Type 0 = λ m. c.in-Some.count ≤ row_limit / m in
+    (omega (arith, all, each, count), within_limit row_limit s.processors c.in-Some.count (subst P m_is most))
+
+pub returns-clause-fault : goal.returns-clause-fault
+returns-clause-fault c =
+    let s = c.args.set.now in
+    let m_is = c.from-processors.ensures ∙ c.processors.ensures.value in
+    let same : length c.as_slice.result.now ≡ length (cuts c.args.scale (rates c.args.scale s.tasks)) = ap length (c.as_slice.ensures.value ∙ c.in_ok-cuts.ensures ∙ ap (cuts c.args.scale) (c.deref.ensures.value ∙ c.in_ok-rates.ensures.value)) in
+    let all = wrapped_rounds_are s c.args.scale c.processors.ensures.lawful c.requires.scale in
+    let each = ap (λ n. n * length (points s)) same in
+    let past = c.in-None.ensures.past in
+    let some = c.processors.ensures.lawful.some_processors in
+    let P : ℕ → Type 0 = λ m. row_limit / m < wrapped_rounds c.args.scale s in (
+      past_limit row_limit s.processors (wrapped_rounds c.args.scale s) some (subst P m_is (omega (arith, all, each, past))),
+      ap (λ m. (row_limit / m + 1) * m) m_is,
+    )

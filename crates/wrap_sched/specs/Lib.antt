@@ -1,0 +1,4 @@
+pub mod Spans
+pub mod Wrapped
+pub mod Steps
+pub mod Faults

@@ -1,0 +1,79 @@
+//! How many rounds a wrapped schedule has.
+ghost use Rattle.std.specs.Prelude.{◌≡◌, ℕ, ◌≤◌, ◌<◌, ◌^◌, ◌*◌, length, IfOk, IfErr, IfSome, IfNone};
+ghost use Rattle.sched_base.specs.Scale.{IsScale, Fits};
+ghost use Rattle.sched_base.specs.Tables.{row_limit};
+ghost use Rattle.wrap_sched.specs.Faults.{IsWrapFault};
+ghost use Rattle.wrap_sched.specs.Steps.{points};
+ghost use Rattle.wrap_sched.specs.Wrapped.{wrapped_rounds};
+
+use crate::cuts::{cuts_of, rates_of};
+use crate::points::next_point;
+use sched_base::{NoMemory, TaskSet};
+use std::alloc::Global;
+use thiserror::Error;
+
+/// The rows that a schedule may have.
+const ROW_LIMIT: u64 = 2_097_152;
+
+/// Why the rounds of a wrapped schedule aren't counted.
+#[derive(Clone, Copy, Debug, PartialEq, Eq, Error)]
+pub enum WrapFault {
+    /// The rounds have more than 2,097,152 rows.
+    #[error("more rows than a schedule may have: {rows}")]
+    TooLong {
+        /// The least multiple of the number of processors above that limit.
+        rows: u64,
+    },
+    /// Memory was refused.
+    #[error("no memory")]
+    NoMemory,
+}
+
+impl From<NoMemory> for WrapFault {
+    ghost use Rattle.std.specs.Prelude.{◌≡◌};
+    ghost use Rattle.wrap_sched.specs.declared.counts.WrapFault.TheVariants as fault;
+
+    ghost from_gives = { λ _ f. f ≡ fault.NoMemory };
+
+    fn from(_: NoMemory) -> Self {
+        WrapFault::NoMemory
+    }
+}
+
+// The rounds of all slices, where each slice has that many, and they are at most `most`.
+fn count_slices(set: &TaskSet, each: u64, most: u64) -> Option<u64>
+    ensures count { IfSome result (λ count. (count ≡ each * length (points set.now)) × (count ≤ most)) }
+    ensures past { IfNone result (most < each * length (points set.now)) }
+{
+    let mut count: u64 = 0;
+    let mut x: u64 = 0;
+    'slices: while x < set.horizon() {
+        if most - count < each {
+            return None;
+        }
+        count += each;
+        x = next_point(set, x);
+    }
+    Some(count)
+}
+
+/// The number of rounds of the wrapped schedule, where their rows, one for each processor, are at most 2,097,152. It goes
+/// over each slice once.
+pub fn wrap_rounds(alloc: Global, set: &TaskSet, scale: u128) -> Result<u64, WrapFault>
+    requires scale { IsScale set.now.tasks scale }
+    requires scale_fits { scale ≤ 2 ^ 94 }
+    requires fits { Fits scale set.now }
+    ensures count { IfOk result (λ count. (count ≡ wrapped_rounds scale set.now) × (count * set.now.processors ≤ row_limit)) }
+    ensures fault { IfErr result (λ fault. IsWrapFault scale set.now fault) }
+{
+    let rates = rates_of(alloc, set, scale)?;
+    let cuts = cuts_of(alloc, &rates, scale)?;
+    let processors = u64::from(set.processors());
+    let most = ROW_LIMIT / processors;
+    match count_slices(set, cuts.as_slice().len() as u64, most) {
+        Some(count) => Ok(count),
+        None => Err(WrapFault::TooLong {
+            rows: (most + 1) * processors,
+        }),
+    }
+}

@@ -1,0 +1,156 @@
+//! The table of the wrapped schedule.
+ghost use Rattle.std.specs.Prelude.{ℕ, ◌≡◌, ◌<◌, ◌≤◌, ◌+◌, ◌*◌, ◌-◌, ◌^◌, IfOk, vec_len};
+ghost use Rattle.std.specs.Prelude.{List, [], ◌++◌, map, length, replicate, slice_index_or};
+ghost use Rattle.std.specs.List.{range_with_len};
+ghost use Rattle.sched_base.specs.Scale.{IsScale, Fits};
+ghost use Rattle.sched_base.specs.Tables.{all_rows, end_of, rounds_of};
+ghost use Rattle.sched_base.specs.Valid.{IsValid};
+ghost use Rattle.sched_base.specs.declared.rows.Row.{Row as DeclaredRow};
+ghost use Rattle.sched_base.specs.Lanes.{lanes_of};
+ghost use Rattle.wrap_sched.specs.Steps.{rates, unit_rounds};
+ghost use Rattle.wrap_sched.specs.Wrapped.{leaf_of, slice_rows, wrapped, wrapped_rounds};
+
+use crate::cuts::rates_of;
+use crate::points::next_point;
+use crate::units::{UnitRound, unit_rounds};
+use sched_base::{Leaf, NoMemory, Row, RowTable, TaskId, TaskSet};
+use std::alloc::Global;
+
+// Rows to be overwritten.
+fn blank_rows(alloc: Global, processors: u32) -> Result<Vec<Row>, NoMemory>
+    ensures { IfOk result (λ v. vec_len v ≡ processors) }
+{
+    let blank = Row {
+        processor: 0,
+        start: 0,
+        end: 0,
+        leaf: Leaf::Empty,
+    };
+    Ok(vec![in alloc; blank; processors as usize]?)
+}
+
+// What a processor runs in a slice from unit x on, where this task holds its place.
+fn leaf_of(set: &TaskSet, x: u64, processor: u32, holder: u32) -> Leaf
+    ensures { result ≡ leaf_of set.now.tasks x processor holder }
+{
+    let tasks = set.tasks();
+    if (holder as usize) < tasks.len() {
+        if x < tasks[holder as usize].offset {
+            Leaf::Wait(TaskId(holder))
+        } else {
+            Leaf::Task(TaskId(holder))
+        }
+    } else {
+        Leaf::Idle(processor)
+    }
+}
+
+// Writes the rows of a round of a slice from unit x on.
+fn write_rows(set: &TaskSet, x: u64, start: u128, end: u128, holders: &[u32], rows: &mut [Row])
+    requires holders { length holders.now ≡ set.now.processors }
+    requires rows { length rows.old ≡ set.now.processors }
+    ensures { rows.new ≡ map (λ p. record {
+      processor = p;
+      start = start;
+      end = end;
+      leaf = leaf_of set.now.tasks x p (slice_index_or holders.now p 0);
+    }) (range_with_len 0 set.now.processors) }
+{
+    let _lawful = set.processors();
+    for p in 0..rows.len() {
+        rows[p] = Row {
+            processor: p as u32,
+            start,
+            end,
+            leaf: leaf_of(set, x, p as u32, holders[p]),
+        };
+    }
+}
+
+// Appends the rounds of the slice from unit x up to unit y.
+fn push_slice(
+    set: &TaskSet,
+    scale: u128,
+    pattern: &[UnitRound],
+    x: u64,
+    y: u64,
+    rows: &mut [Row],
+    table: &mut RowTable,
+)
+    requires scale { IsScale set.now.tasks scale }
+    requires scale_fits { scale ≤ 2 ^ 94 }
+    requires fits { Fits scale set.now }
+    requires pattern { pattern.now ≡ unit_rounds set.now.processors scale (rates scale set.now.tasks) }
+    requires forward { x < y }
+    requires early { y ≤ set.now.horizon }
+    requires rows { length rows.old ≡ set.now.processors }
+    requires whole { length table.old.lanes ≡ set.now.processors }
+    requires start { end_of table.old.lanes ≡ x * scale }
+    requires room { length pattern.now ≤ table.old.room }
+    ensures lanes { let m = set.now.processors in (done : List DeclaredRow) → table.old.lanes ≡ lanes_of m done →
+        table.new.lanes ≡ lanes_of m (done ++ slice_rows scale set.now.tasks m (record { begin = x; end = y })) }
+    ensures end { end_of table.new.lanes ≡ y * scale }
+    ensures whole { length table.new.lanes ≡ set.now.processors }
+    ensures count { rounds_of table.new.lanes ≡ rounds_of table.old.lanes + length pattern.now }
+    ensures room { table.new.room + length pattern.now ≡ table.old.room }
+{
+    let _lawful = set.processors();
+    let start = u128::from(x) * scale;
+    let units = u128::from(y - x);
+    for round in pattern {
+        let begin = start + units * round.begin();
+        let end = start + units * round.end();
+        write_rows(set, x, begin, end, round.holders(), rows);
+        table.push_round(rows);
+    }
+}
+
+// Appends the rounds of all slices.
+fn push_slices(
+    set: &TaskSet,
+    scale: u128,
+    pattern: &[UnitRound],
+    rows: &mut [Row],
+    table: &mut RowTable,
+)
+    requires scale { IsScale set.now.tasks scale }
+    requires scale_fits { scale ≤ 2 ^ 94 }
+    requires fits { Fits scale set.now }
+    requires pattern { pattern.now ≡ unit_rounds set.now.processors scale (rates scale set.now.tasks) }
+    requires rows { length rows.old ≡ set.now.processors }
+    requires none { table.old.lanes ≡ replicate set.now.processors [] }
+    requires room { table.old.room ≡ wrapped_rounds scale set.now }
+    ensures lanes { table.new.lanes ≡ lanes_of set.now.processors (wrapped scale set.now) }
+    ensures count { rounds_of table.new.lanes ≡ wrapped_rounds scale set.now }
+    ensures full { table.new.room ≡ 0 }
+{
+    let _lawful = set.processors();
+    let mut x: u64 = 0;
+    'slices: while x < set.horizon() {
+        let y = next_point(set, x);
+        push_slice(set, scale, pattern, x, y, rows, table);
+        x = y;
+    }
+}
+
+/// The table of the wrapped schedule, where `rounds` is the number of its rounds. It goes over each round once. Its rows,
+/// lane after lane, are a valid schedule of the set up to its horizon.
+pub fn wrap(alloc: Global, set: &TaskSet, scale: u128, rounds: u64) -> Result<RowTable, NoMemory>
+    requires scale { IsScale set.now.tasks scale }
+    requires scale_fits { scale ≤ 2 ^ 94 }
+    requires fits { Fits scale set.now }
+    requires rounds { rounds ≡ wrapped_rounds scale set.now }
+    ensures lanes { IfOk result (λ t. t.lanes ≡ lanes_of set.now.processors (wrapped scale set.now)) }
+    ensures rounds { IfOk result (λ t. rounds_of t.lanes ≡ rounds) }
+    ensures full { IfOk result (λ t. t.room ≡ 0) }
+    ensures valid { IfOk result (λ t. IsValid set.now scale (set.now.horizon * scale) (set.now.horizon * scale) (all_rows t.lanes)) }
+{
+    let processors = set.processors();
+    let rates = rates_of(alloc, set, scale)?;
+    let pattern = unit_rounds(alloc, &rates, scale, processors)?;
+    let mut rows = blank_rows(alloc, processors)?;
+    let mut table = RowTable::new(alloc, processors, rounds)?;
+    push_slices(set, scale, &pattern, &mut rows, &mut table);
+    let _whole = table.processors();
+    Ok(table)
+}
