@@ -3,3 +3,5 @@ pub mod MembersLemmas
 pub mod LimitsLemmas
 pub mod Accepts
 pub mod Refuses
+mod PiecesLemmas
+mod JoinedPieces

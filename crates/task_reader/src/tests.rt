@@ -1,5 +1,5 @@
 //! Sets and their answers: values from outside, for what no clause says.
-use crate::{ReadSet, read_set};
+use crate::{ReadSet, cut, read_set};
 use sched_base::TaskSet;
 use std::alloc::Global;
 use std::process::Abort;
@@ -295,6 +295,50 @@ fn many_tasks_and_cut_documents(rt: HostRuntime) -> Result<(), Fail> {
     for at in 0..THREE.len() {
         let said = answer(&rt, alloc, &THREE.as_bytes()[..at])?;
         assert!(rt; said.as_str() != "NoMemory", "cut at {at}");
+    }
+    Ok(())
+}
+
+/// The pieces in words: the start and the end of each.
+fn pieces(rt: &impl Abort, alloc: Global, bytes: &[u8]) -> Result<String, Fail> {
+    assert!(rt; bytes.len() <= 1_048_576);
+    let pieces = cut(alloc, bytes)?;
+    let mut words = String::new(alloc);
+    for j in 0..pieces.count() {
+        let (start, end) = pieces.piece(j);
+        let one = format!(in alloc; "{start}-{end} ")?;
+        words.push_str(one.as_str())?;
+    }
+    Ok(words)
+}
+
+#[test]
+fn pieces_of_texts(rt: HostRuntime) -> Result<(), Fail> {
+    let rows = [
+        ("", "0-0 "),
+        ("a", "0-1 "),
+        ("a\nb\n", "0-4 "),
+        ("%%", "0-0 2-2 "),
+        ("%%\n", "0-0 3-3 "),
+        ("%%\n%%", "0-0 3-3 5-5 "),
+        ("%%\n%%\n", "0-0 3-3 6-6 "),
+        ("a\n%%\nb", "0-2 5-6 "),
+        ("a\n%%\nb\n%%\n", "0-2 5-7 10-10 "),
+        ("a\n%%\n\n%%\nb\n%%", "0-2 5-6 9-11 13-13 "),
+        // Lines that are not exactly `%%`.
+        ("%%\r\n", "0-4 "),
+        ("%% \n", "0-4 "),
+        (" %%\n", "0-4 "),
+        ("a%%\n%%b\n%%%\n%\n%\n", "0-16 "),
+        // A dividing line cuts in the midst of a TOML string too.
+        ("x = \"\"\"\n%%\n\"\"\"", "0-8 11-14 "),
+    ];
+    for (text, want) in rows {
+        assert_eq!(rt;
+            pieces(&rt, rt.alloc(), text.as_bytes())?.as_str(),
+            want,
+            "{text}"
+        );
     }
     Ok(())
 }
