@@ -1,7 +1,19 @@
--- Jobs in their places, and what the jobs for tests hold.
-use Rattle.std.specs.Prelude.{ℕ, ◌≡◌, List, slice_get}
+-- What a job is made of, jobs in their places, and what the jobs for tests hold.
+use Rattle.std.specs.Prelude.{ℕ, ◌≡◌, ◌/◌, List, replicate, slice_get}
 use Rattle.std.specs.declared.option.Option.{Option}
-use Rattle.std.specs.declared.option.Option.TheVariants.{Some}
+use Rattle.std.specs.declared.option.Option.TheVariants.{None, Some}
+use Rattle.sched_edges.specs.Machine.{alone, numbers}
+
+-- what a job is made of once this scale and this program are loaded: a job without a program stays so
+abbrev pub reloaded : Option (ℕ × List ℕ) → ℕ → List ℕ → Option (ℕ × List ℕ)
+reloaded None scale code = None
+reloaded (Some made) scale code = Some (scale, code)
+
+-- the nine numbers that a job has computed in so many ticks: those of its program alone after the whole units, of scale many
+-- ticks each; zeros where it has no program
+abbrev pub computed : Option (ℕ × List ℕ) → ℕ → List ℕ
+computed None ticks = replicate 9 0
+computed (Some (scale, code)) ticks = numbers (alone code (ticks / scale))
 
 -- the places of a list of jobs, each with its job or empty, and for how many more places there is room
 pub record JobPlaces (J : Type 0) : Type 0 where

@@ -4,4 +4,5 @@ pub mod Memory
 pub mod StdStreams
 pub mod Lines
 pub mod Gates
+pub mod Machine
 pub mod Jobs

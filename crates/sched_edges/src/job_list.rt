@@ -17,8 +17,11 @@ pub struct JobList<J> {
     room: u32,
 }
 
+/// A boxed job.
+pub type BoxedJob = Box<dyn Job + Send>;
+
 /// A list of boxed jobs.
-pub type Jobs = JobList<Box<dyn Job + Send>>;
+pub type Jobs = JobList<BoxedJob>;
 
 impl<J> Model for JobList<J> {
     ghost use Rattle.std.specs.Prelude.{◌≤◌, ◌<◌, ◌+◌, ◌^◌, vec_len, vec_capacity};

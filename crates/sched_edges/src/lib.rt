@@ -18,7 +18,7 @@ mod tests;
 mod write;
 
 pub use gates::Gate;
-pub use job_list::{JobList, Jobs};
+pub use job_list::{BoxedJob, JobList, Jobs};
 pub use jobs::Job;
 pub use line::{Line, named_line, number_line, numbers_line, word_line};
 pub use memory::{MemSink, MemSource};

@@ -122,7 +122,8 @@ fn read_piece<R: Source>(
 ) -> Result<usize, TakeFault>
     requires { 0 < length piece.old }
     ensures count { IfOk result (λ n. n ≤ length piece.old) }
-    ensures grows { IfOk result (λ n. (more : _) × (length more ≡ n) × (bytes.new.items ≡ bytes.old.items ++ more) × Consumes (R.left source.old) (R.left source.new) more) }
+    ensures grows { IfOk result (λ n. (more : _) × (length more ≡ n)
+        × (bytes.new.items ≡ bytes.old.items ++ more) × Consumes (R.left source.old) (R.left source.new) more) }
     ensures end { IfOk result (λ n. n ≡ 0 → IsAtEnd (R.left source.new)) }
     ensures short { (count : ℕ) → result ≡ Err (TakeFault.TooLong count) → ⊥ }
     ensures bounded { OnErr result (GaveAtMost (R.left source.old) (R.left source.new) (length piece.old)) }

@@ -63,6 +63,15 @@ impl Job for CountJob {
         self.used += ticks;
         Ok(())
     }
+
+    fn load(&mut self, _code: &[u64], _scale: u128) -> Result<(), NoMemory> {
+        self.used = 0;
+        Ok(())
+    }
+
+    fn state(&self) -> [u64; 9] {
+        [0; 9]
+    }
 }
 
 /// A job that counts its ticks, of which stated calls of `work` fail.
@@ -141,6 +150,15 @@ impl Job for FailJob {
         self.used += ticks;
         Ok(())
     }
+
+    fn load(&mut self, _code: &[u64], _scale: u128) -> Result<(), NoMemory> {
+        self.used = 0;
+        Ok(())
+    }
+
+    fn state(&self) -> [u64; 9] {
+        [0; 9]
+    }
 }
 
 #[cfg(test)]
@@ -166,6 +184,9 @@ mod tests {
             assert_eq!(rt; (job.used(), job.faults()), (used, faults));
         }
         assert_eq!(rt; job.id(), 7);
+        assert!(rt; job.load(&[3], 4).is_ok());
+        assert_eq!(rt; (job.used(), job.faults()), (0, 2));
+        assert_eq!(rt; job.state(), [0; 9]);
         Ok(())
     }
 

@@ -1,0 +1,5 @@
+pub mod MachineLemmas
+pub mod ObeyedLemmas
+pub mod LinesLemmas
+pub mod InstructionsLemmas
+pub mod ProgramsLemmas

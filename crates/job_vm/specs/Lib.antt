@@ -1,0 +1,4 @@
+pub mod VmJobs
+pub mod Instructions
+pub mod Programs
+pub mod Faults

@@ -1,0 +1,10 @@
+-- What a job that runs a program holds.
+use Rattle.std.specs.Prelude.{ℕ, List}
+
+pub record VmHeld : Type 0 where
+  pub id : ℕ
+  pub used : ℕ
+  -- the ticks of a unit
+  pub scale : ℕ
+  -- the words of its program
+  pub code : List ℕ
