@@ -1,0 +1,8 @@
+use Rattle.std.proofs.Common.{◌≡◌, ◌+◌}
+use Rattle.tree_check.specs.Written.{level_at}
+use Rattle.tree_check.specs.Faults.{before}
+use Rattle.tree_check.specs.FirstSteps.{first_making}
+use Rattle.tree_check.proofs.plan.add_leaves.Given as goal
+
+abbrev pub invariant-loop-member : goal.invariant-loop-member
+invariant-loop-member l = l.maker ≡ first_making l.tree (before (level_at l.tree 0) l.i + l.member-index)

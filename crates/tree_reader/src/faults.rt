@@ -1,0 +1,39 @@
+//! Why a tree text isn't read.
+ghost use Rattle.std.specs.Prelude.{◌≡◌};
+ghost use Rattle.tree_reader.specs.declared.faults.TreeFault.TheVariants.{NoMemory};
+
+use sched_base::NoMemory;
+use std::alloc::{AllocError, AllocFailed};
+
+/// A tree text was refused, or memory was.
+#[derive(Clone, Copy, Debug, PartialEq, Eq)]
+pub enum TreeFault {
+    /// This line is the first at fault, counted from 1. Where the text ends too soon, it is the line after its last one.
+    BadLine { line: u64 },
+    /// Memory was refused. No clause says when.
+    NoMemory,
+}
+
+impl From<NoMemory> for TreeFault {
+    ghost from_gives = { λ _ e. e ≡ NoMemory };
+
+    fn from(_: NoMemory) -> TreeFault {
+        TreeFault::NoMemory
+    }
+}
+
+impl From<AllocError> for TreeFault {
+    ghost from_gives = { λ _ e. e ≡ NoMemory };
+
+    fn from(_: AllocError) -> TreeFault {
+        TreeFault::NoMemory
+    }
+}
+
+impl<T: Drop> From<AllocFailed<T>> for TreeFault {
+    ghost from_gives = { λ _ e. e ≡ NoMemory };
+
+    fn from(_: AllocFailed<T>) -> TreeFault {
+        TreeFault::NoMemory
+    }
+}
