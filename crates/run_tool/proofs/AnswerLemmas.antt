@@ -1,5 +1,6 @@
 -- Where nothing fails, the answer for the bytes is given.
-use Rattle.std.proofs.Common.{◌≡◌, ◌⊎◌, inl, inr, true, false, ℕ, ◌+◌, ◌^◌, ◌≤◌, ◌<◌, List, ◌++◌, length, Result, Ok, Err, Option, Some, None, refl, sym, ◌∙◌, ap, subst, arith, append-nil}
+use Rattle.std.proofs.Common.{◌≡◌, ◌⊎◌, inl, inr, true, false, ℕ, ◌+◌, ◌^◌, ◌≤◌, ◌<◌, List, ◌++◌, length, Result, Ok, Err, Option, Some, None, refl}
+use Rattle.std.proofs.Common.{sym, ◌∙◌, ap, subst, arith, append-nil}
 use Rattle.sched_base.specs.Sets.{SetContents}
 use Rattle.sched_base.specs.Scale.{IsScale, PassesAt, total_of, room_of, Fits}
 use Rattle.sched_edges.specs.Causes.{Rose}
@@ -11,17 +12,19 @@ use Rattle.trace_check.specs.Traces.{Trace as TraceRead}
 use Rattle.trace_check.specs.Reading.{reading}
 use Rattle.stat_report.specs.Report.{IsValidTrace}
 use Rattle.rate_scale.proofs.ScaleLemmas.{same_scale, PassesAt-whole}
-use Rattle.run_tool.specs.declared.words.Command.{Command}
+use Rattle.run_tool.specs.declared.command.Command.{Command}
 use Rattle.run_tool.specs.declared.refusal.Refusal.{Refusal}
 use Rattle.run_tool.specs.declared.refusal.Refusal.TheVariants as why
 use Rattle.run_tool.specs.declared.status.Status.{Status}
-use Rattle.run_tool.specs.declared.status.Status.TheVariants.{Done, Invalid, Usage, ReadFault, WriteFault, NoMemory, BadInput, Overload, ScaleTooLarge, TooLong, GateFault, JobFault, InputTooLong}
-use Rattle.run_tool.specs.declared.words.Command.TheVariants.{Rate, Tree, Trace, TraceMet, Check, Exec, ExecMet, Drill}
-use Rattle.event_core.specs.Rounds.{row_limit}
-use Rattle.run_tool.specs.Commands.{SetText, rates, server_tree, schedule_rows, limit_of, ReadsSet, plan_of, rows_of, HasRoom, HasTooManyRows, HasNoRoom, WritesSet, Writes, CallsFor, RefusesSet, RefusesText, Refuses}
+use Rattle.run_tool.specs.declared.status.Status.TheVariants.{Done, Invalid, Usage, ReadFault, WriteFault, NoMemory, BadInput, Overload}
+use Rattle.run_tool.specs.declared.status.Status.TheVariants.{ScaleTooLarge, TooLong, GateFault, JobFault, InputTooLong}
+use Rattle.sched_base.specs.Tables.{row_limit}
+use Rattle.run_tool.specs.Commands.{SetText, rates, server_tree, schedule_rows, Output, of_set, of_trace, of_drill, output_of, limit_of, ReadsSet}
+use Rattle.run_tool.specs.Commands.{plan_of, rows_of, HasRoom, HasTooManyRows, HasNoRoom, WritesSet, Writes, CallsFor, RefusesSet, RefusesText}
+use Rattle.run_tool.specs.Commands.{Refuses}
 use Rattle.run_tool.specs.Checks.{TellsTrace, Judges, RefusesTrace}
 use Rattle.run_tool.specs.Refusals.{status_of, set_status}
-use Rattle.run_tool.specs.Ends.{Streams, ErrorStream, IsTold, IsDone, StopsAs, StopsDrill, Stops, IsAnswer, AnswersBytes, IsAnswered}
+use Rattle.run_tool.specs.Ends.{Streams, ErrorStream, IsTold, IsDone, StopsAs, StopsDrill, Stops, IsAnswer, AnswersBytes, Answers, IsAnswered}
 use Rattle.run_tool.specs.Refuse.{IsRefused}
 
 -- a source that tells its bytes gave just these
@@ -77,16 +80,19 @@ fits_not_refused bytes s scale (why.TooLong rows) reads fits refuses = refuses
 fits_not_refused bytes s scale (why.InputTooLong count) reads fits refuses = refuses
 
 -- a schedule that has room hasn't too many rows
-not_too_many : (bytes : List ℕ) (s : SetContents) (scale rows : ℕ) → ReadsSet bytes s scale → rows_of (plan_of s scale) ≤ row_limit → HasTooManyRows bytes rows → ⊥
+not_too_many : (bytes : List ℕ) (s : SetContents) (scale rows : ℕ) → ReadsSet bytes s scale → rows_of (plan_of s scale) ≤ row_limit
+    → HasTooManyRows bytes rows → ⊥
 not_too_many bytes s scale rows reads room many =
     let (t, other, reads', fits, over, is_rows) = many in
     let same : t ≡ s = same_set bytes t s reads'.read reads.read in
     let scale' : IsScale s.tasks other = subst (λ (x : SetContents). IsScale x.tasks other) same reads'.is_scale in
     let one : other ≡ scale = same_scale s.tasks other scale scale' reads.is_scale in
-    let over' : row_limit < rows_of (plan_of s scale) = subst (λ (n : ℕ). row_limit < rows_of (plan_of s n)) one (subst (λ (x : SetContents). row_limit < rows_of (plan_of x other)) same over) in
+    let over' : row_limit < rows_of (plan_of s scale) =
+    subst (λ (n : ℕ). row_limit < rows_of (plan_of s n)) one (subst (λ (x : SetContents). row_limit < rows_of (plan_of x other)) same over) in
     absurd (omega (arith, room, over'))
 
-not_without_room : (what : SetText) (bytes : List ℕ) (s : SetContents) (scale rows : ℕ) → ReadsSet bytes s scale → HasRoom what s scale → HasNoRoom what bytes rows → ⊥
+not_without_room : (what : SetText) (bytes : List ℕ) (s : SetContents) (scale rows : ℕ) → ReadsSet bytes s scale → HasRoom what s scale
+    → HasNoRoom what bytes rows → ⊥
 not_without_room rates bytes s scale rows reads room none = none
 not_without_room server_tree bytes s scale rows reads room none = none
 not_without_room (schedule_rows met) bytes s scale rows reads room none = not_too_many bytes s scale rows reads room none
@@ -212,163 +218,151 @@ told_trace bytes text Done t read told = (t, read, told.0)
 told_trace bytes text Invalid t read told = (t, read, told.0)
 told_trace bytes text _ t read told = absurd told
 
--- no command tells of bytes that it refuses
-told_or_refused : (c : Command) (bytes : List ℕ) (status : Status) (r : Refusal) → CallsFor c bytes status → Refuses c bytes r → ⊥
-told_or_refused Rate bytes status r is refuses = set_writes_or_refuses rates bytes is.0 status r is.1 refuses
-told_or_refused Tree bytes status r is refuses = set_writes_or_refuses server_tree bytes is.0 status r is.1 refuses
-told_or_refused Trace bytes status r is refuses = set_writes_or_refuses (schedule_rows false) bytes is.0 status r is.1 refuses
-told_or_refused TraceMet bytes status r is refuses = set_writes_or_refuses (schedule_rows true) bytes is.0 status r is.1 refuses
-told_or_refused (Exec window) bytes status r is refuses = set_writes_or_refuses (schedule_rows false) bytes is.0 status r is.1 refuses
-told_or_refused ExecMet bytes status r is refuses = set_writes_or_refuses (schedule_rows true) bytes is.0 status r is.1 refuses
-told_or_refused (Drill number) bytes status r is refuses = refuses
-told_or_refused Check bytes status r is refuses = judged_or_refused bytes status r is refuses
+-- nothing is told of bytes that are refused
+told_or_refused : (o : Output) (bytes : List ℕ) (status : Status) (r : Refusal) → CallsFor o bytes status → Refuses o bytes r → ⊥
+told_or_refused (of_set what) bytes status r is refuses = set_writes_or_refuses what bytes is.0 status r is.1 refuses
+told_or_refused of_trace bytes status r is refuses = judged_or_refused bytes status r is refuses
+told_or_refused (of_drill number) bytes status r is refuses = refuses
 
--- each command tells of bytes with one status
-one_telling : (c : Command) (bytes : List ℕ) (a b : Status) → CallsFor c bytes a → CallsFor c bytes b → a ≡ b
-one_telling Rate bytes a b x y = x.1.0 ∙ sym y.1.0
-one_telling Tree bytes a b x y = x.1.0 ∙ sym y.1.0
-one_telling Trace bytes a b x y = x.1.0 ∙ sym y.1.0
-one_telling TraceMet bytes a b x y = x.1.0 ∙ sym y.1.0
-one_telling (Exec window) bytes a b x y = x.1.0 ∙ sym y.1.0
-one_telling ExecMet bytes a b x y = x.1.0 ∙ sym y.1.0
-one_telling (Drill number) bytes a b x y = x.1.0 ∙ sym y.1.0
-one_telling Check bytes a b x y = one_judgment bytes a b x y
+-- bytes are told of with one status
+one_telling : (o : Output) (bytes : List ℕ) (a b : Status) → CallsFor o bytes a → CallsFor o bytes b → a ≡ b
+one_telling (of_set what) bytes a b x y = x.1.0 ∙ sym y.1.0
+one_telling of_trace bytes a b x y = one_judgment bytes a b x y
+one_telling (of_drill number) bytes a b x y = x.1.0 ∙ sym y.1.0
 
--- each command refuses bytes with one status
-one_status : (c : Command) (bytes : List ℕ) (r q : Refusal) → Refuses c bytes r → Refuses c bytes q → status_of r ≡ status_of q
-one_status Rate bytes r q a b = one_text_status rates bytes r q a b
-one_status Tree bytes r q a b = one_text_status server_tree bytes r q a b
-one_status Trace bytes r q a b = one_text_status (schedule_rows false) bytes r q a b
-one_status TraceMet bytes r q a b = one_text_status (schedule_rows true) bytes r q a b
-one_status (Exec window) bytes r q a b = one_text_status (schedule_rows false) bytes r q a b
-one_status ExecMet bytes r q a b = one_text_status (schedule_rows true) bytes r q a b
-one_status (Drill number) bytes r q a b = absurd a
-one_status Check bytes r q a b = (refused_line bytes r a).1 ∙ sym (refused_line bytes q b).1
+-- bytes are refused with one status
+one_status : (o : Output) (bytes : List ℕ) (r q : Refusal) → Refuses o bytes r → Refuses o bytes q → status_of r ≡ status_of q
+one_status (of_set what) bytes r q a b = one_text_status what bytes r q a b
+one_status of_trace bytes r q a b = (refused_line bytes r a).1 ∙ sym (refused_line bytes q b).1
+one_status (of_drill number) bytes r q a b = absurd a
 
 -- bytes call for the status with which their text is written
-called_for : (c : Command) (bytes text : List ℕ) (status : Status) → Writes c bytes status text → CallsFor c bytes status
-called_for Rate bytes text status writes = (text, writes)
-called_for Tree bytes text status writes = (text, writes)
-called_for Trace bytes text status writes = (text, writes)
-called_for TraceMet bytes text status writes = (text, writes)
-called_for (Exec window) bytes text status writes = (text, writes)
-called_for ExecMet bytes text status writes = (text, writes)
-called_for (Drill number) bytes text status writes = (text, writes)
-called_for Check bytes text status writes = told_trace bytes text status writes.0 writes.1 writes.2
+called_for : (o : Output) (bytes text : List ℕ) (status : Status) → Writes o bytes status text → CallsFor o bytes status
+called_for (of_set what) bytes text status writes = (text, writes)
+called_for of_trace bytes text status writes = told_trace bytes text status writes.0 writes.1 writes.2
+called_for (of_drill number) bytes text status writes = (text, writes)
 
 -- the answer, where the bytes call for a status
-answer_called_for : (c : Command) (bytes : List ℕ) (status answer : Status) → length bytes ≤ limit_of c → CallsFor c bytes status → IsAnswer c bytes answer → status ≡ answer
-answer_called_for c bytes status Done within called is = one_telling c bytes status Done called is.1
-answer_called_for c bytes status Invalid within called is = one_telling c bytes status Invalid called is.1
-answer_called_for c bytes status InputTooLong within called is = absurd (omega (arith, within, is))
-answer_called_for c bytes status BadInput within called is = absurd (told_or_refused c bytes status is.1.0 called is.1.2)
-answer_called_for c bytes status Overload within called is = absurd (told_or_refused c bytes status is.1.0 called is.1.2)
-answer_called_for c bytes status ScaleTooLarge within called is = absurd (told_or_refused c bytes status is.1.0 called is.1.2)
-answer_called_for c bytes status TooLong within called is = absurd (told_or_refused c bytes status is.1.0 called is.1.2)
-answer_called_for c bytes status Usage within called is = absurd is
-answer_called_for c bytes status ReadFault within called is = absurd is
-answer_called_for c bytes status WriteFault within called is = absurd is
-answer_called_for c bytes status NoMemory within called is = absurd is
-answer_called_for c bytes status GateFault within called is = absurd is
-answer_called_for c bytes status JobFault within called is = absurd is
+answer_called_for : (o : Output) (bytes : List ℕ) (status answer : Status) → length bytes ≤ limit_of o → CallsFor o bytes status
+    → IsAnswer o bytes answer → status ≡ answer
+answer_called_for o bytes status Done within called is = one_telling o bytes status Done called is.1
+answer_called_for o bytes status Invalid within called is = one_telling o bytes status Invalid called is.1
+answer_called_for o bytes status InputTooLong within called is = absurd (omega (arith, within, is))
+answer_called_for o bytes status BadInput within called is = absurd (told_or_refused o bytes status is.1.0 called is.1.2)
+answer_called_for o bytes status Overload within called is = absurd (told_or_refused o bytes status is.1.0 called is.1.2)
+answer_called_for o bytes status ScaleTooLarge within called is = absurd (told_or_refused o bytes status is.1.0 called is.1.2)
+answer_called_for o bytes status TooLong within called is = absurd (told_or_refused o bytes status is.1.0 called is.1.2)
+answer_called_for o bytes status Usage within called is = absurd is
+answer_called_for o bytes status ReadFault within called is = absurd is
+answer_called_for o bytes status WriteFault within called is = absurd is
+answer_called_for o bytes status NoMemory within called is = absurd is
+answer_called_for o bytes status GateFault within called is = absurd is
+answer_called_for o bytes status JobFault within called is = absurd is
 
 -- the answer, where the command refuses the bytes
-answer_refuses : (c : Command) (bytes : List ℕ) (r : Refusal) (answer : Status) → length bytes ≤ limit_of c → Refuses c bytes r → IsAnswer c bytes answer → status_of r ≡ answer
-answer_refuses c bytes r Done within refuses is = absurd (told_or_refused c bytes Done r is.1 refuses)
-answer_refuses c bytes r Invalid within refuses is = absurd (told_or_refused c bytes Invalid r is.1 refuses)
-answer_refuses c bytes r InputTooLong within refuses is = absurd (omega (arith, within, is))
-answer_refuses c bytes r BadInput within refuses is = one_status c bytes r is.1.0 refuses is.1.2 ∙ is.1.1
-answer_refuses c bytes r Overload within refuses is = one_status c bytes r is.1.0 refuses is.1.2 ∙ is.1.1
-answer_refuses c bytes r ScaleTooLarge within refuses is = one_status c bytes r is.1.0 refuses is.1.2 ∙ is.1.1
-answer_refuses c bytes r TooLong within refuses is = one_status c bytes r is.1.0 refuses is.1.2 ∙ is.1.1
-answer_refuses c bytes r Usage within refuses is = absurd is
-answer_refuses c bytes r ReadFault within refuses is = absurd is
-answer_refuses c bytes r WriteFault within refuses is = absurd is
-answer_refuses c bytes r NoMemory within refuses is = absurd is
-answer_refuses c bytes r GateFault within refuses is = absurd is
-answer_refuses c bytes r JobFault within refuses is = absurd is
+answer_refuses : (o : Output) (bytes : List ℕ) (r : Refusal) (answer : Status) → length bytes ≤ limit_of o → Refuses o bytes r
+    → IsAnswer o bytes answer → status_of r ≡ answer
+answer_refuses o bytes r Done within refuses is = absurd (told_or_refused o bytes Done r is.1 refuses)
+answer_refuses o bytes r Invalid within refuses is = absurd (told_or_refused o bytes Invalid r is.1 refuses)
+answer_refuses o bytes r InputTooLong within refuses is = absurd (omega (arith, within, is))
+answer_refuses o bytes r BadInput within refuses is = one_status o bytes r is.1.0 refuses is.1.2 ∙ is.1.1
+answer_refuses o bytes r Overload within refuses is = one_status o bytes r is.1.0 refuses is.1.2 ∙ is.1.1
+answer_refuses o bytes r ScaleTooLarge within refuses is = one_status o bytes r is.1.0 refuses is.1.2 ∙ is.1.1
+answer_refuses o bytes r TooLong within refuses is = one_status o bytes r is.1.0 refuses is.1.2 ∙ is.1.1
+answer_refuses o bytes r Usage within refuses is = absurd is
+answer_refuses o bytes r ReadFault within refuses is = absurd is
+answer_refuses o bytes r WriteFault within refuses is = absurd is
+answer_refuses o bytes r NoMemory within refuses is = absurd is
+answer_refuses o bytes r GateFault within refuses is = absurd is
+answer_refuses o bytes r JobFault within refuses is = absurd is
 
 -- the answer, where there are more bytes than the command reads
-answer_too_long : (c : Command) (bytes : List ℕ) (answer : Status) → limit_of c < length bytes → IsAnswer c bytes answer → InputTooLong ≡ answer
-answer_too_long c bytes InputTooLong over is = refl
-answer_too_long c bytes Done over is = let within = is.0 in absurd (omega (arith, within, over))
-answer_too_long c bytes Invalid over is = let within = is.0 in absurd (omega (arith, within, over))
-answer_too_long c bytes BadInput over is = let within = is.0 in absurd (omega (arith, within, over))
-answer_too_long c bytes Overload over is = let within = is.0 in absurd (omega (arith, within, over))
-answer_too_long c bytes ScaleTooLarge over is = let within = is.0 in absurd (omega (arith, within, over))
-answer_too_long c bytes TooLong over is = let within = is.0 in absurd (omega (arith, within, over))
-answer_too_long c bytes Usage over is = absurd is
-answer_too_long c bytes ReadFault over is = absurd is
-answer_too_long c bytes WriteFault over is = absurd is
-answer_too_long c bytes NoMemory over is = absurd is
-answer_too_long c bytes GateFault over is = absurd is
-answer_too_long c bytes JobFault over is = absurd is
+answer_too_long : (o : Output) (bytes : List ℕ) (answer : Status) → limit_of o < length bytes → IsAnswer o bytes answer → InputTooLong ≡ answer
+answer_too_long o bytes InputTooLong over is = refl
+answer_too_long o bytes Done over is = let within = is.0 in absurd (omega (arith, within, over))
+answer_too_long o bytes Invalid over is = let within = is.0 in absurd (omega (arith, within, over))
+answer_too_long o bytes BadInput over is = let within = is.0 in absurd (omega (arith, within, over))
+answer_too_long o bytes Overload over is = let within = is.0 in absurd (omega (arith, within, over))
+answer_too_long o bytes ScaleTooLarge over is = let within = is.0 in absurd (omega (arith, within, over))
+answer_too_long o bytes TooLong over is = let within = is.0 in absurd (omega (arith, within, over))
+answer_too_long o bytes Usage over is = absurd is
+answer_too_long o bytes ReadFault over is = absurd is
+answer_too_long o bytes WriteFault over is = absurd is
+answer_too_long o bytes NoMemory over is = absurd is
+answer_too_long o bytes GateFault over is = absurd is
+answer_too_long o bytes JobFault over is = absurd is
 
-done_asked : (c : Command) (status : Status) (left : Option (List ℕ)) (old new : Streams) → old.left ≡ left → IsTold (limit_of c) (Writes c) status old new → AnswersBytes c left old new status
-done_asked c status None old new e h = tt
-done_asked c status (Some bytes) old new e h = λ unread unwritten answer is.
+done_asked : (o : Output) (status : Status) (left : Option (List ℕ)) (old new : Streams) → old.left ≡ left
+    → IsTold (limit_of o) (Writes o) status old new → AnswersBytes o left old new status
+done_asked o status None old new e h = tt
+done_asked o status (Some bytes) old new e h = λ unread unwritten answer is.
     let (given, text, read, writes, took) = h.told in
-    let all : GaveAll (Some bytes) new.left (limit_of c) given = subst (λ (l : Option (List ℕ)). GaveAll l new.left (limit_of c) given) e read in
-    let same : given ≡ bytes = same_bytes bytes given new.left (limit_of c) all in
-    let within : length bytes ≤ limit_of c = subst (λ (b : List ℕ). length b ≤ limit_of c) same all.within in
-    let called : CallsFor c bytes status = subst (λ (b : List ℕ). CallsFor c b status) same (called_for c given text status writes) in
-    inl (answer_called_for c bytes status answer within called is)
+    let all : GaveAll (Some bytes) new.left (limit_of o) given = subst (λ (l : Option (List ℕ)). GaveAll l new.left (limit_of o) given) e read in
+    let same : given ≡ bytes = same_bytes bytes given new.left (limit_of o) all in
+    let within : length bytes ≤ limit_of o = subst (λ (b : List ℕ). length b ≤ limit_of o) same all.within in
+    let called : CallsFor o bytes status = subst (λ (b : List ℕ). CallsFor o b status) same (called_for o given text status writes) in
+    inl (answer_called_for o bytes status answer within called is)
 
-done_by : (c : Command) (status : Status) (old new : Streams) → IsDone c status old new → IsAnswered (Some c) old.left old new status
-done_by Rate status old new h = done_asked Rate status old.left old new refl h
-done_by Tree status old new h = done_asked Tree status old.left old new refl h
-done_by Trace status old new h = done_asked Trace status old.left old new refl h
-done_by TraceMet status old new h = done_asked TraceMet status old.left old new refl h
-done_by Check status old new h = done_asked Check status old.left old new refl h
-done_by (Exec window) status old new h = done_asked (Exec window) status old.left old new refl h
-done_by ExecMet status old new h = done_asked ExecMet status old.left old new refl h
-done_by (Drill number) status old new h = let (text, writes, took) = h.told in λ unwritten. inl writes.0
+done_by : (o : Output) (status : Status) (old new : Streams) → IsDone o status old new → Answers o old.left old new status
+done_by (of_set what) status old new h = done_asked (of_set what) status old.left old new refl h
+done_by of_trace status old new h = done_asked of_trace status old.left old new refl h
+done_by (of_drill number) status old new h = let (text, writes, took) = h.told in λ unwritten. inl writes.0
 
 -- a command that was done answered
-pub done_answered : (asked : Option Command) (c : Command) (status : Status) (old new : Streams) → Some c ≡ asked → IsDone c status old new → IsAnswered asked old.left old new status
-done_answered asked c status old new e h = subst (λ (a : Option Command). IsAnswered a old.left old new status) e (done_by c status old new h)
+pub done_answered : (asked : Option Command) (c : Command) (status : Status) (old new : Streams) → Some c ≡ asked → IsDone (output_of c) status old new
+    → IsAnswered asked old.left old new status
+done_answered asked c status old new e h =
+    subst (λ (a : Option Command). IsAnswered a old.left old new status) e (done_by (output_of c) status old new h)
 
-refused_by : (c : Command) (bytes given : List ℕ) (left : Option (List ℕ)) (r : Refusal) (answer : Status) → GaveAll (Some bytes) left (limit_of c) given → Refuses c given r
-    → IsAnswer c bytes answer → status_of r ≡ answer
-refused_by c bytes given left r answer all refuses is =
-    let same : given ≡ bytes = same_bytes bytes given left (limit_of c) all in
-    let within : length bytes ≤ limit_of c = subst (λ (b : List ℕ). length b ≤ limit_of c) same all.within in
-    answer_refuses c bytes r answer within (subst (λ (b : List ℕ). Refuses c b r) same refuses) is
+refused_by : (o : Output) (bytes given : List ℕ) (left : Option (List ℕ)) (r : Refusal) (answer : Status)
+    → GaveAll (Some bytes) left (limit_of o) given → Refuses o given r
+    → IsAnswer o bytes answer → status_of r ≡ answer
+refused_by o bytes given left r answer all refuses is =
+    let same : given ≡ bytes = same_bytes bytes given left (limit_of o) all in
+    let within : length bytes ≤ limit_of o = subst (λ (b : List ℕ). length b ≤ limit_of o) same all.within in
+    answer_refuses o bytes r answer within (subst (λ (b : List ℕ). Refuses o b r) same refuses) is
 
-stop_answered : (c : Command) (bytes : List ℕ) (old new : Streams) (r : Refusal) (answer : Status) → old.left ≡ Some bytes → StopsAs (limit_of c) (Writes c) (Refuses c) old new r
-    → ¬ (Rose old.read_faults new.read_faults) → ¬ (Rose old.out_faults new.out_faults) → IsAnswer c bytes answer → (status_of r ≡ answer) ⊎ (status_of r ≡ NoMemory)
-stop_answered c bytes old new why.Usage answer e stops unread unwritten is = absurd stops
-stop_answered c bytes old new why.ReadFault answer e stops unread unwritten is = absurd (unread stops.0)
-stop_answered c bytes old new why.NoMemory answer e stops unread unwritten is = inr refl
-stop_answered c bytes old new why.WriteFault answer e stops unread unwritten is = absurd (unwritten stops.6)
-stop_answered c bytes old new (why.InputTooLong count) answer e stops unread unwritten is =
-    let gave : GaveCount (Some bytes) new.left (limit_of c + 1) = subst (λ (n : ℕ). GaveCount (Some bytes) new.left n) stops.0 (subst (λ (l : Option (List ℕ)). GaveCount l new.left count) e stops.1) in
-    inl (answer_too_long c bytes answer (holds_more (Some bytes) new.left (limit_of c) gave) is)
-stop_answered c bytes old new (why.BadSet r) answer e stops unread unwritten is =
-    inl (refused_by c bytes stops.0 new.left (why.BadSet r) answer (subst (λ (l : Option (List ℕ)). GaveAll l new.left (limit_of c) stops.0) e stops.1) stops.2 is)
-stop_answered c bytes old new (why.BadLine line) answer e stops unread unwritten is =
-    inl (refused_by c bytes stops.0 new.left (why.BadLine line) answer (subst (λ (l : Option (List ℕ)). GaveAll l new.left (limit_of c) stops.0) e stops.1) stops.2 is)
-stop_answered c bytes old new (why.GateFault row name) answer e stops unread unwritten is =
-    inl (refused_by c bytes stops.0 new.left (why.GateFault row name) answer (subst (λ (l : Option (List ℕ)). GaveAll l new.left (limit_of c) stops.0) e stops.1) stops.2 is)
-stop_answered c bytes old new (why.JobFault row name) answer e stops unread unwritten is =
-    inl (refused_by c bytes stops.0 new.left (why.JobFault row name) answer (subst (λ (l : Option (List ℕ)). GaveAll l new.left (limit_of c) stops.0) e stops.1) stops.2 is)
-stop_answered c bytes old new (why.Overload total room) answer e stops unread unwritten is =
-    inl (refused_by c bytes stops.0 new.left (why.Overload total room) answer (subst (λ (l : Option (List ℕ)). GaveAll l new.left (limit_of c) stops.0) e stops.1) stops.2 is)
-stop_answered c bytes old new (why.TooLong rows) answer e stops unread unwritten is =
-    inl (refused_by c bytes stops.0 new.left (why.TooLong rows) answer (subst (λ (l : Option (List ℕ)). GaveAll l new.left (limit_of c) stops.0) e stops.1) stops.2 is)
-stop_answered c bytes old new (why.ScaleTooLarge task) answer e stops unread unwritten is =
-    inl (refused_by c bytes stops.0 new.left (why.ScaleTooLarge task) answer (subst (λ (l : Option (List ℕ)). GaveAll l new.left (limit_of c) stops.0) e stops.1) stops.2 is)
+stop_answered : (o : Output) (bytes : List ℕ) (old new : Streams) (r : Refusal) (answer : Status) → old.left ≡ Some bytes
+    → StopsAs (limit_of o) (Writes o) (Refuses o) old new r
+    → ¬ (Rose old.read_faults new.read_faults) → ¬ (Rose old.out_faults new.out_faults) → IsAnswer o bytes answer
+    → (status_of r ≡ answer) ⊎ (status_of r ≡ NoMemory)
+stop_answered o bytes old new why.Usage answer e stops unread unwritten is = absurd stops
+stop_answered o bytes old new why.ReadFault answer e stops unread unwritten is = absurd (unread stops.0)
+stop_answered o bytes old new why.NoMemory answer e stops unread unwritten is = inr refl
+stop_answered o bytes old new why.WriteFault answer e stops unread unwritten is = absurd (unwritten stops.6)
+stop_answered o bytes old new (why.InputTooLong count) answer e stops unread unwritten is =
+    let gave : GaveCount (Some bytes) new.left (limit_of o + 1) =
+    subst (λ (n : ℕ). GaveCount (Some bytes) new.left n) stops.0 (subst (λ (l : Option (List ℕ)). GaveCount l new.left count) e stops.1) in
+    inl (answer_too_long o bytes answer (holds_more (Some bytes) new.left (limit_of o) gave) is)
+stop_answered o bytes old new (why.BadSet r) answer e stops unread unwritten is =
+    inl (refused_by o bytes stops.0 new.left (why.BadSet r) answer
+    (subst (λ (l : Option (List ℕ)). GaveAll l new.left (limit_of o) stops.0) e stops.1) stops.2 is)
+stop_answered o bytes old new (why.BadLine line) answer e stops unread unwritten is =
+    inl (refused_by o bytes stops.0 new.left (why.BadLine line) answer
+    (subst (λ (l : Option (List ℕ)). GaveAll l new.left (limit_of o) stops.0) e stops.1) stops.2 is)
+stop_answered o bytes old new (why.GateFault row name) answer e stops unread unwritten is =
+    inl (refused_by o bytes stops.0 new.left (why.GateFault row name) answer
+    (subst (λ (l : Option (List ℕ)). GaveAll l new.left (limit_of o) stops.0) e stops.1) stops.2 is)
+stop_answered o bytes old new (why.JobFault row name) answer e stops unread unwritten is =
+    inl (refused_by o bytes stops.0 new.left (why.JobFault row name) answer
+    (subst (λ (l : Option (List ℕ)). GaveAll l new.left (limit_of o) stops.0) e stops.1) stops.2 is)
+stop_answered o bytes old new (why.Overload total room) answer e stops unread unwritten is =
+    inl (refused_by o bytes stops.0 new.left (why.Overload total room) answer
+    (subst (λ (l : Option (List ℕ)). GaveAll l new.left (limit_of o) stops.0) e stops.1) stops.2 is)
+stop_answered o bytes old new (why.TooLong rows) answer e stops unread unwritten is =
+    inl (refused_by o bytes stops.0 new.left (why.TooLong rows) answer
+    (subst (λ (l : Option (List ℕ)). GaveAll l new.left (limit_of o) stops.0) e stops.1) stops.2 is)
+stop_answered o bytes old new (why.ScaleTooLarge task) answer e stops unread unwritten is =
+    inl (refused_by o bytes stops.0 new.left (why.ScaleTooLarge task) answer
+    (subst (λ (l : Option (List ℕ)). GaveAll l new.left (limit_of o) stops.0) e stops.1) stops.2 is)
 
-stops_asked : (c : Command) (left : Option (List ℕ)) (old new : Streams) (err err' : ErrorStream) (r : Refusal) (status : Status) → old.left ≡ left → StopsAs (limit_of c) (Writes c) (Refuses c) old new r → IsRefused r err err' status
-    → AnswersBytes c left old new status
-stops_asked c None old new err err' r status e stops told = tt
-stops_asked c (Some bytes) old new err err' r status e stops told = λ unread unwritten answer is.
-    elim (told.told) [
-      | inl own ↦ elim (stop_answered c bytes old new r answer e stops unread unwritten is) [
-        | inl given ↦ inl (own.0 ∙ given)
-        | inr wanting ↦ inr (own.0 ∙ wanting)
-      ]
-      | inr wanting ↦ inr wanting.1
+stops_asked : (o : Output) (left : Option (List ℕ)) (old new : Streams) (err err' : ErrorStream) (r : Refusal) (status : Status) → old.left ≡ left
+    → StopsAs (limit_of o) (Writes o) (Refuses o) old new r → IsRefused r err err' status → AnswersBytes o left old new status
+stops_asked o None old new err err' r status e stops told = tt
+stops_asked o (Some bytes) old new err err' r status e stops told = λ unread unwritten answer is.
+    elim (stop_answered o bytes old new r answer e stops unread unwritten is) [
+      | inl given ↦ inl (told.status_is ∙ given)
+      | inr wanting ↦ inr (told.status_is ∙ wanting)
     ]
 
 -- a drill stops for want of memory alone, where nothing fails
@@ -377,37 +371,29 @@ drill_wants number old new why.NoMemory stops unwritten = refl
 drill_wants number old new why.WriteFault stops unwritten = let (unread, part, rose) = stops in absurd (unwritten rose)
 drill_wants number old new _ stops unwritten = absurd stops
 
-stops_by : (c : Command) (old new : Streams) (err err' : ErrorStream) (r : Refusal) (status : Status) → Stops c old new r → IsRefused r err err' status → IsAnswered (Some c) old.left old new status
-stops_by Rate old new err err' r status stops told = stops_asked Rate old.left old new err err' r status refl stops told
-stops_by Tree old new err err' r status stops told = stops_asked Tree old.left old new err err' r status refl stops told
-stops_by Trace old new err err' r status stops told = stops_asked Trace old.left old new err err' r status refl stops told
-stops_by TraceMet old new err err' r status stops told = stops_asked TraceMet old.left old new err err' r status refl stops told
-stops_by Check old new err err' r status stops told = stops_asked Check old.left old new err err' r status refl stops told
-stops_by (Exec window) old new err err' r status stops told = stops_asked (Exec window) old.left old new err err' r status refl stops told
-stops_by ExecMet old new err err' r status stops told = stops_asked ExecMet old.left old new err err' r status refl stops told
-stops_by (Drill number) old new err err' r status stops told = λ unwritten. inr (elim (told.told) [ inl own ↦ own.0 ∙ drill_wants number old new r stops unwritten | inr wanting ↦ wanting.1 ])
+stops_by : (o : Output) (old new : Streams) (err err' : ErrorStream) (r : Refusal) (status : Status) → Stops o old new r → IsRefused r err err' status
+    → Answers o old.left old new status
+stops_by (of_set what) old new err err' r status stops told = stops_asked (of_set what) old.left old new err err' r status refl stops told
+stops_by of_trace old new err err' r status stops told = stops_asked of_trace old.left old new err err' r status refl stops told
+stops_by (of_drill number) old new err err' r status stops told = λ unwritten. inr (told.status_is ∙ drill_wants number old new r stops unwritten)
 
 -- a command that stopped answered
-pub stops_answered : (asked : Option Command) (c : Command) (old new : Streams) (err err' : ErrorStream) (r : Refusal) (status : Status) → Some c ≡ asked → Stops c old new r → IsRefused r err err' status
-    → IsAnswered asked old.left old new status
+pub stops_answered : (asked : Option Command) (c : Command) (old new : Streams) (err err' : ErrorStream) (r : Refusal) (status : Status) → Some c ≡ asked
+    → Stops (output_of c) old new r → IsRefused r err err' status → IsAnswered asked old.left old new status
 stops_answered asked c old new err err' r status e stops told =
-    subst (λ (a : Option Command). IsAnswered a old.left old new status) e (stops_by c old new err err' r status stops told)
+    subst (λ (a : Option Command). IsAnswered a old.left old new status) e (stops_by (output_of c) old new err err' r status stops told)
 
-wanting_asked : (c : Command) (left : Option (List ℕ)) (old new : Streams) (err err' : ErrorStream) (status : Status) → IsRefused why.NoMemory err err' status → AnswersBytes c left old new status
-wanting_asked c None old new err err' status told = tt
-wanting_asked c (Some bytes) old new err err' status told = λ unread unwritten answer is. inr (elim (told.told) [ inl own ↦ own.0 | inr wanting ↦ wanting.1 ])
+wanting_asked : (o : Output) (left : Option (List ℕ)) (old new : Streams) (status : Status) → status ≡ NoMemory → AnswersBytes o left old new status
+wanting_asked o None old new status wanting = tt
+wanting_asked o (Some bytes) old new status wanting = λ unread unwritten answer is. inr wanting
 
-wanting_by : (c : Command) (old new : Streams) (err err' : ErrorStream) (status : Status) → IsRefused why.NoMemory err err' status → IsAnswered (Some c) old.left old new status
-wanting_by Rate old new err err' status told = wanting_asked Rate old.left old new err err' status told
-wanting_by Tree old new err err' status told = wanting_asked Tree old.left old new err err' status told
-wanting_by Trace old new err err' status told = wanting_asked Trace old.left old new err err' status told
-wanting_by TraceMet old new err err' status told = wanting_asked TraceMet old.left old new err err' status told
-wanting_by Check old new err err' status told = wanting_asked Check old.left old new err err' status told
-wanting_by (Exec window) old new err err' status told = wanting_asked (Exec window) old.left old new err err' status told
-wanting_by ExecMet old new err err' status told = wanting_asked ExecMet old.left old new err err' status told
-wanting_by (Drill number) old new err err' status told = λ unwritten. inr (elim (told.told) [ inl own ↦ own.0 | inr wanting ↦ wanting.1 ])
+wanting_by : (o : Output) (old new : Streams) (status : Status) → status ≡ NoMemory → Answers o old.left old new status
+wanting_by (of_set what) old new status wanting = wanting_asked (of_set what) old.left old new status wanting
+wanting_by of_trace old new status wanting = wanting_asked of_trace old.left old new status wanting
+wanting_by (of_drill number) old new status wanting = λ unwritten. inr wanting
 
 -- where there was no memory to read the words, that is told
-pub unread_answered : (asked : Option Command) (old new : Streams) (err err' : ErrorStream) (status : Status) → IsRefused why.NoMemory err err' status → IsAnswered asked old.left old new status
+pub unread_answered : (asked : Option Command) (old new : Streams) (err err' : ErrorStream) (status : Status) → IsRefused why.NoMemory err err' status
+    → IsAnswered asked old.left old new status
 unread_answered None old new err err' status told = tt
-unread_answered (Some c) old new err err' status told = wanting_by c old new err err' status told
+unread_answered (Some c) old new err err' status told = wanting_by (output_of c) old new status told.status_is

@@ -1,15 +1,24 @@
 -- What `clap` makes of each command line.
-use Rattle.std.proofs.Common.{◌≡◌, ◌≢◌, ◌⊎◌, inl, inr, ℕ, zero, suc, ◌+◌, ◌-◌, if◌then◌else◌, ◌≤◌, ◌<◌, List, [], ◌∷◌, ◌++◌, codes, take, drop, Option, Some, None, Bool, true, false, ◌&&◌, option_map, option_and_then, length, slice_index, refl, sym, ap, ap₂, subst, ◌∙◌, arith, rules, tests}
+use Rattle.std.proofs.Common.{◌≡◌, ◌≢◌, ◌⊎◌, inl, inr, ℕ, zero, suc, ◌+◌, ◌-◌, if◌then◌else◌, ◌≤◌, ◌<◌, List, [], ◌∷◌, ◌++◌, codes, take, drop}
+use Rattle.std.proofs.Common.{Option, Some, None, Bool, true, false, ◌&&◌, option_map, option_and_then, length, slice_index, refl, sym, ap, ap₂}
+use Rattle.std.proofs.Common.{subst, ◌∙◌, arith, rules, tests}
 use Rattle.std.specs.Char.{is_ascii_digit}
 use Rattle.std.specs.Str.{bytes_eq}
 use Rattle.clap.specs.Words.{Row, Text, is_simple, first_of, one_of, subcommand_of, subcommand_rows_of, subcommand_name_of, takes}
 use Rattle.clap.specs.declared.parser.matches.ArgMatches.{ArgMatches}
 use Rattle.clap.specs.declared.parser.matches.ArgMatches.TheViews.{out-ArgMatches}
 use Rattle.clap.proofs.OnLiterals.{clap_on_literals}
-use Rattle.run_tool.specs.declared.words.Command.{Command}
-use Rattle.run_tool.specs.declared.words.Command.TheVariants.{Rate, Tree, Trace, TraceMet, Check, Exec, ExecMet, Drill}
-use Rattle.run_tool.specs.Words.{window_of, exec_with, exec_by, drill_of, drill_with, after_text, command_of, command_named, command_with, command_with_value}
+use Rattle.run_tool.specs.declared.command.Command.{Command}
+use Rattle.run_tool.specs.declared.command.Command.TheVariants.{Read, Execute}
+use Rattle.run_tool.specs.declared.command.Reading.{Reading}
+use Rattle.run_tool.specs.declared.command.Reading.TheVariants.{Rate, Tree, Trace, TraceMet, Check}
+use Rattle.run_tool.specs.declared.command.Execution.{Execution}
+use Rattle.run_tool.specs.declared.command.Execution.TheVariants.{Exec, ExecMet, Drill}
+use Rattle.run_tool.specs.Words.{window_of, exec_with, exec_by, drill_of, drill_with, after_text, HasWindow}
+use Rattle.run_tool.specs.Words.{reading_of, reading_named, reading_with, execution_of, execution_named, execution_with, execution_with_value}
+use Rattle.run_tool.specs.Words.{asks_to_execute, command_of}
 use Rattle.run_tool.specs.CommandLine.{parser, Spells, SpellsExec, SpellsDrill}
+use Rattle.run_tool.proofs.RunLemmas.{executes, reads}
 
 pub simple : is_simple parser ≡ true
 unfolding clap_on_literals
@@ -108,25 +117,52 @@ read_number (d ∷ ds) n e =
 -- no command line is refused
 pub taken : (c : Command) (words : List Text) → Spells c words → takes parser words ≡ true
 unfolding clap_on_literals
-taken Rate words e = ap (takes parser) e
-taken Tree words e = ap (takes parser) e
-taken Trace words e = ap (takes parser) e
-taken TraceMet words e = ap (takes parser) e
-taken Check words e = ap (takes parser) e
-taken (Exec window) words e = taken_exec window words e
-taken ExecMet words e = ap (takes parser) e
-taken (Drill number) words e = ap (takes parser) e.2 ∙ (read_number e.0 number e.1).taken
+taken (Read Rate) words e = ap (takes parser) e
+taken (Read Tree) words e = ap (takes parser) e
+taken (Read Trace) words e = ap (takes parser) e
+taken (Read TraceMet) words e = ap (takes parser) e
+taken (Read Check) words e = ap (takes parser) e
+taken (Execute (Exec window)) words e = taken_exec window words e
+taken (Execute ExecMet) words e = ap (takes parser) e
+taken (Execute (Drill number)) words e = ap (takes parser) e.2 ∙ (read_number e.0 number e.1).taken
 
 -- the first word of a command
 abbrev pub name_of : Command → Text
-name_of Rate = codes "rate"
-name_of Tree = codes "tree"
-name_of Trace = codes "trace"
-name_of TraceMet = codes "trace"
-name_of Check = codes "check"
-name_of (Exec window) = codes "exec"
-name_of ExecMet = codes "exec"
-name_of (Drill number) = codes "drill"
+name_of (Read Rate) = codes "rate"
+name_of (Read Tree) = codes "tree"
+name_of (Read Trace) = codes "trace"
+name_of (Read TraceMet) = codes "trace"
+name_of (Read Check) = codes "check"
+name_of (Execute (Exec window)) = codes "exec"
+name_of (Execute ExecMet) = codes "exec"
+name_of (Execute (Drill number)) = codes "drill"
+
+abbrev Either : Bool → Type 0 → Type 0 → Type 0
+Either true a b = a
+Either false a b = b
+
+-- the commands with this first word
+abbrev pub IsCalled : Text → Command → Type 0
+IsCalled name c =
+    Either (bytes_eq name (codes "rate")) (c ≡ Read Rate)
+    (Either (bytes_eq name (codes "tree")) (c ≡ Read Tree)
+    (Either (bytes_eq name (codes "trace")) ((c ≡ Read Trace) ⊎ (c ≡ Read TraceMet))
+    (Either (bytes_eq name (codes "check")) (c ≡ Read Check)
+    (Either (bytes_eq name (codes "exec")) (((window : ℕ) × (c ≡ Execute (Exec window))) ⊎ (c ≡ Execute ExecMet))
+    (Either (bytes_eq name (codes "drill")) ((number : ℕ) × (c ≡ Execute (Drill number))) ⊥)))))
+
+called : (c : Command) → IsCalled (name_of c) c
+called (Read Rate) = refl
+called (Read Tree) = refl
+called (Read Trace) = inl refl
+called (Read TraceMet) = inr refl
+called (Read Check) = refl
+called (Execute (Exec window)) = inl (window, refl)
+called (Execute ExecMet) = inr refl
+called (Execute (Drill number)) = (number, refl)
+
+pub called_as : (c : Command) (name : Text) → name ≡ name_of c → IsCalled name c
+called_as c name e = subst (λ (n : Text). IsCalled n c) (sym e) (called c)
 
 -- the name of the subcommand that the words name
 abbrev named_by : List Text → Option Text
@@ -152,14 +188,14 @@ named_exec window words spells = elim spells [
 
 named : (c : Command) (words : List Text) → Spells c words → named_by words ≡ Some (name_of c)
 unfolding clap_on_literals
-named Rate words e = ap named_by e
-named Tree words e = ap named_by e
-named Trace words e = ap named_by e
-named TraceMet words e = ap named_by e
-named Check words e = ap named_by e
-named (Exec window) words e = named_exec window words e
-named ExecMet words e = ap named_by e
-named (Drill number) words e = ap named_by e.2 ∙ (read_number e.0 number e.1).named
+named (Read Rate) words e = ap named_by e
+named (Read Tree) words e = ap named_by e
+named (Read Trace) words e = ap named_by e
+named (Read TraceMet) words e = ap named_by e
+named (Read Check) words e = ap named_by e
+named (Execute (Exec window)) words e = named_exec window words e
+named (Execute ExecMet) words e = ap named_by e
+named (Execute (Drill number)) words e = ap named_by e.2 ∙ (read_number e.0 number e.1).named
 
 -- the value of `--met`, and that of `--window`, in the matches of a subcommand
 abbrev met_in : Option (List Row) → Option Text
@@ -205,56 +241,29 @@ map_map g h None = refl
 map_map g h (Some a) = refl
 
 -- the name of the subcommand that was met, where its matches are those of a command line
-pub names : (m : ArgMatches) (c : Command) (words : List Text) → Spells c words → subcommand_rows_of m ≡ subcommand_of parser words → subcommand_name_of m ≡ Some (name_of c)
-names m c words spells e = map_map (λ p. p.0) _ (out-ArgMatches m).subcommand ∙ ap (option_map (λ p. p.0)) e ∙ named c words spells
-
-pub only_rate : (c : Command) → codes "rate" ≡ name_of c → Some Rate ≡ Some c
-only_rate Rate e = refl
-only_rate Tree e = let h : 114 ≡ 116 = ap (λ t. slice_index t 0) e in absurd (omega (arith, h))
-only_rate Trace e = let h : 4 ≡ 5 = ap length e in absurd (omega (arith, h))
-only_rate TraceMet e = let h : 4 ≡ 5 = ap length e in absurd (omega (arith, h))
-only_rate Check e = let h : 4 ≡ 5 = ap length e in absurd (omega (arith, h))
-only_rate (Exec window) e = let h : 114 ≡ 101 = ap (λ t. slice_index t 0) e in absurd (omega (arith, h))
-only_rate ExecMet e = let h : 114 ≡ 101 = ap (λ t. slice_index t 0) e in absurd (omega (arith, h))
-only_rate (Drill number) e = let h : 4 ≡ 5 = ap length e in absurd (omega (arith, h))
-
-pub only_tree : (c : Command) → codes "tree" ≡ name_of c → Some Tree ≡ Some c
-only_tree Rate e = let h : 116 ≡ 114 = ap (λ t. slice_index t 0) e in absurd (omega (arith, h))
-only_tree Tree e = refl
-only_tree Trace e = let h : 4 ≡ 5 = ap length e in absurd (omega (arith, h))
-only_tree TraceMet e = let h : 4 ≡ 5 = ap length e in absurd (omega (arith, h))
-only_tree Check e = let h : 4 ≡ 5 = ap length e in absurd (omega (arith, h))
-only_tree (Exec window) e = let h : 116 ≡ 101 = ap (λ t. slice_index t 0) e in absurd (omega (arith, h))
-only_tree ExecMet e = let h : 116 ≡ 101 = ap (λ t. slice_index t 0) e in absurd (omega (arith, h))
-only_tree (Drill number) e = let h : 4 ≡ 5 = ap length e in absurd (omega (arith, h))
-
-pub only_check : (c : Command) → codes "check" ≡ name_of c → Some Check ≡ Some c
-only_check Rate e = let h : 5 ≡ 4 = ap length e in absurd (omega (arith, h))
-only_check Tree e = let h : 5 ≡ 4 = ap length e in absurd (omega (arith, h))
-only_check Trace e = let h : 99 ≡ 116 = ap (λ t. slice_index t 0) e in absurd (omega (arith, h))
-only_check TraceMet e = let h : 99 ≡ 116 = ap (λ t. slice_index t 0) e in absurd (omega (arith, h))
-only_check Check e = refl
-only_check (Exec window) e = let h : 5 ≡ 4 = ap length e in absurd (omega (arith, h))
-only_check ExecMet e = let h : 5 ≡ 4 = ap length e in absurd (omega (arith, h))
-only_check (Drill number) e = let h : 99 ≡ 100 = ap (λ t. slice_index t 0) e in absurd (omega (arith, h))
+pub names : (m : ArgMatches) (c : Command) (words : List Text) → Spells c words → subcommand_rows_of m ≡ subcommand_of parser words
+    → subcommand_name_of m ≡ Some (name_of c)
+names m c words spells e =
+    map_map (λ p. p.0) _ (out-ArgMatches m).subcommand ∙ ap (option_map (λ p. p.0)) e ∙ named c words spells
 
 -- whether `--met` was used tells the two apart
-pub only_trace : (c : Command) (words : List Text) (rows : List Row) → Spells c words → codes "trace" ≡ name_of c → Some rows ≡ matches_by words
-    → ((c ≡ Trace) × (one_of (codes "met") rows ≡ Some (codes "false"))) ⊎ ((c ≡ TraceMet) × (one_of (codes "met") rows ≡ Some (codes "true")))
-only_trace Rate words rows spells e is = let h : 5 ≡ 4 = ap length e in absurd (omega (arith, h))
-only_trace Tree words rows spells e is = let h : 5 ≡ 4 = ap length e in absurd (omega (arith, h))
-only_trace Trace words rows spells e is = inl (refl, ap met_in (is ∙ ap matches_by spells) ∙ unmet)
-only_trace TraceMet words rows spells e is = inr (refl, ap met_in (is ∙ ap matches_by spells) ∙ met)
-only_trace Check words rows spells e is = let h : 116 ≡ 99 = ap (λ t. slice_index t 0) e in absurd (omega (arith, h))
-only_trace (Exec window) words rows spells e is = let h : 5 ≡ 4 = ap length e in absurd (omega (arith, h))
-only_trace ExecMet words rows spells e is = let h : 5 ≡ 4 = ap length e in absurd (omega (arith, h))
-only_trace (Drill number) words rows spells e is = let h : 116 ≡ 100 = ap (λ t. slice_index t 0) e in absurd (omega (arith, h))
+pub trace_used : (c : Command) (words : List Text) (rows : List Row) → Spells c words → IsCalled (codes "trace") c → Some rows ≡ matches_by words
+    → ((c ≡ Read Trace) × (one_of (codes "met") rows ≡ Some (codes "false"))) ⊎ ((c ≡ Read TraceMet) × (one_of (codes "met") rows ≡ Some (codes "true")))
+trace_used c words rows spells name is = elim name [
+  | inl plain ↦
+      let spelled : words ≡ codes "trace" ∷ [] = subst (λ (x : Command). Spells x words) plain spells in
+      inl (plain, ap met_in (is ∙ ap matches_by spelled) ∙ unmet)
+  | inr told ↦
+      let spelled : words ≡ codes "trace" ∷ codes "--met" ∷ [] = subst (λ (x : Command). Spells x words) told spells in
+      inr (told, ap met_in (is ∙ ap matches_by spelled) ∙ met)
+]
 
 -- what the matches of `exec` say of its options
-abbrev pub TellsExec : Command → List Row → Type 0
+abbrev pub TellsExec : Execution → List Row → Type 0
 TellsExec (Exec window) rows =
     (one_of (codes "met") rows ≡ Some (codes "false"))
-    × (((first_of (codes "window") rows ≡ None) × (window ≡ 32)) ⊎ ((value : Text) × (first_of (codes "window") rows ≡ Some value) × (exec_with value ≡ Some (Exec window))))
+    × (((first_of (codes "window") rows ≡ None) × (window ≡ 32))
+    ⊎ ((value : Text) × (first_of (codes "window") rows ≡ Some value) × (exec_with value ≡ Some (Exec window))))
 TellsExec ExecMet rows = one_of (codes "met") rows ≡ Some (codes "true")
 TellsExec _ rows = ⊥
 
@@ -267,34 +276,33 @@ tells_exec window words rows spells is = elim spells [
         | inl own ↦
             let read = read_window asked.0 window asked.1 in
             (ap met_in (is ∙ ap matches_by own) ∙ read.unmet, inr (asked.0, ap window_in (is ∙ ap matches_by own) ∙ read.value, given))
-        | inr behind ↦ (ap met_in (is ∙ ap matches_by behind) ∙ joined_unmet asked.0, inr (asked.0, ap window_in (is ∙ ap matches_by behind) ∙ joined_window asked.0, given))
+        | inr behind ↦
+            let value = ap window_in (is ∙ ap matches_by behind) ∙ joined_window asked.0 in
+            (ap met_in (is ∙ ap matches_by behind) ∙ joined_unmet asked.0, inr (asked.0, value, given))
       ]
 ]
 
-pub only_exec : (c : Command) (words : List Text) (rows : List Row) → Spells c words → codes "exec" ≡ name_of c → Some rows ≡ matches_by words → TellsExec c rows
-only_exec Rate words rows spells e is = let h : 101 ≡ 114 = ap (λ t. slice_index t 0) e in absurd (omega (arith, h))
-only_exec Tree words rows spells e is = let h : 101 ≡ 116 = ap (λ t. slice_index t 0) e in absurd (omega (arith, h))
-only_exec Trace words rows spells e is = let h : 4 ≡ 5 = ap length e in absurd (omega (arith, h))
-only_exec TraceMet words rows spells e is = let h : 4 ≡ 5 = ap length e in absurd (omega (arith, h))
-only_exec Check words rows spells e is = let h : 4 ≡ 5 = ap length e in absurd (omega (arith, h))
-only_exec (Exec window) words rows spells e is = tells_exec window words rows spells is
-only_exec ExecMet words rows spells e is = ap met_in (is ∙ ap matches_by spells) ∙ exec_met
-only_exec (Drill number) words rows spells e is = let h : 4 ≡ 5 = ap length e in absurd (omega (arith, h))
+pub exec_used : (c : Command) (words : List Text) (rows : List Row) → Spells c words → IsCalled (codes "exec") c → Some rows ≡ matches_by words
+    → (e : Execution) × (c ≡ Execute e) × TellsExec e rows
+exec_used c words rows spells name is = elim name [
+  | inl some ↦ (Exec some.0, some.1, tells_exec some.0 words rows (subst (λ (x : Command). Spells x words) some.1 spells) is)
+  | inr told ↦
+      let spelled : words ≡ codes "exec" ∷ codes "--met" ∷ [] = subst (λ (x : Command). Spells x words) told spells in
+      (ExecMet, told, ap met_in (is ∙ ap matches_by spelled) ∙ exec_met)
+]
 
 -- what the matches of `drill` say of its number
-pub only_drill : (c : Command) (words : List Text) (rows : List Row) → Spells c words → codes "drill" ≡ name_of c → Some rows ≡ matches_by words
-    → (value : Text) × (first_of (codes "number") rows ≡ Some value) × (drill_with value ≡ Some c)
-only_drill Rate words rows spells e is = let h : 5 ≡ 4 = ap length e in absurd (omega (arith, h))
-only_drill Tree words rows spells e is = let h : 5 ≡ 4 = ap length e in absurd (omega (arith, h))
-only_drill Trace words rows spells e is = let h : 100 ≡ 116 = ap (λ t. slice_index t 0) e in absurd (omega (arith, h))
-only_drill TraceMet words rows spells e is = let h : 100 ≡ 116 = ap (λ t. slice_index t 0) e in absurd (omega (arith, h))
-only_drill Check words rows spells e is = let h : 100 ≡ 99 = ap (λ t. slice_index t 0) e in absurd (omega (arith, h))
-only_drill (Exec window) words rows spells e is = let h : 5 ≡ 4 = ap length e in absurd (omega (arith, h))
-only_drill ExecMet words rows spells e is = let h : 5 ≡ 4 = ap length e in absurd (omega (arith, h))
-only_drill (Drill number) words rows spells e is =
-    (spells.0, ap (option_and_then (first_of (codes "number"))) (is ∙ ap matches_by spells.2) ∙ (read_number spells.0 number spells.1).value, ap (option_map (λ n. Drill n)) spells.1)
+pub drill_used : (c : Command) (words : List Text) (rows : List Row) → Spells c words → IsCalled (codes "drill") c → Some rows ≡ matches_by words
+    → (value : Text) × (first_of (codes "number") rows ≡ Some value) × (option_map Execute (drill_with value) ≡ Some c)
+drill_used c words rows spells name is =
+    let (n, own) = name in
+    let (value, writes, spelled) = subst (λ (x : Command). Spells x words) own spells in (
+      value,
+      ap (option_and_then (first_of (codes "number"))) (is ∙ ap matches_by spelled) ∙ (read_number value n writes).value,
+      ap (λ (o : Option ℕ). option_map Execute (option_map (λ m. Drill m) o)) writes ∙ ap Some (sym own),
+    )
 
-if_is : (b : Bool) (x y z : Option Command) → (if b then x else y) ≡ z → ((b ≡ true) × (x ≡ z)) ⊎ ((b ≡ false) × (y ≡ z))
+if_is : {A : Type 0} (b : Bool) (x y z : Option A) → (if b then x else y) ≡ z → ((b ≡ true) × (x ≡ z)) ⊎ ((b ≡ false) × (y ≡ z))
 if_is true x y z e = inl (refl, e)
 if_is false x y z e = inr (refl, e)
 
@@ -303,8 +311,11 @@ both true true e = (refl, refl)
 both true false e = absurd (let h : false ≡ true = e in cc)
 both false b e = absurd (let h : false ≡ true = e in cc)
 
-pub some_is : (a b : Command) → Some a ≡ Some b → a ≡ b
+pub some_is : {A : Type 0} (a b : A) → Some a ≡ Some b → a ≡ b
 some_is a b e = cc
+
+no_some : {A : Type 0} (a : A) → ◌≡◌ {A = Option A} None (Some a) → ⊥
+no_some a e = cc
 
 same_text : (a b : Text) → bytes_eq a b ≡ true → a ≡ b
 same_text a b e = search (rules, tests)
@@ -314,104 +325,141 @@ take_drop zero xs = refl
 take_drop (suc n) [] = refl
 take_drop (suc n) (x ∷ xs) = ap (λ ys. x ∷ ys) (take_drop n xs)
 
-after_in : (b : Bool) (text word v : Text) → (b ≡ true → take (length text) word ≡ text) → (if b then Some (drop (length text) word) else None) ≡ Some v → word ≡ text ++ v
-after_in true text word v begins e = take_drop (length text) word ∙ ap₂ ◌++◌ (begins refl) (let h : drop (length text) word ≡ v = cc in h)
-after_in false text word v begins e = absurd (let h : ◌≡◌ {A = Option Text} None (Some v) = e in cc)
+after_in : (b : Bool) (text word v : Text) → (b ≡ true → take (length text) word ≡ text) → (if b then Some (drop (length text) word) else None) ≡ Some v
+    → word ≡ text ++ v
+after_in true text word v begins e = take_drop (length text) word ∙ ap₂ ◌++◌ (begins refl) (some_is (drop (length text) word) v e)
+after_in false text word v begins e = absurd (no_some v e)
 
 after_is : (text word v : Text) → after_text text word ≡ Some v → word ≡ text ++ v
 after_is text word v e = after_in (bytes_eq (take (length text) word) text) text word v (same_text (take (length text) word) text) e
 
-mapped : (f : ℕ → Command) (o : Option ℕ) (c : Command) → option_map f o ≡ Some c → (n : ℕ) × (o ≡ Some n) × (f n ≡ c)
-mapped f None c e = absurd (let h : ◌≡◌ {A = Option Command} None (Some c) = e in cc)
-mapped f (Some n) c e = (n, refl, some_is (f n) c e)
+pub mapped : {A B : Type 0} (f : A → B) (o : Option A) (b : B) → option_map f o ≡ Some b → (a : A) × (o ≡ Some a) × (f a ≡ b)
+mapped f None b e = absurd (no_some b e)
+mapped f (Some a) b e = (a, refl, some_is (f a) b e)
 
-followed : (o : Option Text) (c : Command) → option_and_then exec_with o ≡ Some c → (v : Text) × (o ≡ Some v) × (exec_with v ≡ Some c)
-followed None c e = absurd (let h : ◌≡◌ {A = Option Command} None (Some c) = e in cc)
-followed (Some v) c e = (v, refl, e)
+followed : (o : Option Text) (x : Execution) → option_and_then exec_with o ≡ Some x → (v : Text) × (o ≡ Some v) × (exec_with v ≡ Some x)
+followed None x e = absurd (no_some x e)
+followed (Some v) x e = (v, refl, e)
 
-exec_spelled : (v : Text) (c : Command) (words : List Text) → exec_with v ≡ Some c → (words ≡ apart v) ⊎ (words ≡ joined v) → Spells c words
-exec_spelled v c words e is =
-    let (n, writes, same) = mapped (λ w. Exec w) (window_of v) c e in
-    subst (λ (x : Command). Spells x words) same (inr (v, writes, is))
+exec_spelled : (v : Text) (x : Execution) (words : List Text) → exec_with v ≡ Some x → (words ≡ apart v) ⊎ (words ≡ joined v) → Spells (Execute x) words
+exec_spelled v x words e is =
+    let (n, writes, same) = mapped (λ w. Exec w) (window_of v) x e in
+    subst (λ (y : Execution). Spells (Execute y) words) same (inr (v, writes, is))
 
-by_spelled : (w o : Text) (c : Command) → w ≡ codes "exec" → exec_by o ≡ Some c → Spells c (w ∷ o ∷ [])
-by_spelled w o c we e = elim (if_is (bytes_eq o (codes "--met")) _ _ _ e) [
-  | inl met ↦ subst (λ (x : Command). Spells x (w ∷ o ∷ [])) (some_is ExecMet c met.1) (ap₂ (λ a b. a ∷ b ∷ []) we (same_text o (codes "--met") met.0))
+by_spelled : (w o : Text) (x : Execution) → w ≡ codes "exec" → exec_by o ≡ Some x → Spells (Execute x) (w ∷ o ∷ [])
+by_spelled w o x we e = elim (if_is (bytes_eq o (codes "--met")) _ _ _ e) [
+  | inl met ↦
+      subst (λ (y : Execution). Spells (Execute y) (w ∷ o ∷ [])) (some_is ExecMet x met.1)
+      (ap₂ (λ a b. a ∷ b ∷ []) we (same_text o (codes "--met") met.0))
   | inr other ↦
-      let (v, after, given) = followed (after_text (codes "--window=") o) c other.1 in
-      exec_spelled v c (w ∷ o ∷ []) given (inr (ap₂ (λ a b. a ∷ b ∷ []) we (after_is (codes "--window=") o v after)))
+      let (v, after, given) = followed (after_text (codes "--window=") o) x other.1 in
+      exec_spelled v x (w ∷ o ∷ []) given (inr (ap₂ (λ a b. a ∷ b ∷ []) we (after_is (codes "--window=") o v after)))
 ]
 
-drill_spelled : (w v : Text) (c : Command) → w ≡ codes "drill" → drill_with v ≡ Some c → Spells c (w ∷ v ∷ [])
-drill_spelled w v c we e =
-    let (n, writes, same) = mapped (λ m. Drill m) (drill_of v) c e in
-    subst (λ (x : Command). Spells x (w ∷ v ∷ [])) same (v, writes, ap (λ a. a ∷ v ∷ []) we)
+drill_spelled : (w v : Text) (x : Execution) → w ≡ codes "drill" → drill_with v ≡ Some x → Spells (Execute x) (w ∷ v ∷ [])
+drill_spelled w v x we e =
+    let (n, writes, same) = mapped (λ m. Drill m) (drill_of v) x e in
+    subst (λ (y : Execution). Spells (Execute y) (w ∷ v ∷ [])) same (v, writes, ap (λ a. a ∷ v ∷ []) we)
 
-no_command : (c : Command) → ◌≡◌ {A = Option Command} None (Some c) → ⊥
-no_command c e = cc
+-- one word, where it is the name of a command
+reading_word : (w name : Text) (r x : Reading) → Spells (Read r) (name ∷ []) → (bytes_eq w name ≡ true) × (Some r ≡ Some x) → Spells (Read x) (w ∷ [])
+reading_word w name r x spells is =
+    subst (λ (y : Reading). Spells (Read y) (w ∷ [])) (some_is r x is.1)
+    (subst (λ (t : Text). Spells (Read r) (t ∷ [])) (sym (same_text w name is.0)) spells)
 
 -- the words of a command line are those of its command
-named_spelled : (w : Text) (c : Command) → command_named w ≡ Some c → Spells c (w ∷ [])
-named_spelled w c e = elim (if_is (bytes_eq w (codes "rate")) _ _ _ e) [
-  | inl is ↦ subst (λ (x : Command). Spells x (w ∷ [])) (some_is Rate c is.1) (ap (λ a. a ∷ []) (same_text w _ is.0))
+reading_named_spelled : (w : Text) (x : Reading) → reading_named w ≡ Some x → Spells (Read x) (w ∷ [])
+reading_named_spelled w x e = elim (if_is (bytes_eq w (codes "rate")) _ _ _ e) [
+  | inl is ↦ reading_word w (codes "rate") Rate x refl is
   | inr other ↦ elim (if_is (bytes_eq w (codes "tree")) _ _ _ other.1) [
-    | inl is ↦ subst (λ (x : Command). Spells x (w ∷ [])) (some_is Tree c is.1) (ap (λ a. a ∷ []) (same_text w _ is.0))
+    | inl is ↦ reading_word w (codes "tree") Tree x refl is
     | inr other ↦ elim (if_is (bytes_eq w (codes "trace")) _ _ _ other.1) [
-      | inl is ↦ subst (λ (x : Command). Spells x (w ∷ [])) (some_is Trace c is.1) (ap (λ a. a ∷ []) (same_text w _ is.0))
+      | inl is ↦ reading_word w (codes "trace") Trace x refl is
       | inr other ↦ elim (if_is (bytes_eq w (codes "check")) _ _ _ other.1) [
-        | inl is ↦ subst (λ (x : Command). Spells x (w ∷ [])) (some_is Check c is.1) (ap (λ a. a ∷ []) (same_text w _ is.0))
-        | inr other ↦ elim (if_is (bytes_eq w (codes "exec")) _ _ _ other.1) [
-          | inl is ↦ subst (λ (x : Command). Spells x (w ∷ [])) (some_is (Exec 32) c is.1) (inl (refl, ap (λ a. a ∷ []) (same_text w _ is.0)))
-          | inr other ↦ absurd (no_command c other.1)
-        ]
+        | inl is ↦ reading_word w (codes "check") Check x refl is
+        | inr other ↦ absurd (no_some x other.1)
       ]
     ]
   ]
 ]
 
-with_spelled : (w o : Text) (c : Command) → command_with w o ≡ Some c → Spells c (w ∷ o ∷ [])
-with_spelled w o c e = elim (if_is (bytes_eq w (codes "trace") && bytes_eq o (codes "--met")) _ _ _ e) [
+reading_with_spelled : (w o : Text) (x : Reading) → reading_with w o ≡ Some x → Spells (Read x) (w ∷ o ∷ [])
+reading_with_spelled w o x e = elim (if_is (bytes_eq w (codes "trace") && bytes_eq o (codes "--met")) _ _ _ e) [
   | inl is ↦
       let (we, oe) = both (bytes_eq w (codes "trace")) (bytes_eq o (codes "--met")) is.0 in
-      subst (λ (x : Command). Spells x (w ∷ o ∷ [])) (some_is TraceMet c is.1) (ap₂ (λ a b. a ∷ b ∷ []) (same_text w _ we) (same_text o _ oe))
-  | inr other ↦ elim (if_is (bytes_eq w (codes "exec")) _ _ _ other.1) [
-    | inl is ↦ by_spelled w o c (same_text w _ is.0) is.1
-    | inr other ↦ elim (if_is (bytes_eq w (codes "drill")) _ _ _ other.1) [
-      | inl is ↦ drill_spelled w o c (same_text w _ is.0) is.1
-      | inr other ↦ absurd (no_command c other.1)
-    ]
+      subst (λ (y : Reading). Spells (Read y) (w ∷ o ∷ [])) (some_is TraceMet x is.1)
+      (ap₂ (λ a b. a ∷ b ∷ []) (same_text w _ we) (same_text o _ oe))
+  | inr other ↦ absurd (no_some x other.1)
+]
+
+reading_spelled : (words : List Text) (x : Reading) → reading_of words ≡ Some x → Spells (Read x) words
+reading_spelled [] x e = absurd (no_some x e)
+reading_spelled (w ∷ []) x e = reading_named_spelled w x e
+reading_spelled (w ∷ o ∷ []) x e = reading_with_spelled w o x e
+reading_spelled (w ∷ o ∷ v ∷ xs) x e = absurd (no_some x e)
+
+execution_named_spelled : (w : Text) (x : Execution) → execution_named w ≡ Some x → Spells (Execute x) (w ∷ [])
+execution_named_spelled w x e = elim (if_is (bytes_eq w (codes "exec")) _ _ _ e) [
+  | inl is ↦
+      subst (λ (y : Execution). Spells (Execute y) (w ∷ [])) (some_is (Exec 32) x is.1)
+      (inl (refl, ap (λ a. a ∷ []) (same_text w _ is.0)))
+  | inr other ↦ absurd (no_some x other.1)
+]
+
+execution_with_spelled : (w o : Text) (x : Execution) → execution_with w o ≡ Some x → Spells (Execute x) (w ∷ o ∷ [])
+execution_with_spelled w o x e = elim (if_is (bytes_eq w (codes "exec")) _ _ _ e) [
+  | inl is ↦ by_spelled w o x (same_text w _ is.0) is.1
+  | inr other ↦ elim (if_is (bytes_eq w (codes "drill")) _ _ _ other.1) [
+    | inl is ↦ drill_spelled w o x (same_text w _ is.0) is.1
+    | inr other ↦ absurd (no_some x other.1)
   ]
 ]
 
-value_spelled : (w o v : Text) (c : Command) → command_with_value w o v ≡ Some c → Spells c (w ∷ o ∷ v ∷ [])
-value_spelled w o v c e = elim (if_is (bytes_eq w (codes "exec") && bytes_eq o (codes "--window")) _ _ _ e) [
+execution_value_spelled : (w o v : Text) (x : Execution) → execution_with_value w o v ≡ Some x → Spells (Execute x) (w ∷ o ∷ v ∷ [])
+execution_value_spelled w o v x e = elim (if_is (bytes_eq w (codes "exec") && bytes_eq o (codes "--window")) _ _ _ e) [
   | inl is ↦
       let (we, oe) = both (bytes_eq w (codes "exec")) (bytes_eq o (codes "--window")) is.0 in
-      exec_spelled v c (w ∷ o ∷ v ∷ []) is.1 (inl (ap₂ (λ a b. a ∷ b ∷ v ∷ []) (same_text w _ we) (same_text o _ oe)))
-  | inr other ↦ absurd (no_command c other.1)
+      exec_spelled v x (w ∷ o ∷ v ∷ []) is.1 (inl (ap₂ (λ a b. a ∷ b ∷ v ∷ []) (same_text w _ we) (same_text o _ oe)))
+  | inr other ↦ absurd (no_some x other.1)
 ]
 
-pub spelled : (words : List (List ℕ)) (c : Command) → command_of words ≡ Some c → Spells c words
-spelled [] c e = absurd (let h : ◌≡◌ {A = Option Command} None (Some c) = e in cc)
-spelled (w ∷ []) c e = named_spelled w c e
-spelled (w ∷ o ∷ []) c e = with_spelled w o c e
-spelled (w ∷ o ∷ v ∷ []) c e = value_spelled w o v c e
-spelled (w ∷ o ∷ v ∷ x ∷ xs) c e = absurd (let h : ◌≡◌ {A = Option Command} None (Some c) = e in cc)
+execution_spelled : (words : List Text) (x : Execution) → execution_of words ≡ Some x → Spells (Execute x) words
+execution_spelled [] x e = absurd (no_some x e)
+execution_spelled (w ∷ []) x e = execution_named_spelled w x e
+execution_spelled (w ∷ o ∷ []) x e = execution_with_spelled w o x e
+execution_spelled (w ∷ o ∷ v ∷ []) x e = execution_value_spelled w o v x e
+execution_spelled (w ∷ o ∷ v ∷ u ∷ xs) x e = absurd (no_some x e)
+
+pub spelled : (words : List Text) (c : Command) → command_of words ≡ Some c → Spells c words
+spelled words c e = elim (if_is (asks_to_execute words) _ _ _ e) [
+  | inl is ↦
+      let (x, given, same) = mapped Execute (execution_of words) c is.1 in
+      subst (λ (k : Command). Spells k words) same (execution_spelled words x given)
+  | inr is ↦
+      let (x, given, same) = mapped Read (reading_of words) c is.1 in
+      subst (λ (k : Command). Spells k words) same (reading_spelled words x given)
+]
 
 -- words of another number are no command line
-pub not_spelled : (words : List (List ℕ)) (c : Command) → length words ≢ 1 → length words ≢ 2 → length words ≢ 3 → command_of words ≡ Some c → ⊥
-not_spelled [] c one two three e = no_command c e
-not_spelled (w ∷ []) c one two three e = one refl
-not_spelled (w ∷ o ∷ []) c one two three e = two refl
-not_spelled (w ∷ o ∷ v ∷ []) c one two three e = three refl
-not_spelled (w ∷ o ∷ v ∷ x ∷ xs) c one two three e = no_command c e
+pub no_reading : (words : List Text) (x : Reading) → length words ≢ 1 → length words ≢ 2 → reading_of words ≡ Some x → ⊥
+no_reading [] x one two e = no_some x e
+no_reading (w ∷ []) x one two e = one refl
+no_reading (w ∷ o ∷ []) x one two e = two refl
+no_reading (w ∷ o ∷ v ∷ xs) x one two e = no_some x e
+
+pub no_execution : (words : List Text) (x : Execution) → length words ≢ 1 → length words ≢ 2 → length words ≢ 3 → execution_of words ≡ Some x → ⊥
+no_execution [] x one two three e = no_some x e
+no_execution (w ∷ []) x one two three e = one refl
+no_execution (w ∷ o ∷ []) x one two three e = two refl
+no_execution (w ∷ o ∷ v ∷ []) x one two three e = three refl
+no_execution (w ∷ o ∷ v ∷ u ∷ xs) x one two three e = no_some x e
 
 -- what `exec` is read as, by what is made of its options
-pub exec_told : (c : Command) (rows : List Row) (result : Option Command) → TellsExec c rows
+pub exec_told : (x : Execution) (rows : List Row) (result : Option Execution) → TellsExec x rows
     → (one_of (codes "met") rows ≡ Some (codes "true") → result ≡ Some ExecMet)
     → (one_of (codes "met") rows ≡ Some (codes "false") → first_of (codes "window") rows ≡ None → result ≡ Some (Exec 32))
     → ((value : Text) → one_of (codes "met") rows ≡ Some (codes "false") → first_of (codes "window") rows ≡ Some value → result ≡ exec_with value)
-    → result ≡ Some c
+    → result ≡ Some x
 exec_told (Exec window) rows result tells by_met usual by_window = elim (tells.1) [
   | inl none ↦ usual tells.0 none.0 ∙ ap (λ n. Some (Exec n)) (sym none.1)
   | inr own ↦ by_window own.0 tells.0 own.1 ∙ own.2
@@ -419,10 +467,63 @@ exec_told (Exec window) rows result tells by_met usual by_window = elim (tells.1
 exec_told ExecMet rows result tells by_met usual by_window = by_met tells
 exec_told _ rows result tells by_met usual by_window = absurd tells
 
-none_is : (o : Option Command) → ((c : Command) → o ≡ Some c → ⊥) → None ≡ o
+none_is : {A : Type 0} (o : Option A) → ((a : A) → o ≡ Some a → ⊥) → None ≡ o
 none_is None none = refl
-none_is (Some c) none = absurd (none c refl)
+none_is (Some a) none = absurd (none a refl)
 
 -- where no command has these words, they are no command line
-pub no_line : (words : List (List ℕ)) → ((c : Command) → command_of words ≡ Some c → ⊥) → None ≡ command_of words
+pub no_line : (words : List Text) → ((c : Command) → command_of words ≡ Some c → ⊥) → None ≡ command_of words
 no_line words none = none_is (command_of words) none
+
+read_is : (a b : Reading) → Read a ≡ Read b → a ≡ b
+read_is a b e = cc
+
+execute_is : (a b : Execution) → Execute a ≡ Execute b → a ≡ b
+execute_is a b e = cc
+
+-- words that don't ask for an execution are the line of a command that reads, or none
+pub reading_line : (words : List Text) (x : Reading) → asks_to_execute words ≡ false → reading_of words ≡ Some x → Some (Read x) ≡ command_of words
+reading_line words x still e = sym (reads words still ∙ ap (option_map Read) e)
+
+pub reading_spelled_by : (words : List Text) (x : Reading) → asks_to_execute words ≡ false → command_of words ≡ Some (Read x) → reading_of words ≡ Some x
+reading_spelled_by words x still e =
+    let (y, is, same) = mapped Read (reading_of words) (Read x) (sym (reads words still) ∙ e) in
+    is ∙ ap Some (read_is y x same)
+
+pub not_executing : (words : List Text) (x : Execution) → asks_to_execute words ≡ false → command_of words ≡ Some (Execute x) → ⊥
+not_executing words x still e =
+    let (y, is, same) = mapped Read (reading_of words) (Execute x) (sym (reads words still) ∙ e) in
+    let bad : Read y ≡ Execute x = same in cc
+
+-- and the same of words that do
+pub execution_line : (words : List Text) (x : Execution) → asks_to_execute words ≡ true → execution_of words ≡ Some x → Some (Execute x) ≡ command_of words
+execution_line words x asks e = sym (executes words asks ∙ ap (option_map Execute) e)
+
+pub execution_spelled_by : (words : List Text) (x : Execution) → asks_to_execute words ≡ true → command_of words ≡ Some (Execute x)
+    → execution_of words ≡ Some x
+execution_spelled_by words x asks e =
+    let (y, is, same) = mapped Execute (execution_of words) (Execute x) (sym (executes words asks) ∙ e) in
+    is ∙ ap Some (execute_is y x same)
+
+pub not_reading : (words : List Text) (x : Reading) → asks_to_execute words ≡ true → command_of words ≡ Some (Read x) → ⊥
+not_reading words x asks e =
+    let (y, is, same) = mapped Execute (execution_of words) (Read x) (sym (executes words asks) ∙ e) in
+    let bad : Execute y ≡ Read x = same in cc
+
+-- a window that was written is from 1 to 1,024
+window_bounds : (v : Text) (n : ℕ) → window_of v ≡ Some n → (1 ≤ n) × (n ≤ 1024)
+window_bounds v n e = search (rules, tests)
+
+exec_window : (window : ℕ) (words : List Text) → SpellsExec window words → (1 ≤ window) × (window ≤ 1024)
+exec_window window words spells = elim spells [
+  | inl usual ↦ let is = usual.0 in (omega (arith, is), omega (arith, is))
+  | inr asked ↦ window_bounds asked.0 window asked.1
+]
+
+window_by : (x : Execution) (words : List Text) → Spells (Execute x) words → HasWindow x
+window_by (Exec window) words spells = exec_window window words spells
+window_by ExecMet words spells = tt
+window_by (Drill number) words spells = tt
+
+pub has_window : (words : List Text) (x : Execution) → execution_of words ≡ Some x → HasWindow x
+has_window words x e = window_by x words (execution_spelled words x e)

@@ -1,5 +1,6 @@
 -- How a run ends, as the crew shows it.
-use Rattle.std.proofs.Common.{◌≡◌, inl, inr, ℕ, zero, suc, ◌+◌, ◌*◌, ◌-◌, ◌≤◌, ◌<◌, false, List, [], ◌∷◌, ◌++◌, Option, Some, None, Result, Ok, Err, length, take, map, refl, sym, ◌∙◌, ap, subst, arith, append-nil, mul_comm}
+use Rattle.std.proofs.Common.{◌≡◌, inl, inr, ℕ, zero, suc, ◌+◌, ◌*◌, ◌-◌, ◌≤◌, ◌<◌, false, List, [], ◌∷◌, ◌++◌, Option, Some, None, Result, Ok, Err}
+use Rattle.std.proofs.Common.{length, take, map, refl, sym, ◌∙◌, ap, subst, arith, append-nil, mul_comm}
 use Rattle.std.specs.Prelude.{slice_get, slice_index, IfSome}
 use Rattle.std.specs.List.{AllByRecursion}
 use Rattle.std.proofs.lemmas.List.{get_or_past, get_or-map, length-map}
@@ -13,8 +14,8 @@ use Rattle.sched_base.specs.Rows.{is_of_task}
 use Rattle.sched_base.specs.Tables.{all_rows, lane_of, rounds_of as rounds_in, row_ticks, ticks_in, ticks_of, RowAt}
 use Rattle.sched_edges.specs.Gates.{grown}
 use Rattle.run_tree.specs.Plans.{PlanContents, IsPlan, rounds_of}
-use Rattle.event_core.specs.Rounds.{row_limit}
-use Rattle.round_table.specs.Lanes.{NamesOneOf}
+use Rattle.sched_base.specs.Tables.{row_limit}
+use Rattle.sched_base.specs.Lanes.{NamesOneOf}
 use Rattle.exec_book.specs.PlanRows.{plan_rows}
 use Rattle.exec_book.specs.Jobs.{Made}
 use Rattle.exec_book.proofs.RoundLemmas.{plan_table, plan_count, plan_lanes, in_lane}
@@ -31,8 +32,10 @@ use Rattle.exec_workers.specs.Runs.{CountsGate, Ran, RanAll as RunsAll, Outcome,
 use Rattle.exec_workers.proofs.StageLemmas.{same_job}
 use Rattle.exec_workers.proofs.HeadlineLemmas.{take_next}
 use Rattle.exec_workers.proofs.WholeLemmas.{ticks_at_end, posted_at_end}
-use Rattle.run_tool.specs.Executions.{GateSeen, JobSeen, Crew, crew, gates_of, jobs_of, Holds, IsReady, AreBack, RanAll, RanPart, GateRose, GateKept, JobRose, GateStopped, JobStopped}
-use Rattle.run_tool.proofs.CrewLemmas.{below_or, grown_none, seen_gate, seen_job, gate_in_kit, kit_shown, job_in_place, place_shown, gates_ran_all, back_after, back_kept}
+use Rattle.run_tool.specs.Executions.{GateSeen, JobSeen, Crew, crew, gates_of, jobs_of, Holds, IsReady, AreBack, RanAll, RanPart, GateRose, GateKept}
+use Rattle.run_tool.specs.Executions.{JobRose, GateStopped, JobStopped}
+use Rattle.run_tool.proofs.CrewLemmas.{below_or, grown_none, seen_gate, seen_job, gate_in_kit, kit_shown, job_in_place, place_shown, gates_ran_all}
+use Rattle.run_tool.proofs.CrewLemmas.{back_after, back_kept}
 
 -- ---- rows of tasks past the set
 
@@ -57,7 +60,8 @@ no_ticks tasks i (r ∷ rows) all past =
     let rest = no_ticks tasks i rows all.1 past in
     omega (arith, here, rest)
 
-no_first_ticks : (tasks : List declared.Task) (i n : ℕ) (rows : List Row) → AllByRecursion (λ r. NamesOneOf tasks r.leaf) rows → length tasks ≤ i → ticks_in i (take n rows) ≡ 0
+no_first_ticks : (tasks : List declared.Task) (i n : ℕ) (rows : List Row) → AllByRecursion (λ r. NamesOneOf tasks r.leaf) rows → length tasks ≤ i
+    → ticks_in i (take n rows) ≡ 0
 no_first_ticks tasks i zero rows all past = refl
 no_first_ticks tasks i (suc n) [] all past = refl
 no_first_ticks tasks i (suc n) (r ∷ rows) all past =
@@ -65,7 +69,8 @@ no_first_ticks tasks i (suc n) (r ∷ rows) all past =
     let rest = no_first_ticks tasks i n rows all.1 past in
     omega (arith, here, rest)
 
-no_ticks_of : (tasks : List declared.Task) (i : ℕ) (lanes : List (List Row)) (counts : List ℕ) → AllByRecursion (λ rows. AllByRecursion (λ r. NamesOneOf tasks r.leaf) rows) lanes → length tasks ≤ i → ticks_of i lanes counts ≡ 0
+no_ticks_of : (tasks : List declared.Task) (i : ℕ) (lanes : List (List Row)) (counts : List ℕ)
+    → AllByRecursion (λ rows. AllByRecursion (λ r. NamesOneOf tasks r.leaf) rows) lanes → length tasks ≤ i → ticks_of i lanes counts ≡ 0
 no_ticks_of tasks i [] counts all past = refl
 no_ticks_of tasks i (lane ∷ lanes) [] all past = refl
 no_ticks_of tasks i (lane ∷ lanes) (n ∷ counts) all past =
@@ -77,7 +82,8 @@ ticks_in-append : (j : ℕ) (xs ys : List Row) → ticks_in j (xs ++ ys) ≡ tic
 ticks_in-append j [] ys = omega arith
 ticks_in-append j (r ∷ xs) ys = let rest = ticks_in-append j xs ys in omega (arith, rest)
 
-no_ticks_at_all : (tasks : List declared.Task) (i : ℕ) (lanes : List (List Row)) → AllByRecursion (λ rows. AllByRecursion (λ r. NamesOneOf tasks r.leaf) rows) lanes → length tasks ≤ i → ticks_in i (all_rows lanes) ≡ 0
+no_ticks_at_all : (tasks : List declared.Task) (i : ℕ) (lanes : List (List Row))
+    → AllByRecursion (λ rows. AllByRecursion (λ r. NamesOneOf tasks r.leaf) rows) lanes → length tasks ≤ i → ticks_in i (all_rows lanes) ≡ 0
 no_ticks_at_all tasks i [] all past = refl
 no_ticks_at_all tasks i (lane ∷ lanes) all past =
     let both = ticks_in-append i lane (all_rows lanes) in
@@ -101,12 +107,14 @@ at_most_one (Some (cause.Job r n)) = omega arith
 beside_one : (posted n : ℕ) → n ≤ 1 → (posted ≤ posted + n) × (posted + n ≤ posted + 1)
 beside_one posted n few = (omega arith, omega (arith, few))
 
-beside_by : (lanes : List LaneContents) (q : ℕ) → (slice_index (posted_by lanes) q ≤ slice_index (ran_by lanes) q) × (slice_index (ran_by lanes) q ≤ slice_index (posted_by lanes) q + 1)
+beside_by : (lanes : List LaneContents) (q : ℕ)
+    → (slice_index (posted_by lanes) q ≤ slice_index (ran_by lanes) q) × (slice_index (ran_by lanes) q ≤ slice_index (posted_by lanes) q + 1)
 beside_by [] q = (omega arith, omega arith)
 beside_by (lane ∷ lanes) zero = beside_one lane.seat.posted (length (unposted lane.cause)) (at_most_one lane.cause)
 beside_by (lane ∷ lanes) (suc q) = beside_by lanes q
 
-ran_at : (lanes : List LaneContents) (q : ℕ) → q < length lanes → slice_index (ran_by lanes) q ≡ (lane_in lanes q).seat.posted + length (unposted (lane_in lanes q).cause)
+ran_at : (lanes : List LaneContents) (q : ℕ) → q < length lanes
+    → slice_index (ran_by lanes) q ≡ (lane_in lanes q).seat.posted + length (unposted (lane_in lanes q).cause)
 ran_at lanes q within = get_or-map (λ (l : LaneContents). l.seat.posted + length (unposted l.cause)) lanes q no_lane 0 within
 
 ran_past : (lanes : List LaneContents) (q : ℕ) → length lanes ≤ q → slice_index (ran_by lanes) q ≡ 0
@@ -114,9 +122,11 @@ ran_past lanes q past =
     let many = length-map lanes (λ (l : LaneContents). l.seat.posted + length (unposted l.cause)) in
     get_or_past (ran_by lanes) q 0 (omega (arith, past, many))
 
-run_first : (rows : List (List Row)) (q k : ℕ) (o : Option Cause) → FailsNext rows (record { lane = q; posted = k }) o → take k (lane_of rows q) ++ unposted o ≡ take (k + length (unposted o)) (lane_of rows q)
+run_first : (rows : List (List Row)) (q k : ℕ) (o : Option Cause) → FailsNext rows (record { lane = q; posted = k }) o
+    → take k (lane_of rows q) ++ unposted o ≡ take (k + length (unposted o)) (lane_of rows q)
 run_first rows q k None next = let same : k ≡ k + 0 = omega arith in append-nil (take k (lane_of rows q)) ∙ ap (λ n. take n (lane_of rows q)) same
-run_first rows q k (Some (cause.Gate r)) next = let same : k ≡ k + 0 = omega arith in append-nil (take k (lane_of rows q)) ∙ ap (λ n. take n (lane_of rows q)) same
+run_first rows q k (Some (cause.Gate r)) next = let same : k ≡ k + 0 = omega arith in append-nil (take k (lane_of rows q))
+    ∙ ap (λ n. take n (lane_of rows q)) same
 run_first rows q k (Some (cause.Job r n)) next = take_next (lane_of rows q) k r next
 
 kept_by : (o : Option Cause) (before now : ℕ) → CountsGate o before now → ((r : Row) → o ≡ Some (cause.Gate r) → ⊥) → now ≡ before
@@ -124,7 +134,8 @@ kept_by None before now e none = e
 kept_by (Some (cause.Gate r)) before now e none = absurd (none r refl)
 kept_by (Some (cause.Job r n)) before now e none = e
 
-not_job : (o : Option Cause) → IsOfTask o → ((t : ℕ) (r : Row) (n : ℕ) → o ≡ Some (cause.Job r n) → r.leaf ≡ Task (record { 0 = t }) → ⊥) → length (unposted o) ≡ 0
+not_job : (o : Option Cause) → IsOfTask o → ((t : ℕ) (r : Row) (n : ℕ) → o ≡ Some (cause.Job r n) → r.leaf ≡ Task (record { 0 = t }) → ⊥)
+    → length (unposted o) ≡ 0
 not_job None of none = refl
 not_job (Some (cause.Gate r)) of none = refl
 not_job (Some (cause.Job r n)) of none = absurd (none of.0.0 r n refl of.1)
@@ -134,7 +145,8 @@ same_seen o x y here there = let same : Some (Some x) ≡ Some (Some y) = sym he
 
 -- ---- what a run may ask for
 
-module _ {G J : Type 0} (ran : G → Option (List Row)) (gate_faults : G → ℕ) (id used job_faults : J → ℕ) (kits : List (Kit G)) (places : List (Option J)) (ready : IsReady (crew (gates_of ran gate_faults kits) (jobs_of id used job_faults places))) where
+module _ {G J : Type 0} (ran : G → Option (List Row)) (gate_faults : G → ℕ) (id used job_faults : J → ℕ) (kits : List (Kit G))
+    (places : List (Option J)) (ready : IsReady (crew (gates_of ran gate_faults kits) (jobs_of id used job_faults places))) where
   pub kits_filled : (m : ℕ) → m ≤ 32 → AreFilled m kits
   kits_filled m few q within =
       let (g, at, none) = ready.gates q (omega (arith, few, within)) in
@@ -144,7 +156,8 @@ module _ {G J : Type 0} (ran : G → Option (List Row)) (gate_faults : G → ℕ
   pub kit_empty : (m : ℕ) → m ≤ 32 → (q : ℕ) (gate : G) → q < m → KitAt kits q gate → IfSome (ran gate) (λ list. list ≡ [])
   kit_empty m few q gate within there =
       let (g, at, none) = ready.gates q (omega (arith, few, within)) in
-      let same : g ≡ seen_gate ran gate_faults gate = same_seen (slice_get (gates_of ran gate_faults kits) q) g (seen_gate ran gate_faults gate) at (kit_shown ran gate_faults kits q gate there) in
+      let same : g ≡ seen_gate ran gate_faults gate =
+      same_seen (slice_get (gates_of ran gate_faults kits) q) g (seen_gate ran gate_faults gate) at (kit_shown ran gate_faults kits q gate there) in
       subst (λ (x : GateSeen). IfSome x.ran (λ rows. rows ≡ [])) same none
 
   pub jobs_fresh : (n : ℕ) → n ≤ 256 → AreFresh id used n places
@@ -154,7 +167,8 @@ module _ {G J : Type 0} (ran : G → Option (List Row)) (gate_faults : G → ℕ
       (job, there, ap (λ (x : JobSeen). x.id) same ∙ own, ap (λ (x : JobSeen). x.used) same ∙ none)
 
 -- the rows of a plan, by its number of rounds
-pub few_rows : (p : PlanContents) → IsPlan p → (rows : List (List Row)) → rows ≡ plan_rows p → (n : ℕ) → n ≡ rounds_of p → n * p.tree.processors ≤ row_limit → length rows * rounds_in rows ≤ row_limit
+pub few_rows : (p : PlanContents) → IsPlan p → (rows : List (List Row)) → rows ≡ plan_rows p → (n : ℕ) → n ≡ rounds_of p
+    → n * p.tree.processors ≤ row_limit → length rows * rounds_in rows ≤ row_limit
 few_rows p h rows is n rounds few =
     let lanes : length rows ≡ p.tree.processors = ap (λ (xs : List (List Row)). length xs) is ∙ plan_lanes p h in
     let count : rounds_in rows ≡ n = ap rounds_in is ∙ plan_count p h ∙ sym rounds in
@@ -163,8 +177,10 @@ few_rows p h rows is n rounds few =
 
 -- ---- a run that ended with these lanes
 
-module _ {G J : Type 0} (ran : G → Option (List Row)) (gate_faults : G → ℕ) (id used : J → ℕ) (made : J → Made) (job_faults : J → ℕ) (p : PlanContents) (h : IsPlan p)
-    (kits kits' : List (Kit G)) (places places' : List (Option J)) (filled : AreFilled p.tree.processors kits) (fresh : AreFresh id used (length p.set.tasks) places)
+module _ {G J : Type 0} (ran : G → Option (List Row)) (gate_faults : G → ℕ) (id used : J → ℕ) (made : J → Made) (job_faults : J → ℕ)
+    (p : PlanContents) (h : IsPlan p)
+    (kits kits' : List (Kit G)) (places places' : List (Option J)) (filled : AreFilled p.tree.processors kits)
+    (fresh : AreFresh id used (length p.set.tasks) places)
     (names : AllByRecursion (λ rows. AllByRecursion (λ x. NamesOneOf p.set.tasks x.leaf) rows) (plan_rows p)) where
   abbrev before : Crew
   before = crew (gates_of ran gate_faults kits) (jobs_of id used job_faults places)
@@ -177,7 +193,9 @@ module _ {G J : Type 0} (ran : G → Option (List Row)) (gate_faults : G → ℕ
     inside q within = let width = r.width in omega (arith, within, width)
 
     -- a job after the run
-    job_now : (i : ℕ) (j : JobSeen) → Holds (jobs_of id used job_faults places) i j → (k : JobSeen) × Holds (jobs_of id used job_faults places') i k × (k.id ≡ j.id) × (k.used ≡ j.used + ticks_of i (plan_rows p) (posted_by lanes)) × (((q : ℕ) (x : Row) (n : ℕ) → JobFailed lanes q i x n → ⊥) → k.faults ≡ j.faults)
+    job_now : (i : ℕ) (j : JobSeen) → Holds (jobs_of id used job_faults places) i j
+        → (k : JobSeen) × Holds (jobs_of id used job_faults places') i k × (k.id ≡ j.id)
+        × (k.used ≡ j.used + ticks_of i (plan_rows p) (posted_by lanes)) × (((q : ℕ) (x : Row) (n : ℕ) → JobFailed lanes q i x n → ⊥) → k.faults ≡ j.faults)
     job_now i j at =
         let (job, there, same) = job_in_place id used job_faults places i j at in
         elim (below_or i (length p.set.tasks)) [
@@ -186,15 +204,29 @@ module _ {G J : Type 0} (ran : G → Option (List Row)) (gate_faults : G → ℕ
               let start = fresh i within in
               let unused : used job ≡ 0 = subst (λ (x : J). used x ≡ 0) (same_job places i start.0 job start.1 there) start.3 in
               let begun : j.used ≡ 0 = sym (ap (λ (x : JobSeen). x.used) same) ∙ unused in
-              let worked = jr.worked in
-              (seen_job id used job_faults now, place_shown id used job_faults places' i now back, jr.own ∙ ap (λ (x : JobSeen). x.id) same, omega (arith, worked, begun), λ none. jr.same none ∙ ap (λ (x : JobSeen). x.faults) same)
+              let worked = jr.worked in (
+                seen_job id used job_faults now,
+                place_shown id used job_faults places' i now back,
+                jr.own
+                    ∙ ap (λ (x : JobSeen). x.id) same,
+                omega (arith, worked, begun),
+                λ none. jr.same none ∙ ap (λ (x : JobSeen). x.faults) same,
+              )
           | inr past ↦
-              let none = no_ticks_of p.set.tasks i (plan_rows p) (posted_by lanes) names past in
-              (j, subst (λ (x : JobSeen). Holds (jobs_of id used job_faults places') i x) same (place_shown id used job_faults places' i job (r.other_jobs i past ∙ there)), refl, omega (arith, none), λ unfailed. refl)
+              let none = no_ticks_of p.set.tasks i (plan_rows p) (posted_by lanes) names past in (
+                j,
+                subst (λ (x : JobSeen). Holds (jobs_of id used job_faults places') i x) same
+                    (place_shown id used job_faults places' i job (r.other_jobs i past ∙ there)),
+                refl,
+                omega (arith, none),
+                λ unfailed. refl,
+              )
         ]
 
     -- a gate after the run
-    gate_now : (q : ℕ) (g : GateSeen) → Holds (gates_of ran gate_faults kits) q g → (k : GateSeen) × Holds (gates_of ran gate_faults kits') q k × (k.ran ≡ grown g.ran (take (slice_index (ran_by lanes) q) (lane_of (plan_rows p) q))) × (((x : Row) → GateFailed lanes q x → ⊥) → k.faults ≡ g.faults)
+    gate_now : (q : ℕ) (g : GateSeen) → Holds (gates_of ran gate_faults kits) q g
+        → (k : GateSeen) × Holds (gates_of ran gate_faults kits') q k
+        × (k.ran ≡ grown g.ran (take (slice_index (ran_by lanes) q) (lane_of (plan_rows p) q))) × (((x : Row) → GateFailed lanes q x → ⊥) → k.faults ≡ g.faults)
     gate_now q g at =
         let (gate, there, same) = gate_in_kit ran gate_faults kits q g at in
         elim (below_or q p.tree.processors) [
@@ -202,16 +234,25 @@ module _ {G J : Type 0} (ran : G → Option (List Row)) (gate_faults : G → ℕ
               let (now, back, gr) = r.gates q gate within there in
               let lane = lane_in lanes q in
               let next = subst (λ n. FailsNext (plan_rows p) (record { lane = n; posted = lane.seat.posted }) lane.cause) gr.own gr.next in
-              let rows = run_first (plan_rows p) q lane.seat.posted lane.cause next ∙ ap (λ n. take n (lane_of (plan_rows p) q)) (sym (ran_at lanes q (inside q within))) in (
+              let rows =
+              run_first (plan_rows p) q lane.seat.posted lane.cause next
+              ∙ ap (λ n. take n (lane_of (plan_rows p) q)) (sym (ran_at lanes q (inside q within))) in (
                 seen_gate ran gate_faults now,
                 kit_shown ran gate_faults kits' q now back,
                 gr.list ∙ (λ i. grown (ap (λ (x : GateSeen). x.ran) same i) (rows i)),
-                λ none. kept_by lane.cause (gate_faults gate) (gate_faults now) gr.count (λ x is. none x (inside q within, is)) ∙ ap (λ (x : GateSeen). x.faults) same,
+                λ none. kept_by lane.cause (gate_faults gate) (gate_faults now) gr.count (λ x is. none x (inside q within, is))
+                    ∙ ap (λ (x : GateSeen). x.faults) same,
               )
           | inr past ↦
               let width = r.width in
-              let nothing = ran_past lanes q (omega (arith, width, past)) in
-              (g, subst (λ (x : GateSeen). Holds (gates_of ran gate_faults kits') q x) same (kit_shown ran gate_faults kits' q gate (r.other_kits q past ∙ there)), sym (ap (λ n. grown g.ran (take n (lane_of (plan_rows p) q))) nothing ∙ grown_none g.ran), λ unfailed. refl)
+              let nothing = ran_past lanes q (omega (arith, width, past)) in (
+                g,
+                subst (λ (x : GateSeen). Holds (gates_of ran gate_faults kits') q x) same
+                    (kit_shown ran gate_faults kits' q gate (r.other_kits q past ∙ there)),
+                sym
+                    (ap (λ n. grown g.ran (take n (lane_of (plan_rows p) q))) nothing ∙ grown_none g.ran),
+                λ unfailed. refl,
+              )
         ]
 
     -- what was posted, and what was run
@@ -258,14 +299,21 @@ module _ {G J : Type 0} (ran : G → Option (List Row)) (gate_faults : G → ℕ
       gate_rose =
           let (gate, there) = filled q gate_lane in
           let (now, back, gr) = r.gates q gate gate_lane there in
-          let risen : HasRisen (gate_faults gate) (gate_faults now) = subst (λ (c : Option Cause). CountsGate c (gate_faults gate) (gate_faults now)) failed.1 gr.count in
-          (seen_gate ran gate_faults gate, seen_gate ran gate_faults now, kit_shown ran gate_faults kits q gate there, kit_shown ran gate_faults kits' q now back, risen.rose)
+          let risen : HasRisen (gate_faults gate) (gate_faults now) =
+          subst (λ (c : Option Cause). CountsGate c (gate_faults gate) (gate_faults now)) failed.1 gr.count in (
+            seen_gate ran gate_faults gate,
+            seen_gate ran gate_faults now,
+            kit_shown ran gate_faults kits q gate there,
+            kit_shown ran gate_faults kits' q now back,
+            risen.rose,
+          )
 
       pub gate_stopped : NoGateBefore lanes q → GateStopped p before after x
       gate_stopped lowest =
           let own : x.processor ≡ q = (plan_table p h).own q (lane_in lanes q).seat.posted x gate_row in
           let none : (lane_in lanes q).seat.posted + 0 ≡ (lane_in lanes q).seat.posted = omega arith in
-          let run : slice_index (ran_by lanes) q ≡ (lane_in lanes q).seat.posted = ran_at lanes q failed.0 ∙ ap (λ (c : Option Cause). (lane_in lanes q).seat.posted + length (unposted c)) failed.1 ∙ none in
+          let run : slice_index (ran_by lanes) q ≡ (lane_in lanes q).seat.posted =
+          ran_at lanes q failed.0 ∙ ap (λ (c : Option Cause). (lane_in lanes q).seat.posted + length (unposted c)) failed.1 ∙ none in
           let at : RowAt (plan_rows p) q (slice_index (ran_by lanes) q) x = subst (λ k. RowAt (plan_rows p) q k x) (sym run) gate_row in
           record {
             rose = subst (λ n. GateRose before after n) (sym own) gate_rose;
@@ -288,14 +336,20 @@ module _ {G J : Type 0} (ran : G → Option (List Row)) (gate_faults : G → ℕ
           let within : t < length p.set.tasks = subst (λ (l : Leaf). NamesOneOf p.set.tasks l) failed.of_task job_names in
           let start = fresh t within in
           let (now, back, jr) = r.jobs t start.0 within start.1 in
-          let risen = jr.risen q x n failed in
-          (seen_job id used job_faults start.0, seen_job id used job_faults now, place_shown id used job_faults places t start.0 start.1, place_shown id used job_faults places' t now back, risen.rose)
+          let risen = jr.risen q x n failed in (
+            seen_job id used job_faults start.0,
+            seen_job id used job_faults now,
+            place_shown id used job_faults places t start.0 start.1,
+            place_shown id used job_faults places' t now back,
+            risen.rose,
+          )
 
       pub job_stopped : NoGateBefore lanes (length lanes) → NoJobBefore lanes q → JobStopped p before after x
       job_stopped no_gate lowest =
           let own : x.processor ≡ q = (plan_table p h).own q (lane_in lanes q).seat.posted x job_row in
           let posted : slice_index (posted_by lanes) q ≡ (lane_in lanes q).seat.posted = posted_at_end lanes q failed.lane in
-          let run : slice_index (ran_by lanes) q ≡ (lane_in lanes q).seat.posted + 1 = ran_at lanes q failed.lane ∙ ap (λ (c : Option Cause). (lane_in lanes q).seat.posted + length (unposted c)) failed.cause in
+          let run : slice_index (ran_by lanes) q ≡ (lane_in lanes q).seat.posted + 1 =
+          ran_at lanes q failed.lane ∙ ap (λ (c : Option Cause). (lane_in lanes q).seat.posted + length (unposted c)) failed.cause in
           let at : RowAt (plan_rows p) q (slice_index (posted_by lanes) q) x = subst (λ k. RowAt (plan_rows p) q k x) (sym posted) job_row in
           let one : slice_index (ran_by lanes) q ≡ slice_index (posted_by lanes) q + 1 = omega (arith, posted, run) in
           record {
@@ -312,7 +366,9 @@ module _ {G J : Type 0} (ran : G → Option (List Row)) (gate_faults : G → ℕ
                   let within : m < p.tree.processors = omega (arith, own, below, lane) in
                   let first : slice_index (posted_by lanes) m ≡ (lane_in lanes m).seat.posted = posted_at_end lanes m (inside m within) in
                   let all = ran_at lanes m (inside m within) in
-                  let none = not_job (lane_in lanes m).cause (lane_task m within) (λ u y k is of. lowest m u y k (omega (arith, own, below)) (record { lane = inside m within; cause = is; of_task = of })) in
+                  let none =
+                  not_job (lane_in lanes m).cause (lane_task m within)
+                  (λ u y k is of. lowest m u y k (omega (arith, own, below)) (record { lane = inside m within; cause = is; of_task = of })) in
                   omega (arith, first, all, none),
             );
           }
@@ -323,7 +379,9 @@ module _ {G J : Type 0} (ran : G → Option (List Row)) (gate_faults : G → ℕ
       gates = gates_ran_all ran gate_faults id used made job_faults p kits kits' places places' lanes r h all.none_failed all.all_posted;
       jobs = λ i j at.
           let (k, back, own, worked, kept) = job_now i j at in
-          let same = kept (λ q x n failed. absurd (let bad : ◌≡◌ {A = Option Cause} None (Some (cause.Job x n)) = sym (all.none_failed q failed.lane) ∙ failed.cause in cc)) in
+          let same =
+          kept (λ q x n failed. absurd (let bad : ◌≡◌ {A = Option Cause} None (Some (cause.Job x n)) = sym (all.none_failed q failed.lane)
+          ∙ failed.cause in cc)) in
           let ticks = worked ∙ ap (λ n. j.used + n) (ticks_at_end p h lanes r.width all.all_posted i) in
           back ∙ (λ d. Some (Some (record { id = own d; used = ticks d; faults = same d })));
       valid = all.valid;
@@ -331,16 +389,19 @@ module _ {G J : Type 0} (ran : G → Option (List Row)) (gate_faults : G → ℕ
 
 -- ---- by what a run answers
 
-module _ {G J : Type 0} (ran : G → Option (List Row)) (gate_faults : G → ℕ) (id used : J → ℕ) (made : J → Made) (job_faults : J → ℕ) (p : PlanContents) (kits kits' : List (Kit G)) (places places' : List (Option J)) where
+module _ {G J : Type 0} (ran : G → Option (List Row)) (gate_faults : G → ℕ) (id used : J → ℕ) (made : J → Made) (job_faults : J → ℕ)
+    (p : PlanContents) (kits kits' : List (Kit G)) (places places' : List (Option J)) where
   -- whatever is answered, all are back
   pub back_by : (result : Result Executed ExecFault) → Outcome ran gate_faults id used made job_faults p kits kits' places places' result
-      → AreBack (crew (gates_of ran gate_faults kits) (jobs_of id used job_faults places)) (crew (gates_of ran gate_faults kits') (jobs_of id used job_faults places'))
+      → AreBack (crew (gates_of ran gate_faults kits) (jobs_of id used job_faults places))
+      (crew (gates_of ran gate_faults kits') (jobs_of id used job_faults places'))
   back_by (Ok e) o = back_after ran gate_faults id used made job_faults p kits kits' places places' o.0 o.1
-  back_by (Err (fault.Gate q x)) o = back_after ran gate_faults id used made job_faults p kits kits' places places' o.0 o.1
-  back_by (Err (fault.Job t q x)) o = back_after ran gate_faults id used made job_faults p kits kits' places places' o.0 o.1
+  back_by (Err (fault.Gate q x n)) o = back_after ran gate_faults id used made job_faults p kits kits' places places' o.0 o.1
+  back_by (Err (fault.Job t q x n)) o = back_after ran gate_faults id used made job_faults p kits kits' places places' o.0 o.1
   back_by (Err fault.NoMemory) o = back_kept ran gate_faults id used job_faults kits kits' places places' o
 
-  module _ (h : IsPlan p) (ready : IsReady (crew (gates_of ran gate_faults kits) (jobs_of id used job_faults places))) (names : AllByRecursion (λ rows. AllByRecursion (λ x. NamesOneOf p.set.tasks x.leaf) rows) (plan_rows p))
+  module _ (h : IsPlan p) (ready : IsReady (crew (gates_of ran gate_faults kits) (jobs_of id used job_faults places)))
+      (names : AllByRecursion (λ rows. AllByRecursion (λ x. NamesOneOf p.set.tasks x.leaf) rows) (plan_rows p))
       (result : Result Executed ExecFault) (o : Outcome ran gate_faults id used made job_faults p kits kits' places places' result) where
     filled : AreFilled p.tree.processors kits
     filled = kits_filled ran gate_faults id used job_faults kits places ready p.tree.processors h.sized.few_processors
@@ -356,30 +417,40 @@ module _ {G J : Type 0} (ran : G → Option (List Row)) (gate_faults : G → ℕ
 
     pub all_by : (e : Executed) → result ≡ Ok e → RanAll p old new
     all_by e is =
-        let here : Outcome ran gate_faults id used made job_faults p kits kits' places places' (Ok e) = subst (λ x. Outcome ran gate_faults id used made job_faults p kits kits' places places' x) is o in
+        let here : Outcome ran gate_faults id used made job_faults p kits kits' places places' (Ok e) =
+        subst (λ x. Outcome ran gate_faults id used made job_faults p kits kits' places places' x) is o in
         ran_to_end ran gate_faults id used made job_faults p h kits kits' places places' filled fresh names here.0 here.1 e here.2
 
     pub rows_by : (e : Executed) → result ≡ Ok e → e.table.lanes ≡ plan_rows p
     rows_by e is =
-        let here : Outcome ran gate_faults id used made job_faults p kits kits' places places' (Ok e) = subst (λ x. Outcome ran gate_faults id used made job_faults p kits kits' places places' x) is o in
+        let here : Outcome ran gate_faults id used made job_faults p kits kits' places places' (Ok e) =
+        subst (λ x. Outcome ran gate_faults id used made job_faults p kits kits' places places' x) is o in
         here.2.table
 
-    module _ (q : ℕ) (x : Row) (is : result ≡ Err (fault.Gate q x)) where
-      at_gate : Outcome ran gate_faults id used made job_faults p kits kits' places places' (Err (fault.Gate q x))
+    module _ (q : ℕ) (x : Row) (n : ℕ) (is : result ≡ Err (fault.Gate q x n)) where
+      at_gate : Outcome ran gate_faults id used made job_faults p kits kits' places places' (Err (fault.Gate q x n))
       at_gate = subst (λ y. Outcome ran gate_faults id used made job_faults p kits kits' places places' y) is o
 
       pub gate_by : GateStopped p old new x
-      gate_by = let here = at_gate in gate_stopped ran gate_faults id used made job_faults p h kits kits' places places' filled fresh names here.0 here.1 q x here.2.0 here.2.1
+      gate_by =
+          let here =
+          at_gate in gate_stopped ran gate_faults id used made job_faults p h kits kits' places places' filled fresh names here.0 here.1 q x here.2.0 here.2.1
 
       pub gate_named : NamesOneOf p.set.tasks x.leaf
-      gate_named = let here = at_gate in gate_names ran gate_faults id used made job_faults p h kits kits' places places' filled fresh names here.0 here.1 q x here.2.0
+      gate_named =
+          let here = at_gate in gate_names ran gate_faults id used made job_faults p h kits kits' places places' filled fresh names here.0 here.1 q x here.2.0
 
-    module _ (t q : ℕ) (x : Row) (is : result ≡ Err (fault.Job t q x)) where
-      at_job : Outcome ran gate_faults id used made job_faults p kits kits' places places' (Err (fault.Job t q x))
+    module _ (t q : ℕ) (x : Row) (n : ℕ) (is : result ≡ Err (fault.Job t q x n)) where
+      at_job : Outcome ran gate_faults id used made job_faults p kits kits' places places' (Err (fault.Job t q x n))
       at_job = subst (λ y. Outcome ran gate_faults id used made job_faults p kits kits' places places' y) is o
 
       pub job_by : JobStopped p old new x
-      job_by = let here = at_job in job_stopped ran gate_faults id used made job_faults p h kits kits' places places' filled fresh names here.0 here.1 q t here.2.1.0 x here.2.1.1 here.2.0 here.2.2
+      job_by =
+          let here =
+          at_job in job_stopped ran gate_faults id used made job_faults p h kits kits' places places' filled fresh names
+          here.0 here.1 q t here.2.1.0 x here.2.1.1 here.2.0 here.2.2
 
       pub job_named : NamesOneOf p.set.tasks x.leaf
-      job_named = let here = at_job in job_names ran gate_faults id used made job_faults p h kits kits' places places' filled fresh names here.0 here.1 q t here.2.1.0 x here.2.1.1
+      job_named =
+          let here =
+          at_job in job_names ran gate_faults id used made job_faults p h kits kits' places places' filled fresh names here.0 here.1 q t here.2.1.0 x here.2.1.1

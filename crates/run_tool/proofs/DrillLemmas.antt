@@ -14,7 +14,7 @@ use Rattle.run_tree.specs.Compiled.{tree_of}
 use Rattle.run_tree.specs.Plans.{PlanContents, IsPlan, rounds_of, stop_of}
 use Rattle.run_tree.specs.Rounds.{is_event}
 use Rattle.run_tree.proofs.PackLists.{length-filter-le}
-use Rattle.event_core.specs.Rounds.{row_limit}
+use Rattle.sched_base.specs.Tables.{row_limit}
 use Rattle.event_core.proofs.RoundsInOrder.{rounds_is}
 use Rattle.rate_scale.proofs.ScaleLemmas.{some_scale, PassesAt-whole}
 use Rattle.run_compile.specs.Answers.{IsOverload}
@@ -36,9 +36,11 @@ pub record IsSmall (s : SetContents) : Type 0 where
   pub fits : (scale : ℕ) → IsScale s.tasks scale → Fits scale s
   pub small : (scale : ℕ) → IsScale s.tasks scale → scale ≤ 60
 
-pub small_by : (words : List ℕ) → length words ≡ 128 → ((words : List ℕ) → length words ≡ 128 → IsLawful (made_from words)) → ((words : List ℕ) (scale : ℕ) → IsScale (made_from words).tasks scale → Fits scale (made_from words))
+pub small_by : (words : List ℕ) → length words ≡ 128 → ((words : List ℕ) → length words ≡ 128 → IsLawful (made_from words))
+    → ((words : List ℕ) (scale : ℕ) → IsScale (made_from words).tasks scale → Fits scale (made_from words))
     → ((words : List ℕ) (scale : ℕ) → IsScale (made_from words).tasks scale → scale ≤ 60) → IsSmall (made_from words)
-small_by words whole lawful fits small = record { lawful = lawful words whole; fits = λ scale is. fits words scale is; small = λ scale is. small words scale is }
+small_by words whole lawful fits small =
+    record { lawful = lawful words whole; fits = λ scale is. fits words scale is; small = λ scale is. small words scale is }
 
 -- its scale doesn't pass the limit
 pub no_pass : (s : SetContents) (at : ℕ) → IsSmall s → PassesAt (2 ^ 94) s.tasks at → ⊥
@@ -70,7 +72,8 @@ drill_horizon number = refl
 
 -- ---- the plan
 
-pub plan_is : (number : ℕ) (s : SetContents) (p : PlanContents) → s ≡ drilled number → p.set ≡ s → p.tree ≡ tree_of p.tree.scale s → p ≡ drill_plan number p.tree.scale
+pub plan_is : (number : ℕ) (s : SetContents) (p : PlanContents) → s ≡ drilled number → p.set ≡ s → p.tree ≡ tree_of p.tree.scale s
+    → p ≡ drill_plan number p.tree.scale
 plan_is number s p drawn set tree = λ i. record { set = (set ∙ drawn) i; tree = (tree ∙ ap (tree_of p.tree.scale) drawn) i }
 
 -- each round has some tick
@@ -82,7 +85,8 @@ rounds_within p =
     omega (arith, is, fewer, all)
 
 -- so there are few rows
-pub few_rows : (number : ℕ) (s : SetContents) (p : PlanContents) → s ≡ drilled number → IsSmall s → p.set ≡ s → IsPlan p → rounds_of p * p.tree.processors ≤ row_limit
+pub few_rows : (number : ℕ) (s : SetContents) (p : PlanContents) → s ≡ drilled number → IsSmall s → p.set ≡ s → IsPlan p
+    → rounds_of p * p.tree.processors ≤ row_limit
 few_rows number s p drawn is set plan =
     let scale' : IsScale s.tasks p.tree.scale = subst (λ (x : SetContents). IsScale x.tasks p.tree.scale) set plan.tree.scale in
     let low = is.small p.tree.scale scale' in
@@ -102,10 +106,12 @@ trace_valid t s scale lanes is valid = subst IsValidTrace (sym is) valid
 
 -- what is told of a plan's rows is the text of the drill
 pub text_is : (number rounds : ℕ) (p : PlanContents) (told : Summary) → p ≡ drill_plan number p.tree.scale → rounds ≡ rounds_of p
-    → told ≡ summary_by number rounds (trace_again p.set p.tree.scale (merged_lanes (plan_rows p))) → concat (summary_lines told) ≡ drill_text number p.tree.scale
+    → told ≡ summary_by number rounds (trace_again p.set p.tree.scale (merged_lanes (plan_rows p)))
+    → concat (summary_lines told) ≡ drill_text number p.tree.scale
 unfolding drill_text
 text_is number rounds p told plan count is =
-    ap (λ t. concat (summary_lines t)) (is ∙ (λ i. summary_by number ((count ∙ ap rounds_of plan) i) (trace_again (plan i).set p.tree.scale (merged_lanes (plan_rows (plan i))))))
+    ap (λ t. concat (summary_lines t)) (is
+    ∙ (λ i. summary_by number ((count ∙ ap rounds_of plan) i) (trace_again (plan i).set p.tree.scale (merged_lanes (plan_rows (plan i))))))
 
 -- and the drill's trace is the one that was judged
 pub drill_is : (number : ℕ) (p : PlanContents) → p ≡ drill_plan number p.tree.scale → IsScale (drilled number).tasks p.tree.scale

@@ -1,4 +1,5 @@
 pub mod AnswerLemmas
+pub mod FaultLemmas
 pub mod LineLemmas
 pub mod TraceLemmas
 pub mod SoundLemmas
@@ -9,3 +10,4 @@ pub mod CrewEndLemmas
 pub mod ReadyLemmas
 pub mod DrillLemmas
 pub mod DrillEndLemmas
+pub mod StopLemmas

@@ -1,6 +1,7 @@
 -- Gates and jobs that are made one after the other, until there is one for each processor and each task: for the invariants of the
 -- loops that make them. That a box holds a job of this number is `read_made` at the list of what the function boxes, as in the program.
-use Rattle.std.proofs.Common.{◌≡◌, ◌⊎◌, inl, inr, ℕ, zero, suc, ◌+◌, ◌<◌, ◌≤◌, List, [], ◌∷◌, ◌++◌, Option, Some, None, IfSome, option_map, length, refl, sym, ◌∙◌, ap, subst, arith}
+use Rattle.std.proofs.Common.{◌≡◌, ◌⊎◌, inl, inr, ℕ, zero, suc, ◌+◌, ◌<◌, ◌≤◌, List, [], ◌∷◌, ◌++◌, Option, Some, None, IfSome, option_map, length}
+use Rattle.std.proofs.Common.{refl, sym, ◌∙◌, ap, subst, arith}
 use Rattle.std.specs.Prelude.{slice_get}
 use Rattle.std.proofs.lemmas.List.{map-append, length-append}
 use Rattle.sched_base.specs.declared.rows.Row.{Row}
@@ -26,7 +27,8 @@ below_next zero (suc n) within = inl (omega arith)
 below_next (suc i) zero within = absurd (omega (arith, within))
 below_next (suc i) (suc n) within = elim (below_next i n (omega (arith, within))) [ inl a ↦ inl (omega (arith, a)) | inr e ↦ inr (ap suc e) ]
 
-first_gates-more : (n : ℕ) (gates : List (Option GateSeen)) (g : GateSeen) → AreFirstGates n gates → IfSome g.ran (λ rows. rows ≡ []) → AreFirstGates (n + 1) (gates ++ Some g ∷ [])
+first_gates-more : (n : ℕ) (gates : List (Option GateSeen)) (g : GateSeen) → AreFirstGates n gates → IfSome g.ran (λ rows. rows ≡ [])
+    → AreFirstGates (n + 1) (gates ++ Some g ∷ [])
 first_gates-more n gates g first unrun = record {
   count = let l = length-append gates (Some g ∷ []) in let count = first.count in omega (arith, l, count);
   unrun = λ p within. elim (below_next p n within) [
@@ -37,7 +39,8 @@ first_gates-more n gates g first unrun = record {
   ];
 }
 
-first_jobs-more : (n : ℕ) (jobs : List (Option JobSeen)) (j : JobSeen) → AreFirstJobs n jobs → j.id ≡ n → j.used ≡ 0 → AreFirstJobs (n + 1) (jobs ++ Some j ∷ [])
+first_jobs-more : (n : ℕ) (jobs : List (Option JobSeen)) (j : JobSeen) → AreFirstJobs n jobs → j.id ≡ n → j.used ≡ 0
+    → AreFirstJobs (n + 1) (jobs ++ Some j ∷ [])
 first_jobs-more n jobs j first own unused = record {
   count = let l = length-append jobs (Some j ∷ []) in let count = first.count in omega (arith, l, count);
   unused = λ i within. elim (below_next i n within) [
@@ -51,31 +54,38 @@ first_jobs-more n jobs j first own unused = record {
 module _ {G : Type 0} (ran : G → Option (List Row)) (faults : G → ℕ) where
   -- before the first gate
   pub no_gates : (kits : List (Kit G)) → kits ≡ [] → AreFirstGates 0 (gates_of ran faults kits)
-  no_gates kits none = subst (λ kits. AreFirstGates 0 (gates_of ran faults kits)) (sym none) (record { count = refl; unrun = λ p within. absurd (omega (arith, within)) })
+  no_gates kits none =
+      subst (λ kits. AreFirstGates 0 (gates_of ran faults kits)) (sym none) (record { count = refl; unrun = λ p within. absurd (omega (arith, within)) })
 
   -- one gate more, which has run nothing
-  pub more_gates : (n : ℕ) (kits kits' : List (Kit G)) (gate : G) → AreFirstGates n (gates_of ran faults kits) → kits' ≡ kits ++ record { gate = Some gate } ∷ [] → IfSome (ran gate) (λ rows. rows ≡ [])
+  pub more_gates : (n : ℕ) (kits kits' : List (Kit G)) (gate : G) → AreFirstGates n (gates_of ran faults kits)
+      → kits' ≡ kits ++ record { gate = Some gate } ∷ [] → IfSome (ran gate) (λ rows. rows ≡ [])
       → AreFirstGates (n + 1) (gates_of ran faults kits')
   more_gates n kits kits' gate first is unrun =
       subst (λ gates. AreFirstGates (n + 1) gates)
-      (sym (ap (gates_of ran faults) is ∙ map-append (λ kit. option_map (λ g. record { ran = ran g; faults = faults g }) kit.gate) kits (record { gate = Some gate } ∷ [])))
+      (sym (ap (gates_of ran faults) is
+      ∙ map-append (λ kit. option_map (λ g. record { ran = ran g; faults = faults g }) kit.gate) kits (record { gate = Some gate } ∷ [])))
       (first_gates-more n (gates_of ran faults kits) (record { ran = ran gate; faults = faults gate }) first unrun)
 
 module _ {J : Type 0} (id used faults : J → ℕ) where
   -- before the first job
   pub no_jobs : (places : List (Option J)) → places ≡ [] → AreFirstJobs 0 (jobs_of id used faults places)
-  no_jobs places none = subst (λ places. AreFirstJobs 0 (jobs_of id used faults places)) (sym none) (record { count = refl; unused = λ i within. absurd (omega (arith, within)) })
+  no_jobs places none =
+      subst (λ places. AreFirstJobs 0 (jobs_of id used faults places)) (sym none) (record { count = refl; unused = λ i within. absurd (omega (arith, within)) })
 
   -- one job more, which has the next number and has worked no tick
-  pub more_jobs : (n : ℕ) (places places' : List (Option J)) (job : J) → AreFirstJobs n (jobs_of id used faults places) → places' ≡ places ++ Some job ∷ [] → id job ≡ n → used job ≡ 0
+  pub more_jobs : (n : ℕ) (places places' : List (Option J)) (job : J) → AreFirstJobs n (jobs_of id used faults places)
+      → places' ≡ places ++ Some job ∷ [] → id job ≡ n → used job ≡ 0
       → AreFirstJobs (n + 1) (jobs_of id used faults places')
   more_jobs n places places' job first is own unused =
       subst (λ jobs. AreFirstJobs (n + 1) jobs)
-      (sym (ap (jobs_of id used faults) is ∙ map-append (λ place. option_map (λ j. record { id = id j; used = used j; faults = faults j }) place) places (Some job ∷ [])))
+      (sym (ap (jobs_of id used faults) is
+      ∙ map-append (λ place. option_map (λ j. record { id = id j; used = used j; faults = faults j }) place) places (Some job ∷ [])))
       (first_jobs-more n (jobs_of id used faults places) (record { id = id job; used = used job; faults = faults job }) first own unused)
 
 -- with the last gate and the last job all is ready
-pub are_ready : {gates : List (Option GateSeen)} {jobs : List (Option JobSeen)} (n m : ℕ) → 32 ≤ n → 256 ≡ m → AreFirstGates n gates → AreFirstJobs m jobs → IsReady (crew gates jobs)
+pub are_ready : {gates : List (Option GateSeen)} {jobs : List (Option JobSeen)} (n m : ℕ) → 32 ≤ n → 256 ≡ m → AreFirstGates n gates
+    → AreFirstJobs m jobs → IsReady (crew gates jobs)
 are_ready n m enough all g j = record {
   gates = λ p within. g.unrun p (omega (arith, within, enough));
   count = let count = j.count in omega (arith, count, all);

@@ -16,10 +16,13 @@ module _
     (lawful : (bytes : List ℕ) (s : SetContents) → set_read_from bytes ≡ Ok s → IsLawful s)
     (is_tree : (s : SetContents) (scale : ℕ) → IsLawful s → IsScale s.tasks scale → Fits scale s → IsTreeOf s (tree_of scale s))
     (same : (s : SetContents) (scale : ℕ) → IsLawful s → IsScale s.tasks scale → Fits scale s → (tree_of scale s).scale ≡ scale)
-    (valid : (s : SetContents) → IsLawful s → (t : Tree) → IsTreeOf s t → IsValid s t.scale (s.horizon * t.scale) (s.horizon * t.scale) (schedule s.tasks t (s.horizon * t.scale))) where
-  schedule_valid : (s : SetContents) (scale : ℕ) → IsLawful s → IsScale s.tasks scale → Fits scale s → IsValid s scale (s.horizon * scale) (s.horizon * scale) (schedule_of (plan_of s scale))
+    (valid : (s : SetContents) → IsLawful s → (t : Tree) → IsTreeOf s t
+    → IsValid s t.scale (s.horizon * t.scale) (s.horizon * t.scale) (schedule s.tasks t (s.horizon * t.scale))) where
+  schedule_valid : (s : SetContents) (scale : ℕ) → IsLawful s → IsScale s.tasks scale → Fits scale s
+      → IsValid s scale (s.horizon * scale) (s.horizon * scale) (schedule_of (plan_of s scale))
   schedule_valid s scale l i f =
-      subst (λ (n : ℕ). IsValid s n (s.horizon * n) (s.horizon * n) (schedule_of (plan_of s scale))) (same s scale l i f) (valid s l (tree_of scale s) (is_tree s scale l i f))
+      subst (λ (n : ℕ). IsValid s n (s.horizon * n) (s.horizon * n) (schedule_of (plan_of s scale))) (same s scale l i f)
+      (valid s l (tree_of scale s) (is_tree s scale l i f))
 
   pub tells_truth : (what : SetText) → TellsTruth what
   tells_truth rates bytes s scale reads fits = tt

@@ -6,7 +6,7 @@ use Rattle.sched_base.specs.declared.rows.Leaf.{Leaf}
 use Rattle.sched_base.specs.declared.rows.Leaf.TheVariants.{Task, Wait, Idle, Empty}
 use Rattle.sched_base.specs.declared.rows.Row.{Row}
 use Rattle.sched_base.specs.declared.sets.Task as declared
-use Rattle.round_table.specs.Lanes.{NamesOneOf}
+use Rattle.sched_base.specs.Lanes.{NamesOneOf}
 use Rattle.trace_lines.specs.Conditions.{IsAmong, NameTasks, AreOnTime}
 use Rattle.run_tool.specs.Commands.{some_late}
 
@@ -21,7 +21,8 @@ among_rows tasks [] h = tt
 among_rows tasks (r ∷ rows) h = (among_leaf tasks r.leaf h.0, among_rows tasks rows h.1)
 
 -- lanes that name tasks of the set alone, running or waiting, name such tasks alone where they run
-pub among_lanes : (tasks : List declared.Task) (lanes : List (List Row)) → AllByRecursion (λ rows. AllByRecursion (λ r. NamesOneOf tasks r.leaf) rows) lanes → AllByRecursion (NameTasks tasks) lanes
+pub among_lanes : (tasks : List declared.Task) (lanes : List (List Row))
+    → AllByRecursion (λ rows. AllByRecursion (λ r. NamesOneOf tasks r.leaf) rows) lanes → AllByRecursion (NameTasks tasks) lanes
 among_lanes tasks [] h = tt
 among_lanes tasks (rows ∷ lanes) h = (among_rows tasks rows h.0, among_lanes tasks lanes h.1)
 

@@ -3,15 +3,18 @@ use Rattle.std.specs.Prelude.{◌≡◌, ◌⊎◌, ℕ, true, List, [], ◌∷�
 use Rattle.clap.specs.Words.{App, Rule, new_app, new_rule, with_rule, with_subcommand}
 use Rattle.clap.specs.Simple.{on_top}
 use Rattle.clap.specs.declared.builder.action.ArgAction.TheVariants.{Set, SetTrue}
-use Rattle.run_tool.specs.declared.words.Command.{Command}
-use Rattle.run_tool.specs.declared.words.Command.TheVariants.{Rate, Tree, Trace, TraceMet, Check, Exec, ExecMet, Drill}
+use Rattle.run_tool.specs.declared.command.Command.{Command}
+use Rattle.run_tool.specs.declared.command.Command.TheVariants.{Read, Execute}
+use Rattle.run_tool.specs.declared.command.Reading.TheVariants.{Rate, Tree, Trace, TraceMet, Check}
+use Rattle.run_tool.specs.declared.command.Execution.TheVariants.{Exec, ExecMet, Drill}
 use Rattle.run_tool.specs.Words.{window_of, drill_of}
 
 -- the words are `exec` with a window: the usual one where none is written, as a value of its own or behind `=`
 abbrev pub SpellsExec : ℕ → List (List ℕ) → Type 0
 SpellsExec window words =
     ((window ≡ 32) × (words ≡ codes "exec" ∷ []))
-    ⊎ ((value : List ℕ) × (window_of value ≡ Some window) × ((words ≡ codes "exec" ∷ codes "--window" ∷ value ∷ []) ⊎ (words ≡ codes "exec" ∷ (codes "--window=" ++ value) ∷ [])))
+    ⊎ ((value : List ℕ) × (window_of value ≡ Some window)
+    × ((words ≡ codes "exec" ∷ codes "--window" ∷ value ∷ []) ⊎ (words ≡ codes "exec" ∷ (codes "--window=" ++ value) ∷ [])))
 
 -- the words are `drill` and a word that writes this number
 abbrev pub SpellsDrill : ℕ → List (List ℕ) → Type 0
@@ -19,14 +22,14 @@ SpellsDrill number words = (value : List ℕ) × (drill_of value ≡ Some number
 
 -- the words of a command
 abbrev pub Spells : Command → List (List ℕ) → Type 0
-Spells Rate words = words ≡ codes "rate" ∷ []
-Spells Tree words = words ≡ codes "tree" ∷ []
-Spells Trace words = words ≡ codes "trace" ∷ []
-Spells TraceMet words = words ≡ codes "trace" ∷ codes "--met" ∷ []
-Spells Check words = words ≡ codes "check" ∷ []
-Spells (Exec window) words = SpellsExec window words
-Spells ExecMet words = words ≡ codes "exec" ∷ codes "--met" ∷ []
-Spells (Drill number) words = SpellsDrill number words
+Spells (Read Rate) words = words ≡ codes "rate" ∷ []
+Spells (Read Tree) words = words ≡ codes "tree" ∷ []
+Spells (Read Trace) words = words ≡ codes "trace" ∷ []
+Spells (Read TraceMet) words = words ≡ codes "trace" ∷ codes "--met" ∷ []
+Spells (Read Check) words = words ≡ codes "check" ∷ []
+Spells (Execute (Exec window)) words = SpellsExec window words
+Spells (Execute ExecMet) words = words ≡ codes "exec" ∷ codes "--met" ∷ []
+Spells (Execute (Drill number)) words = SpellsDrill number words
 
 -- the option `--met`
 abbrev pub met : Rule
@@ -42,11 +45,34 @@ number = record (new_rule (codes "number")) { action = Some Set }
 
 -- the program, which wants a command and has no words of help
 abbrev pub program : App
-program = on_top (λ s. record s { no_binary_name = true; disable_help_flag = true; disable_help_subcommand = true; subcommand_required = true }) (new_app (codes "furnacelime"))
+program =
+    on_top (λ s. record s {
+      no_binary_name = true;
+      disable_help_flag = true;
+      disable_help_subcommand = true;
+      subcommand_required = true;
+    }) (new_app (codes "furnacelime"))
 
--- the program with its commands and their options
+-- a program with one command more
+abbrev pub with_command : App → App → App
+with_command app command = with_subcommand app command.top
+
+-- the program with its commands and their options, one after the other
+abbrev pub with_rate : App
+with_rate = with_command program (new_app (codes "rate"))
+
+abbrev pub with_tree : App
+with_tree = with_command with_rate (new_app (codes "tree"))
+
+abbrev pub with_trace : App
+with_trace = with_command with_tree (with_rule (new_app (codes "trace")) met)
+
+abbrev pub with_check : App
+with_check = with_command with_trace (new_app (codes "check"))
+
+abbrev pub with_exec : App
+with_exec = with_command with_check (with_rule (with_rule (new_app (codes "exec")) met) window)
+
+-- the last of them
 abbrev pub parser : App
-parser =
-    with_subcommand (with_subcommand (with_subcommand (with_subcommand (with_subcommand (with_subcommand program (new_app (codes "rate")).top) (new_app (codes "tree")).top)
-    (with_rule (new_app (codes "trace")) met).top) (new_app (codes "check")).top)
-    (with_rule (with_rule (new_app (codes "exec")) met) window).top) (with_rule (new_app (codes "drill")) number).top
+parser = with_command with_exec (with_rule (new_app (codes "drill")) number)

@@ -5,16 +5,18 @@ use Rattle.sched_base.specs.declared.sets.Task.{Task}
 use Rattle.sched_base.specs.Sets.{SetContents}
 use Rattle.sched_base.specs.Scale.{IsScale, PassesAt, total_of, room_of, Fits}
 use Rattle.task_reader.specs.Reading.{set_read_from}
-use Rattle.run_tool.specs.declared.words.Command.{Command}
-use Rattle.run_tool.specs.declared.words.Command.TheVariants.{Rate, Tree, Trace, TraceMet, Check, Exec, ExecMet, Drill}
+use Rattle.run_tool.specs.declared.command.Command.{Command}
+use Rattle.run_tool.specs.declared.command.Command.TheVariants.{Read, Execute}
+use Rattle.run_tool.specs.declared.command.Reading.TheVariants.{Rate, Tree, Trace, TraceMet, Check}
+use Rattle.run_tool.specs.declared.command.Execution.TheVariants.{Exec, ExecMet, Drill}
 use Rattle.run_tool.specs.declared.refusal.Refusal.{Refusal}
 use Rattle.run_tool.specs.declared.refusal.Refusal.TheVariants.{BadSet, Overload, ScaleTooLarge, TooLong}
 use Rattle.sched_base.specs.Valid.{IsValid}
 use Rattle.run_tree.specs.Compiled.{tree_of}
 use Rattle.run_tree.specs.TreeOfSet.{IsTreeOf}
 use Rattle.run_tree.specs.Plans.{PlanContents, schedule_of, rounds_of}
-use Rattle.event_core.specs.Rounds.{row_limit}
-use Rattle.round_table.specs.Lanes.{lanes_of}
+use Rattle.sched_base.specs.Tables.{row_limit}
+use Rattle.sched_base.specs.Lanes.{lanes_of}
 use Rattle.trace_lines.specs.declared.versions.Version.{Version}
 use Rattle.trace_lines.specs.declared.versions.Version.TheVariants.{One, Two}
 use Rattle.trace_lines.specs.Merging.{merged_lanes}
@@ -33,22 +35,35 @@ set_limit = 1048576
 abbrev pub trace_limit : ℕ
 trace_limit = 536870912
 
--- the most bytes that a command reads; a drill reads none
-abbrev pub limit_of : Command → ℕ
-limit_of Rate = set_limit
-limit_of Tree = set_limit
-limit_of Trace = set_limit
-limit_of TraceMet = set_limit
-limit_of Check = trace_limit
-limit_of (Exec window) = set_limit
-limit_of ExecMet = set_limit
-limit_of (Drill number) = 0
-
 -- a text of a set that fits: its rates, its tree, or its schedule, with or without when each period was done
 pub data SetText : Type 0 where
   rates : SetText
   server_tree : SetText
   schedule_rows : Bool → SetText
+
+-- what a command tells: a text of the set that it reads, the judgment of the trace that it reads, or what is counted of a drill,
+-- which reads nothing
+pub data Output : Type 0 where
+  of_set : SetText → Output
+  of_trace : Output
+  of_drill : ℕ → Output
+
+-- what each command tells
+abbrev pub output_of : Command → Output
+output_of (Read Rate) = of_set rates
+output_of (Read Tree) = of_set server_tree
+output_of (Read Trace) = of_set (schedule_rows false)
+output_of (Read TraceMet) = of_set (schedule_rows true)
+output_of (Read Check) = of_trace
+output_of (Execute (Exec window)) = of_set (schedule_rows false)
+output_of (Execute ExecMet) = of_set (schedule_rows true)
+output_of (Execute (Drill number)) = of_drill number
+
+-- the most bytes that are read
+abbrev pub limit_of : Output → ℕ
+limit_of (of_set what) = set_limit
+limit_of of_trace = trace_limit
+limit_of (of_drill number) = 0
 
 -- the bytes are this set, with this scale within 2 ^ 94
 pub record ReadsSet (bytes : List ℕ) (s : SetContents) (scale : ℕ) : Type 0 where
@@ -70,7 +85,8 @@ version_of met tasks = if met || some_late tasks then Two else One
 
 -- the trace text of the schedule of a plan, each processor's rows merged
 abbrev pub schedule_text : Bool → PlanContents → List ℕ
-schedule_text met p = trace_text (version_of met p.set.tasks) p.set p.tree.scale (merged_lanes (lanes_of p.tree.processors (schedule_of p)))
+schedule_text met p =
+    trace_text (version_of met p.set.tasks) p.set p.tree.scale (merged_lanes (lanes_of p.tree.processors (schedule_of p)))
 
 -- the text of a set that fits, with this scale
 abbrev pub text_of : SetText → SetContents → ℕ → List ℕ
@@ -90,23 +106,20 @@ HasRoom (schedule_rows met) s scale = rows_of (plan_of s scale) ≤ row_limit
 
 -- this text is written for these bytes, which are a set that fits; the status is always `Done`
 abbrev pub WritesSet : SetText → List ℕ → Status → List ℕ → Type 0
-WritesSet what bytes status text = (status ≡ Done) × ((s : SetContents) × (scale : ℕ) × ReadsSet bytes s scale × Fits scale s × HasRoom what s scale × (text ≡ text_of what s scale))
+WritesSet what bytes status text =
+    (status ≡ Done) × ((s : SetContents) × (scale : ℕ) × ReadsSet bytes s scale × Fits scale s × HasRoom what s scale
+    × (text ≡ text_of what s scale))
 
--- the command writes this text for these bytes, and ends with this status
-abbrev pub Writes : Command → List ℕ → Status → List ℕ → Type 0
-Writes Rate bytes status text = WritesSet rates bytes status text
-Writes Tree bytes status text = WritesSet server_tree bytes status text
-Writes Trace bytes status text = WritesSet (schedule_rows false) bytes status text
-Writes TraceMet bytes status text = WritesSet (schedule_rows true) bytes status text
-Writes Check bytes status text = WritesVerdict bytes status text
-Writes (Exec window) bytes status text = WritesSet (schedule_rows false) bytes status text
-Writes ExecMet bytes status text = WritesSet (schedule_rows true) bytes status text
-Writes (Drill number) bytes status text = WritesDrill number status text
+-- this text is written for these bytes, and the command ends with this status
+abbrev pub Writes : Output → List ℕ → Status → List ℕ → Type 0
+Writes (of_set what) bytes status text = WritesSet what bytes status text
+Writes of_trace bytes status text = WritesVerdict bytes status text
+Writes (of_drill number) bytes status text = WritesDrill number status text
 
 -- the bytes call for this status of a command that tells of them: that of `check` goes by whether the rows are a valid schedule
-abbrev pub CallsFor : Command → List ℕ → Status → Type 0
-CallsFor Check bytes status = Judges bytes status
-CallsFor c bytes status = (text : List ℕ) × Writes c bytes status text
+abbrev pub CallsFor : Output → List ℕ → Status → Type 0
+CallsFor of_trace bytes status = Judges bytes status
+CallsFor output bytes status = (text : List ℕ) × Writes output bytes status text
 
 -- what is so of the text of a set that fits: its tree is a reduction tree of it, its schedule is valid
 abbrev pub IsSound : SetText → SetContents → ℕ → Type 0
@@ -118,7 +131,8 @@ IsSound (schedule_rows met) s scale = IsValid s scale (s.horizon * scale) (s.hor
 abbrev pub RefusesSet : List ℕ → Refusal → Type 0
 RefusesSet bytes (BadSet refusal) = set_read_from bytes ≡ Err refusal
 RefusesSet bytes (ScaleTooLarge task) = (s : SetContents) × (set_read_from bytes ≡ Ok s) × PassesAt (2 ^ 94) s.tasks task
-RefusesSet bytes (Overload total room) = (s : SetContents) × (scale : ℕ) × ReadsSet bytes s scale × (room < total) × (total ≡ total_of scale s.tasks) × (room ≡ room_of scale s)
+RefusesSet bytes (Overload total room) =
+    (s : SetContents) × (scale : ℕ) × ReadsSet bytes s scale × (room < total) × (total ≡ total_of scale s.tasks) × (room ≡ room_of scale s)
 RefusesSet bytes _ = ⊥
 
 -- a set that fits whose schedule has too many rows; `rows` is the least multiple of the processors above the limit
@@ -138,13 +152,8 @@ abbrev pub RefusesText : SetText → List ℕ → Refusal → Type 0
 RefusesText what bytes (TooLong rows) = HasNoRoom what bytes rows
 RefusesText what bytes refusal = RefusesSet bytes refusal
 
--- the command refuses these bytes for this reason
-abbrev pub Refuses : Command → List ℕ → Refusal → Type 0
-Refuses Rate bytes refusal = RefusesText rates bytes refusal
-Refuses Tree bytes refusal = RefusesText server_tree bytes refusal
-Refuses Trace bytes refusal = RefusesText (schedule_rows false) bytes refusal
-Refuses TraceMet bytes refusal = RefusesText (schedule_rows true) bytes refusal
-Refuses Check bytes refusal = RefusesTrace bytes refusal
-Refuses (Exec window) bytes refusal = RefusesText (schedule_rows false) bytes refusal
-Refuses ExecMet bytes refusal = RefusesText (schedule_rows true) bytes refusal
-Refuses (Drill number) bytes refusal = ⊥
+-- these bytes are refused for this reason
+abbrev pub Refuses : Output → List ℕ → Refusal → Type 0
+Refuses (of_set what) bytes refusal = RefusesText what bytes refusal
+Refuses of_trace bytes refusal = RefusesTrace bytes refusal
+Refuses (of_drill number) bytes refusal = ⊥

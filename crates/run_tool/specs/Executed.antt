@@ -8,13 +8,15 @@ use Rattle.sched_base.specs.Sets.{SetContents, task_at}
 use Rattle.sched_base.specs.Scale.{IsScale, Fits}
 use Rattle.sched_edges.specs.Causes.{Rose}
 use Rattle.sched_edges.specs.Streams.{TookPart}
-use Rattle.run_tool.specs.declared.words.Command.{Command}
-use Rattle.run_tool.specs.declared.words.Command.TheVariants.{Exec, ExecMet, Drill}
+use Rattle.run_tool.specs.declared.command.Command.{Command}
+use Rattle.run_tool.specs.declared.command.Command.TheVariants.{Read, Execute}
+use Rattle.run_tool.specs.declared.command.Execution.{Execution}
+use Rattle.run_tool.specs.declared.command.Execution.TheVariants.{Exec, ExecMet, Drill}
 use Rattle.run_tool.specs.declared.refusal.Refusal.{Refusal}
 use Rattle.run_tool.specs.declared.refusal.Refusal.TheVariants as why
 use Rattle.run_tool.specs.declared.status.Status.{Status}
 use Rattle.run_tool.specs.declared.status.Status.TheVariants.{Done, WriteFault, NoMemory, GateFault, JobFault}
-use Rattle.run_tool.specs.Commands.{schedule_rows, set_limit, ReadsSet, HasRoom, text_of, plan_of, RefusesText}
+use Rattle.run_tool.specs.Commands.{schedule_rows, output_of, set_limit, ReadsSet, HasRoom, text_of, plan_of, RefusesText}
 use Rattle.run_tool.specs.Refusals.{status_of, refusal_line}
 use Rattle.run_tool.specs.Drill.{drilled, drill_plan, IsDrill, drill_text}
 use Rattle.run_tool.specs.Ends.{Streams, ErrorStream, IsUnread, IsQuiet, Tells, IsTold, StopsAs, Ends}
@@ -37,17 +39,23 @@ pub record IsToRun (met : Bool) (bytes : List ℕ) (s : SetContents) (scale : �
 
 -- this text is written for these bytes once the gates and the jobs have run the whole schedule of their set
 abbrev pub WritesRun : Bool → Crew → Crew → List ℕ → Status → List ℕ → Type 0
-WritesRun met old new bytes status text = (status ≡ Done) × ((s : SetContents) × (scale : ℕ) × IsToRun met bytes s scale × (text ≡ text_of (schedule_rows met) s scale) × RanAll (plan_of s scale) old new)
+WritesRun met old new bytes status text =
+    (status ≡ Done) × ((s : SetContents) × (scale : ℕ) × IsToRun met bytes s scale × (text ≡ text_of (schedule_rows met) s scale)
+    × RanAll (plan_of s scale) old new)
 
 -- why no text is written for these bytes: a gate or a job failed, or they are refused
 abbrev pub RefusesRun : Bool → Crew → Crew → List ℕ → Refusal → Type 0
-RefusesRun met old new bytes (why.GateFault row name) = (s : SetContents) × (scale : ℕ) × IsToRun met bytes s scale × GateStopped (plan_of s scale) old new row × (name ≡ name_at s.tasks row.leaf)
-RefusesRun met old new bytes (why.JobFault row name) = (s : SetContents) × (scale : ℕ) × IsToRun met bytes s scale × JobStopped (plan_of s scale) old new row × (name ≡ name_at s.tasks row.leaf)
+RefusesRun met old new bytes (why.GateFault row name) =
+    (s : SetContents) × (scale : ℕ) × IsToRun met bytes s scale × GateStopped (plan_of s scale) old new row × (name ≡ name_at s.tasks row.leaf)
+RefusesRun met old new bytes (why.JobFault row name) =
+    (s : SetContents) × (scale : ℕ) × IsToRun met bytes s scale × JobStopped (plan_of s scale) old new row × (name ≡ name_at s.tasks row.leaf)
 RefusesRun met old new bytes refusal = RefusesText (schedule_rows met) bytes refusal
 
 -- a set's schedule was run, and its text written
 abbrev pub RanSet : Bool → Option (List ℕ) → Option (List ℕ) → Crew → Crew → SetContents → Type 0
-RanSet met out out' old new s = (scale : ℕ) × IsRun s scale × HasRoom (schedule_rows met) s scale × Appends out out' (text_of (schedule_rows met) s scale) × RanAll (plan_of s scale) old new
+RanSet met out out' old new s =
+    (scale : ℕ) × IsRun s scale × HasRoom (schedule_rows met) s scale × Appends out out' (text_of (schedule_rows met) s scale)
+    × RanAll (plan_of s scale) old new
 
 -- why running a plan's schedule stopped
 abbrev pub StopsInRun : PlanContents → Crew → Crew → Refusal → Type 0
@@ -59,23 +67,30 @@ StopsInRun p old new _ = ⊥
 -- why a set's schedule wasn't run, or its text not written
 abbrev pub StopsAtRun : Bool → Option (List ℕ) → Option (List ℕ) → ℕ → ℕ → Crew → Crew → SetContents → Refusal → Type 0
 StopsAtRun met out out' faults faults' old new s why.WriteFault =
-    (scale : ℕ) × IsRun s scale × HasRoom (schedule_rows met) s scale × TookPart out out' (text_of (schedule_rows met) s scale) × Rose faults faults' × RanAll (plan_of s scale) old new
+    (scale : ℕ) × IsRun s scale × HasRoom (schedule_rows met) s scale × TookPart out out' (text_of (schedule_rows met) s scale)
+    × Rose faults faults' × RanAll (plan_of s scale) old new
 StopsAtRun met out out' faults faults' old new s (why.GateFault row name) =
-    (scale : ℕ) × IsRun s scale × HasRoom (schedule_rows met) s scale × StopsInRun (plan_of s scale) old new (why.GateFault row name) × Keeps out out'
+    (scale : ℕ) × IsRun s scale × HasRoom (schedule_rows met) s scale × StopsInRun (plan_of s scale) old new (why.GateFault row name)
+    × Keeps out out'
 StopsAtRun met out out' faults faults' old new s (why.JobFault row name) =
-    (scale : ℕ) × IsRun s scale × HasRoom (schedule_rows met) s scale × StopsInRun (plan_of s scale) old new (why.JobFault row name) × Keeps out out'
+    (scale : ℕ) × IsRun s scale × HasRoom (schedule_rows met) s scale × StopsInRun (plan_of s scale) old new (why.JobFault row name)
+    × Keeps out out'
 StopsAtRun met out out' faults faults' old new s (why.TooLong rows) = IsTooLongSet (schedule_rows met) s rows × Keeps out out'
 StopsAtRun met out out' faults faults' old new s refusal = IsRefusedSet s refusal × Keeps out out'
 
 -- a drill's schedule was run, and its text written
 abbrev pub RanDrill : ℕ → Option (List ℕ) → Option (List ℕ) → Crew → Crew → Type 0
-RanDrill number out out' old new = (scale : ℕ) × IsDrill number scale × Appends out out' (drill_text number scale) × RanAll (drill_plan number scale) old new
+RanDrill number out out' old new =
+    (scale : ℕ) × IsDrill number scale × Appends out out' (drill_text number scale) × RanAll (drill_plan number scale) old new
 
 -- why a drill's text isn't written: a gate or a job failed, or memory was refused, before anything was called or once all was run
 abbrev pub FailsDrill : ℕ → Crew → Crew → Refusal → Type 0
-FailsDrill number old new (why.GateFault row name) = (scale : ℕ) × IsScale (drilled number).tasks scale × StopsInRun (drill_plan number scale) old new (why.GateFault row name)
-FailsDrill number old new (why.JobFault row name) = (scale : ℕ) × IsScale (drilled number).tasks scale × StopsInRun (drill_plan number scale) old new (why.JobFault row name)
-FailsDrill number old new why.NoMemory = (new ≡ old) ⊎ ((scale : ℕ) × IsScale (drilled number).tasks scale × RanAll (drill_plan number scale) old new)
+FailsDrill number old new (why.GateFault row name) =
+    (scale : ℕ) × IsScale (drilled number).tasks scale × StopsInRun (drill_plan number scale) old new (why.GateFault row name)
+FailsDrill number old new (why.JobFault row name) =
+    (scale : ℕ) × IsScale (drilled number).tasks scale × StopsInRun (drill_plan number scale) old new (why.JobFault row name)
+FailsDrill number old new why.NoMemory =
+    (new ≡ old) ⊎ ((scale : ℕ) × IsScale (drilled number).tasks scale × RanAll (drill_plan number scale) old new)
 FailsDrill number old new _ = ⊥
 
 -- why a drill's schedule wasn't run, or its text not written
@@ -84,49 +99,40 @@ StopsAtDrill number out out' faults faults' old new why.WriteFault =
     (scale : ℕ) × IsDrill number scale × TookPart out out' (drill_text number scale) × Rose faults faults' × RanAll (drill_plan number scale) old new
 StopsAtDrill number out out' faults faults' old new refusal = FailsDrill number old new refusal × Keeps out out'
 
--- the command is an execution
-abbrev pub IsExecuting : Command → Type 0
-IsExecuting (Exec window) = (1 ≤ window) × (window ≤ 1024)
-IsExecuting ExecMet = Unit {0}
-IsExecuting (Drill number) = Unit {0}
-IsExecuting _ = ⊥
-
 -- an execution was done: `out` took its whole text, and the gates and the jobs ran the schedule. A drill read nothing
-abbrev pub ToldRun : Command → Streams → Streams → Crew → Crew → Type 0
+abbrev pub ToldRun : Execution → Streams → Streams → Crew → Crew → Type 0
 ToldRun (Exec window) old new before now = IsTold set_limit (WritesRun false before now) Done old new
 ToldRun ExecMet old new before now = IsTold set_limit (WritesRun true before now) Done old new
 ToldRun (Drill number) old new before now = IsUnread old new × RanDrill number old.out new.out before now
-ToldRun _ old new before now = ⊥
 
 -- why an execution stopped, what `out` took, and what the gates and the jobs did. A drill read nothing
-abbrev pub StopsRun : Command → Streams → Streams → Crew → Crew → Refusal → Type 0
+abbrev pub StopsRun : Execution → Streams → Streams → Crew → Crew → Refusal → Type 0
 StopsRun (Exec window) old new before now refusal = StopsAs set_limit (WritesRun false before now) (RefusesRun false before now) old new refusal
 StopsRun ExecMet old new before now refusal = StopsAs set_limit (WritesRun true before now) (RefusesRun true before now) old new refusal
-StopsRun (Drill number) old new before now refusal = IsUnread old new × StopsAtDrill number old.out new.out old.out_faults new.out_faults before now refusal
-StopsRun _ old new before now refusal = ⊥
+StopsRun (Drill number) old new before now refusal =
+    IsUnread old new × StopsAtDrill number old.out new.out old.out_faults new.out_faults before now refusal
 
 -- an execution was done, and `out` took its whole text
-pub record IsRunDone (c : Command) (old new : Streams) (err err' : ErrorStream) (before now : Crew) (status : Status) : Type 0 where
+pub record IsRunDone (e : Execution) (old new : Streams) (err err' : ErrorStream) (before now : Crew) (status : Status) : Type 0 where
   pub done : status ≡ Done
-  pub told : ToldRun c old new before now
+  pub told : ToldRun e old new before now
   pub quiet : IsQuiet err err'
 
 -- an execution stopped for this reason, which gives its status, and `err` took its line
-pub record IsRunStopped (c : Command) (old new : Streams) (err err' : ErrorStream) (before now : Crew) (status : Status) (refusal : Refusal) : Type 0 where
+pub record IsRunStopped (e : Execution) (old new : Streams) (err err' : ErrorStream) (before now : Crew) (status : Status) (refusal : Refusal) : Type 0 where
   pub status_is : status ≡ status_of refusal
-  pub stops : StopsRun c old new before now refusal
+  pub stops : StopsRun e old new before now refusal
   pub tells : Tells err err' (refusal_line refusal)
 
 -- how an execution ends with this status
-abbrev pub EndsRun : Command → Streams → Streams → ErrorStream → ErrorStream → Crew → Crew → Status → Type 0
-EndsRun c old new err err' before now status = IsRunDone c old new err err' before now status ⊎ ((refusal : Refusal) × IsRunStopped c old new err err' before now status refusal)
+abbrev pub EndsRun : Execution → Streams → Streams → ErrorStream → ErrorStream → Crew → Crew → Status → Type 0
+EndsRun e old new err err' before now status =
+    IsRunDone e old new err err' before now status ⊎ ((refusal : Refusal) × IsRunStopped e old new err err' before now status refusal)
 
 -- how each command ends with this status, and what the gates and the jobs did
 abbrev pub EndsWith : Command → Streams → Streams → ErrorStream → ErrorStream → Crew → Crew → Status → Type 0
-EndsWith (Exec window) old new err err' before now status = EndsRun (Exec window) old new err err' before now status
-EndsWith ExecMet old new err err' before now status = EndsRun ExecMet old new err err' before now status
-EndsWith (Drill number) old new err err' before now status = EndsRun (Drill number) old new err err' before now status
-EndsWith c old new err err' before now status = Ends c old new err err' status
+EndsWith (Execute e) old new err err' before now status = EndsRun e old new err err' before now status
+EndsWith c old new err err' before now status = Ends (output_of c) old new err err' status
 
 -- whether a gate or a job may have been called: by an execution that was done, that failed on the way, or whose text wasn't taken
 abbrev pub may_have_called : Status → Bool
@@ -138,7 +144,7 @@ may_have_called status = false
 
 -- whether the command is a drill
 abbrev pub is_drill : Option Command → Bool
-is_drill (Some (Drill number)) = true
+is_drill (Some (Execute (Drill number))) = true
 is_drill _ = false
 
 -- the same by the command: a drill takes memory for the trace of its rows once they were run

@@ -1,12 +1,15 @@
 -- What an execution does with the gates and the jobs.
-use Rattle.std.specs.Prelude.{ℕ, ◌≡◌, ◌<◌, ◌≤◌, ◌+◌, List, [], Option, Some, IfSome, option_map, length, map, slice_get, slice_index, take}
+use Rattle.std.specs.Prelude.{ℕ, ◌≡◌, ◌<◌, ◌≤◌, ◌+◌, List, [], Option, Some, IfSome, option_map, length, map, slice_get, slice_index, take, Vec}
 use Rattle.sched_base.specs.declared.rows.Leaf.TheVariants.{Task}
 use Rattle.sched_base.specs.declared.rows.TaskId.{TaskId}
 use Rattle.sched_base.specs.declared.rows.Row.{Row}
 use Rattle.sched_base.specs.Tables.{all_rows, lane_of, RowAt, ticks_in, ticks_of}
 use Rattle.sched_base.specs.Valid.{IsValid}
 use Rattle.sched_edges.specs.Causes.{Rose}
+use Rattle.sched_edges.specs.declared.gates.Gate.{Ghosts as GateTells}
+use Rattle.sched_edges.specs.declared.jobs.Job.{Ghosts as JobTells}
 use Rattle.sched_edges.specs.Gates.{grown}
+use Rattle.sched_edges.specs.Jobs.{JobPlaces}
 use Rattle.run_tree.specs.Plans.{PlanContents, stop_of}
 use Rattle.exec_book.specs.PlanRows.{plan_rows}
 use Rattle.exec_workers.specs.declared.kits.Kit.{Kit}
@@ -37,6 +40,10 @@ jobs_of id used faults places = map (λ place. option_map (λ job. record { id =
 abbrev pub crew : List (Option GateSeen) → List (Option JobSeen) → Crew
 crew gates jobs = record { gates = gates; jobs = jobs }
 
+-- what the gates and the jobs tell
+abbrev pub crew_of : {G J A : Type 0} → GateTells G → JobTells J → Vec (Kit G) A → JobPlaces J → Crew
+crew_of gate job kits jobs = crew (gates_of gate.ran gate.faults kits.items) (jobs_of job.id job.used job.faults jobs.places)
+
 -- place i holds this
 abbrev pub Holds : {T : Type 0} → List (Option T) → ℕ → T → Type 0
 Holds places i t = slice_get places i ≡ Some (Some t)
@@ -57,16 +64,18 @@ pub record AreBack (old new : Crew) : Type 0 where
 -- task's rows. Nothing failed
 pub record RanAll (p : PlanContents) (old new : Crew) : Type 0 where
   pub gates : (q : ℕ) (g : GateSeen) → Holds old.gates q g → Holds new.gates q (record { ran = grown g.ran (lane_of (plan_rows p) q); faults = g.faults })
-  pub jobs : (i : ℕ) (j : JobSeen) → Holds old.jobs i j → Holds new.jobs i (record { id = j.id; used = j.used + ticks_in i (all_rows (plan_rows p)); faults = j.faults })
+  pub jobs : (i : ℕ) (j : JobSeen) → Holds old.jobs i j
+      → Holds new.jobs i (record { id = j.id; used = j.used + ticks_in i (all_rows (plan_rows p)); faults = j.faults })
   pub valid : IsValid p.set p.tree.scale (stop_of p) (stop_of p) (all_rows (plan_rows p))
 
 -- each gate ran the first rows of its processor, as many as `ran` says. As many of them as `posted` says are posted, all but one
 -- at most. Each job has worked the ticks of its task's posted rows, which are the first of the task
 pub record RanPart (p : PlanContents) (old new : Crew) (posted ran : List ℕ) : Type 0 where
   pub beside : (q : ℕ) → (slice_index posted q ≤ slice_index ran q) × (slice_index ran q ≤ slice_index posted q + 1)
-  pub gates : (q : ℕ) (g : GateSeen) → Holds old.gates q g → (h : GateSeen) × Holds new.gates q h × (h.ran ≡ grown g.ran (take (slice_index ran q) (lane_of (plan_rows p) q)))
+  pub gates : (q : ℕ) (g : GateSeen) → Holds old.gates q g
+      → (h : GateSeen) × Holds new.gates q h × (h.ran ≡ grown g.ran (take (slice_index ran q) (lane_of (plan_rows p) q)))
   pub jobs : (i : ℕ) (j : JobSeen) → Holds old.jobs i j → (k : JobSeen) × Holds new.jobs i k × (k.used ≡ j.used + ticks_of i (plan_rows p) posted)
-  pub front : (horizon : ℕ) × IsFrontAt p posted horizon
+  pub front : IsFrontAt p posted
 
 -- the gate of processor q failed
 abbrev pub GateRose : Crew → Crew → ℕ → Type 0
@@ -91,7 +100,8 @@ pub record GateStopped (p : PlanContents) (old new : Crew) (row : Row) : Type 0 
 pub record JobStopped (p : PlanContents) (old new : Crew) (row : Row) : Type 0 where
   pub task : (task : TaskId) × (row.leaf ≡ Task task) × JobRose old new task.0
   pub gates : (q : ℕ) → GateKept old new q
-  pub at : (posted ran : List ℕ) × RanPart p old new posted ran × RowAt (plan_rows p) row.processor (slice_index posted row.processor) row × (slice_index ran row.processor ≡ slice_index posted row.processor + 1) × ((q : ℕ) → q < row.processor → slice_index ran q ≡ slice_index posted q)
+  pub at : (posted ran : List ℕ) × RanPart p old new posted ran × RowAt (plan_rows p) row.processor (slice_index posted row.processor) row
+      × (slice_index ran row.processor ≡ slice_index posted row.processor + 1) × ((q : ℕ) → q < row.processor → slice_index ran q ≡ slice_index posted q)
 
 -- no gate and no job failed
 pub record NothingRose (old new : Crew) : Type 0 where

@@ -10,8 +10,9 @@ use Rattle.task_reader.specs.Reading.{set_read_from}
 use Rattle.trace_check.specs.Traces.{Trace}
 use Rattle.trace_check.specs.Reading.{reading}
 use Rattle.run_tool.specs.declared.refusal.Refusal.{Refusal}
-use Rattle.run_tool.specs.declared.refusal.Refusal.TheVariants.{ReadFault, WriteFault, NoMemory, BadSet, BadLine, Overload, ScaleTooLarge, TooLong, InputTooLong}
-use Rattle.event_core.specs.Rounds.{row_limit}
+use Rattle.run_tool.specs.declared.refusal.Refusal.TheVariants.{ReadFault, WriteFault, NoMemory, BadSet, BadLine, Overload, ScaleTooLarge, TooLong}
+use Rattle.run_tool.specs.declared.refusal.Refusal.TheVariants.{InputTooLong}
+use Rattle.sched_base.specs.Tables.{row_limit}
 use Rattle.run_tool.specs.Commands.{SetText, rates, server_tree, schedule_rows, text_of, plan_of, rows_of, HasRoom}
 
 -- the source gave all its bytes, at most the limit, and they are this set
@@ -47,7 +48,8 @@ pub record IsRun (s : SetContents) (scale : ℕ) : Type 0 where
 -- why a set isn't told of at all
 abbrev pub IsRefusedSet : SetContents → Refusal → Type 0
 IsRefusedSet s (ScaleTooLarge task) = PassesAt (2 ^ 94) s.tasks task
-IsRefusedSet s (Overload total room) = (scale : ℕ) × IsScale s.tasks scale × (scale ≤ 2 ^ 94) × (room < total) × (total ≡ total_of scale s.tasks) × (room ≡ room_of scale s)
+IsRefusedSet s (Overload total room) = (scale : ℕ) × IsScale s.tasks scale × (scale ≤ 2 ^ 94) × (room < total) × (total ≡ total_of scale s.tasks)
+    × (room ≡ room_of scale s)
 IsRefusedSet s NoMemory = Unit {0}
 IsRefusedSet s _ = ⊥
 
@@ -65,7 +67,8 @@ IsTooLongSet (schedule_rows met) s rows = IsTooLongPlan s rows
 
 -- why a set's text wasn't written, or not all of it
 abbrev pub StopsAtSet : SetText → Option (List ℕ) → Option (List ℕ) → ℕ → ℕ → SetContents → Refusal → Type 0
-StopsAtSet what out out' faults faults' s WriteFault = (scale : ℕ) × IsRun s scale × HasRoom what s scale × TookPart out out' (text_of what s scale) × Rose faults faults'
+StopsAtSet what out out' faults faults' s WriteFault = (scale : ℕ) × IsRun s scale × HasRoom what s scale × TookPart out out' (text_of what s scale)
+    × Rose faults faults'
 StopsAtSet what out out' faults faults' s (TooLong rows) = IsTooLongSet what s rows × Keeps out out'
 StopsAtSet what out out' faults faults' s refusal = IsRefusedSet s refusal × Keeps out out'
 

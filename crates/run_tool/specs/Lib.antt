@@ -3,6 +3,7 @@ pub mod Words
 pub mod CommandLine
 pub mod Refusals
 pub mod RateText
+pub mod Faults
 pub mod Checks
 pub mod Drill
 pub mod Commands

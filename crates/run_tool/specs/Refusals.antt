@@ -8,7 +8,8 @@ use Rattle.task_reader.specs.declared.refusals.ReadSet.{ReadSet}
 use Rattle.task_reader.specs.declared.refusals.ReadSet.TheVariants as set
 use Rattle.task_reader.specs.Keys.{key_text}
 use Rattle.run_tool.specs.declared.refusal.Refusal.{Refusal}
-use Rattle.run_tool.specs.declared.refusal.Refusal.TheVariants.{Usage, ReadFault, WriteFault, NoMemory, BadSet, BadLine, Overload, ScaleTooLarge, TooLong, GateFault, JobFault, InputTooLong}
+use Rattle.run_tool.specs.declared.refusal.Refusal.TheVariants.{Usage, ReadFault, WriteFault, NoMemory, BadSet, BadLine, Overload, ScaleTooLarge}
+use Rattle.run_tool.specs.declared.refusal.Refusal.TheVariants.{TooLong, GateFault, JobFault, InputTooLong}
 use Rattle.run_tool.specs.declared.status.Status.{Status}
 use Rattle.run_tool.specs.declared.status.Status.TheVariants as status
 use Rattle.run_tool.specs.Status.{code_of}
@@ -80,9 +81,11 @@ refusal_words (Overload total room) = codes "Overload" ∷ codes "total" ∷ dec
 refusal_words (ScaleTooLarge task) = codes "ScaleTooLarge" ∷ codes "task" ∷ decimal task ∷ []
 refusal_words (TooLong rows) = codes "TooLong" ∷ codes "rows" ∷ decimal rows ∷ []
 refusal_words (GateFault row name) =
-    codes "GateFault" ∷ codes "processor" ∷ decimal row.processor ∷ codes "row" ∷ decimal row.start ∷ decimal row.end ∷ printed_name name ∷ []
+    codes "GateFault" ∷ codes "processor" ∷ decimal row.processor ∷ codes "row" ∷ decimal row.start ∷ decimal row.end
+    ∷ printed_name name ∷ []
 refusal_words (JobFault row name) =
-    codes "JobFault" ∷ codes "task" ∷ printed_name name ∷ codes "processor" ∷ decimal row.processor ∷ codes "row" ∷ decimal row.start ∷ decimal row.end ∷ []
+    codes "JobFault" ∷ codes "task" ∷ printed_name name ∷ codes "processor" ∷ decimal row.processor ∷ codes "row" ∷ decimal row.start
+    ∷ decimal row.end ∷ []
 refusal_words (InputTooLong count) = codes "InputTooLong" ∷ decimal count ∷ []
 
 -- the line of a refusal: `refused`, the status, and why
@@ -93,6 +96,10 @@ refusal_line refusal = line_of (codes "refused") (decimal (code_of (status_of re
 abbrev pub place_text : Place → List ℕ
 place_text place.Top = 32 ∷ codes "top"
 place_text (place.Task i) = 32 ∷ (codes "task" ++ (32 ∷ decimal i))
+
+-- what stands before an unknown key in its line
+abbrev pub key_start : Place → List ℕ
+key_start p = ((codes "refused" ++ (32 ∷ (decimal (code_of status.BadInput) ++ (32 ∷ codes "UnknownKey")))) ++ place_text p) ++ 32 ∷ []
 
 -- whether the line is short: any but that of an unknown key, whose text may be long
 abbrev pub IsShortSet : ReadSet → Type 0

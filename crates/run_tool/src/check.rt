@@ -5,7 +5,7 @@ ghost use Rattle.sched_edges.specs.Causes.{HasCause};
 ghost use Rattle.sched_edges.specs.Streams.{TookPart};
 ghost use Rattle.run_tool.specs.Commands.{trace_limit};
 ghost use Rattle.run_tool.specs.Checks.{kind_text, invalid_line, TellsTrace, WritesVerdict, RefusesTrace};
-ghost use Rattle.run_tool.specs.Ends.{streams, IsTold, StopsAs};
+ghost use Rattle.run_tool.specs.Ends.{streams_of, IsTold, StopsAs};
 ghost use Rattle.run_tool.specs.declared.status.Status.{Status};
 
 use crate::input::read_trace_input;
@@ -23,23 +23,21 @@ pub(crate) fn check<R: Source, W: Sink>(
     source: &mut R,
     out: &mut W,
 ) -> Result<Status, Refusal>
-    ensures told { IfOk result (λ status. IsTold trace_limit WritesVerdict status (streams (R.left source.old) (R.faults source.old) (W.taken out.old) (W.faults out.old)) (streams (R.left source.new) (R.faults source.new) (W.taken out.new) (W.faults out.new))) }
-    ensures stops { IfErr result (StopsAs trace_limit WritesVerdict RefusesTrace (streams (R.left source.old) (R.faults source.old) (W.taken out.old) (W.faults out.old)) (streams (R.left source.new) (R.faults source.new) (W.taken out.new) (W.faults out.new))) }
+    ensures told { IfOk result (λ status. IsTold trace_limit WritesVerdict status
+        (streams_of R.Source W.Sink source.old out.old) (streams_of R.Source W.Sink source.new out.new)) }
+    ensures stops { IfErr result (StopsAs trace_limit WritesVerdict RefusesTrace
+        (streams_of R.Source W.Sink source.old out.old) (streams_of R.Source W.Sink source.new out.new)) }
 {
-    let trace = match read_trace_input(alloc, source) {
-        Ok(trace) => trace,
-        Err(refusal) => return Err(refusal),
-    };
-    match write_verdict(&trace, out) {
-        Ok(status) => Ok(status),
-        Err(_) => Err(Refusal::WriteFault),
-    }
+    let trace = read_trace_input(alloc, source)?;
+    Ok(write_verdict(&trace, out)?)
 }
 
 // Writes the report of a valid trace, or the first fault of another.
 fn write_verdict<W: Sink>(trace: &ReadTrace, out: &mut W) -> Result<Status, Failed>
-    ensures told { IfOk result (λ status. (text : List ℕ) × TellsTrace trace.now status text × Appends (W.taken out.old) (W.taken out.new) text) }
-    ensures part { OnErr result ((text : List ℕ) × (status : Status) × TellsTrace trace.now status text × TookPart (W.taken out.old) (W.taken out.new) text) }
+    ensures told { IfOk result (λ status. (text : List ℕ) × TellsTrace trace.now status text × Appends (W.taken out.old)
+        (W.taken out.new) text) }
+    ensures part { OnErr result ((text : List ℕ) × (status : Status) × TellsTrace trace.now status text × TookPart (W.taken out.old)
+        (W.taken out.new) text) }
     ensures cause { HasCause (W.faults out.old) (W.faults out.new) result }
 {
     match check_trace(trace) {

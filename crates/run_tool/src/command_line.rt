@@ -1,12 +1,14 @@
 //! Command lines, as `clap` reads them.
-ghost use Rattle.std.specs.Prelude.{◌≡◌, ℕ, false, List, map, string_bytes, codes, Some, None, IfOk};
+ghost use Rattle.std.specs.Prelude.{◌≡◌, ℕ, false, List, map, string_bytes, codes, Some, None, IfOk, option_map};
 ghost use Rattle.clap.specs.Words.{app_of, rule_of, subcommand_of, subcommand_rows_of, first_of, found_of, one_of, rows_of};
 ghost use Rattle.run_tool.specs.Words.{command_of, exec_with, drill_with};
 ghost use Rattle.run_tool.specs.CommandLine.{met, window, number, parser, Spells};
-ghost use Rattle.run_tool.specs.declared.words.Command.{Command};
-ghost use Rattle.run_tool.specs.declared.words.Command.TheVariants.{Exec, ExecMet};
+ghost use Rattle.run_tool.specs.declared.command.Command.{Command};
+ghost use Rattle.run_tool.specs.declared.command.Command.TheVariants.{Execute};
+ghost use Rattle.run_tool.specs.declared.command.Execution.TheVariants.{Exec, ExecMet};
 
-use crate::words::{Command, USUAL_WINDOW, drill_with, exec_with};
+use crate::command::{Command, Execution, Reading};
+use crate::words::{USUAL_WINDOW, drill_with, exec_with};
 use clap::error::ErrorKind;
 use clap::{Arg, ArgAction, ArgMatches};
 use sched_base::NoMemory;
@@ -76,23 +78,31 @@ fn number<'a>(alloc: Global) -> Arg<'a>
 
 // The command that was used, with its options.
 fn command_in(matches: &ArgMatches<'_>) -> Option<Command>
-    ensures { (c : Command) (words : List (List ℕ)) → Spells c words → subcommand_rows_of matches.now ≡ subcommand_of parser words → result ≡ Some c }
+    ensures { (c : Command) (words : List (List ℕ)) → Spells c words → subcommand_rows_of matches.now ≡ subcommand_of parser words
+        → result ≡ Some c }
 {
     let (name, options) = matches.subcommand()?;
     match name {
-        "rate" => Some(Command::Rate),
-        "tree" => Some(Command::Tree),
-        "trace" if options.get_flag("met") => Some(Command::TraceMet),
-        "trace" => Some(Command::Trace),
-        "check" => Some(Command::Check),
-        "exec" => exec_in(options),
-        "drill" => drill_in(options),
+        "rate" => Some(Command::Read(Reading::Rate)),
+        "tree" => Some(Command::Read(Reading::Tree)),
+        "trace" if options.get_flag("met") => Some(Command::Read(Reading::TraceMet)),
+        "trace" => Some(Command::Read(Reading::Trace)),
+        "check" => Some(Command::Read(Reading::Check)),
+        "exec" => executed(exec_in(options)),
+        "drill" => executed(drill_in(options)),
         _ => None,
     }
 }
 
+// The command of an execution.
+fn executed(execution: Option<Execution>) -> Option<Command>
+    ensures { result ≡ option_map Execute execution }
+{
+    execution.map(Command::Execute)
+}
+
 // `drill` with its number.
-fn drill_in(options: &ArgMatches<'_>) -> Option<Command>
+fn drill_in(options: &ArgMatches<'_>) -> Option<Execution>
     ensures { (value : List ℕ) → first_of (codes "number") (rows_of (found_of options.now)) ≡ Some value → result ≡ drill_with value }
 {
     match options.get_str("number") {
@@ -102,17 +112,19 @@ fn drill_in(options: &ArgMatches<'_>) -> Option<Command>
 }
 
 // `exec` with its options.
-fn exec_in(options: &ArgMatches<'_>) -> Option<Command>
+fn exec_in(options: &ArgMatches<'_>) -> Option<Execution>
     ensures met { one_of (codes "met") (rows_of (found_of options.now)) ≡ Some (codes "true") → result ≡ Some ExecMet }
-    ensures usual { one_of (codes "met") (rows_of (found_of options.now)) ≡ Some (codes "false") → first_of (codes "window") (rows_of (found_of options.now)) ≡ None → result ≡ Some (Exec 32) }
-    ensures window { (value : List ℕ) → one_of (codes "met") (rows_of (found_of options.now)) ≡ Some (codes "false") → first_of (codes "window") (rows_of (found_of options.now)) ≡ Some value → result ≡ exec_with value }
+    ensures usual { one_of (codes "met") (rows_of (found_of options.now)) ≡ Some (codes "false")
+        → first_of (codes "window") (rows_of (found_of options.now)) ≡ None → result ≡ Some (Exec 32) }
+    ensures window { (value : List ℕ) → one_of (codes "met") (rows_of (found_of options.now)) ≡ Some (codes "false")
+        → first_of (codes "window") (rows_of (found_of options.now)) ≡ Some value → result ≡ exec_with value }
 {
     if options.get_flag("met") {
-        return Some(Command::ExecMet);
+        return Some(Execution::ExecMet);
     }
     match options.get_str("window") {
         Some(value) => exec_with(value.as_bytes()),
-        None => Some(Command::Exec {
+        None => Some(Execution::Exec {
             window: USUAL_WINDOW,
         }),
     }

@@ -4,13 +4,13 @@ ghost use Rattle.sched_base.specs.Scale.{IsScale};
 ghost use Rattle.sched_base.specs.Tables.{all_rows, rounds_of as rounds_in};
 ghost use Rattle.sched_base.specs.Valid.{IsValid};
 ghost use Rattle.run_tree.specs.Plans.{rounds_of, stop_of};
-ghost use Rattle.event_core.specs.Rounds.{row_limit};
+ghost use Rattle.sched_base.specs.Tables.{row_limit};
 ghost use Rattle.exec_book.specs.PlanRows.{plan_rows};
 ghost use Rattle.trace_lines.specs.Merging.{merged_lanes};
 ghost use Rattle.trace_check.specs.RoundTrip.{trace_again};
 ghost use Rattle.stat_report.specs.Report.{IsValidTrace};
 ghost use Rattle.run_tool.specs.Drill.{drilled, drill_plan, summary_by};
-ghost use Rattle.run_tool.specs.Executions.{crew, gates_of, jobs_of, IsReady, AreBack};
+ghost use Rattle.run_tool.specs.Executions.{crew_of, IsReady, AreBack};
 ghost use Rattle.run_tool.specs.Executed.{RanDrill, StopsAtDrill};
 
 use crate::exec::run_plan;
@@ -23,7 +23,7 @@ use round_table::table_law;
 use run_compile::{CompileFault, compile};
 use run_tree::Plan;
 use sched_base::{NoMemory, RowTable};
-use sched_edges::{Gate, Jobs, Sink};
+use sched_edges::{BoxedJob, Gate, Job, Jobs, Sink};
 use std::alloc::Global;
 use std::sync::Wait;
 use std::thread::Threads;
@@ -41,31 +41,21 @@ pub(crate) fn drill<W: Sink, G: Gate + Send, X: Threads + Wait + Sync>(
     kits: &mut Vec<Kit<G>>,
     jobs: &mut Jobs,
 ) -> Result<(), Refusal>
-    requires ready { IsReady (crew (gates_of G.ran G.faults kits.old.items) (jobs_of (λ j. (Job-box j).id j.value) (λ j. (Job-box j).used j.value) (λ j. (Job-box j).faults j.value) jobs.old.places)) }
-    ensures done { OnOk result (RanDrill number (W.taken out.old) (W.taken out.new) (crew (gates_of G.ran G.faults kits.old.items) (jobs_of (λ j. (Job-box j).id j.value) (λ j. (Job-box j).used j.value) (λ j. (Job-box j).faults j.value) jobs.old.places)) (crew (gates_of G.ran G.faults kits.new.items) (jobs_of (λ j. (Job-box j).id j.value) (λ j. (Job-box j).used j.value) (λ j. (Job-box j).faults j.value) jobs.new.places))) }
-    ensures stops { IfErr result (StopsAtDrill number (W.taken out.old) (W.taken out.new) (W.faults out.old) (W.faults out.new) (crew (gates_of G.ran G.faults kits.old.items) (jobs_of (λ j. (Job-box j).id j.value) (λ j. (Job-box j).used j.value) (λ j. (Job-box j).faults j.value) jobs.old.places)) (crew (gates_of G.ran G.faults kits.new.items) (jobs_of (λ j. (Job-box j).id j.value) (λ j. (Job-box j).used j.value) (λ j. (Job-box j).faults j.value) jobs.new.places))) }
-    ensures back { AreBack (crew (gates_of G.ran G.faults kits.old.items) (jobs_of (λ j. (Job-box j).id j.value) (λ j. (Job-box j).used j.value) (λ j. (Job-box j).faults j.value) jobs.old.places)) (crew (gates_of G.ran G.faults kits.new.items) (jobs_of (λ j. (Job-box j).id j.value) (λ j. (Job-box j).used j.value) (λ j. (Job-box j).faults j.value) jobs.new.places)) }
+    requires ready { IsReady (crew_of G.Gate ⟦<BoxedJob as Job>⟧ kits.old jobs.old) }
+    ensures done { OnOk result (RanDrill number (W.taken out.old) (W.taken out.new)
+        (crew_of G.Gate ⟦<BoxedJob as Job>⟧ kits.old jobs.old)
+        (crew_of G.Gate ⟦<BoxedJob as Job>⟧ kits.new jobs.new)) }
+    ensures stops { IfErr result (StopsAtDrill number (W.taken out.old) (W.taken out.new) (W.faults out.old)
+        (W.faults out.new) (crew_of G.Gate ⟦<BoxedJob as Job>⟧ kits.old jobs.old)
+        (crew_of G.Gate ⟦<BoxedJob as Job>⟧ kits.new jobs.new)) }
+    ensures back { AreBack (crew_of G.Gate ⟦<BoxedJob as Job>⟧ kits.old jobs.old)
+        (crew_of G.Gate ⟦<BoxedJob as Job>⟧ kits.new jobs.new) }
 {
-    let plan = match drawn_plan(alloc, number) {
-        Ok(plan) => plan,
-        Err(_) => return Err(Refusal::NoMemory),
-    };
-    let rounds = match few_rounds(alloc, &plan) {
-        Ok(rounds) => rounds,
-        Err(_) => return Err(Refusal::NoMemory),
-    };
-    let executed = match run_plan(rt, alloc, &plan, rounds, USUAL_WINDOW, kits, jobs) {
-        Ok(executed) => executed,
-        Err(refusal) => return Err(refusal),
-    };
-    let told = match judged(alloc, number, &plan, rounds, &executed.table) {
-        Ok(told) => told,
-        Err(_) => return Err(Refusal::NoMemory),
-    };
-    match write_summary(&told, out) {
-        Ok(()) => Ok(()),
-        Err(_) => Err(Refusal::WriteFault),
-    }
+    let plan = drawn_plan(alloc, number)?;
+    let rounds = few_rounds(alloc, &plan)?;
+    let executed = run_plan(rt, alloc, &plan, rounds, USUAL_WINDOW, kits, jobs)?;
+    let told = judged(alloc, number, &plan, rounds, &executed.table)?;
+    Ok(write_summary(&told, out)?)
 }
 
 // The plan of the set that a number draws: each such set fits, and its scale is small.

@@ -2,14 +2,14 @@
 ghost use Rattle.std.specs.Prelude.{◌≡◌, ◌≤◌, ◌*◌, false, length, OnOk, IfErr, IfOk};
 ghost use Rattle.sched_base.specs.Tables.{rounds_of as rounds_in};
 ghost use Rattle.run_tree.specs.Plans.{rounds_of};
-ghost use Rattle.event_core.specs.Rounds.{row_limit};
-ghost use Rattle.round_table.specs.Lanes.{NamesOneOf};
+ghost use Rattle.sched_base.specs.Tables.{row_limit};
+ghost use Rattle.sched_base.specs.Lanes.{NamesOneOf};
 ghost use Rattle.trace_writer.specs.Conditions.{totals_of};
 ghost use Rattle.exec_book.specs.PlanRows.{IsCompiled, plan_rows};
 ghost use Rattle.run_tool.specs.Commands.{set_limit};
 ghost use Rattle.run_tool.specs.Refusals.{status_of};
-ghost use Rattle.run_tool.specs.Ends.{streams, IsTold, StopsAs};
-ghost use Rattle.run_tool.specs.Executions.{crew, gates_of, jobs_of, IsReady, AreBack, RanAll};
+ghost use Rattle.run_tool.specs.Ends.{streams_of, IsTold, StopsAs};
+ghost use Rattle.run_tool.specs.Executions.{crew_of, IsReady, AreBack, RanAll};
 ghost use Rattle.run_tool.specs.Executed.{name_at, WritesRun, RefusesRun, RanSet, StopsAtRun, StopsInRun, may_have_called};
 ghost use Rattle.run_tool.specs.declared.status.Status.TheVariants.{Done};
 
@@ -17,12 +17,12 @@ use crate::input::read_input;
 use crate::plan::plan_of;
 use crate::refusal::Refusal;
 use crate::trace::write_rows;
-use event_core::{CountFault, count_rounds};
+use event_core::count_rounds;
 use exec_workers::{ExecFault, Executed, Kit, execute};
 use round_table::table_law;
 use run_tree::Plan;
 use sched_base::{Leaf, Name, TaskSet};
-use sched_edges::{Gate, Jobs, Sink, Source};
+use sched_edges::{BoxedJob, Gate, Job, Jobs, Sink, Source};
 use std::alloc::Global;
 use std::sync::Wait;
 use std::thread::Threads;
@@ -39,18 +39,24 @@ pub(crate) fn exec<R: Source, W: Sink, G: Gate + Send, X: Threads + Wait + Sync>
     kits: &mut Vec<Kit<G>>,
     jobs: &mut Jobs,
 ) -> Result<(), Refusal>
-    requires ready { IsReady (crew (gates_of G.ran G.faults kits.old.items) (jobs_of (λ j. (Job-box j).id j.value) (λ j. (Job-box j).used j.value) (λ j. (Job-box j).faults j.value) jobs.old.places)) }
+    requires ready { IsReady (crew_of G.Gate ⟦<BoxedJob as Job>⟧ kits.old jobs.old) }
     requires some_window { 1 ≤ window }
     requires small_window { window ≤ 1024 }
-    ensures done { OnOk result (IsTold set_limit (WritesRun met (crew (gates_of G.ran G.faults kits.old.items) (jobs_of (λ j. (Job-box j).id j.value) (λ j. (Job-box j).used j.value) (λ j. (Job-box j).faults j.value) jobs.old.places)) (crew (gates_of G.ran G.faults kits.new.items) (jobs_of (λ j. (Job-box j).id j.value) (λ j. (Job-box j).used j.value) (λ j. (Job-box j).faults j.value) jobs.new.places))) Done (streams (R.left source.old) (R.faults source.old) (W.taken out.old) (W.faults out.old)) (streams (R.left source.new) (R.faults source.new) (W.taken out.new) (W.faults out.new))) }
-    ensures stops { IfErr result (StopsAs set_limit (WritesRun met (crew (gates_of G.ran G.faults kits.old.items) (jobs_of (λ j. (Job-box j).id j.value) (λ j. (Job-box j).used j.value) (λ j. (Job-box j).faults j.value) jobs.old.places)) (crew (gates_of G.ran G.faults kits.new.items) (jobs_of (λ j. (Job-box j).id j.value) (λ j. (Job-box j).used j.value) (λ j. (Job-box j).faults j.value) jobs.new.places))) (RefusesRun met (crew (gates_of G.ran G.faults kits.old.items) (jobs_of (λ j. (Job-box j).id j.value) (λ j. (Job-box j).used j.value) (λ j. (Job-box j).faults j.value) jobs.old.places)) (crew (gates_of G.ran G.faults kits.new.items) (jobs_of (λ j. (Job-box j).id j.value) (λ j. (Job-box j).used j.value) (λ j. (Job-box j).faults j.value) jobs.new.places))) (streams (R.left source.old) (R.faults source.old) (W.taken out.old) (W.faults out.old)) (streams (R.left source.new) (R.faults source.new) (W.taken out.new) (W.faults out.new))) }
-    ensures uncalled { IfErr result (λ refusal. may_have_called (status_of refusal) ≡ false → (kits.new.items ≡ kits.old.items) × (jobs.new.places ≡ jobs.old.places)) }
-    ensures back { AreBack (crew (gates_of G.ran G.faults kits.old.items) (jobs_of (λ j. (Job-box j).id j.value) (λ j. (Job-box j).used j.value) (λ j. (Job-box j).faults j.value) jobs.old.places)) (crew (gates_of G.ran G.faults kits.new.items) (jobs_of (λ j. (Job-box j).id j.value) (λ j. (Job-box j).used j.value) (λ j. (Job-box j).faults j.value) jobs.new.places)) }
+    ensures done { OnOk result (IsTold set_limit (WritesRun met (crew_of G.Gate ⟦<BoxedJob as Job>⟧ kits.old jobs.old)
+        (crew_of G.Gate ⟦<BoxedJob as Job>⟧ kits.new jobs.new)) Done (streams_of R.Source W.Sink source.old out.old)
+        (streams_of R.Source W.Sink source.new out.new)) }
+    ensures stops { IfErr result (StopsAs set_limit (WritesRun met
+        (crew_of G.Gate ⟦<BoxedJob as Job>⟧ kits.old jobs.old)
+        (crew_of G.Gate ⟦<BoxedJob as Job>⟧ kits.new jobs.new)) (RefusesRun met
+        (crew_of G.Gate ⟦<BoxedJob as Job>⟧ kits.old jobs.old) (crew_of G.Gate ⟦<BoxedJob as Job>⟧ kits.new jobs.new))
+        (streams_of R.Source W.Sink source.old out.old) (streams_of R.Source W.Sink source.new out.new)) }
+    ensures uncalled { IfErr result (λ refusal. may_have_called (status_of refusal) ≡ false →
+        (kits.new.items ≡ kits.old.items) × (jobs.new.places ≡ jobs.old.places)) }
+    ensures back { AreBack (crew_of G.Gate ⟦<BoxedJob as Job>⟧ kits.old jobs.old)
+        (crew_of G.Gate ⟦<BoxedJob as Job>⟧ kits.new jobs.new) }
 {
-    match read_input(alloc, source) {
-        Ok(set) => run_set(rt, alloc, set, window, met, out, kits, jobs),
-        Err(refusal) => Err(refusal),
-    }
+    let set = read_input(alloc, source)?;
+    run_set(rt, alloc, set, window, met, out, kits, jobs)
 }
 
 // Runs the schedule of a set, where it fits, and writes it.
@@ -64,31 +70,24 @@ fn run_set<W: Sink, G: Gate + Send, X: Threads + Wait + Sync>(
     kits: &mut Vec<Kit<G>>,
     jobs: &mut Jobs,
 ) -> Result<(), Refusal>
-    requires ready { IsReady (crew (gates_of G.ran G.faults kits.old.items) (jobs_of (λ j. (Job-box j).id j.value) (λ j. (Job-box j).used j.value) (λ j. (Job-box j).faults j.value) jobs.old.places)) }
+    requires ready { IsReady (crew_of G.Gate ⟦<BoxedJob as Job>⟧ kits.old jobs.old) }
     requires some_window { 1 ≤ window }
     requires small_window { window ≤ 1024 }
-    ensures done { OnOk result (RanSet met (W.taken out.old) (W.taken out.new) (crew (gates_of G.ran G.faults kits.old.items) (jobs_of (λ j. (Job-box j).id j.value) (λ j. (Job-box j).used j.value) (λ j. (Job-box j).faults j.value) jobs.old.places)) (crew (gates_of G.ran G.faults kits.new.items) (jobs_of (λ j. (Job-box j).id j.value) (λ j. (Job-box j).used j.value) (λ j. (Job-box j).faults j.value) jobs.new.places)) set) }
-    ensures stops { IfErr result (StopsAtRun met (W.taken out.old) (W.taken out.new) (W.faults out.old) (W.faults out.new) (crew (gates_of G.ran G.faults kits.old.items) (jobs_of (λ j. (Job-box j).id j.value) (λ j. (Job-box j).used j.value) (λ j. (Job-box j).faults j.value) jobs.old.places)) (crew (gates_of G.ran G.faults kits.new.items) (jobs_of (λ j. (Job-box j).id j.value) (λ j. (Job-box j).used j.value) (λ j. (Job-box j).faults j.value) jobs.new.places)) set) }
-    ensures uncalled { IfErr result (λ refusal. may_have_called (status_of refusal) ≡ false → (kits.new.items ≡ kits.old.items) × (jobs.new.places ≡ jobs.old.places)) }
-    ensures back { AreBack (crew (gates_of G.ran G.faults kits.old.items) (jobs_of (λ j. (Job-box j).id j.value) (λ j. (Job-box j).used j.value) (λ j. (Job-box j).faults j.value) jobs.old.places)) (crew (gates_of G.ran G.faults kits.new.items) (jobs_of (λ j. (Job-box j).id j.value) (λ j. (Job-box j).used j.value) (λ j. (Job-box j).faults j.value) jobs.new.places)) }
+    ensures done { OnOk result (RanSet met (W.taken out.old) (W.taken out.new)
+        (crew_of G.Gate ⟦<BoxedJob as Job>⟧ kits.old jobs.old) (crew_of G.Gate ⟦<BoxedJob as Job>⟧ kits.new jobs.new)
+        set) }
+    ensures stops { IfErr result (StopsAtRun met (W.taken out.old) (W.taken out.new) (W.faults out.old)
+        (W.faults out.new) (crew_of G.Gate ⟦<BoxedJob as Job>⟧ kits.old jobs.old)
+        (crew_of G.Gate ⟦<BoxedJob as Job>⟧ kits.new jobs.new) set) }
+    ensures uncalled { IfErr result (λ refusal. may_have_called (status_of refusal) ≡ false →
+        (kits.new.items ≡ kits.old.items) × (jobs.new.places ≡ jobs.old.places)) }
+    ensures back { AreBack (crew_of G.Gate ⟦<BoxedJob as Job>⟧ kits.old jobs.old)
+        (crew_of G.Gate ⟦<BoxedJob as Job>⟧ kits.new jobs.new) }
 {
-    let plan = match plan_of(alloc, set) {
-        Ok(plan) => plan,
-        Err(refusal) => return Err(refusal),
-    };
-    let rounds = match count_rounds(alloc, &plan) {
-        Ok(rounds) => rounds,
-        Err(CountFault::TooLong { rows }) => return Err(Refusal::TooLong { rows }),
-        Err(CountFault::NoMemory) => return Err(Refusal::NoMemory),
-    };
-    let executed = match run_plan(rt, alloc, &plan, rounds, window, kits, jobs) {
-        Ok(executed) => executed,
-        Err(refusal) => return Err(refusal),
-    };
-    match write_rows(&plan, &executed.table, executed.totals.as_slice(), met, out) {
-        Ok(()) => Ok(()),
-        Err(_) => Err(Refusal::WriteFault),
-    }
+    let plan = plan_of(alloc, set)?;
+    let rounds = count_rounds(alloc, &plan)?;
+    let executed = run_plan(rt, alloc, &plan, rounds, window, kits, jobs)?;
+    Ok(write_rows(&plan, &executed.table, executed.totals.as_slice(), met, out)?)
 }
 
 /// Has the gates and the jobs run the schedule of a plan.
@@ -106,20 +105,30 @@ pub(crate) fn run_plan<G: Gate + Send, X: Threads + Wait + Sync>(
     requires few { rounds * plan.now.tree.processors ≤ row_limit }
     requires some_window { 1 ≤ window }
     requires small_window { window ≤ 1024 }
-    requires ready { IsReady (crew (gates_of G.ran G.faults kits.old.items) (jobs_of (λ j. (Job-box j).id j.value) (λ j. (Job-box j).used j.value) (λ j. (Job-box j).faults j.value) jobs.old.places)) }
-    ensures ran { OnOk result (RanAll plan.now (crew (gates_of G.ran G.faults kits.old.items) (jobs_of (λ j. (Job-box j).id j.value) (λ j. (Job-box j).used j.value) (λ j. (Job-box j).faults j.value) jobs.old.places)) (crew (gates_of G.ran G.faults kits.new.items) (jobs_of (λ j. (Job-box j).id j.value) (λ j. (Job-box j).used j.value) (λ j. (Job-box j).faults j.value) jobs.new.places))) }
+    requires ready { IsReady (crew_of G.Gate ⟦<BoxedJob as Job>⟧ kits.old jobs.old) }
+    ensures ran { OnOk result (RanAll plan.now (crew_of G.Gate ⟦<BoxedJob as Job>⟧ kits.old jobs.old)
+        (crew_of G.Gate ⟦<BoxedJob as Job>⟧ kits.new jobs.new)) }
     ensures lanes { IfOk result (λ executed. executed.table.lanes ≡ plan_rows plan.now) }
     ensures few { IfOk result (λ executed. length executed.table.lanes * rounds_in executed.table.lanes ≤ row_limit) }
     ensures totals { IfOk result (λ executed. executed.totals.ticks ≡ totals_of plan.now.set.tasks (plan_rows plan.now)) }
-    ensures stops { IfErr result (StopsInRun plan.now (crew (gates_of G.ran G.faults kits.old.items) (jobs_of (λ j. (Job-box j).id j.value) (λ j. (Job-box j).used j.value) (λ j. (Job-box j).faults j.value) jobs.old.places)) (crew (gates_of G.ran G.faults kits.new.items) (jobs_of (λ j. (Job-box j).id j.value) (λ j. (Job-box j).used j.value) (λ j. (Job-box j).faults j.value) jobs.new.places))) }
-    ensures uncalled { IfErr result (λ refusal. may_have_called (status_of refusal) ≡ false → (kits.new.items ≡ kits.old.items) × (jobs.new.places ≡ jobs.old.places)) }
-    ensures back { AreBack (crew (gates_of G.ran G.faults kits.old.items) (jobs_of (λ j. (Job-box j).id j.value) (λ j. (Job-box j).used j.value) (λ j. (Job-box j).faults j.value) jobs.old.places)) (crew (gates_of G.ran G.faults kits.new.items) (jobs_of (λ j. (Job-box j).id j.value) (λ j. (Job-box j).used j.value) (λ j. (Job-box j).faults j.value) jobs.new.places)) }
+    ensures stops { IfErr result (StopsInRun plan.now (crew_of G.Gate ⟦<BoxedJob as Job>⟧ kits.old jobs.old)
+        (crew_of G.Gate ⟦<BoxedJob as Job>⟧ kits.new jobs.new)) }
+    ensures uncalled { IfErr result (λ refusal. may_have_called (status_of refusal) ≡ false →
+        (kits.new.items ≡ kits.old.items) × (jobs.new.places ≡ jobs.old.places)) }
+    ensures back { AreBack (crew_of G.Gate ⟦<BoxedJob as Job>⟧ kits.old jobs.old)
+        (crew_of G.Gate ⟦<BoxedJob as Job>⟧ kits.new jobs.new) }
 {
     table_law();
     let _lawful = plan.scale();
     match execute(rt, alloc, plan, rounds, window, kits, jobs) {
         Ok(executed) => Ok(executed),
-        Err(ExecFault::Gate { processor: _, row }) => Err(Refusal::GateFault {
+        Err(
+            ExecFault::Gate {
+                processor: _,
+                row,
+                posts: _,
+            },
+        ) => Err(Refusal::GateFault {
             row,
             name: name_at(plan.set(), row.leaf),
         }),
@@ -128,6 +137,7 @@ pub(crate) fn run_plan<G: Gate + Send, X: Threads + Wait + Sync>(
                 task: _,
                 processor: _,
                 row,
+                posts: _,
             },
         ) => Err(Refusal::JobFault {
             row,

@@ -4,10 +4,10 @@ ghost use Rattle.run_tool.specs.Input.{GaveSet, GaveNoSet, GaveTrace, GaveNoTrac
 
 use crate::refusal::Refusal;
 use sched_base::TaskSet;
-use sched_edges::{Source, TakeFault, read_all};
+use sched_edges::{Source, read_all};
 use std::alloc::Global;
-use task_reader::{ReadSet, read_set};
-use trace_check::{ReadTrace, TraceFault, read_trace};
+use task_reader::read_set;
+use trace_check::{ReadTrace, read_trace};
 
 /// The most bytes of a task set.
 pub(crate) const SET_LIMIT: usize = 1_048_576;
@@ -18,19 +18,11 @@ pub(crate) const TRACE_LIMIT: usize = 536_870_912;
 /// Reads the source to its end, as a task set.
 pub(crate) fn read_input<R: Source>(alloc: Global, source: &mut R) -> Result<TaskSet, Refusal>
     ensures set { IfOk result (GaveSet (R.left source.old) (R.left source.new) SET_LIMIT) }
-    ensures refusal { IfErr result (GaveNoSet (R.left source.old) (R.left source.new) (R.faults source.old) (R.faults source.new) SET_LIMIT) }
+    ensures refusal { IfErr result (GaveNoSet (R.left source.old) (R.left source.new)
+        (R.faults source.old) (R.faults source.new) SET_LIMIT) }
 {
-    let bytes = match read_all(alloc, source, SET_LIMIT) {
-        Ok(bytes) => bytes,
-        Err(TakeFault::Read) => return Err(Refusal::ReadFault),
-        Err(TakeFault::TooLong { count }) => return Err(Refusal::InputTooLong { count }),
-        Err(TakeFault::NoMemory) => return Err(Refusal::NoMemory),
-    };
-    match read_set(alloc, bytes.as_slice()) {
-        Ok(set) => Ok(set),
-        Err(ReadSet::NoMemory) => Err(Refusal::NoMemory),
-        Err(refusal) => Err(Refusal::BadSet(refusal)),
-    }
+    let bytes = read_all(alloc, source, SET_LIMIT)?;
+    Ok(read_set(alloc, bytes.as_slice())?)
 }
 
 /// Reads the source to its end, as a trace text.
@@ -39,17 +31,9 @@ pub(crate) fn read_trace_input<R: Source>(
     source: &mut R,
 ) -> Result<ReadTrace, Refusal>
     ensures trace { IfOk result (GaveTrace (R.left source.old) (R.left source.new) TRACE_LIMIT) }
-    ensures refusal { IfErr result (GaveNoTrace (R.left source.old) (R.left source.new) (R.faults source.old) (R.faults source.new) TRACE_LIMIT) }
+    ensures refusal { IfErr result (GaveNoTrace (R.left source.old) (R.left source.new)
+        (R.faults source.old) (R.faults source.new) TRACE_LIMIT) }
 {
-    let bytes = match read_all(alloc, source, TRACE_LIMIT) {
-        Ok(bytes) => bytes,
-        Err(TakeFault::Read) => return Err(Refusal::ReadFault),
-        Err(TakeFault::TooLong { count }) => return Err(Refusal::InputTooLong { count }),
-        Err(TakeFault::NoMemory) => return Err(Refusal::NoMemory),
-    };
-    match read_trace(alloc, bytes.as_slice()) {
-        Ok(trace) => Ok(trace),
-        Err(TraceFault::BadLine { line }) => Err(Refusal::BadLine { line }),
-        Err(TraceFault::NoMemory) => Err(Refusal::NoMemory),
-    }
+    let bytes = read_all(alloc, source, TRACE_LIMIT)?;
+    Ok(read_trace(alloc, bytes.as_slice())?)
 }

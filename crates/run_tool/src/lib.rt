@@ -3,9 +3,11 @@
 
 mod check;
 mod closing;
+mod command;
 mod command_line;
 mod drill;
 mod exec;
+mod faults;
 mod input;
 mod plan;
 mod rate;
@@ -22,10 +24,10 @@ mod tree;
 mod words;
 
 pub use closing::close_run;
+pub use command::{Command, Execution, Reading};
 pub use rate_text::write_rate;
 pub use refusal::Refusal;
 pub use running::run;
 pub use sound::sound_law;
 pub use status::Status;
 pub use top::run_still;
-pub use words::{Command, command_of};

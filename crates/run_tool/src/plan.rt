@@ -4,7 +4,7 @@ ghost use Rattle.run_tree.specs.Compiled.{tree_of};
 ghost use Rattle.run_tool.specs.Input.{IsRun, IsRefusedSet};
 
 use crate::refusal::Refusal;
-use run_compile::{CompileFault, compile};
+use run_compile::compile;
 use run_tree::Plan;
 use sched_base::TaskSet;
 use std::alloc::Global;
@@ -16,10 +16,5 @@ pub(crate) fn plan_of(alloc: Global, set: TaskSet) -> Result<Plan, Refusal>
     ensures tree { IfOk result (λ plan. plan.tree ≡ tree_of plan.tree.scale set) }
     ensures refused { IfErr result (IsRefusedSet set) }
 {
-    match compile(alloc, set) {
-        Ok(plan) => Ok(plan),
-        Err(CompileFault::ScaleTooLarge { at }) => Err(Refusal::ScaleTooLarge { task: at }),
-        Err(CompileFault::Overload { total, room }) => Err(Refusal::Overload { total, room }),
-        Err(CompileFault::NoMemory) => Err(Refusal::NoMemory),
-    }
+    Ok(compile(alloc, set)?)
 }

@@ -1,6 +1,6 @@
 //! The command `rate`.
 ghost use Rattle.std.specs.Prelude.{OnOk, IfErr};
-ghost use Rattle.run_tool.specs.Ends.{streams, IsTold, StopsAs};
+ghost use Rattle.run_tool.specs.Ends.{streams_of, IsTold, StopsAs};
 ghost use Rattle.run_tool.specs.Input.{WroteSet, StopsAtSet};
 ghost use Rattle.run_tool.specs.Commands.{rates, set_limit, WritesSet, RefusesText};
 ghost use Rattle.run_tool.specs.declared.status.Status.TheVariants.{Done};
@@ -19,31 +19,26 @@ pub(crate) fn rate<R: Source, W: Sink>(
     source: &mut R,
     out: &mut W,
 ) -> Result<(), Refusal>
-    ensures done { OnOk result (IsTold set_limit (WritesSet rates) Done (streams (R.left source.old) (R.faults source.old) (W.taken out.old) (W.faults out.old)) (streams (R.left source.new) (R.faults source.new) (W.taken out.new) (W.faults out.new))) }
-    ensures stops { IfErr result (StopsAs set_limit (WritesSet rates) (RefusesText rates) (streams (R.left source.old) (R.faults source.old) (W.taken out.old) (W.faults out.old)) (streams (R.left source.new) (R.faults source.new) (W.taken out.new) (W.faults out.new))) }
+    ensures done { OnOk result (IsTold set_limit (WritesSet rates) Done
+        (streams_of R.Source W.Sink source.old out.old) (streams_of R.Source W.Sink source.new out.new)) }
+    ensures stops { IfErr result (StopsAs set_limit (WritesSet rates) (RefusesText rates)
+        (streams_of R.Source W.Sink source.old out.old) (streams_of R.Source W.Sink source.new out.new)) }
 {
-    match read_input(alloc, source) {
-        Ok(set) => write_set(&set, out),
-        Err(refusal) => Err(refusal),
-    }
+    let set = read_input(alloc, source)?;
+    write_set(&set, out)
 }
 
 // Writes the rates of a set, where it fits.
 fn write_set<W: Sink>(set: &TaskSet, out: &mut W) -> Result<(), Refusal>
     ensures done { OnOk result (WroteSet rates (W.taken out.old) (W.taken out.new) set.now) }
-    ensures stops { IfErr result (StopsAtSet rates (W.taken out.old) (W.taken out.new) (W.faults out.old) (W.faults out.new) set.now) }
+    ensures stops { IfErr result (StopsAtSet rates (W.taken out.old) (W.taken out.new)
+        (W.faults out.old) (W.faults out.new) set.now) }
 {
-    let scale = match scale_of(set) {
-        Ok(scale) => scale,
-        Err(refused) => return Err(Refusal::ScaleTooLarge { task: refused.at }),
-    };
+    let scale = scale_of(set)?;
     let total = total(set, scale);
     let room = u128::from(set.processors()) * scale;
     if total > room {
         return Err(Refusal::Overload { total, room });
     }
-    match write_rate(set, scale, total, room, out) {
-        Ok(()) => Ok(()),
-        Err(_) => Err(Refusal::WriteFault),
-    }
+    Ok(write_rate(set, scale, total, room, out)?)
 }

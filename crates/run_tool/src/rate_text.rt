@@ -46,7 +46,8 @@ fn write_head<W: Sink>(set: &TaskSet, scale: u128, out: &mut W) -> Result<(), Fa
 fn write_rates<W: Sink>(set: &TaskSet, scale: u128, out: &mut W) -> Result<(), Failed>
     requires scale { IsScale set.now.tasks scale }
     requires scale_fits { scale ≤ 2 ^ 94 }
-    ensures wrote { Wrote (W.taken out.old) (W.taken out.new) (flat_map (rate_line scale) set.now.tasks) result }
+    ensures wrote { Wrote (W.taken out.old) (W.taken out.new)
+        (flat_map (rate_line scale) set.now.tasks) result }
     ensures cause { HasCause (W.faults out.old) (W.faults out.new) result }
 {
     for task in set.tasks() {

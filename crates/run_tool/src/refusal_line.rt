@@ -1,11 +1,13 @@
 //! The lines of refusals: `refused`, the status, and why.
 ghost use Rattle.std.specs.Prelude.{◌≡◌, ◌≢◌, ◌≤◌, ◌+◌, ◌++◌, ◌∷◌, [], ℕ, List, length, codes, decimal, map, IfOk};
 ghost use Rattle.std.specs.Fmt.{signed_decimal};
+ghost use Rattle.sched_edges.specs.Causes.{HasCause};
 ghost use Rattle.sched_edges.specs.Lines.{line_of};
+ghost use Rattle.sched_edges.specs.Streams.{Wrote};
 ghost use Rattle.task_reader.specs.Keys.{key_text};
-ghost use Rattle.run_tool.specs.Refusals.{place_and, place_text, refusal_line, printed_byte, printed_name, IsShort, IsShortSet};
+ghost use Rattle.run_tool.specs.Refusals.{place_and, place_text, key_start, refusal_line, printed_byte, printed_name, IsShort, IsShortSet};
 ghost use Rattle.run_tool.specs.Status.{code_of};
-ghost use Rattle.run_tool.specs.Ends.{error_stream, Tells};
+ghost use Rattle.run_tool.specs.Ends.{error_of};
 ghost use Rattle.run_tool.specs.Refuse.{IsRefused};
 ghost use Rattle.run_tool.specs.declared.status.Status.TheVariants.{BadInput};
 ghost use Rattle.run_tool.specs.declared.refusal.Refusal.TheVariants.{BadSet, Overload, ScaleTooLarge, TooLong, GateFault, JobFault};
@@ -14,36 +16,32 @@ ghost use Rattle.task_reader.specs.declared.refusals.ReadSet.TheVariants.{Unknow
 use crate::refusal::Refusal;
 use crate::status::Status;
 use sched_base::{Name, Row};
-use sched_edges::{Line, Sink, write_all};
-use std::alloc::{AllocError, Global};
+use sched_edges::{Failed, Line, Sink, write_all};
 use task_reader::{Key, Place, ReadSet};
 
-/// Writes the line of a refusal, and gives its status. Where memory for a long line is refused, that is told instead.
-pub fn refuse<E: Sink>(alloc: Global, refusal: &Refusal, err: &mut E) -> Status
-    ensures { IsRefused refusal.now (error_stream (E.taken err.old) (E.faults err.old)) (error_stream (E.taken err.new) (E.faults err.new)) result }
+/// The most bytes of an unknown key that are written at once.
+const PIECE: usize = 128;
+
+/// Writes the line of a refusal, and gives its status. It takes no memory.
+pub fn refuse<E: Sink>(refusal: &Refusal, err: &mut E) -> Status
+    ensures { IsRefused refusal.now (error_of E.Sink err.old) (error_of E.Sink err.new) result }
+{
+    // Whether that fails changes nothing else.
+    let _told = write_refusal(refusal, err);
+    refusal.status()
+}
+
+/// Writes the line of a refusal, as one piece but for that of an unknown key, whose text may be long.
+pub(crate) fn write_refusal<W: Sink>(refusal: &Refusal, out: &mut W) -> Result<(), Failed>
+    ensures wrote { Wrote (W.taken out.old) (W.taken out.new) (refusal_line refusal.now) result }
+    ensures cause { HasCause (W.faults out.old) (W.faults out.new) result }
 {
     match refusal {
         Refusal::BadSet(ReadSet::UnknownKey { place, key }) => {
-            match key_line(alloc, *place, key.as_slice()) {
-                Ok(line) => tell(line.as_slice(), Status::BadInput, err),
-                Err(_) => tell(
-                    plain_line(Status::NoMemory, b"NoMemory").as_slice(),
-                    Status::NoMemory,
-                    err,
-                ),
-            }
+            write_key_line(*place, key.as_slice(), out)
         }
-        _ => tell(line_of(refusal).as_slice(), refusal.status(), err),
+        _ => write_all(out, line_of(refusal).as_slice()),
     }
-}
-
-// Writes a line, whether or not that fails.
-fn tell<E: Sink>(line: &[u8], status: Status, err: &mut E) -> Status
-    ensures told { Tells (error_stream (E.taken err.old) (E.faults err.old)) (error_stream (E.taken err.new) (E.faults err.new)) line.now }
-    ensures status { result ≡ status }
-{
-    let _told = write_all(err, line);
-    status
 }
 
 // The line of a refusal that is short.
@@ -299,20 +297,50 @@ fn printed_name(name: &Option<Name>) -> &[u8]
     }
 }
 
-// The line of an unknown key, each byte of its text printed.
-#[tactic(auto, unfolding(crate::specs::Refusals::refusal_line, sched_edges::specs::Lines::line_of))]
-fn key_line(alloc: Global, place: Place, key: &[u8]) -> Result<Vec<u8>, AllocError>
-    ensures { IfOk result (λ line. line.items ≡ refusal_line (BadSet (UnknownKey place key.now))) }
+// Writes the line of an unknown key, each byte of its text printed.
+fn write_key_line<W: Sink>(place: Place, key: &[u8], out: &mut W) -> Result<(), Failed>
+    ensures wrote { Wrote (W.taken out.old) (W.taken out.new) (refusal_line (BadSet (UnknownKey place key.now))) result }
+    ensures cause { HasCause (W.faults out.old) (W.faults out.new) result }
+{
+    write_all(out, key_start(place).as_slice())?;
+    write_printed(key, out)?;
+    write_all(out, b"\n")
+}
+
+// What stands before an unknown key.
+fn key_start(place: Place) -> Line
+    ensures { result ≡ key_start place }
 {
     let mut start = begin(Status::BadInput, b"UnknownKey");
     add_place(&mut start, place);
     start.space();
-    let mut line = Vec::from_slice(alloc, start.as_slice())?;
-    for byte in key {
-        line.push(printed_byte(*byte))?;
+    start
+}
+
+// Writes bytes as they are printed, in pieces.
+fn write_printed<W: Sink>(bytes: &[u8], out: &mut W) -> Result<(), Failed>
+    ensures wrote { Wrote (W.taken out.old) (W.taken out.new) (map printed_byte bytes.now) result }
+    ensures cause { HasCause (W.faults out.old) (W.faults out.new) result }
+{
+    let mut rest = bytes;
+    while !rest.is_empty() {
+        let (piece, after) = rest.split_at(rest.len().min(PIECE));
+        write_all(out, printed(piece).as_slice())?;
+        rest = after;
     }
-    line.push(b'\n')?;
-    Ok(line)
+    Ok(())
+}
+
+// Bytes as they are printed.
+fn printed(bytes: &[u8]) -> Line
+    requires { length bytes.now ≤ 128 }
+    ensures { result ≡ map printed_byte bytes.now }
+{
+    let mut line = Line::new();
+    for byte in bytes {
+        line.text(&[printed_byte(*byte)]);
+    }
+    line
 }
 
 fn printed_byte(byte: u8) -> u8

@@ -1,15 +1,17 @@
 //! The top call, with the runtime, the gates and the jobs.
 ghost use Rattle.std.specs.Prelude.{◌≡◌, ◌≢◌, ◌↔◌, false, map, string_bytes, None, Some, OnOk, IfErr};
-ghost use Rattle.run_tool.specs.Words.{command_of, asks_to_execute};
-ghost use Rattle.run_tool.specs.Commands.{SetText};
+ghost use Rattle.run_tool.specs.Words.{command_of, asks_to_execute, HasWindow};
+ghost use Rattle.run_tool.specs.Commands.{SetText, of_trace, output_of};
 ghost use Rattle.run_tool.specs.Refusals.{status_of};
-ghost use Rattle.run_tool.specs.Ends.{streams, error_stream, IsDone, IsUsage, IsAnswered, TellsTruth};
-ghost use Rattle.run_tool.specs.Executions.{crew, gates_of, jobs_of, IsReady, AreBack, NothingRose};
-ghost use Rattle.run_tool.specs.Executed.{IsExecuting, ToldRun, StopsRun, EndsWith, may_have_run};
-ghost use Rattle.run_tool.specs.declared.words.Command.{Command};
-ghost use Rattle.run_tool.specs.declared.words.Command.TheVariants.{Check};
+ghost use Rattle.run_tool.specs.Ends.{streams_of, error_of, IsDone, IsUsage, IsAnswered, TellsTruth};
+ghost use Rattle.run_tool.specs.Executions.{crew_of, IsReady, AreBack, NothingRose};
+ghost use Rattle.run_tool.specs.Executed.{ToldRun, StopsRun, EndsWith, may_have_run};
+ghost use Rattle.run_tool.specs.declared.command.Command.{Command};
+ghost use Rattle.run_tool.specs.declared.command.Command.TheVariants.{Read, Execute};
+ghost use Rattle.run_tool.specs.declared.command.Reading.TheVariants.{Check};
 ghost use Rattle.run_tool.specs.declared.status.Status.TheVariants.{Done, Invalid};
 
+use crate::command::Execution;
 use crate::drill::drill;
 use crate::exec::exec;
 use crate::refusal::Refusal;
@@ -17,9 +19,9 @@ use crate::refusal_line::refuse;
 use crate::sound::sound_law;
 use crate::status::Status;
 use crate::top::run_still;
-use crate::words::{Command, USUAL_WINDOW, asks_to_execute, command_of};
+use crate::words::{USUAL_WINDOW, asks_to_execute, execution_of};
 use exec_workers::Kit;
-use sched_edges::{Gate, Jobs, Sink, Source};
+use sched_edges::{BoxedJob, Gate, Job, Jobs, Sink, Source};
 use std::alloc::Global;
 use std::sync::Wait;
 use std::thread::Threads;
@@ -42,17 +44,21 @@ pub fn run<R: Source, W: Sink, E: Sink, G: Gate + Send, X: Threads + Wait + Sync
     kits: &mut Vec<Kit<G>>,
     jobs: &mut Jobs,
 ) -> Status
-    requires ready { IsReady (crew (gates_of G.ran G.faults kits.old.items) (jobs_of (λ j. (Job-box j).id j.value) (λ j. (Job-box j).used j.value) (λ j. (Job-box j).faults j.value) jobs.old.places)) }
+    requires ready { IsReady (crew_of G.Gate ⟦<BoxedJob as Job>⟧ kits.old jobs.old) }
 
     // Usage comes exactly where the words are no command line, want of memory aside. All else is left as it was.
     ensures usage { result ≢ Status.NoMemory → ((result ≡ Status.Usage) ↔ (command_of (map string_bytes words.now) ≡ None)) }
-    ensures unread { command_of (map string_bytes words.now) ≡ None → IsUsage (streams (R.left source.old) (R.faults source.old) (W.taken out.old) (W.faults out.old)) (streams (R.left source.new) (R.faults source.new) (W.taken out.new) (W.faults out.new)) (error_stream (E.taken err.old) (E.faults err.old)) (error_stream (E.taken err.new) (E.faults err.new)) result }
+    ensures unread { command_of (map string_bytes words.now) ≡ None → IsUsage
+        (streams_of R.Source W.Sink source.old out.old) (streams_of R.Source W.Sink source.new out.new)
+        (error_of E.Sink err.old) (error_of E.Sink err.new) result }
 
     // Done: `out` took exactly the text that the command writes for the bytes that the source gave. For a drill it gave none.
-    ensures done { result ≡ Status.Done → (c : Command) × (command_of (map string_bytes words.now) ≡ Some c) × IsDone c Done (streams (R.left source.old) (R.faults source.old) (W.taken out.old) (W.faults out.old)) (streams (R.left source.new) (R.faults source.new) (W.taken out.new) (W.faults out.new)) }
+    ensures done { result ≡ Status.Done → (c : Command) × (command_of (map string_bytes words.now) ≡ Some c) × IsDone (output_of c) Done
+        (streams_of R.Source W.Sink source.old out.old) (streams_of R.Source W.Sink source.new out.new) }
 
     // Invalid: `check` read a trace whose rows aren't a valid schedule, and `out` took exactly the line that says where and why.
-    ensures invalid { result ≡ Status.Invalid → (command_of (map string_bytes words.now) ≡ Some Check) × IsDone Check Invalid (streams (R.left source.old) (R.faults source.old) (W.taken out.old) (W.faults out.old)) (streams (R.left source.new) (R.faults source.new) (W.taken out.new) (W.faults out.new)) }
+    ensures invalid { result ≡ Status.Invalid → (command_of (map string_bytes words.now) ≡ Some (Read Check)) × IsDone of_trace Invalid
+        (streams_of R.Source W.Sink source.old out.old) (streams_of R.Source W.Sink source.new out.new) }
 
     // What is told of a set is sound: a tree is a reduction tree of it, and a schedule is valid.
     ensures sound { (what : SetText) → TellsTruth what }
@@ -60,56 +66,74 @@ pub fn run<R: Source, W: Sink, E: Sink, G: Gate + Send, X: Threads + Wait + Sync
     // Each status comes only for its reason, and `err` took its line. Where a schedule was run, its text comes after each gate ran
     // the rows of its processor and each job worked the ticks of its task; where a gate or a job failed, this is the one named, and
     // the others ran first rows.
-    ensures ends { (c : Command) → command_of (map string_bytes words.now) ≡ Some c → EndsWith c (streams (R.left source.old) (R.faults source.old) (W.taken out.old) (W.faults out.old)) (streams (R.left source.new) (R.faults source.new) (W.taken out.new) (W.faults out.new)) (error_stream (E.taken err.old) (E.faults err.old)) (error_stream (E.taken err.new) (E.faults err.new)) (crew (gates_of G.ran G.faults kits.old.items) (jobs_of (λ j. (Job-box j).id j.value) (λ j. (Job-box j).used j.value) (λ j. (Job-box j).faults j.value) jobs.old.places)) (crew (gates_of G.ran G.faults kits.new.items) (jobs_of (λ j. (Job-box j).id j.value) (λ j. (Job-box j).used j.value) (λ j. (Job-box j).faults j.value) jobs.new.places)) result }
+    ensures ends { let old = streams_of R.Source W.Sink source.old out.old in
+        let new = streams_of R.Source W.Sink source.new out.new in
+        let told = error_of E.Sink err.old in
+        let tells = error_of E.Sink err.new in
+        let before = crew_of G.Gate ⟦<BoxedJob as Job>⟧ kits.old jobs.old in
+        let now = crew_of G.Gate ⟦<BoxedJob as Job>⟧ kits.new jobs.new in
+        (c : Command) → command_of (map string_bytes words.now) ≡ Some c →
+        EndsWith c old new told tells before now result }
 
     // No gate and no job is called but by an execution, and by none that is refused before. A drill may have run all rows where
     // memory was refused.
-    ensures still { asks_to_execute (map string_bytes words.now) ≡ false → (kits.new.items ≡ kits.old.items) × (jobs.new.places ≡ jobs.old.places) }
-    ensures uncalled { may_have_run (command_of (map string_bytes words.now)) result ≡ false → (kits.new.items ≡ kits.old.items) × (jobs.new.places ≡ jobs.old.places) }
+    ensures still { asks_to_execute (map string_bytes words.now) ≡ false →
+        (kits.new.items ≡ kits.old.items) × (jobs.new.places ≡ jobs.old.places) }
+    ensures uncalled { may_have_run (command_of (map string_bytes words.now)) result ≡ false →
+        (kits.new.items ≡ kits.old.items) × (jobs.new.places ≡ jobs.old.places) }
 
     // At every status each gate is back in its kit, and each job in its place.
-    ensures back { AreBack (crew (gates_of G.ran G.faults kits.old.items) (jobs_of (λ j. (Job-box j).id j.value) (λ j. (Job-box j).used j.value) (λ j. (Job-box j).faults j.value) jobs.old.places)) (crew (gates_of G.ran G.faults kits.new.items) (jobs_of (λ j. (Job-box j).id j.value) (λ j. (Job-box j).used j.value) (λ j. (Job-box j).faults j.value) jobs.new.places)) }
+    ensures back { AreBack (crew_of G.Gate ⟦<BoxedJob as Job>⟧ kits.old jobs.old)
+        (crew_of G.Gate ⟦<BoxedJob as Job>⟧ kits.new jobs.new) }
 
     // Where nothing fails, the answer for the bytes is given.
-    ensures answered { NothingRose (crew (gates_of G.ran G.faults kits.old.items) (jobs_of (λ j. (Job-box j).id j.value) (λ j. (Job-box j).used j.value) (λ j. (Job-box j).faults j.value) jobs.old.places)) (crew (gates_of G.ran G.faults kits.new.items) (jobs_of (λ j. (Job-box j).id j.value) (λ j. (Job-box j).used j.value) (λ j. (Job-box j).faults j.value) jobs.new.places)) → IsAnswered (command_of (map string_bytes words.now)) (R.left source.old) (streams (R.left source.old) (R.faults source.old) (W.taken out.old) (W.faults out.old)) (streams (R.left source.new) (R.faults source.new) (W.taken out.new) (W.faults out.new)) result }
+    ensures answered { NothingRose (crew_of G.Gate ⟦<BoxedJob as Job>⟧ kits.old jobs.old)
+        (crew_of G.Gate ⟦<BoxedJob as Job>⟧ kits.new jobs.new)
+        → IsAnswered (command_of (map string_bytes words.now)) (R.left source.old)
+        (streams_of R.Source W.Sink source.old out.old) (streams_of R.Source W.Sink source.new out.new) result }
 {
     if !asks_to_execute(words) {
         return run_still(alloc, words, source, out, err);
     }
     sound_law();
-    match command_of(alloc, words) {
-        Err(_) => refuse(alloc, &Refusal::NoMemory, err),
-        Ok(None) => refuse(alloc, &Refusal::Usage, err),
-        Ok(Some(command)) => {
-            match run_command(rt, alloc, command, source, out, kits, jobs) {
+    match execution_of(alloc, words) {
+        Err(_) => refuse(&Refusal::NoMemory, err),
+        Ok(None) => refuse(&Refusal::Usage, err),
+        Ok(Some(execution)) => {
+            match perform(rt, alloc, execution, source, out, kits, jobs) {
                 Ok(()) => Status::Done,
-                Err(refusal) => refuse(alloc, &refusal, err),
+                Err(refusal) => refuse(&refusal, err),
             }
         }
     }
 }
 
 // Does an execution.
-fn run_command<R: Source, W: Sink, G: Gate + Send, X: Threads + Wait + Sync>(
+fn perform<R: Source, W: Sink, G: Gate + Send, X: Threads + Wait + Sync>(
     rt: &X,
     alloc: Global,
-    command: Command,
+    execution: Execution,
     source: &mut R,
     out: &mut W,
     kits: &mut Vec<Kit<G>>,
     jobs: &mut Jobs,
 ) -> Result<(), Refusal>
-    requires ready { IsReady (crew (gates_of G.ran G.faults kits.old.items) (jobs_of (λ j. (Job-box j).id j.value) (λ j. (Job-box j).used j.value) (λ j. (Job-box j).faults j.value) jobs.old.places)) }
-    requires executing { IsExecuting command }
-    ensures done { OnOk result (ToldRun command (streams (R.left source.old) (R.faults source.old) (W.taken out.old) (W.faults out.old)) (streams (R.left source.new) (R.faults source.new) (W.taken out.new) (W.faults out.new)) (crew (gates_of G.ran G.faults kits.old.items) (jobs_of (λ j. (Job-box j).id j.value) (λ j. (Job-box j).used j.value) (λ j. (Job-box j).faults j.value) jobs.old.places)) (crew (gates_of G.ran G.faults kits.new.items) (jobs_of (λ j. (Job-box j).id j.value) (λ j. (Job-box j).used j.value) (λ j. (Job-box j).faults j.value) jobs.new.places))) }
-    ensures stops { IfErr result (StopsRun command (streams (R.left source.old) (R.faults source.old) (W.taken out.old) (W.faults out.old)) (streams (R.left source.new) (R.faults source.new) (W.taken out.new) (W.faults out.new)) (crew (gates_of G.ran G.faults kits.old.items) (jobs_of (λ j. (Job-box j).id j.value) (λ j. (Job-box j).used j.value) (λ j. (Job-box j).faults j.value) jobs.old.places)) (crew (gates_of G.ran G.faults kits.new.items) (jobs_of (λ j. (Job-box j).id j.value) (λ j. (Job-box j).used j.value) (λ j. (Job-box j).faults j.value) jobs.new.places))) }
-    ensures uncalled { IfErr result (λ refusal. may_have_run (Some command) (status_of refusal) ≡ false → (kits.new.items ≡ kits.old.items) × (jobs.new.places ≡ jobs.old.places)) }
-    ensures back { AreBack (crew (gates_of G.ran G.faults kits.old.items) (jobs_of (λ j. (Job-box j).id j.value) (λ j. (Job-box j).used j.value) (λ j. (Job-box j).faults j.value) jobs.old.places)) (crew (gates_of G.ran G.faults kits.new.items) (jobs_of (λ j. (Job-box j).id j.value) (λ j. (Job-box j).used j.value) (λ j. (Job-box j).faults j.value) jobs.new.places)) }
+    requires ready { IsReady (crew_of G.Gate ⟦<BoxedJob as Job>⟧ kits.old jobs.old) }
+    requires window { HasWindow execution }
+    ensures done { OnOk result (ToldRun execution (streams_of R.Source W.Sink source.old out.old)
+        (streams_of R.Source W.Sink source.new out.new) (crew_of G.Gate ⟦<BoxedJob as Job>⟧ kits.old jobs.old)
+        (crew_of G.Gate ⟦<BoxedJob as Job>⟧ kits.new jobs.new)) }
+    ensures stops { IfErr result (StopsRun execution (streams_of R.Source W.Sink source.old out.old)
+        (streams_of R.Source W.Sink source.new out.new) (crew_of G.Gate ⟦<BoxedJob as Job>⟧ kits.old jobs.old)
+        (crew_of G.Gate ⟦<BoxedJob as Job>⟧ kits.new jobs.new)) }
+    ensures uncalled { IfErr result (λ refusal. may_have_run (Some (Execute execution)) (status_of refusal) ≡ false →
+        (kits.new.items ≡ kits.old.items) × (jobs.new.places ≡ jobs.old.places)) }
+    ensures back { AreBack (crew_of G.Gate ⟦<BoxedJob as Job>⟧ kits.old jobs.old)
+        (crew_of G.Gate ⟦<BoxedJob as Job>⟧ kits.new jobs.new) }
 {
-    match command {
-        Command::Exec { window } => exec(rt, alloc, source, window, false, out, kits, jobs),
-        Command::ExecMet => exec(rt, alloc, source, USUAL_WINDOW, true, out, kits, jobs),
-        Command::Drill { number } => drill(rt, alloc, number, out, kits, jobs),
-        _ => unreachable!(),
+    match execution {
+        Execution::Exec { window } => exec(rt, alloc, source, window, false, out, kits, jobs),
+        Execution::ExecMet => exec(rt, alloc, source, USUAL_WINDOW, true, out, kits, jobs),
+        Execution::Drill { number } => drill(rt, alloc, number, out, kits, jobs),
     }
 }

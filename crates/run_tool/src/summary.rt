@@ -45,7 +45,8 @@ pub(crate) fn summary_of(number: u64, rounds: u64, trace: &ReadTrace) -> Option<
 
 /// Writes a summary, line by line.
 pub(crate) fn write_summary<W: Sink>(told: &Summary, out: &mut W) -> Result<(), Failed>
-    ensures wrote { Wrote (W.taken out.old) (W.taken out.new) (concat (summary_lines told.now)) result }
+    ensures wrote { Wrote (W.taken out.old) (W.taken out.new)
+        (concat (summary_lines told.now)) result }
     ensures cause { HasCause (W.faults out.old) (W.faults out.new) result }
 {
     let lines = [

@@ -1,13 +1,15 @@
 //! The top call for all commands but executions.
 ghost use Rattle.std.specs.Prelude.{◌≡◌, ◌≢◌, ◌↔◌, false, map, string_bytes, None, Some, IfOk, IfErr};
-ghost use Rattle.run_tool.specs.Words.{command_of, asks_to_execute, IsStill};
-ghost use Rattle.run_tool.specs.Ends.{streams, error_stream, IsDone, IsUsage, Stops, Ends, IsAnswered, TellsTruth};
-ghost use Rattle.run_tool.specs.Commands.{SetText};
-ghost use Rattle.run_tool.specs.declared.words.Command.{Command};
-ghost use Rattle.run_tool.specs.declared.words.Command.TheVariants.{Check};
+ghost use Rattle.run_tool.specs.Words.{command_of, asks_to_execute};
+ghost use Rattle.run_tool.specs.Ends.{streams_of, error_of, IsDone, IsUsage, Stops, Ends, IsAnswered, TellsTruth};
+ghost use Rattle.run_tool.specs.Commands.{SetText, of_trace, output_of};
+ghost use Rattle.run_tool.specs.declared.command.Command.{Command};
+ghost use Rattle.run_tool.specs.declared.command.Command.TheVariants.{Read};
+ghost use Rattle.run_tool.specs.declared.command.Reading.TheVariants.{Check};
 ghost use Rattle.run_tool.specs.declared.status.Status.TheVariants.{Done, Invalid};
 
 use crate::check::check;
+use crate::command::Reading;
 use crate::rate::rate;
 use crate::refusal::Refusal;
 use crate::refusal_line::refuse;
@@ -15,7 +17,7 @@ use crate::sound::sound_law;
 use crate::status::Status;
 use crate::trace::trace;
 use crate::tree::tree;
-use crate::words::{Command, command_of};
+use crate::words::reading_of;
 use sched_edges::{Sink, Source};
 use std::alloc::Global;
 
@@ -34,52 +36,58 @@ pub fn run_still<R: Source, W: Sink, E: Sink>(
 
     // Usage comes exactly where the words are no command line, want of memory aside. All else is left as it was.
     ensures usage { result ≢ Status.NoMemory → ((result ≡ Status.Usage) ↔ (command_of (map string_bytes words.now) ≡ None)) }
-    ensures unread { command_of (map string_bytes words.now) ≡ None → IsUsage (streams (R.left source.old) (R.faults source.old) (W.taken out.old) (W.faults out.old)) (streams (R.left source.new) (R.faults source.new) (W.taken out.new) (W.faults out.new)) (error_stream (E.taken err.old) (E.faults err.old)) (error_stream (E.taken err.new) (E.faults err.new)) result }
+    ensures unread { command_of (map string_bytes words.now) ≡ None → IsUsage
+        (streams_of R.Source W.Sink source.old out.old) (streams_of R.Source W.Sink source.new out.new)
+        (error_of E.Sink err.old) (error_of E.Sink err.new) result }
 
     // Done: `out` took exactly the text that the command writes for the bytes that the source gave.
-    ensures done { result ≡ Status.Done → (c : Command) × (command_of (map string_bytes words.now) ≡ Some c) × IsDone c Done (streams (R.left source.old) (R.faults source.old) (W.taken out.old) (W.faults out.old)) (streams (R.left source.new) (R.faults source.new) (W.taken out.new) (W.faults out.new)) }
+    ensures done { result ≡ Status.Done → (c : Command) × (command_of (map string_bytes words.now) ≡ Some c) × IsDone (output_of c) Done
+        (streams_of R.Source W.Sink source.old out.old) (streams_of R.Source W.Sink source.new out.new) }
 
     // Invalid: `check` read a trace whose rows aren't a valid schedule, and `out` took exactly the line that says where and why.
-    ensures invalid { result ≡ Status.Invalid → (command_of (map string_bytes words.now) ≡ Some Check) × IsDone Check Invalid (streams (R.left source.old) (R.faults source.old) (W.taken out.old) (W.faults out.old)) (streams (R.left source.new) (R.faults source.new) (W.taken out.new) (W.faults out.new)) }
+    ensures invalid { result ≡ Status.Invalid → (command_of (map string_bytes words.now) ≡ Some (Read Check)) × IsDone of_trace Invalid
+        (streams_of R.Source W.Sink source.old out.old) (streams_of R.Source W.Sink source.new out.new) }
 
     // What is told of a set is sound: a tree is a reduction tree of it, and a schedule is valid.
     ensures sound { (what : SetText) → TellsTruth what }
 
     // Each status comes only for its reason, and `err` took its line.
-    ensures ends { (c : Command) → command_of (map string_bytes words.now) ≡ Some c → Ends c (streams (R.left source.old) (R.faults source.old) (W.taken out.old) (W.faults out.old)) (streams (R.left source.new) (R.faults source.new) (W.taken out.new) (W.faults out.new)) (error_stream (E.taken err.old) (E.faults err.old)) (error_stream (E.taken err.new) (E.faults err.new)) result }
+    ensures ends { (c : Command) → command_of (map string_bytes words.now) ≡ Some c → Ends (output_of c)
+        (streams_of R.Source W.Sink source.old out.old) (streams_of R.Source W.Sink source.new out.new)
+        (error_of E.Sink err.old) (error_of E.Sink err.new) result }
 
     // Where nothing fails, the answer for the bytes is given.
-    ensures answered { IsAnswered (command_of (map string_bytes words.now)) (R.left source.old) (streams (R.left source.old) (R.faults source.old) (W.taken out.old) (W.faults out.old)) (streams (R.left source.new) (R.faults source.new) (W.taken out.new) (W.faults out.new)) result }
+    ensures answered { IsAnswered (command_of (map string_bytes words.now)) (R.left source.old)
+        (streams_of R.Source W.Sink source.old out.old) (streams_of R.Source W.Sink source.new out.new) result }
 {
     sound_law();
-    match command_of(alloc, words) {
-        Err(_) => refuse(alloc, &Refusal::NoMemory, err),
-        Ok(None) => refuse(alloc, &Refusal::Usage, err),
-        Ok(Some(command)) => match run_command(alloc, command, source, out) {
+    match reading_of(alloc, words) {
+        Err(_) => refuse(&Refusal::NoMemory, err),
+        Ok(None) => refuse(&Refusal::Usage, err),
+        Ok(Some(reading)) => match read(alloc, reading, source, out) {
             Ok(status) => status,
-            Err(refusal) => refuse(alloc, &refusal, err),
+            Err(refusal) => refuse(&refusal, err),
         },
     }
 }
 
-fn run_command<R: Source, W: Sink>(
+// Does a command that reads.
+fn read<R: Source, W: Sink>(
     alloc: Global,
-    command: Command,
+    reading: Reading,
     source: &mut R,
     out: &mut W,
 ) -> Result<Status, Refusal>
-    requires still { IsStill command }
-    ensures done { IfOk result (λ status. IsDone command status (streams (R.left source.old) (R.faults source.old) (W.taken out.old) (W.faults out.old)) (streams (R.left source.new) (R.faults source.new) (W.taken out.new) (W.faults out.new))) }
-    ensures stops { IfErr result (Stops command (streams (R.left source.old) (R.faults source.old) (W.taken out.old) (W.faults out.old)) (streams (R.left source.new) (R.faults source.new) (W.taken out.new) (W.faults out.new))) }
+    ensures done { IfOk result (λ status. IsDone (output_of (Read reading)) status
+        (streams_of R.Source W.Sink source.old out.old) (streams_of R.Source W.Sink source.new out.new)) }
+    ensures stops { IfErr result (Stops (output_of (Read reading)) (streams_of R.Source W.Sink source.old out.old)
+        (streams_of R.Source W.Sink source.new out.new)) }
 {
-    match command {
-        Command::Rate => rate(alloc, source, out).map(|()| Status::Done),
-        Command::Tree => tree(alloc, source, out).map(|()| Status::Done),
-        Command::Trace => trace(alloc, source, false, out).map(|()| Status::Done),
-        Command::TraceMet => trace(alloc, source, true, out).map(|()| Status::Done),
-        Command::Check => check(alloc, source, out),
-        Command::Exec { .. } => unreachable!(),
-        Command::ExecMet => unreachable!(),
-        Command::Drill { .. } => unreachable!(),
+    match reading {
+        Reading::Rate => rate(alloc, source, out).map(|()| Status::Done),
+        Reading::Tree => tree(alloc, source, out).map(|()| Status::Done),
+        Reading::Trace => trace(alloc, source, false, out).map(|()| Status::Done),
+        Reading::TraceMet => trace(alloc, source, true, out).map(|()| Status::Done),
+        Reading::Check => check(alloc, source, out),
     }
 }

@@ -4,18 +4,18 @@ ghost use Rattle.sched_base.specs.Tables.{rounds_of as rounds_in};
 ghost use Rattle.sched_edges.specs.Causes.{HasCause};
 ghost use Rattle.sched_edges.specs.Streams.{Wrote};
 ghost use Rattle.run_tree.specs.Plans.{rounds_of, schedule_of};
-ghost use Rattle.event_core.specs.Rounds.{row_limit};
-ghost use Rattle.round_table.specs.Lanes.{lanes_of};
+ghost use Rattle.sched_base.specs.Tables.{row_limit};
+ghost use Rattle.sched_base.specs.Lanes.{lanes_of};
 ghost use Rattle.trace_writer.specs.Conditions.{totals_of};
 ghost use Rattle.run_tool.specs.Commands.{schedule_rows, set_limit, schedule_text, some_late, WritesSet, RefusesText};
-ghost use Rattle.run_tool.specs.Ends.{streams, IsTold, StopsAs};
+ghost use Rattle.run_tool.specs.Ends.{streams_of, IsTold, StopsAs};
 ghost use Rattle.run_tool.specs.Input.{WroteSet, StopsAtSet};
 ghost use Rattle.run_tool.specs.declared.status.Status.TheVariants.{Done};
 
 use crate::input::read_input;
 use crate::plan::plan_of;
 use crate::refusal::Refusal;
-use event_core::{CountFault, count_rounds};
+use event_core::count_rounds;
 use round_table::{table_law, table_of};
 use row_totals::totals_of;
 use run_tree::Plan;
@@ -31,37 +31,26 @@ pub(crate) fn trace<R: Source, W: Sink>(
     met: bool,
     out: &mut W,
 ) -> Result<(), Refusal>
-    ensures done { OnOk result (IsTold set_limit (WritesSet (schedule_rows met)) Done (streams (R.left source.old) (R.faults source.old) (W.taken out.old) (W.faults out.old)) (streams (R.left source.new) (R.faults source.new) (W.taken out.new) (W.faults out.new))) }
-    ensures stops { IfErr result (StopsAs set_limit (WritesSet (schedule_rows met)) (RefusesText (schedule_rows met)) (streams (R.left source.old) (R.faults source.old) (W.taken out.old) (W.faults out.old)) (streams (R.left source.new) (R.faults source.new) (W.taken out.new) (W.faults out.new))) }
+    ensures done { OnOk result (IsTold set_limit (WritesSet (schedule_rows met)) Done
+        (streams_of R.Source W.Sink source.old out.old) (streams_of R.Source W.Sink source.new out.new)) }
+    ensures stops { IfErr result (StopsAs set_limit (WritesSet (schedule_rows met)) (RefusesText (schedule_rows met))
+        (streams_of R.Source W.Sink source.old out.old) (streams_of R.Source W.Sink source.new out.new)) }
 {
-    match read_input(alloc, source) {
-        Ok(set) => write_set(alloc, set, met, out),
-        Err(refusal) => Err(refusal),
-    }
+    let set = read_input(alloc, source)?;
+    write_set(alloc, set, met, out)
 }
 
 // Writes the schedule of a set, where it fits.
 fn write_set<W: Sink>(alloc: Global, set: TaskSet, met: bool, out: &mut W) -> Result<(), Refusal>
-    ensures done { OnOk result (WroteSet (schedule_rows met) (W.taken out.old) (W.taken out.new) set) }
-    ensures stops { IfErr result (StopsAtSet (schedule_rows met) (W.taken out.old) (W.taken out.new) (W.faults out.old) (W.faults out.new) set) }
+    ensures done { OnOk result (WroteSet (schedule_rows met) (W.taken out.old) (W.taken out.new)
+        set) }
+    ensures stops { IfErr result (StopsAtSet (schedule_rows met) (W.taken out.old) (W.taken out.new)
+        (W.faults out.old) (W.faults out.new) set) }
 {
-    let plan = match plan_of(alloc, set) {
-        Ok(plan) => plan,
-        Err(refusal) => return Err(refusal),
-    };
-    let rounds = match count_rounds(alloc, &plan) {
-        Ok(rounds) => rounds,
-        Err(CountFault::TooLong { rows }) => return Err(Refusal::TooLong { rows }),
-        Err(CountFault::NoMemory) => return Err(Refusal::NoMemory),
-    };
-    let (table, totals) = match rows_of(alloc, &plan, rounds) {
-        Ok(made) => made,
-        Err(_) => return Err(Refusal::NoMemory),
-    };
-    match write_rows(&plan, &table, totals.as_slice(), met, out) {
-        Ok(()) => Ok(()),
-        Err(_) => Err(Refusal::WriteFault),
-    }
+    let plan = plan_of(alloc, set)?;
+    let rounds = count_rounds(alloc, &plan)?;
+    let (table, totals) = rows_of(alloc, &plan, rounds)?;
+    Ok(write_rows(&plan, &table, totals.as_slice(), met, out)?)
 }
 
 // The rows of a plan, and the ticks of each task in them.

@@ -1,6 +1,6 @@
 //! The command `tree`.
 ghost use Rattle.std.specs.Prelude.{OnOk, IfErr};
-ghost use Rattle.run_tool.specs.Ends.{streams, IsTold, StopsAs};
+ghost use Rattle.run_tool.specs.Ends.{streams_of, IsTold, StopsAs};
 ghost use Rattle.run_tool.specs.Input.{WroteSet, StopsAtSet};
 ghost use Rattle.run_tool.specs.Commands.{server_tree, set_limit, WritesSet, RefusesText};
 ghost use Rattle.run_tool.specs.declared.status.Status.TheVariants.{Done};
@@ -19,26 +19,21 @@ pub(crate) fn tree<R: Source, W: Sink>(
     source: &mut R,
     out: &mut W,
 ) -> Result<(), Refusal>
-    ensures done { OnOk result (IsTold set_limit (WritesSet server_tree) Done (streams (R.left source.old) (R.faults source.old) (W.taken out.old) (W.faults out.old)) (streams (R.left source.new) (R.faults source.new) (W.taken out.new) (W.faults out.new))) }
-    ensures stops { IfErr result (StopsAs set_limit (WritesSet server_tree) (RefusesText server_tree) (streams (R.left source.old) (R.faults source.old) (W.taken out.old) (W.faults out.old)) (streams (R.left source.new) (R.faults source.new) (W.taken out.new) (W.faults out.new))) }
+    ensures done { OnOk result (IsTold set_limit (WritesSet server_tree) Done
+        (streams_of R.Source W.Sink source.old out.old) (streams_of R.Source W.Sink source.new out.new)) }
+    ensures stops { IfErr result (StopsAs set_limit (WritesSet server_tree) (RefusesText server_tree)
+        (streams_of R.Source W.Sink source.old out.old) (streams_of R.Source W.Sink source.new out.new)) }
 {
-    match read_input(alloc, source) {
-        Ok(set) => write_set(alloc, set, out),
-        Err(refusal) => Err(refusal),
-    }
+    let set = read_input(alloc, source)?;
+    write_set(alloc, set, out)
 }
 
 // Writes the compiled tree of a set, where it fits.
 fn write_set<W: Sink>(alloc: Global, set: TaskSet, out: &mut W) -> Result<(), Refusal>
     ensures done { OnOk result (WroteSet server_tree (W.taken out.old) (W.taken out.new) set) }
-    ensures stops { IfErr result (StopsAtSet server_tree (W.taken out.old) (W.taken out.new) (W.faults out.old) (W.faults out.new) set) }
+    ensures stops { IfErr result (StopsAtSet server_tree (W.taken out.old) (W.taken out.new)
+        (W.faults out.old) (W.faults out.new) set) }
 {
-    let plan = match plan_of(alloc, set) {
-        Ok(plan) => plan,
-        Err(refusal) => return Err(refusal),
-    };
-    match write_tree(&plan, out) {
-        Ok(()) => Ok(()),
-        Err(_) => Err(Refusal::WriteFault),
-    }
+    let plan = plan_of(alloc, set)?;
+    Ok(write_tree(&plan, out)?)
 }

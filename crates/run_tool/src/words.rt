@@ -1,8 +1,13 @@
 //! Command lines.
-ghost use Rattle.std.specs.Prelude.{◌≡◌, ◌↔◌, map, string_bytes, Some, IfOk, IsTrue};
-ghost use Rattle.run_tool.specs.declared.words.Command.TheVariants.{Exec, Drill};
-ghost use Rattle.run_tool.specs.Words.{window_of, exec_with, exec_by, drill_of, drill_with, command_of, command_named, command_with, command_with_value, asks_to_execute};
+ghost use Rattle.std.specs.Prelude.{◌≡◌, ◌↔◌, true, false, map, string_bytes, Some, IfOk, IfSome, IsTrue, option_map};
+ghost use Rattle.run_tool.specs.declared.command.Command.TheVariants.{Read, Execute};
+ghost use Rattle.run_tool.specs.declared.command.Execution.TheVariants.{Exec, Drill};
+ghost use Rattle.run_tool.specs.Words.{window_of, exec_with, exec_by, drill_of, drill_with, HasWindow};
+ghost use Rattle.run_tool.specs.Words.{reading_of, reading_named, reading_with};
+ghost use Rattle.run_tool.specs.Words.{execution_of, execution_named, execution_with, execution_with_value};
+ghost use Rattle.run_tool.specs.Words.{asks_to_execute, command_of};
 
+use crate::command::{Command, Execution, Reading};
 use crate::command_line::read_line;
 use sched_base::NoMemory;
 use std::alloc::Global;
@@ -17,52 +22,86 @@ const WINDOW_LIMIT: u128 = 1024;
 /// The largest number of a drill.
 const DRILL_LIMIT: u128 = 18_446_744_073_709_551_615;
 
-/// What a command line asks for.
-#[derive(Clone, Copy, Debug, PartialEq, Eq)]
-pub enum Command {
-    /// `rate`: read a task set, and tell its scale, its rates, their total and the room.
-    Rate,
-    /// `tree`: read a task set, and tell its tree of servers and duals.
-    Tree,
-    /// `trace`: read a task set, and tell its schedule.
-    Trace,
-    /// `trace --met`: the same, and when each period was done.
-    TraceMet,
-    /// `check`: read a trace text, and tell whether its rows are a valid schedule of its set.
-    Check,
-    /// `exec`: read a task set, run its schedule, and tell it. A lane may run up to `window` rounds ahead of the others.
-    Exec { window: u32 },
-    /// `exec --met`: the same with the usual window, and when each period was done.
-    ExecMet,
-    /// `drill N`: draw a task set from the number, run its schedule, and tell what is counted of it.
-    Drill { number: u64 },
-}
-
-/// The command that these words are, the words after the program's name; none where they are no command line.
+/// The command that reads that these words are, the words after the program's name; none where they are no command line. The
+/// words don't ask for an execution.
 ///
 /// The words are read by `clap`, which knows further spellings. So the command that was read is spelled again by the table of
 /// lines, and words that aren't this spelling are no command line.
-pub fn command_of(alloc: Global, words: &[String]) -> Result<Option<Command>, NoMemory>
-    ensures { IfOk result (λ command. command ≡ command_of (map string_bytes words.now)) }
+pub(crate) fn reading_of(alloc: Global, words: &[String]) -> Result<Option<Reading>, NoMemory>
+    requires still { asks_to_execute (map string_bytes words.now) ≡ false }
+    ensures { IfOk result (λ reading. option_map Read reading ≡ command_of (map string_bytes words.now)) }
 {
     match read_line(alloc, words)? {
-        Some(command) if is_spelled(command, words) => Ok(Some(command)),
-        _ => Ok(None),
+        Some(Command::Read(reading)) if is_reading(reading, words) => Ok(Some(reading)),
+        Some(Command::Read(_)) => Ok(None),
+        Some(Command::Execute(_)) => Ok(None),
+        None => Ok(None),
+    }
+}
+
+/// The same for a command that executes, where the words ask for one.
+pub(crate) fn execution_of(alloc: Global, words: &[String]) -> Result<Option<Execution>, NoMemory>
+    requires executes { asks_to_execute (map string_bytes words.now) ≡ true }
+    ensures line { IfOk result (λ execution. option_map Execute execution ≡ command_of (map string_bytes words.now)) }
+    ensures window { IfOk result (λ execution. IfSome execution HasWindow) }
+{
+    match read_line(alloc, words)? {
+        Some(Command::Execute(execution)) if is_execution(execution, words) => Ok(Some(execution)),
+        Some(Command::Execute(_)) => Ok(None),
+        Some(Command::Read(_)) => Ok(None),
+        None => Ok(None),
     }
 }
 
 // Whether the words are the line of this command.
-fn is_spelled(command: Command, words: &[String]) -> bool
-    ensures { IsTrue result ↔ (command_of (map string_bytes words.now) ≡ Some command) }
+fn is_reading(reading: Reading, words: &[String]) -> bool
+    ensures { IsTrue result ↔ (reading_of (map string_bytes words.now) ≡ Some reading) }
 {
     let count = words.len();
     if count == 1 {
-        is_name(command, words[0].as_str())
+        is_reading_named(reading, words[0].as_str())
     } else if count == 2 {
-        is_name_with(command, words[0].as_str(), words[1].as_str())
+        is_reading_with(reading, words[0].as_str(), words[1].as_str())
+    } else {
+        false
+    }
+}
+
+// Whether this word alone is the line of this command.
+fn is_reading_named(reading: Reading, word: &str) -> bool
+    ensures { IsTrue result ↔ (reading_named word.now ≡ Some reading) }
+{
+    match reading {
+        Reading::Rate => word == "rate",
+        Reading::Tree => word == "tree",
+        Reading::Trace => word == "trace",
+        Reading::Check => word == "check",
+        Reading::TraceMet => false,
+    }
+}
+
+// Whether this word with this option is the line of this command.
+fn is_reading_with(reading: Reading, word: &str, option: &str) -> bool
+    ensures { IsTrue result ↔ (reading_with word.now option.now ≡ Some reading) }
+{
+    match reading {
+        Reading::TraceMet => word == "trace" && option == "--met",
+        _ => false,
+    }
+}
+
+// Whether the words are the line of this command.
+fn is_execution(execution: Execution, words: &[String]) -> bool
+    ensures { IsTrue result ↔ (execution_of (map string_bytes words.now) ≡ Some execution) }
+{
+    let count = words.len();
+    if count == 1 {
+        is_execution_named(execution, words[0].as_str())
+    } else if count == 2 {
+        is_execution_with(execution, words[0].as_str(), words[1].as_str())
     } else if count == 3 {
-        is_name_with_value(
-            command,
+        is_execution_with_value(
+            execution,
             words[0].as_str(),
             words[1].as_str(),
             words[2].as_str(),
@@ -73,33 +112,25 @@ fn is_spelled(command: Command, words: &[String]) -> bool
 }
 
 // Whether this word alone is the line of this command.
-fn is_name(command: Command, word: &str) -> bool
-    ensures { IsTrue result ↔ (command_named word.now ≡ Some command) }
+fn is_execution_named(execution: Execution, word: &str) -> bool
+    ensures { IsTrue result ↔ (execution_named word.now ≡ Some execution) }
 {
-    match command {
-        Command::Rate => word == "rate",
-        Command::Tree => word == "tree",
-        Command::Trace => word == "trace",
-        Command::TraceMet => false,
-        Command::Check => word == "check",
-        Command::Exec { window } => word == "exec" && window == USUAL_WINDOW,
-        Command::ExecMet => false,
-        Command::Drill { .. } => false,
+    match execution {
+        Execution::Exec { window } => word == "exec" && window == USUAL_WINDOW,
+        Execution::ExecMet | Execution::Drill { .. } => false,
     }
 }
 
 // Whether this word with this option or value is the line of this command.
-fn is_name_with(command: Command, word: &str, option: &str) -> bool
-    ensures { IsTrue result ↔ (command_with word.now option.now ≡ Some command) }
+fn is_execution_with(execution: Execution, word: &str, option: &str) -> bool
+    ensures { IsTrue result ↔ (execution_with word.now option.now ≡ Some execution) }
 {
-    match command {
-        Command::TraceMet => word == "trace" && option == "--met",
-        Command::Exec { window } => word == "exec" && is_window_option(option, window),
-        Command::ExecMet => word == "exec" && option == "--met",
-        Command::Drill { number } => {
+    match execution {
+        Execution::Exec { window } => word == "exec" && is_window_option(option, window),
+        Execution::ExecMet => word == "exec" && option == "--met",
+        Execution::Drill { number } => {
             word == "drill" && drill_of(option.as_bytes()) == Some(number)
         }
-        _ => false,
     }
 }
 
@@ -114,11 +145,11 @@ fn is_window_option(option: &str, window: u32) -> bool
 }
 
 // Whether this word with this option and its value is the line of this command.
-fn is_name_with_value(command: Command, word: &str, option: &str, value: &str) -> bool
-    ensures { IsTrue result ↔ (command_with_value word.now option.now value.now ≡ Some command) }
+fn is_execution_with_value(execution: Execution, word: &str, option: &str, value: &str) -> bool
+    ensures { IsTrue result ↔ (execution_with_value word.now option.now value.now ≡ Some execution) }
 {
-    match command {
-        Command::Exec { window } => {
+    match execution {
+        Execution::Exec { window } => {
             word == "exec" && option == "--window" && window_of(value.as_bytes()) == Some(window)
         }
         _ => false,
@@ -126,10 +157,10 @@ fn is_name_with_value(command: Command, word: &str, option: &str, value: &str) -
 }
 
 /// `exec` with the window that a word writes.
-pub(crate) fn exec_with(word: &[u8]) -> Option<Command>
+pub(crate) fn exec_with(word: &[u8]) -> Option<Execution>
     ensures { result ≡ exec_with word.now }
 {
-    window_of(word).map(|window| Command::Exec { window })
+    window_of(word).map(|window| Execution::Exec { window })
 }
 
 // The window that a word writes.
@@ -143,10 +174,10 @@ fn window_of(word: &[u8]) -> Option<u32>
 }
 
 /// `drill` with the number that a word writes.
-pub(crate) fn drill_with(word: &[u8]) -> Option<Command>
+pub(crate) fn drill_with(word: &[u8]) -> Option<Execution>
     ensures { result ≡ drill_with word.now }
 {
-    drill_of(word).map(|number| Command::Drill { number })
+    drill_of(word).map(|number| Execution::Drill { number })
 }
 
 // The number of a drill that a word writes.

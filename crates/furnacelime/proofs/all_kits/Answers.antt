@@ -8,7 +8,8 @@ pub loop-init : goal.loop-init
 loop-init c = no_gates _ _ _ c.new-kits.ensures.items
 
 pub loop-preserved : goal.loop-preserved
-loop-preserved c = more_gates _ _ c.loop.counter _ _ _ c.loop.invariant (c.in_ok-push.ensures.items ∙ ap (λ kit. c.loop.kits.items ++ kit ∷ []) c.new-in-loop.ensures) tt
+loop-preserved c =
+    more_gates _ _ c.loop.counter _ _ _ c.loop.invariant (c.in_ok-push.ensures.items ∙ ap (λ kit. c.loop.kits.items ++ kit ∷ []) c.new-in-loop.ensures) tt
 
 pub returns : goal.returns
 returns c =

@@ -117,6 +117,13 @@ pub(super) fn call<X: Abort + Threads + Wait + Sync>(
     })
 }
 
+/// Makes sure that the call ended with this status, and what `out` and `err` took.
+pub(super) fn assert_told(rt: &impl Abort, left: &Left, status: Status, out: &str, err: &str) {
+    assert_eq!(rt; left.status, status, "{out} {err}");
+    assert_eq!(rt; left.out.as_slice(), out.as_bytes(), "{out} {err}");
+    assert_eq!(rt; left.err.as_slice(), err.as_bytes(), "{out} {err}");
+}
+
 fn owned(alloc: Global, words: &[&str]) -> Result<Vec<String>, AllocError> {
     let mut owned = Vec::new(alloc);
     for word in words {

@@ -1,6 +1,6 @@
 //! Checks of traces: the worked ones, hostile ones, and faults in mid-stream.
 
-use super::calls::{Outside, SURE, call};
+use super::calls::{Outside, SURE, assert_told, call};
 use super::texts::LATE_ROWS;
 use run_tool::Status;
 use std::alloc::{AllocError, Global};
@@ -160,9 +160,7 @@ fn verdicts_of_three_tasks(rt: HostRuntime) -> Result<(), Fail> {
     for (changes, status, out, err) in rows {
         let text = changed(rt.alloc(), changes)?;
         let left = call(&rt, rt.alloc(), &["check"], &text, &SURE)?;
-        assert_eq!(rt; left.status, status);
-        assert_eq!(rt; left.out.as_slice(), out.as_bytes());
-        assert_eq!(rt; left.err.as_slice(), err.as_bytes());
+        assert_told(&rt, &left, status, out, err);
     }
     Ok(())
 }
@@ -192,7 +190,7 @@ fn texts_cut_and_doubled(rt: HostRuntime) -> Result<(), Fail> {
     ];
     let mut cut = Vec::new(rt.alloc());
     let left = call(&rt, rt.alloc(), &["check"], &cut, &SURE)?;
-    assert_eq!(rt; left.err.as_slice(), b"refused 6 BadLine 1\n".as_slice());
+    assert_told(&rt, &left, Status::BadInput, "", "refused 6 BadLine 1\n");
     for (i, (at_cut, at_double)) in faults.iter().enumerate() {
         cut.extend_from_slice(LINES[i].as_bytes())?;
         // The last line feed may be missing.
@@ -208,12 +206,10 @@ fn texts_cut_and_doubled(rt: HostRuntime) -> Result<(), Fail> {
             doubled.push(b'\n')?;
         }
         let left = call(&rt, rt.alloc(), &["check"], &doubled, &SURE)?;
-        assert_eq!(rt; left.status, Status::BadInput);
-        assert_eq!(rt; left.err.as_slice(), at_double.as_bytes());
-        assert_eq!(rt; left.out.as_slice(), b"".as_slice());
+        assert_told(&rt, &left, Status::BadInput, "", at_double);
     }
     let left = call(&rt, rt.alloc(), &["check"], &cut, &SURE)?;
-    assert_eq!(rt; left.out.as_slice(), REPORT.as_bytes());
+    assert_told(&rt, &left, Status::Done, REPORT, "");
     Ok(())
 }
 
@@ -235,14 +231,16 @@ fn checks_of_other_traces(rt: HostRuntime) -> Result<(), Fail> {
         ),
         // The finish of a period is wrong.
         (
-            "run-trace 2\nprocessors 1\nhorizon 5\nscale 2\ntasks 2\ntask a 1 2 1\ntask b 1 2 0\nrow 0 0 1 -\nrow 0 1 3 b\nrow 0 3 5 a\nrow 0 5 7 b\nrow 0 7 9 a\nrow 0 9 10 b\ntotal a 4\ntotal b 5\nmet a 0 4\nmet a 1 9\nmet b 0 3\nmet b 1 7\nrows 6\n",
+            "run-trace 2\nprocessors 1\nhorizon 5\nscale 2\ntasks 2\ntask a 1 2 1\ntask b 1 2 0\nrow 0 0 1 -\nrow 0 1 3 b\nrow 0 3 5 a\n\
+                row 0 5 7 b\nrow 0 7 9 a\nrow 0 9 10 b\ntotal a 4\ntotal b 5\nmet a 0 4\nmet a 1 9\nmet b 0 3\nmet b 1 7\nrows 6\n",
             Status::BadInput,
             "",
             "refused 6 BadLine 16\n",
         ),
         // A row before the first release.
         (
-            "run-trace 2\nprocessors 1\nhorizon 5\nscale 2\ntasks 2\ntask a 1 2 1\ntask b 1 2 0\nrow 0 0 1 a\nrow 0 1 3 b\nrow 0 3 5 a\nrow 0 5 7 b\nrow 0 7 9 a\nrow 0 9 10 b\ntotal a 5\ntotal b 5\nmet a 0 5\nmet a 1 9\nmet b 0 3\nmet b 1 7\nrows 6\n",
+            "run-trace 2\nprocessors 1\nhorizon 5\nscale 2\ntasks 2\ntask a 1 2 1\ntask b 1 2 0\nrow 0 0 1 a\nrow 0 1 3 b\nrow 0 3 5 a\n\
+                row 0 5 7 b\nrow 0 7 9 a\nrow 0 9 10 b\ntotal a 5\ntotal b 5\nmet a 0 5\nmet a 1 9\nmet b 0 3\nmet b 1 7\nrows 6\n",
             Status::Invalid,
             "invalid line 8 early\n",
             "",
@@ -258,9 +256,7 @@ fn checks_of_other_traces(rt: HostRuntime) -> Result<(), Fail> {
     ];
     for (input, status, out, err) in rows {
         let left = call(&rt, rt.alloc(), &["check"], input.as_bytes(), &SURE)?;
-        assert_eq!(rt; left.status, status, "of {input}");
-        assert_eq!(rt; left.out.as_slice(), out.as_bytes(), "of {input}");
-        assert_eq!(rt; left.err.as_slice(), err.as_bytes(), "of {input}");
+        assert_told(&rt, &left, status, out, err);
     }
     Ok(())
 }
@@ -321,9 +317,7 @@ fn a_fault_leaves_the_lines_before(rt: HostRuntime) -> Result<(), Fail> {
     for (changes, fails, status, out, err) in rows {
         let text = changed(rt.alloc(), changes)?;
         let left = call(&rt, rt.alloc(), &["check"], &text, &fails)?;
-        assert_eq!(rt; left.status, status);
-        assert_eq!(rt; left.out.as_slice(), out.as_bytes());
-        assert_eq!(rt; left.err.as_slice(), err.as_bytes());
+        assert_told(&rt, &left, status, out, err);
     }
     Ok(())
 }

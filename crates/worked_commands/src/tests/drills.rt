@@ -1,6 +1,6 @@
 //! Drills: task sets that are drawn from a number, executed and judged.
 
-use super::calls::{Outside, SURE, call};
+use super::calls::{Outside, SURE, assert_told, call};
 use super::lanes::assert_worked;
 use run_tool::Status;
 use std::alloc::Global;
@@ -31,7 +31,10 @@ struct Drill {
 
 const FIRST: Drill = Drill {
     number: "1",
-    set: "processors = 4\nhorizon = 6000\ntask = [{name = \"t0\", work = 15, period = 20}, {name = \"t1\", work = 5, period = 5}, {name = \"t2\", work = 1, period = 10}, {name = \"t3\", work = 1, period = 4}, {name = \"t4\", work = 5, period = 12}, {name = \"t5\", work = 7, period = 10}, {name = \"t6\", work = 11, period = 30}, {name = \"t7\", work = 4, period = 20}, {name = \"t8\", work = 2, period = 10}]\n",
+    set: "processors = 4\nhorizon = 6000\ntask = [{name = \"t0\", work = 15, period = 20}, {name = \"t1\", work = 5, period = 5}, \
+        {name = \"t2\", work = 1, period = 10}, {name = \"t3\", work = 1, period = 4}, {name = \"t4\", work = 5, period = 12}, \
+        {name = \"t5\", work = 7, period = 10}, {name = \"t6\", work = 11, period = 30}, {name = \"t7\", work = 4, period = 20}, \
+        {name = \"t8\", work = 2, period = 10}]\n",
     head: "tasks 9\nscale 60\n",
     rounds: 8600,
     counts: "rows 9101\npreemptions 4300\nmigrations 2700\n",
@@ -42,7 +45,9 @@ const FIRST: Drill = Drill {
 
 const SECOND: Drill = Drill {
     number: "2",
-    set: "processors = 4\nhorizon = 6000\ntask = [{name = \"t0\", work = 2, period = 4}, {name = \"t1\", work = 4, period = 5}, {name = \"t2\", work = 12, period = 12}, {name = \"t3\", work = 1, period = 5}, {name = \"t4\", work = 9, period = 12}, {name = \"t5\", work = 19, period = 30}]\n",
+    set: "processors = 4\nhorizon = 6000\ntask = [{name = \"t0\", work = 2, period = 4}, {name = \"t1\", work = 4, period = 5}, \
+        {name = \"t2\", work = 12, period = 12}, {name = \"t3\", work = 1, period = 5}, {name = \"t4\", work = 9, period = 12}, \
+        {name = \"t5\", work = 19, period = 30}]\n",
     head: "tasks 6\nscale 60\n",
     rounds: 9300,
     counts: "rows 9303\npreemptions 5000\nmigrations 3900\n",
@@ -51,7 +56,11 @@ const SECOND: Drill = Drill {
 
 const LAST: Drill = Drill {
     number: "18446744073709551615",
-    set: "processors = 4\nhorizon = 6000\ntask = [{name = \"t0\", work = 3, period = 20}, {name = \"t1\", work = 2, period = 12}, {name = \"t2\", work = 3, period = 6}, {name = \"t3\", work = 2, period = 15}, {name = \"t4\", work = 1, period = 6}, {name = \"t5\", work = 18, period = 30}, {name = \"t6\", work = 6, period = 12}, {name = \"t7\", work = 2, period = 20}, {name = \"t8\", work = 5, period = 5}, {name = \"t9\", work = 1, period = 20}, {name = \"t10\", work = 6, period = 30}, {name = \"t11\", work = 11, period = 30}, {name = \"t12\", work = 1, period = 15}]\n",
+    set: "processors = 4\nhorizon = 6000\ntask = [{name = \"t0\", work = 3, period = 20}, {name = \"t1\", work = 2, period = 12}, \
+        {name = \"t2\", work = 3, period = 6}, {name = \"t3\", work = 2, period = 15}, {name = \"t4\", work = 1, period = 6}, \
+        {name = \"t5\", work = 18, period = 30}, {name = \"t6\", work = 6, period = 12}, {name = \"t7\", work = 2, period = 20}, \
+        {name = \"t8\", work = 5, period = 5}, {name = \"t9\", work = 1, period = 20}, {name = \"t10\", work = 6, period = 30}, \
+        {name = \"t11\", work = 11, period = 30}, {name = \"t12\", work = 1, period = 15}]\n",
     head: "tasks 13\nscale 60\n",
     rounds: 7500,
     counts: "rows 9101\npreemptions 3800\nmigrations 1900\n",
@@ -152,9 +161,7 @@ fn drills_that_stop(rt: HostRuntime) -> Result<(), Fail> {
     ];
     for (outside, status, out, err) in rows {
         let left = call(&rt, rt.alloc(), &["drill", "1"], b"unread", &outside)?;
-        assert_eq!(rt; left.status, status);
-        assert_eq!(rt; left.out.as_slice(), out.as_bytes());
-        assert_eq!(rt; left.err.as_slice(), err.as_bytes());
+        assert_told(&rt, &left, status, out, err);
         assert_eq!(rt; left.unread, 6);
     }
     Ok(())

@@ -1,6 +1,6 @@
 //! Faults of the streams in mid-stream, and the end of a run.
 
-use super::calls::{Outside, SURE, call};
+use super::calls::{Outside, SURE, assert_told, call};
 use super::texts::{THREE_RATES, THREE_TASKS};
 use run_tool::{Status, close_run};
 use sched_edges::{Failed, MemSink};
@@ -41,9 +41,7 @@ fn faults_leave_a_first_part(rt: HostRuntime) -> Result<(), Fail> {
     ];
     for (fails, status, out, err) in rows {
         let left = call(&rt, rt.alloc(), &["rate"], THREE_TASKS.as_bytes(), &fails)?;
-        assert_eq!(rt; left.status, status);
-        assert_eq!(rt; left.out.as_slice(), out.as_bytes());
-        assert_eq!(rt; left.err.as_slice(), err.as_bytes());
+        assert_told(&rt, &left, status, out, err);
     }
     Ok(())
 }
@@ -71,7 +69,7 @@ fn a_text_kept_back_is_not_lost_silently(rt: HostRuntime) -> Result<(), Fail> {
     ];
     for (status, flushed, at_the_end, line) in rows {
         let mut err = MemSink::new(rt.alloc(), 64, &[])?;
-        let closed = close_run(rt.alloc(), status, flushed, &mut err);
+        let closed = close_run(status, flushed, &mut err);
         assert_eq!(rt; closed, at_the_end);
         assert_eq!(rt; err.taken(), line.as_bytes());
     }

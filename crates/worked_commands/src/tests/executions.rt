@@ -1,6 +1,6 @@
 //! Executions of worked sets: the text is that of `trace`, whatever the window.
 
-use super::calls::{Outside, SURE, call};
+use super::calls::{Outside, SURE, assert_told, call};
 use super::lanes::{
     THREE_TICKS, TWO_TICKS, assert_idle, assert_ran, assert_worked, three_lanes, two_lanes,
 };
@@ -24,9 +24,7 @@ const LINES: [&[&str]; 6] = [
 fn three_tasks_in_each_window(rt: HostRuntime) -> Result<(), Fail> {
     for words in LINES {
         let left = call(&rt, rt.alloc(), words, THREE_TASKS.as_bytes(), &SURE)?;
-        assert_eq!(rt; left.status, Status::Done);
-        assert_eq!(rt; left.out.as_slice(), THREE_ROWS.as_bytes());
-        assert_eq!(rt; left.err.as_slice(), b"".as_slice());
+        assert_told(&rt, &left, Status::Done, THREE_ROWS, "");
         assert_eq!(rt; left.unread, 0);
         assert_ran(&rt, &left, &three_lanes(), &THREE_TICKS);
     }
@@ -37,9 +35,7 @@ fn three_tasks_in_each_window(rt: HostRuntime) -> Result<(), Fail> {
 fn two_reductions_in_each_window(rt: HostRuntime) -> Result<(), Fail> {
     for words in LINES {
         let left = call(&rt, rt.alloc(), words, TWO_REDUCTIONS.as_bytes(), &SURE)?;
-        assert_eq!(rt; left.status, Status::Done);
-        assert_eq!(rt; left.out.as_slice(), TWO_ROWS.as_bytes());
-        assert_eq!(rt; left.err.as_slice(), b"".as_slice());
+        assert_told(&rt, &left, Status::Done, TWO_ROWS, "");
         assert_eq!(rt; left.unread, 0);
         assert_ran(&rt, &left, &two_lanes(), &TWO_TICKS);
     }
@@ -60,9 +56,7 @@ fn executions_of_other_sets(rt: HostRuntime) -> Result<(), Fail> {
     ];
     for (words, input, out, ticks) in rows {
         let left = call(&rt, rt.alloc(), words, input.as_bytes(), &SURE)?;
-        assert_eq!(rt; left.status, Status::Done, "of {input}");
-        assert_eq!(rt; left.out.as_slice(), out.as_bytes(), "of {input}");
-        assert_eq!(rt; left.err.as_slice(), b"".as_slice(), "of {input}");
+        assert_told(&rt, &left, Status::Done, out, "");
         assert_worked(&rt, &left, ticks);
     }
     Ok(())
@@ -105,7 +99,8 @@ fn a_set_that_is_refused_calls_no_gate(rt: HostRuntime) -> Result<(), Fail> {
             "refused 7 Overload total 7 room 6\n",
         ),
         (
-            "processors = 1\nhorizon = 1\ntask = [{name = \"a\", work = 1, period = 4294967295}, {name = \"b\", work = 1, period = 4294967294}, {name = \"c\", work = 1, period = 4294967293}]\n",
+            "processors = 1\nhorizon = 1\ntask = [{name = \"a\", work = 1, period = 4294967295}, \
+                {name = \"b\", work = 1, period = 4294967294}, {name = \"c\", work = 1, period = 4294967293}]\n",
             Status::ScaleTooLarge,
             "refused 8 ScaleTooLarge task 2\n",
         ),
@@ -113,9 +108,7 @@ fn a_set_that_is_refused_calls_no_gate(rt: HostRuntime) -> Result<(), Fail> {
     ];
     for (input, status, err) in rows {
         let left = call(&rt, rt.alloc(), &["exec"], input.as_bytes(), &SURE)?;
-        assert_eq!(rt; left.status, status, "of {input}");
-        assert_eq!(rt; left.out.as_slice(), b"".as_slice(), "of {input}");
-        assert_eq!(rt; left.err.as_slice(), err.as_bytes(), "of {input}");
+        assert_told(&rt, &left, status, "", err);
         assert_idle(&rt, &left);
     }
     Ok(())
@@ -127,11 +120,12 @@ fn rounds_past_the_limit_call_no_gate(rt: HostRuntime) -> Result<(), Fail> {
     let input =
         "processors = 1\nhorizon = 2097153\ntask = [{name = \"a\", work = 1, period = 1}]\n";
     let left = call(&rt, rt.alloc(), &["exec"], input.as_bytes(), &SURE)?;
-    assert_eq!(rt; left.status, Status::TooLong);
-    assert_eq!(rt; left.out.as_slice(), b"".as_slice());
-    assert_eq!(rt;
-        left.err.as_slice(),
-        b"refused 9 TooLong rows 2097153\n".as_slice()
+    assert_told(
+        &rt,
+        &left,
+        Status::TooLong,
+        "",
+        "refused 9 TooLong rows 2097153\n",
     );
     assert_idle(&rt, &left);
     Ok(())

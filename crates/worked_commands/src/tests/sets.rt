@@ -1,6 +1,6 @@
 //! The commands `rate` and `tree` on worked sets.
 
-use super::calls::{SURE, call};
+use super::calls::{SURE, assert_told, call};
 use super::texts::{
     NINE_TASKS, NO_TASKS, ONE_IDLE, OVERLOAD, THREE_RATES, THREE_TASKS, TWO_REDUCTIONS,
 };
@@ -18,9 +18,11 @@ fn each_end_has_its_texts(rt: HostRuntime) -> Result<(), Fail> {
             "",
         ),
         (
-            "processors = 1\nhorizon = 1\ntask = [{name = \"a\", work = 1, period = 4294967295}, {name = \"b\", work = 1, period = 4294967294}, {name = \"c\", work = 1, period = 1073741822}]\n",
+            "processors = 1\nhorizon = 1\ntask = [{name = \"a\", work = 1, period = 4294967295}, \
+                {name = \"b\", work = 1, period = 4294967294}, {name = \"c\", work = 1, period = 1073741822}]\n",
             Status::Done,
-            "processors 1\nhorizon 1\ntasks 3\nscale 9903520288918769111801004030\nrate a 2305843003844984834\nrate b 2305843004381855745\nrate c 9223372030412324865\ntotal 13835058038639165444\nroom 9903520288918769111801004030\nverdict fits\n",
+            "processors 1\nhorizon 1\ntasks 3\nscale 9903520288918769111801004030\nrate a 2305843003844984834\nrate b 2305843004381855745\n\
+                rate c 9223372030412324865\ntotal 13835058038639165444\nroom 9903520288918769111801004030\nverdict fits\n",
             "",
         ),
         (
@@ -30,14 +32,16 @@ fn each_end_has_its_texts(rt: HostRuntime) -> Result<(), Fail> {
             "refused 7 Overload total 7 room 6\n",
         ),
         (
-            "processors = 1\nhorizon = 1\ntask = [{name = \"a\", work = 1, period = 4294967295}, {name = \"b\", work = 1, period = 4294967294}, {name = \"c\", work = 1, period = 4294967293}]\n",
+            "processors = 1\nhorizon = 1\ntask = [{name = \"a\", work = 1, period = 4294967295}, \
+                {name = \"b\", work = 1, period = 4294967294}, {name = \"c\", work = 1, period = 4294967293}]\n",
             Status::ScaleTooLarge,
             "",
             "refused 8 ScaleTooLarge task 2\n",
         ),
         // It asks for too much besides, which comes later in the order.
         (
-            "processors = 1\nhorizon = 1\ntask = [{name = \"a\", work = 4294967295, period = 4294967295}, {name = \"b\", work = 4294967294, period = 4294967294}, {name = \"c\", work = 4294967293, period = 4294967293}]\n",
+            "processors = 1\nhorizon = 1\ntask = [{name = \"a\", work = 4294967295, period = 4294967295}, \
+                {name = \"b\", work = 4294967294, period = 4294967294}, {name = \"c\", work = 4294967293, period = 4294967293}]\n",
             Status::ScaleTooLarge,
             "",
             "refused 8 ScaleTooLarge task 2\n",
@@ -93,9 +97,7 @@ fn each_end_has_its_texts(rt: HostRuntime) -> Result<(), Fail> {
     ];
     for (input, status, out, err) in rows {
         let left = call(&rt, rt.alloc(), &["rate"], input.as_bytes(), &SURE)?;
-        assert_eq!(rt; left.status, status, "of {input}");
-        assert_eq!(rt; left.out.as_slice(), out.as_bytes(), "of {input}");
-        assert_eq!(rt; left.err.as_slice(), err.as_bytes(), "of {input}");
+        assert_told(&rt, &left, status, out, err);
     }
     Ok(())
 }
@@ -106,31 +108,37 @@ fn trees_of_worked_sets(rt: HostRuntime) -> Result<(), Fail> {
         // One idle leaf takes the slack.
         (
             ONE_IDLE,
-            "run-tree 1\nprocessors 2\nhorizon 5\nscale 5\ntasks 3\ntask a 3 5\ntask b 3 5\ntask c 3 5\nidles 1\nidle 0 1\nlevel 0 3\npack 4 a -0\npack 3 b\npack 3 c\nlevel 1 1\npack 5 ~0 ~1 ~2\nlevels 2\n",
+            "run-tree 1\nprocessors 2\nhorizon 5\nscale 5\ntasks 3\ntask a 3 5\ntask b 3 5\ntask c 3 5\nidles 1\nidle 0 1\nlevel 0 3\n\
+                pack 4 a -0\npack 3 b\npack 3 c\nlevel 1 1\npack 5 ~0 ~1 ~2\nlevels 2\n",
         ),
         // Two reductions.
         (
             TWO_REDUCTIONS,
-            "run-tree 1\nprocessors 3\nhorizon 5\nscale 5\ntasks 5\ntask a 3 5\ntask b 3 5\ntask c 3 5\ntask d 3 5\ntask e 3 5\nidles 0\nlevel 0 5\npack 3 a\npack 3 b\npack 3 c\npack 3 d\npack 3 e\nlevel 1 3\npack 4 ~0 ~1\npack 4 ~2 ~3\npack 2 ~4\nlevel 2 1\npack 5 ~0 ~1 ~2\nlevels 3\n",
+            "run-tree 1\nprocessors 3\nhorizon 5\nscale 5\ntasks 5\ntask a 3 5\ntask b 3 5\ntask c 3 5\ntask d 3 5\ntask e 3 5\nidles 0\n\
+                level 0 5\npack 3 a\npack 3 b\npack 3 c\npack 3 d\npack 3 e\nlevel 1 3\npack 4 ~0 ~1\npack 4 ~2 ~3\npack 2 ~4\nlevel 2 1\n\
+                pack 5 ~0 ~1 ~2\nlevels 3\n",
         ),
         // Nine tasks of a vehicle, in microseconds.
         (
             NINE_TASKS,
-            "run-tree 1\nprocessors 4\nhorizon 1000000\nscale 1000000\ntasks 9\ntask control 600 1000\ntask sense 1200 2000\ntask fuse 3000 5000\ntask plan 6000 10000\ntask video 12000 20000\ntask log 10000 50000\ntask net 30000 100000\ntask store 60000 200000\ntask health 200000 1000000\nidles 0\nlevel 0 5\npack 1000000 control log health\npack 900000 sense net\npack 900000 fuse store\npack 600000 plan\npack 600000 video\nlevel 1 1\npack 1000000 ~1 ~2 ~3 ~4\nlevels 2\n",
+            "run-tree 1\nprocessors 4\nhorizon 1000000\nscale 1000000\ntasks 9\ntask control 600 1000\ntask sense 1200 2000\n\
+                task fuse 3000 5000\ntask plan 6000 10000\ntask video 12000 20000\ntask log 10000 50000\ntask net 30000 100000\n\
+                task store 60000 200000\ntask health 200000 1000000\nidles 0\nlevel 0 5\npack 1000000 control log health\n\
+                pack 900000 sense net\npack 900000 fuse store\npack 600000 plan\npack 600000 video\nlevel 1 1\npack 1000000 ~1 ~2 ~3 ~4\n\
+                levels 2\n",
         ),
     ];
     for (input, out) in rows {
         let left = call(&rt, rt.alloc(), &["tree"], input.as_bytes(), &SURE)?;
-        assert_eq!(rt; left.status, Status::Done);
-        assert_eq!(rt; left.out.as_slice(), out.as_bytes());
-        assert_eq!(rt; left.err.as_slice(), b"".as_slice());
+        assert_told(&rt, &left, Status::Done, out, "");
     }
     let left = call(&rt, rt.alloc(), &["tree"], OVERLOAD.as_bytes(), &SURE)?;
-    assert_eq!(rt; left.status, Status::Overload);
-    assert_eq!(rt; left.out.as_slice(), b"".as_slice());
-    assert_eq!(rt;
-        left.err.as_slice(),
-        b"refused 7 Overload total 7 room 6\n".as_slice()
+    assert_told(
+        &rt,
+        &left,
+        Status::Overload,
+        "",
+        "refused 7 Overload total 7 room 6\n",
     );
     Ok(())
 }
@@ -142,14 +150,15 @@ fn a_set_has_at_most_a_mebibyte(rt: HostRuntime) -> Result<(), Fail> {
         bytes.push(b'\n')?;
     }
     let left = call(&rt, rt.alloc(), &["rate"], &bytes, &SURE)?;
-    assert_eq!(rt; left.status, Status::Done);
-    assert_eq!(rt; left.out.as_slice(), THREE_RATES.as_bytes());
+    assert_told(&rt, &left, Status::Done, THREE_RATES, "");
     bytes.push(b'\n')?;
     let left = call(&rt, rt.alloc(), &["rate"], &bytes, &SURE)?;
-    assert_eq!(rt; left.status, Status::InputTooLong);
-    assert_eq!(rt;
-        left.err.as_slice(),
-        b"refused 12 InputTooLong 1048577\n".as_slice()
+    assert_told(
+        &rt,
+        &left,
+        Status::InputTooLong,
+        "",
+        "refused 12 InputTooLong 1048577\n",
     );
     Ok(())
 }

@@ -1,6 +1,6 @@
 //! Executions that a gate or a job stops.
 
-use super::calls::{Left, Outside, SURE, Worked, call};
+use super::calls::{Left, Outside, SURE, Worked, assert_told, call};
 use super::lanes::{assert_ran_first, assert_stands, three_lanes, two_lanes};
 use super::texts::{THREE_TASKS, TWO_REDUCTIONS};
 use run_tool::Status;
@@ -20,11 +20,12 @@ fn a_gate_of_three_tasks_fails(rt: HostRuntime) -> Result<(), Fail> {
         ..SURE
     };
     let left = call(&rt, rt.alloc(), &["exec"], THREE_TASKS.as_bytes(), &outside)?;
-    assert_eq!(rt; left.status, Status::GateFault);
-    assert_eq!(rt; left.out.as_slice(), b"".as_slice());
-    assert_eq!(rt;
-        left.err.as_slice(),
-        b"refused 10 GateFault processor 1 row 3 6 c\n".as_slice()
+    assert_told(
+        &rt,
+        &left,
+        Status::GateFault,
+        "",
+        "refused 10 GateFault processor 1 row 3 6 c\n",
     );
     assert_stands(&rt, &left, &three_lanes(), 1, 1);
     assert_ran_first(&rt, &left, &three_lanes(), 3);
@@ -44,11 +45,12 @@ fn a_job_of_three_tasks_fails(rt: HostRuntime) -> Result<(), Fail> {
         ..SURE
     };
     let left = call(&rt, rt.alloc(), &["exec"], THREE_TASKS.as_bytes(), &outside)?;
-    assert_eq!(rt; left.status, Status::JobFault);
-    assert_eq!(rt; left.out.as_slice(), b"".as_slice());
-    assert_eq!(rt;
-        left.err.as_slice(),
-        b"refused 11 JobFault task c processor 1 row 0 3\n".as_slice()
+    assert_told(
+        &rt,
+        &left,
+        Status::JobFault,
+        "",
+        "refused 11 JobFault task c processor 1 row 0 3\n",
     );
     assert_stands(&rt, &left, &three_lanes(), 1, 1);
     assert_ran_first(&rt, &left, &three_lanes(), 3);
@@ -156,9 +158,7 @@ fn fail_gates<X: Abort + Threads + Wait + Sync>(
         };
         let words = ["exec", "--window", word];
         let left = call(rt, alloc, &words, TWO_REDUCTIONS.as_bytes(), &outside)?;
-        assert_eq!(rt; left.status, Status::GateFault, "of {line}");
-        assert_eq!(rt; left.out.as_slice(), b"".as_slice(), "of {line}");
-        assert_eq!(rt; left.err.as_slice(), line.as_bytes());
+        assert_told(rt, &left, Status::GateFault, "", line);
         // The rows before the failed one were run, and no processor was further ahead than the window.
         let ran = fault.call.saturating_sub(1) as usize;
         assert_stands(rt, &left, &two_lanes(), fault.processor, ran);
@@ -244,9 +244,7 @@ fn fail_jobs<X: Abort + Threads + Wait + Sync>(
         };
         let words = ["exec", "--window", word];
         let left = call(rt, alloc, &words, TWO_REDUCTIONS.as_bytes(), &outside)?;
-        assert_eq!(rt; left.status, Status::JobFault, "of {line}");
-        assert_eq!(rt; left.out.as_slice(), b"".as_slice(), "of {line}");
-        assert_eq!(rt; left.err.as_slice(), line.as_bytes());
+        assert_told(rt, &left, Status::JobFault, "", line);
         // The gate ran the row at which the job failed.
         let ran = fault.before.saturating_add(1);
         assert_stands(rt, &left, &two_lanes(), fault.processor, ran);

@@ -1,6 +1,6 @@
 //! Executions over streams that fail.
 
-use super::calls::{Outside, SURE, call};
+use super::calls::{Outside, SURE, assert_told, call};
 use super::lanes::{
     TWO_TICKS, assert_idle, assert_ran, assert_ran_first, assert_stands, two_lanes,
 };
@@ -22,9 +22,7 @@ fn the_source_fails(rt: HostRuntime) -> Result<(), Fail> {
         for (source, unread) in rows {
             let outside = Outside { source, ..SURE };
             let left = call(&rt, rt.alloc(), words, TWO_REDUCTIONS.as_bytes(), &outside)?;
-            assert_eq!(rt; left.status, Status::ReadFault);
-            assert_eq!(rt; left.out.as_slice(), b"".as_slice());
-            assert_eq!(rt; left.err.as_slice(), b"refused 3 ReadFault\n".as_slice());
+            assert_told(&rt, &left, Status::ReadFault, "", "refused 3 ReadFault\n");
             assert_eq!(rt; left.unread, unread);
             assert_idle(&rt, &left);
         }
@@ -54,9 +52,13 @@ fn out_fails_after_all_rows_ran(rt: HostRuntime) -> Result<(), Fail> {
                 ..SURE
             };
             let left = call(&rt, rt.alloc(), words, TWO_REDUCTIONS.as_bytes(), &outside)?;
-            assert_eq!(rt; left.status, Status::WriteFault);
-            assert_eq!(rt; left.out.as_slice(), taken.as_bytes());
-            assert_eq!(rt; left.err.as_slice(), b"refused 4 WriteFault\n".as_slice());
+            assert_told(
+                &rt,
+                &left,
+                Status::WriteFault,
+                taken,
+                "refused 4 WriteFault\n",
+            );
             assert_ran(&rt, &left, &two_lanes(), &TWO_TICKS);
         }
     }
@@ -89,16 +91,12 @@ fn a_fault_of_err_changes_nothing_else(rt: HostRuntime) -> Result<(), Fail> {
                 ..sure
             };
             let left = call(&rt, rt.alloc(), words, TWO_REDUCTIONS.as_bytes(), &outside)?;
-            assert_eq!(rt; left.status, Status::GateFault);
-            assert_eq!(rt; left.out.as_slice(), b"".as_slice());
-            assert_eq!(rt; left.err.as_slice(), taken.as_bytes());
+            assert_told(&rt, &left, Status::GateFault, "", taken);
             assert_stands(&rt, &left, &two_lanes(), 1, 0);
             assert_ran_first(&rt, &left, &two_lanes(), 4);
             // Where all is done `err` isn't called.
             let left = call(&rt, rt.alloc(), words, TWO_REDUCTIONS.as_bytes(), &sure)?;
-            assert_eq!(rt; left.status, Status::Done);
-            assert_eq!(rt; left.out.as_slice(), TWO_ROWS.as_bytes());
-            assert_eq!(rt; left.err.as_slice(), b"".as_slice());
+            assert_told(&rt, &left, Status::Done, TWO_ROWS, "");
             assert_ran(&rt, &left, &two_lanes(), &TWO_TICKS);
         }
     }

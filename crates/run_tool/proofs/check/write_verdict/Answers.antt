@@ -9,7 +9,8 @@ use Rattle.run_tool.specs.declared.status.Status.TheVariants.{Done, Invalid}
 use Rattle.run_tool.proofs.check.write_verdict.Goals as goal
 
 -- where `out` failed, it took a first part of what is told
-told_in_part : {T E : Type 0} (result : Result T E) (t : Trace) (old new : Option (List ℕ)) (text : List ℕ) (status : Status) → TellsTrace t status text → TookPart old new text
+told_in_part : {T E : Type 0} (result : Result T E) (t : Trace) (old new : Option (List ℕ)) (text : List ℕ) (status : Status)
+    → TellsTrace t status text → TookPart old new text
     → OnErr result ((text : List ℕ) × (status : Status) × TellsTrace t status text × TookPart old new text)
 told_in_part (Ok x) t old new text status told took = tt
 told_in_part (Err e) t old new text status told took = (text, status, told, took)

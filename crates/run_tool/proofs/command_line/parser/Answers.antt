@@ -2,31 +2,42 @@ use Rattle.std.proofs.Common.{◌≡◌, ◌||◌, true, codes, ap, ap₂, ◌�
 use Rattle.std.proofs.lemmas.Result.{IfOk-weaker}
 use Rattle.clap.specs.Words.{App, app_of, new_app, with_rule, with_subcommand}
 use Rattle.clap.specs.Simple.{app_of_fields, on_top}
-use Rattle.run_tool.specs.CommandLine.{met, window, number, program}
+use Rattle.run_tool.specs.CommandLine.{met, window, number, program, with_rate, with_tree, with_trace, with_check, with_exec}
 use Rattle.run_tool.proofs.command_line.parser.Goals as goal
 
 pub returns : goal.returns
 returns c =
-    let trace_is : app_of c.in_ok-trace.trace ≡ with_rule (new_app (codes "trace")) met = c.in_ok-trace.ensures.shape c.met.ensures.local ∙ ap₂ with_rule c.new.ensures.app c.met.ensures.rule in
-    let half_is : app_of c.in_ok-arg.field-0 ≡ with_rule (new_app (codes "exec")) met = c.in_ok-arg.ensures.shape c.met-2.ensures.local ∙ ap₂ with_rule c.new-2.ensures.app c.met-2.ensures.rule in
-    let exec_is : app_of c.in_ok-exec.exec ≡ with_rule (with_rule (new_app (codes "exec")) met) window = c.in_ok-exec.ensures.shape c.window.ensures.local ∙ ap₂ with_rule half_is c.window.ensures.rule in
-    let drill_is : app_of c.in_ok-drill.drill ≡ with_rule (new_app (codes "drill")) number = c.in_ok-drill.ensures.shape c.number.ensures.local ∙ ap₂ with_rule c.new-3.ensures.app c.number.ensures.rule in
+    let trace_is : app_of c.in_ok-trace.trace ≡ with_rule (new_app (codes "trace")) met =
+    c.in_ok-trace.ensures.shape c.met.ensures.local ∙ ap₂ with_rule c.new.ensures.app c.met.ensures.rule in
+    let half_is : app_of c.in_ok-arg.field-0 ≡ with_rule (new_app (codes "exec")) met =
+    c.in_ok-arg.ensures.shape c.met-2.ensures.local ∙ ap₂ with_rule c.new-2.ensures.app c.met-2.ensures.rule in
+    let exec_is : app_of c.in_ok-exec.exec ≡ with_rule (with_rule (new_app (codes "exec")) met) window =
+    c.in_ok-exec.ensures.shape c.window.ensures.local ∙ ap₂ with_rule half_is c.window.ensures.rule in
+    let drill_is : app_of c.in_ok-drill.drill ≡ with_rule (new_app (codes "drill")) number =
+    c.in_ok-drill.ensures.shape c.number.ensures.local ∙ ap₂ with_rule c.new-3.ensures.app c.number.ensures.rule in
     let named : app_of c.no_binary_name.result ≡ on_top (λ s. record s { no_binary_name = true }) (new_app (codes "furnacelime")) =
     ap app_of_fields c.no_binary_name.ensures ∙ ap (on_top (λ s. record s { no_binary_name = true })) c.new-4.ensures.app in
-    let unflagged : app_of c.disable_help_flag.result ≡ on_top (λ s. record s { no_binary_name = true; disable_help_flag = true }) (new_app (codes "furnacelime")) =
+    let unflagged : app_of c.disable_help_flag.result ≡ on_top (λ s. record s { no_binary_name = true; disable_help_flag = true })
+    (new_app (codes "furnacelime")) =
     ap app_of_fields c.disable_help_flag.ensures ∙ ap (on_top (λ s. record s { disable_help_flag = true })) named in
-    let unhelped : app_of c.disable_help_subcommand.result ≡ on_top (λ s. record s { no_binary_name = true; disable_help_flag = true; disable_help_subcommand = true }) (new_app (codes "furnacelime")) =
+    let unhelped : app_of c.disable_help_subcommand.result
+    ≡ on_top (λ s. record s { no_binary_name = true; disable_help_flag = true; disable_help_subcommand = true }) (new_app (codes "furnacelime")) =
     ap app_of_fields c.disable_help_subcommand.ensures ∙ ap (on_top (λ s. record s { disable_help_subcommand = true })) unflagged in
     let program_is : app_of c.subcommand_required.result ≡ program =
     ap app_of_fields c.subcommand_required.ensures ∙ ap (on_top (λ s. record s { subcommand_required = true })) unhelped in
-    let rate_is : app_of c.in_ok-subcommand.field-0 ≡ with_subcommand program (new_app (codes "rate")).top =
+    let rate_is : app_of c.in_ok-subcommand.field-0 ≡ with_rate =
     c.in_ok-subcommand.ensures.shape c.new-5.ensures.local ∙ ap₂ with_subcommand program_is (ap (λ (a : App). a.top) c.new-5.ensures.app) in
-    let tree_is : app_of c.in_ok-subcommand-2.field-0 ≡ with_subcommand (with_subcommand program (new_app (codes "rate")).top) (new_app (codes "tree")).top =
+    let tree_is : app_of c.in_ok-subcommand-2.field-0 ≡ with_tree =
     c.in_ok-subcommand-2.ensures.shape c.new-6.ensures.local ∙ ap₂ with_subcommand rate_is (ap (λ (a : App). a.top) c.new-6.ensures.app) in
-    let traced_is : app_of c.in_ok-subcommand-3.field-0 ≡ with_subcommand (with_subcommand (with_subcommand program (new_app (codes "rate")).top) (new_app (codes "tree")).top) (with_rule (new_app (codes "trace")) met).top =
-    c.in_ok-subcommand-3.ensures.shape (c.in_ok-trace.ensures.globals ∙ ap₂ (λ a b. a || b) c.new.ensures.local c.met.ensures.local) ∙ ap₂ with_subcommand tree_is (ap (λ (a : App). a.top) trace_is) in
-    let checked_is : app_of c.in_ok-subcommand-4.field-0 ≡ with_subcommand (with_subcommand (with_subcommand (with_subcommand program (new_app (codes "rate")).top) (new_app (codes "tree")).top) (with_rule (new_app (codes "trace")) met).top) (new_app (codes "check")).top =
+    let trace_local = c.in_ok-trace.ensures.globals ∙ ap₂ (λ a b. a || b) c.new.ensures.local c.met.ensures.local in
+    let traced_is : app_of c.in_ok-subcommand-3.field-0 ≡ with_trace =
+    c.in_ok-subcommand-3.ensures.shape trace_local ∙ ap₂ with_subcommand tree_is (ap (λ (a : App). a.top) trace_is) in
+    let checked_is : app_of c.in_ok-subcommand-4.field-0 ≡ with_check =
     c.in_ok-subcommand-4.ensures.shape c.new-7.ensures.local ∙ ap₂ with_subcommand traced_is (ap (λ (a : App). a.top) c.new-7.ensures.app) in
-    let executed_is : app_of c.in_ok-subcommand-5.field-0 ≡ with_subcommand (with_subcommand (with_subcommand (with_subcommand (with_subcommand program (new_app (codes "rate")).top) (new_app (codes "tree")).top) (with_rule (new_app (codes "trace")) met).top) (new_app (codes "check")).top) (with_rule (with_rule (new_app (codes "exec")) met) window).top =
-    c.in_ok-subcommand-5.ensures.shape (c.in_ok-exec.ensures.globals ∙ ap₂ (λ a b. a || b) (c.in_ok-arg.ensures.globals ∙ ap₂ (λ a b. a || b) c.new-2.ensures.local c.met-2.ensures.local) c.window.ensures.local) ∙ ap₂ with_subcommand checked_is (ap (λ (a : App). a.top) exec_is) in
-    IfOk-weaker c.subcommand-6.result _ _ (λ p h. h.shape (c.in_ok-drill.ensures.globals ∙ ap₂ (λ a b. a || b) c.new-3.ensures.local c.number.ensures.local) ∙ ap₂ with_subcommand executed_is (ap (λ (a : App). a.top) drill_is)) c.subcommand-6.ensures
+    let half_local = c.in_ok-arg.ensures.globals ∙ ap₂ (λ a b. a || b) c.new-2.ensures.local c.met-2.ensures.local in
+    let exec_local = c.in_ok-exec.ensures.globals ∙ ap₂ (λ a b. a || b) half_local c.window.ensures.local in
+    let executed_is : app_of c.in_ok-subcommand-5.field-0 ≡ with_exec =
+    c.in_ok-subcommand-5.ensures.shape exec_local ∙ ap₂ with_subcommand checked_is (ap (λ (a : App). a.top) exec_is) in
+    let drill_local = c.in_ok-drill.ensures.globals ∙ ap₂ (λ a b. a || b) c.new-3.ensures.local c.number.ensures.local in
+    IfOk-weaker c.subcommand-6.result _ _ (λ p h. h.shape drill_local ∙ ap₂ with_subcommand executed_is (ap (λ (a : App). a.top) drill_is))
+    c.subcommand-6.ensures

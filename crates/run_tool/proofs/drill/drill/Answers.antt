@@ -1,17 +1,24 @@
+use Rattle.std.proofs.lemmas.Result.{err_from_is_err_and}
 use Rattle.run_tool.proofs.DrillLemmas.{text_is, drill_is}
 use Rattle.run_tool.proofs.DrillEndLemmas.{drill_written, drill_unwritten}
 use Rattle.run_tool.proofs.drill.drill.Goals as goal
 
-pub returns-in-Ok-write_summary-clause-done : goal.returns-in-Ok-write_summary-clause-done
-returns-in-Ok-write_summary-clause-done g c =
-    drill_written c.args.number c.in-Ok.plan _ _ _ _ _ c.in-Ok.ensures.plan
-    (drill_is c.args.number c.in-Ok.plan c.in-Ok.ensures.plan c.in-Ok.ensures.scale c.in-Ok-judged.ensures.judged)
-    (text_is c.args.number c.in-Ok-few_rounds.rounds c.in-Ok.plan c.in-Ok-judged.told c.in-Ok.ensures.plan c.in-Ok-few_rounds.ensures c.in-Ok-judged.ensures.told)
-    c.in-Ok-write_summary.ensures.wrote.ok c.in-Ok-run_plan.ensures.ran
+pub returns-clause-done : goal.returns-clause-done
+returns-clause-done g c =
+    let plan = c.in_ok-plan.ensures.plan in
+    let told = c.in_ok-told.ensures in
+    drill_written c.args.number c.in_ok-plan.plan _ _ _ _ _ plan
+    (drill_is c.args.number c.in_ok-plan.plan plan c.in_ok-plan.ensures.scale told.judged)
+    (text_is c.args.number c.in_ok-rounds.rounds c.in_ok-plan.plan c.in_ok-told.told plan c.in_ok-rounds.ensures told.told)
+    c.in_ok-write_summary.ensures.wrote.ok c.in_ok-executed.ensures.ran
 
-pub returns-clause-stops : goal.returns-clause-stops
-returns-clause-stops g c =
-    drill_unwritten c.args.number c.in-Ok.plan _ _ _ _ _ _ _ c.in-Ok.ensures.plan
-    (drill_is c.args.number c.in-Ok.plan c.in-Ok.ensures.plan c.in-Ok.ensures.scale c.in-Ok-judged.ensures.judged)
-    (text_is c.args.number c.in-Ok-few_rounds.rounds c.in-Ok.plan c.in-Ok-judged.told c.in-Ok.ensures.plan c.in-Ok-few_rounds.ensures c.in-Ok-judged.ensures.told)
-    c.in-Err-write_summary.ensures.wrote.err c.in-Err-write_summary.ensures.cause.failed c.in-Ok-run_plan.ensures.ran
+pub returns-in_err-write_summary-clause-stops : goal.returns-in_err-write_summary-clause-stops
+returns-in_err-write_summary-clause-stops g c =
+    let why = err_from_is_err_and c.from_residual-in_err-write_summary.result c.from_residual-in_err-write_summary.ensures.1 in
+    let plan = c.in_ok-plan.ensures.plan in
+    let told = c.in_ok-told.ensures in
+    rw (why.1, why.2)
+    (drill_unwritten c.args.number c.in_ok-plan.plan _ _ _ _ _ _ _ plan
+    (drill_is c.args.number c.in_ok-plan.plan plan c.in_ok-plan.ensures.scale told.judged)
+    (text_is c.args.number c.in_ok-rounds.rounds c.in_ok-plan.plan c.in_ok-told.told plan c.in_ok-rounds.ensures told.told)
+    c.in_err-write_summary.ensures.wrote.err c.in_err-write_summary.ensures.cause.failed c.in_ok-executed.ensures.ran)

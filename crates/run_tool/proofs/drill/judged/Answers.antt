@@ -15,5 +15,6 @@ unreachable-requires c =
     let is : c.in_ok-trace.trace ≡ trace_again p.set p.tree.scale (merged_lanes (plan_rows p)) =
     c.in_ok-trace.ensures.trace ∙ (λ i. trace_again (c.set.ensures.value i) (c.scale.ensures.value i) (merged_lanes (c.requires.lanes i))) in
     let bad : false ≡ true =
-    c.in-None.ensures.valid (trace_valid c.in_ok-trace.trace p.set p.tree.scale (plan_rows p) is (c.merged_law.ensures p.set p.tree.scale (stop_of p) (stop_of p) (plan_rows p) table c.requires.valid)) in
+    c.in-None.ensures.valid (trace_valid c.in_ok-trace.trace p.set p.tree.scale (plan_rows p) is
+    (c.merged_law.ensures p.set p.tree.scale (stop_of p) (stop_of p) (plan_rows p) table c.requires.valid)) in
     cc

@@ -18,7 +18,14 @@ rate-rate-requires-clause-divides g c =
 
 pub returns-in_err-write_all-clause-wrote : goal.returns-in_err-write_all-clause-wrote
 returns-in_err-write_all-clause-wrote g c =
-    let line : Wrote {T = Unit {0}} (g.W.Sink.taken c.loop-task.out) (g.W.Sink.taken c.write_all.new.sink) (rate_line c.args.scale c.task-item.result) (Err c.in_err-write_all.field-0.0) =
-    rw (← c.as_slice.ensures.bytes, ← c.rate-rate.ensures.value, ← c.named_line.ensures, ← c.as_slice-in-loop-task.ensures.bytes) c.in_err-write_all.ensures.wrote in
+    let line : Wrote {T = Unit {0}} (g.W.Sink.taken c.loop-task.out) (g.W.Sink.taken c.write_all.new.sink) (rate_line c.args.scale c.task-item.result)
+    (Err c.in_err-write_all.field-0.0) =
+    rw (
+      ← c.as_slice.ensures.bytes,
+      ← c.rate-rate.ensures.value,
+      ← c.named_line.ensures,
+      ← c.as_slice-in-loop-task.ensures.bytes,
+    ) c.in_err-write_all.ensures.wrote in
     rw (← c.tasks-task-items.ensures.value)
-    (wrote_item (rate_line c.args.scale) c.tasks-task-items.result.now c.loop-task.task-index c.task-item.result _ _ _ _ c.from_residual.result c.loop-task-test.true c.task-item.is c.loop-task.invariant.0 line c.from_residual.ensures.0)
+    (wrote_item (rate_line c.args.scale) c.tasks-task-items.result.now c.loop-task.task-index c.task-item.result _ _ _ _
+    c.from_residual.result c.loop-task-test.true c.task-item.is c.loop-task.invariant.0 line c.from_residual.ensures.0)

@@ -6,4 +6,5 @@ pub write_trace-requires-clause-on_time : goal.write_trace-requires-clause-on_ti
 write_trace-requires-clause-on_time g c = on_time_unless c.args.met _ (sym c.wants_met.ensures ∙ c.if-wants_met.false)
 
 pub write_trace-requires-clause-names : goal.write_trace-requires-clause-names
-write_trace-requires-clause-names g c = rw (c.requires.lanes, c.set-set.ensures.value) (among_lanes _ _ (c.table_law.ensures.lanes c.args.plan.now c.set-set.ensures.lawful))
+write_trace-requires-clause-names g c =
+    rw (c.requires.lanes, c.set-set.ensures.value) (among_lanes _ _ (c.table_law.ensures.lanes c.args.plan.now c.set-set.ensures.lawful))

@@ -19,14 +19,18 @@ loop-id-preserved g c =
       | in-Some+in_ok-new-in-Some+in_ok-new-in-Some-2 w ↦ rw w.jobs-is (record {
         room = let room = w.add.ensures.room in let before = inv.room in omega (arith, room, before);
         first = more_jobs _ _ _ c.loop-id.id _ _ _ inv.first w.add.ensures.places
-            (read_made own-1 (own-1.entry at-1-1) at-1-1 refl ℕ (λ e x. e.1.id x) _ _ _ w.into_dyn_box.ensures.1 ∙ ap (λ j. j.id) w.in_ok-new-in-Some-2.ensures.ok ∙ w.in_ok-new-in-Some.ensures.id)
-            (read_made own-1 (own-1.entry at-1-1) at-1-1 refl ℕ (λ e x. e.1.used x) _ _ _ w.into_dyn_box.ensures.1 ∙ ap (λ j. j.used) w.in_ok-new-in-Some-2.ensures.ok ∙ w.in_ok-new-in-Some.ensures.used);
+            (read_made own-1 (own-1.entry at-1-1) at-1-1 refl ℕ (λ e x. e.1.id x) _ _ _ w.into_dyn_box.ensures.1
+            ∙ ap (λ j. j.id) w.in_ok-new-in-Some-2.ensures.ok ∙ w.in_ok-new-in-Some.ensures.id)
+            (read_made own-1 (own-1.entry at-1-1) at-1-1 refl ℕ (λ e x. e.1.used x) _ _ _ w.into_dyn_box.ensures.1
+            ∙ ap (λ j. j.used) w.in_ok-new-in-Some-2.ensures.ok ∙ w.in_ok-new-in-Some.ensures.used);
       })
       | in-None+in_ok-new-in-None w ↦ rw w.jobs-is (record {
         room = let room = w.add-in-None.ensures.room in let before = inv.room in omega (arith, room, before);
         first = more_jobs _ _ _ c.loop-id.id _ _ _ inv.first w.add-in-None.ensures.places
-            (read_made own-1 (own-1.entry at-1-2) at-1-2 refl ℕ (λ e x. e.1.id x) _ _ _ w.into_dyn_box-in_ok-new-in-None.ensures.1 ∙ ap (λ j. j.id) (w.in_ok-new-in-None.ensures.ok ∙ w.new-in-None.ensures))
-            (read_made own-1 (own-1.entry at-1-2) at-1-2 refl ℕ (λ e x. e.1.used x) _ _ _ w.into_dyn_box-in_ok-new-in-None.ensures.1 ∙ ap (λ j. j.used) (w.in_ok-new-in-None.ensures.ok ∙ w.new-in-None.ensures));
+            (read_made own-1 (own-1.entry at-1-2) at-1-2 refl ℕ (λ e x. e.1.id x) _ _ _ w.into_dyn_box-in_ok-new-in-None.ensures.1
+            ∙ ap (λ j. j.id) (w.in_ok-new-in-None.ensures.ok ∙ w.new-in-None.ensures))
+            (read_made own-1 (own-1.entry at-1-2) at-1-2 refl ℕ (λ e x. e.1.used x) _ _ _ w.into_dyn_box-in_ok-new-in-None.ensures.1
+            ∙ ap (λ j. j.used) (w.in_ok-new-in-None.ensures.ok ∙ w.new-in-None.ensures));
       })
     ]
 

@@ -1,0 +1,26 @@
+use Rattle.std.proofs.Common.{◌≡◌, ◌∙◌, sym, ap, subst, Option, Some, None, false, map, string_bytes, IsTrue, rules, tests}
+use Rattle.run_tool.specs.declared.command.Command.{Command}
+use Rattle.run_tool.specs.declared.command.Command.TheVariants.{Read, Execute}
+use Rattle.run_tool.proofs.CommandLineLemmas.{no_line, some_is, reading_spelled_by, not_executing}
+use Rattle.run_tool.proofs.words.reading_of.Goals as goal
+
+pub returns-in-Some-Read-2 : goal.returns-in-Some-Read-2
+returns-in-Some-Read-2 c = no_line (map string_bytes c.args.words.now) (λ used line.
+    let read : Some (Read c.in-Some-Read.reading) ≡ Some used =
+    ap Some (sym c.in-Some-Read.field-0-is) ∙ sym c.in-Some-Read.is ∙ c.in_ok-reading.ensures used line in
+    let same = some_is (Read c.in-Some-Read.reading) used read in
+    let spelled =
+    reading_spelled_by (map string_bytes c.args.words.now) c.in-Some-Read.reading c.requires.still (line ∙ ap Some (sym same)) in
+    let yes : IsTrue false = subst IsTrue c.if-is_reading.false (c.is_reading.ensures.1 spelled) in
+    search (rules, tests))
+
+pub returns-in-Some-Execute : goal.returns-in-Some-Execute
+returns-in-Some-Execute c = no_line (map string_bytes c.args.words.now) (λ used line.
+    let read : Some (Execute c.in-Some-Execute.field-0-0) ≡ Some used =
+    ap Some (sym c.in-Some-Execute.field-0-is) ∙ sym c.in-Some-Execute.is ∙ c.in_ok-reading.ensures used line in
+    let same = some_is (Execute c.in-Some-Execute.field-0-0) used read in
+    not_executing (map string_bytes c.args.words.now) c.in-Some-Execute.field-0-0 c.requires.still (line ∙ ap Some (sym same)))
+
+pub returns-in-None : goal.returns-in-None
+returns-in-None c = no_line (map string_bytes c.args.words.now) (λ used line.
+    let bad : ◌≡◌ {A = Option Command} None (Some used) = sym c.in-None.is ∙ c.in_ok-reading.ensures used line in cc)

@@ -1,0 +1,36 @@
+//! What a command line asks for.
+
+/// What a command line asks for.
+#[derive(Clone, Copy, Debug, PartialEq, Eq)]
+pub enum Command {
+    /// A command that reads, and tells of what it read: it has no threads, calls no gate and no job, and returns.
+    Read(Reading),
+    /// A command that has gates and jobs run a schedule.
+    Execute(Execution),
+}
+
+/// A command that reads.
+#[derive(Clone, Copy, Debug, PartialEq, Eq)]
+pub enum Reading {
+    /// `rate`: read a task set, and tell its scale, its rates, their total and the room.
+    Rate,
+    /// `tree`: read a task set, and tell its tree of servers and duals.
+    Tree,
+    /// `trace`: read a task set, and tell its schedule.
+    Trace,
+    /// `trace --met`: the same, and when each period was done.
+    TraceMet,
+    /// `check`: read a trace text, and tell whether its rows are a valid schedule of its set.
+    Check,
+}
+
+/// A command that executes.
+#[derive(Clone, Copy, Debug, PartialEq, Eq)]
+pub enum Execution {
+    /// `exec`: read a task set, run its schedule, and tell it. A lane may run up to `window` rounds ahead of the others.
+    Exec { window: u32 },
+    /// `exec --met`: the same with the usual window, and when each period was done.
+    ExecMet,
+    /// `drill N`: draw a task set from the number, run its schedule, and tell what is counted of it.
+    Drill { number: u64 },
+}

@@ -1,0 +1,95 @@
+//! Which refusal a fault of a call below is.
+ghost use Rattle.std.specs.Prelude.{◌≡◌};
+ghost use Rattle.run_tool.specs.Faults.{of_take, of_read_set, of_read_trace, of_compile, of_count};
+ghost use Rattle.run_tool.specs.declared.refusal.Refusal.TheVariants as why;
+
+use crate::refusal::Refusal;
+use event_core::CountFault;
+use rate_scale::ScaleTooLarge;
+use run_compile::CompileFault;
+use sched_base::NoMemory;
+use sched_edges::{Failed, TakeFault};
+use task_reader::ReadSet;
+use trace_check::TraceFault;
+
+impl From<NoMemory> for Refusal {
+    ghost from_gives = { λ _ refusal. refusal ≡ why.NoMemory };
+
+    fn from(_: NoMemory) -> Self {
+        Refusal::NoMemory
+    }
+}
+
+// A sink failed: the sink of a text, since what `err` takes has no refusal of its own.
+impl From<Failed> for Refusal {
+    ghost from_gives = { λ _ refusal. refusal ≡ why.WriteFault };
+
+    fn from(_: Failed) -> Self {
+        Refusal::WriteFault
+    }
+}
+
+impl From<TakeFault> for Refusal {
+    ghost from_gives = { λ fault refusal. refusal ≡ of_take fault };
+
+    fn from(fault: TakeFault) -> Self {
+        match fault {
+            TakeFault::Read => Refusal::ReadFault,
+            TakeFault::TooLong { count } => Refusal::InputTooLong { count },
+            TakeFault::NoMemory => Refusal::NoMemory,
+        }
+    }
+}
+
+impl From<ReadSet> for Refusal {
+    ghost from_gives = { λ fault refusal. refusal ≡ of_read_set fault };
+
+    fn from(fault: ReadSet) -> Self {
+        match fault {
+            ReadSet::NoMemory => Refusal::NoMemory,
+            refusal => Refusal::BadSet(refusal),
+        }
+    }
+}
+
+impl From<TraceFault> for Refusal {
+    ghost from_gives = { λ fault refusal. refusal ≡ of_read_trace fault };
+
+    fn from(fault: TraceFault) -> Self {
+        match fault {
+            TraceFault::BadLine { line } => Refusal::BadLine { line },
+            TraceFault::NoMemory => Refusal::NoMemory,
+        }
+    }
+}
+
+impl From<ScaleTooLarge> for Refusal {
+    ghost from_gives = { λ fault refusal. refusal ≡ why.ScaleTooLarge fault.at };
+
+    fn from(fault: ScaleTooLarge) -> Self {
+        Refusal::ScaleTooLarge { task: fault.at }
+    }
+}
+
+impl From<CompileFault> for Refusal {
+    ghost from_gives = { λ fault refusal. refusal ≡ of_compile fault };
+
+    fn from(fault: CompileFault) -> Self {
+        match fault {
+            CompileFault::ScaleTooLarge { at } => Refusal::ScaleTooLarge { task: at },
+            CompileFault::Overload { total, room } => Refusal::Overload { total, room },
+            CompileFault::NoMemory => Refusal::NoMemory,
+        }
+    }
+}
+
+impl From<CountFault> for Refusal {
+    ghost from_gives = { λ fault refusal. refusal ≡ of_count fault };
+
+    fn from(fault: CountFault) -> Self {
+        match fault {
+            CountFault::TooLong { rows } => Refusal::TooLong { rows },
+            CountFault::NoMemory => Refusal::NoMemory,
+        }
+    }
+}
