@@ -1,0 +1,11 @@
+# Completion of furnacelime's command lines for bash: source this file.
+_furnacelime() {
+    local word=${COMP_WORDS[COMP_CWORD]} words=
+    case $COMP_CWORD:${COMP_WORDS[1]} in
+        1:*) words='rate tree trace check exec drill' ;;
+        2:trace) words='--met' ;;
+        2:exec) words='--met --window' ;;
+    esac
+    mapfile -t COMPREPLY < <(compgen -W "$words" -- "$word")
+}
+complete -F _furnacelime furnacelime ./furnacelime
