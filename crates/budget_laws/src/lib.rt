@@ -13,5 +13,8 @@ ghost use Rattle.budget_laws.specs.Spending.{SaysLeft, SaysRuns, IsSpent, left_a
 /// from n up to n + ticks, the end excluded. Then spending the ticks leaves what is left at n + ticks, at each leaf and dual
 /// that has no boundary above n up to n + ticks, the end included.
 pub fn spend_law()
-    ensures { (p : PlanContents) → IsPlan p → (n ticks : ℕ) (running : List Bool) (before after : List ℕ) → SaysLeft p n before → ((s : ℕ) → n ≤ s → s < n + ticks → SaysRuns p s running) → IsSpent p running ticks before after → (x : ℕ) → IsMember p.tree x → ((u : ℕ) → n < u * p.tree.scale → u * p.tree.scale ≤ n + ticks → boundary_of p x u ≡ false) → slice_index after x ≡ left_at p (n + ticks) x }
+    ensures { (p : PlanContents) → IsPlan p → (n ticks : ℕ) (running : List Bool) (before after : List ℕ) → SaysLeft p n before →
+        ((s : ℕ) → n ≤ s → s < n + ticks → SaysRuns p s running) → IsSpent p running ticks before after → (x : ℕ) → IsMember p.tree x →
+        ((u : ℕ) → n < u * p.tree.scale → u * p.tree.scale ≤ n + ticks → boundary_of p x u ≡ false) →
+        slice_index after x ≡ left_at p (n + ticks) x }
 {}

@@ -1,5 +1,7 @@
 -- The member of a pack that runs, and what is left of its due.
-use Rattle.std.specs.Prelude.{ℕ, ◌+◌, ◌-◌, ◌*◌, ◌<◌, ◌≤◌, ◌≡◌, ◌≢◌, ◌⊎◌, Bool, true, false, List, [], length, replicate, Option, Some, None, slice_set, slice_index, slice_index_or}
+use Rattle.std.specs.Prelude.{ℕ, ◌+◌, ◌-◌, ◌*◌, ◌<◌, ◌≤◌, ◌≡◌, ◌≢◌, ◌⊎◌, Bool, true, false, List, []}
+use Rattle.std.specs.Prelude.{length, replicate, Option, Some, None}
+use Rattle.std.specs.Prelude.{slice_set, slice_index, slice_index_or}
 use Rattle.sched_base.specs.declared.candidates.Candidate.{Candidate}
 use Rattle.sched_base.specs.Candidates.{candidate_at, is_at}
 use Rattle.run_tree.specs.Tree.{Tree, IsPack, IsMember, kind_at, is_pack, home, place, rate, members, member}
@@ -105,18 +107,21 @@ pub record AreReadyBut (cs : List Candidate) (ends : List ℕ) (o : Option ℕ) 
 pub record IsDrying (t : Tree) (d : DueContents) (ends : List ℕ) (s : ServingContents) (done : ℕ → Type 0) : Type 0 where
   pub early : d.tick < no_tick
   pub but : (p : ℕ) → IsPack t p → AreReadyBut (candidates t d.remains ends p) (slice_index_or s.ready p []) (slice_index_or s.serves p None)
-  pub picks : (p : ℕ) → IsPack t p → (slice_index s.dry p ≡ d.tick → done p) → AreReady (candidates t d.remains ends p) (slice_index_or s.ready p [])
+  pub picks : (p : ℕ) → IsPack t p → (slice_index s.dry p ≡ d.tick → done p) →
+      AreReady (candidates t d.remains ends p) (slice_index_or s.ready p [])
   pub within : (p j : ℕ) → IsPack t p → slice_index_or s.serves p None ≡ Some j → j < length (members t p)
   pub at : (p j : ℕ) → IsPack t p → j < length (members t p) → slice_index_or s.runs (member t p j) false ≡ is_at (slice_index_or s.serves p None) j
   pub agree : (x : ℕ) → IsMember t x → slice_index_or d.runs x false ≡ slice_index_or s.runs x false
   pub rest : (x : ℕ) → (IsMember t x → ⊥) → slice_index_or d.runs x false ≡ false
   pub known : (p : ℕ) → IsPack t p → slice_index s.dry p ≡ dry_by t d p (slice_index_or s.serves p None)
   pub led : AreLed t s.runs
-  pub served : (p : ℕ) → IsPack t p → (slice_index s.dry p ≡ d.tick → done p) → slice_index_or s.stale p false ≡ false → IsServed t d.remains ends s.runs p
+  pub served : (p : ℕ) → IsPack t p → (slice_index s.dry p ≡ d.tick → done p) → slice_index_or s.stale p false ≡ false →
+      IsServed t d.remains ends s.runs p
 
 -- the member that pack p serves has no end any more, and the pack is marked, where it runs dry at tick `now`
 pub record IsDried (serves : List (Option ℕ)) (dry : List ℕ) (p now : ℕ) (ready ready' : List (List ℕ)) (stale stale' : List Bool) : Type 0 where
-  pub out : (k : ℕ) → slice_index_or serves p None ≡ Some k → slice_index dry p ≡ now → (ready' ≡ slice_set ready p (slice_set (slice_index_or ready p []) k never)) × (stale' ≡ slice_set stale p true)
+  pub out : (k : ℕ) → slice_index_or serves p None ≡ Some k → slice_index dry p ≡ now →
+      (ready' ≡ slice_set ready p (slice_set (slice_index_or ready p []) k never)) × (stale' ≡ slice_set stale p true)
   pub kept : ((k : ℕ) → slice_index_or serves p None ≡ Some k → slice_index dry p ≡ now → ⊥) → (ready' ≡ ready) × (stale' ≡ stale)
 
 -- ---- what begins
@@ -127,12 +132,15 @@ due_of t begins ends x = rate t x * (slice_index ends x - slice_index begins x)
 
 -- The first n of these leaves and duals have the due of their windows, with the windows' ends, and their packs are marked. All
 -- others are as before.
-pub record AreBegun (t : Tree) (begins ends begun : List ℕ) (remains : List ℕ) (ready : List (List ℕ)) (stale : List Bool) (remains' : List ℕ) (ready' : List (List ℕ)) (stale' : List Bool) (n : ℕ) : Type 0 where
+pub record AreBegun (t : Tree) (begins ends begun : List ℕ) (remains : List ℕ) (ready : List (List ℕ)) (stale : List Bool) (remains' : List ℕ)
+    (ready' : List (List ℕ)) (stale' : List Bool) (n : ℕ) : Type 0 where
   pub same : length remains' ≡ length remains
   pub filled : (j x : ℕ) → j < n → slice_index begun j ≡ x → IsMember t x → slice_index remains' x ≡ due_of t begins ends x
-  pub put : (j x : ℕ) → j < n → slice_index begun j ≡ x → IsMember t x → slice_index (slice_index_or ready' (home t x) []) (place t x) ≡ slice_index ends x
+  pub put : (j x : ℕ) → j < n → slice_index begun j ≡ x → IsMember t x →
+      slice_index (slice_index_or ready' (home t x) []) (place t x) ≡ slice_index ends x
   pub marked : (j x : ℕ) → j < n → slice_index begun j ≡ x → IsMember t x → slice_index_or stale' (home t x) false ≡ true
   pub kept : (x : ℕ) → ((j : ℕ) → j < n → slice_index begun j ≢ x) → slice_index remains' x ≡ slice_index remains x
-  pub kept_end : (x : ℕ) → IsMember t x → ((j : ℕ) → j < n → slice_index begun j ≢ x) → slice_index (slice_index_or ready' (home t x) []) (place t x) ≡ slice_index (slice_index_or ready (home t x) []) (place t x)
+  pub kept_end : (x : ℕ) → IsMember t x → ((j : ℕ) → j < n → slice_index begun j ≢ x) →
+      slice_index (slice_index_or ready' (home t x) []) (place t x) ≡ slice_index (slice_index_or ready (home t x) []) (place t x)
   pub long : (p : ℕ) → length (slice_index_or ready' p []) ≡ length (slice_index_or ready p [])
   pub unmarked : (p : ℕ) → slice_index_or stale' p false ≡ false → slice_index_or stale p false ≡ false

@@ -59,7 +59,8 @@ pub(crate) fn begin_one(
     ensures tick { dues.new.tick ≡ dues.old.tick }
     ensures runs { dues.new.runs ≡ dues.old.runs }
     ensures remains { dues.new.remains ≡ slice_set dues.old.remains n.0 (due_of plan.now.tree calendar.now.begins calendar.now.ends n.0) }
-    ensures ready { ready.new ≡ slice_set ready.old (home plan.now.tree n.0) (slice_set (slice_index_or ready.old (home plan.now.tree n.0) []) (place plan.now.tree n.0) (slice_index calendar.now.ends n.0)) }
+    ensures ready { ready.new ≡ slice_set ready.old (home plan.now.tree n.0)
+        (slice_set (slice_index_or ready.old (home plan.now.tree n.0) []) (place plan.now.tree n.0) (slice_index calendar.now.ends n.0)) }
     ensures stale { stale.new ≡ slice_set stale.old (home plan.now.tree n.0) true }
 {
     let (due, end) = window_of(plan, calendar, n);
@@ -88,7 +89,8 @@ pub(crate) fn begin_all(
     requires stale { length stale.old ≡ length plan.now.tree.nodes }
     ensures tick { dues.new.tick ≡ dues.old.tick }
     ensures runs { dues.new.runs ≡ dues.old.runs }
-    ensures begun { AreBegun plan.now.tree calendar.now.begins calendar.now.ends calendar.now.begun dues.old.remains ready.old stale.old dues.new.remains ready.new stale.new (length calendar.now.begun) }
+    ensures begun { AreBegun plan.now.tree calendar.now.begins calendar.now.ends calendar.now.begun dues.old.remains ready.old stale.old
+        dues.new.remains ready.new stale.new (length calendar.now.begun) }
 {
     for k in 0..calendar.begun_count() {
         begin_one(plan, calendar, calendar.begun(k), dues, ready, stale);

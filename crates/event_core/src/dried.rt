@@ -27,7 +27,8 @@ fn take_out(p: NodeId, k: Option<u32>, ready: &mut [Knockout], stale: &mut [bool
     requires ready { p.0 < length ready.old }
     requires member { (j : ℕ) → k ≡ Some j → j < length (slice_index_or ready.old p.0 []) }
     requires stale { p.0 < length stale.old }
-    ensures some { (j : ℕ) → k ≡ Some j → (ready.new ≡ slice_set ready.old p.0 (slice_set (slice_index_or ready.old p.0 []) j never)) × (stale.new ≡ slice_set stale.old p.0 true) }
+    ensures some { (j : ℕ) → k ≡ Some j → (ready.new ≡ slice_set ready.old p.0 (slice_set (slice_index_or ready.old p.0 []) j never))
+        × (stale.new ≡ slice_set stale.old p.0 true) }
     ensures none { k ≡ None → (ready.new ≡ ready.old) × (stale.new ≡ stale.old) }
 {
     if let Some(k) = k {

@@ -1,5 +1,7 @@
 //! What a core keeps at tick 0.
-ghost use Rattle.std.specs.Prelude.{◌≡◌, ◌≢◌, ℕ, ◌+◌, ◌<◌, ◌≤◌, ◌^◌, [], true, false, not, length, replicate, slice_index, slice_index_or, slice_set, None, IfOk};
+ghost use Rattle.std.specs.Prelude.{◌≡◌, ◌≢◌, ℕ, ◌+◌, ◌<◌, ◌≤◌, ◌^◌, [], true, false, not, length, replicate};
+ghost use Rattle.std.specs.Prelude.{slice_index, slice_index_or};
+ghost use Rattle.std.specs.Prelude.{slice_set, None, IfOk};
 ghost use Rattle.std.specs.List.{range_with_len};
 ghost use Rattle.run_tree.specs.Tree.{home, is_pack, kind_at, member, members, place, IsMember, IsPack};
 ghost use Rattle.run_tree.specs.Plans.{IsPlan};
@@ -56,7 +58,8 @@ fn places_of(plan: &Plan, p: NodeId) -> usize
 fn no_ends(alloc: Global, plan: &Plan) -> Result<Vec<Knockout>, NoMemory>
     requires plan { IsPlan plan.now }
     ensures long { IfOk result (λ v. length v.items ≡ length plan.now.tree.nodes) }
-    ensures packs { IfOk result (λ v. (p : ℕ) → IsPack plan.now.tree p → slice_index_or v.items p [] ≡ replicate (length (members plan.now.tree p)) never) }
+    ensures packs { IfOk result (λ v. (p : ℕ) → IsPack plan.now.tree p →
+        slice_index_or v.items p [] ≡ replicate (length (members plan.now.tree p)) never) }
 {
     let mut ready = Vec::new(alloc);
     for x in 0..node_count(plan) {
@@ -142,10 +145,14 @@ fn begin_if(
     requires stale { length stale.old ≡ length plan.now.tree.nodes }
     ensures tick { dues.new.tick ≡ 0 }
     ensures runs { dues.new.runs ≡ dues.old.runs }
-    ensures remains { is_pack (kind_at plan.now.tree n.0) ≡ false → dues.new.remains ≡ slice_set dues.old.remains n.0 (due_of plan.now.tree calendar.now.begins calendar.now.ends n.0) }
-    ensures ready { is_pack (kind_at plan.now.tree n.0) ≡ false → ready.new ≡ slice_set ready.old (home plan.now.tree n.0) (slice_set (slice_index_or ready.old (home plan.now.tree n.0) []) (place plan.now.tree n.0) (slice_index calendar.now.ends n.0)) }
+    ensures remains { is_pack (kind_at plan.now.tree n.0) ≡ false → dues.new.remains
+        ≡ slice_set dues.old.remains n.0 (due_of plan.now.tree calendar.now.begins calendar.now.ends n.0) }
+    ensures ready { is_pack (kind_at plan.now.tree n.0) ≡ false → ready.new
+        ≡ slice_set ready.old (home plan.now.tree n.0) (slice_set (slice_index_or ready.old (home plan.now.tree n.0) []) (place plan.now.tree n.0)
+        (slice_index calendar.now.ends n.0)) }
     ensures stale { is_pack (kind_at plan.now.tree n.0) ≡ false → stale.new ≡ slice_set stale.old (home plan.now.tree n.0) true }
-    ensures pack { is_pack (kind_at plan.now.tree n.0) ≡ true → (dues.new.remains ≡ dues.old.remains) × (ready.new ≡ ready.old) × (stale.new ≡ stale.old) }
+    ensures pack { is_pack (kind_at plan.now.tree n.0) ≡ true → (dues.new.remains ≡ dues.old.remains) × (ready.new ≡ ready.old)
+        × (stale.new ≡ stale.old) }
 {
     if is_member(plan, n) {
         begin_one(plan, calendar, n, dues, ready, stale);
@@ -170,7 +177,8 @@ pub(crate) fn begin_first(
     requires stale { length stale.old ≡ length plan.now.tree.nodes }
     ensures tick { dues.new.tick ≡ 0 }
     ensures runs { dues.new.runs ≡ dues.old.runs }
-    ensures begun { AreBegun plan.now.tree calendar.now.begins calendar.now.ends (range_with_len 0 (length plan.now.tree.nodes)) dues.old.remains ready.old stale.old dues.new.remains ready.new stale.new (length plan.now.tree.nodes) }
+    ensures begun { AreBegun plan.now.tree calendar.now.begins calendar.now.ends
+        (range_with_len 0 (length plan.now.tree.nodes)) dues.old.remains ready.old stale.old dues.new.remains ready.new stale.new (length plan.now.tree.nodes) }
 {
     for x in 0..node_count(plan) {
         begin_if(plan, calendar, NodeId(x), dues, ready, stale);

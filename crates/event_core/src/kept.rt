@@ -53,7 +53,8 @@ impl Serving {
         ensures remains { dues.new.remains ≡ dues.old.remains }
         ensures serving { IsServing plan.now.tree dues.new ends.now self.new }
         ensures fresh { AreFreshFrom plan.now.tree self.new.stale 0 }
-        ensures selected { (n : ℕ) → n < length plan.now.tree.nodes → slice_index_or self.new.runs n false ≡ runs_now plan.now.tree (λ x. slice_index dues.old.remains x) (λ x. slice_index ends.now x) n }
+        ensures selected { (n : ℕ) → n < length plan.now.tree.nodes → slice_index_or self.new.runs n false
+            ≡ runs_now plan.now.tree (λ x. slice_index dues.old.remains x) (λ x. slice_index ends.now x) n }
     {
         serve_all(
             plan.tree(),
@@ -111,7 +112,8 @@ impl Serving {
         ensures serves { self.new.serves ≡ self.old.serves }
         ensures dry { self.new.dry ≡ self.old.dry }
         ensures runs { self.new.runs ≡ self.old.runs }
-        ensures begun { AreBegun plan.now.tree calendar.now.begins calendar.now.ends calendar.now.begun dues.old.remains self.old.ready self.old.stale dues.new.remains self.new.ready self.new.stale (length calendar.now.begun) }
+        ensures begun { AreBegun plan.now.tree calendar.now.begins calendar.now.ends calendar.now.begun dues.old.remains self.old.ready
+            self.old.stale dues.new.remains self.new.ready self.new.stale (length calendar.now.begun) }
     {
         begin_all(plan, calendar, dues, &mut self.ready, &mut self.stale);
     }
@@ -125,7 +127,8 @@ impl Serving {
         requires dues { dues.old.runs ≡ replicate (length plan.now.tree.nodes) false }
         requires blank { IsBlank plan.now.tree self.old }
         ensures tick { dues.new.tick ≡ 0 }
-        ensures filled { (x : ℕ) → IsMember plan.now.tree x → slice_index dues.new.remains x ≡ due_of plan.now.tree calendar.now.begins calendar.now.ends x }
+        ensures filled { (x : ℕ) → IsMember plan.now.tree x →
+            slice_index dues.new.remains x ≡ due_of plan.now.tree calendar.now.begins calendar.now.ends x }
         ensures nodes { length dues.new.remains ≡ length plan.now.tree.nodes }
         ensures long { AreLong plan.now.tree dues.new self.new }
         ensures serving { IsServing plan.now.tree dues.new calendar.now.ends self.new }

@@ -124,11 +124,15 @@ pub(crate) fn serve(
     ensures agree { (x : ℕ) → IsMember tree.now x → slice_index_or dues.new.runs x false ≡ slice_index_or runs.new x false }
     ensures rest { (x : ℕ) → (IsMember tree.now x → ⊥) → slice_index_or dues.new.runs x false ≡ slice_index_or dues.old.runs x false }
     ensures led { AreLed tree.now runs.new }
-    ensures served { (ends : List ℕ) → AreReady (candidates tree.now dues.old.remains ends p.0) ready.now → AreServed tree.now dues.old.remains ends stale.old runs.old → AreServed tree.now dues.old.remains ends stale.new runs.new }
-    ensures others { (q j : ℕ) → IsPack tree.now q → q ≢ p.0 → j < length (members tree.now q) → slice_index_or runs.new (member tree.now q j) false ≡ slice_index_or runs.old (member tree.now q j) false }
+    ensures served { (ends : List ℕ) → AreReady (candidates tree.now dues.old.remains ends p.0) ready.now →
+        AreServed tree.now dues.old.remains ends stale.old runs.old → AreServed tree.now dues.old.remains ends stale.new runs.new }
+    ensures others { (q j : ℕ) → IsPack tree.now q → q ≢ p.0 → j < length (members tree.now q) →
+        slice_index_or runs.new (member tree.now q j) false ≡ slice_index_or runs.old (member tree.now q j) false }
     ensures own { slice_index_or stale.new p.0 false ≡ false }
-    ensures unmarked { (q : ℕ) → IsPack tree.now q → q ≢ p.0 → slice_index_or stale.new q false ≡ false → slice_index_or stale.old q false ≡ false }
-    ensures marks { (q : ℕ) → IsPack tree.now q → q ≢ p.0 → level tree.now p.0 ≤ level tree.now q → slice_index_or stale.new q false ≡ slice_index_or stale.old q false }
+    ensures unmarked { (q : ℕ) → IsPack tree.now q → q ≢ p.0 → slice_index_or stale.new q false ≡ false →
+        slice_index_or stale.old q false ≡ false }
+    ensures marks { (q : ℕ) → IsPack tree.now q → q ≢ p.0 → level tree.now p.0 ≤ level tree.now q →
+        slice_index_or stale.new q false ≡ slice_index_or stale.old q false }
 {
     let next = hand_over(tree, p, was, first_ready(ready), stale, runs);
     change_if(tree, p, was, next, dues);

@@ -62,7 +62,8 @@ fn serve_pack(
     ensures nodes { length dues.new.runs ≡ length dues.old.runs }
     ensures serving { IsServing tree.now dues.new ends.now (lists ready.now serves.new dry.new stale.new runs.new) }
     ensures own { slice_index_or stale.new p.0 false ≡ false }
-    ensures marks { (q : ℕ) → IsPack tree.now q → q ≢ p.0 → level tree.now p.0 ≤ level tree.now q → slice_index_or stale.new q false ≡ slice_index_or stale.old q false }
+    ensures marks { (q : ℕ) → IsPack tree.now q → q ≢ p.0 → level tree.now p.0 ≤ level tree.now q →
+        slice_index_or stale.new q false ≡ slice_index_or stale.old q false }
 {
     let _ends = ends.len();
     let was = serves[p.0 as usize];
@@ -98,7 +99,8 @@ fn serve_marked(
     ensures nodes { length dues.new.runs ≡ length dues.old.runs }
     ensures serving { IsServing tree.now dues.new ends.now (lists ready.now serves.new dry.new stale.new runs.new) }
     ensures own { slice_index_or stale.new p.0 false ≡ false }
-    ensures marks { (q : ℕ) → IsPack tree.now q → q ≢ p.0 → level tree.now p.0 ≤ level tree.now q → slice_index_or stale.new q false ≡ slice_index_or stale.old q false }
+    ensures marks { (q : ℕ) → IsPack tree.now q → q ≢ p.0 → level tree.now p.0 ≤ level tree.now q →
+        slice_index_or stale.new q false ≡ slice_index_or stale.old q false }
 {
     if stale[p.0 as usize] {
         serve_pack(tree, p, ends, ready, serves, dry, dues, stale, runs);
@@ -176,7 +178,8 @@ pub(crate) fn serve_all(
     ensures nodes { length dues.new.runs ≡ length dues.old.runs }
     ensures serving { IsServing tree.now dues.new ends.now (lists ready.now serves.new dry.new stale.new runs.new) }
     ensures fresh { AreFreshFrom tree.now stale.new 0 }
-    ensures selected { (n : ℕ) → n < length tree.now.nodes → slice_index_or runs.new n false ≡ runs_now tree.now (λ x. slice_index dues.old.remains x) (λ x. slice_index ends.now x) n }
+    ensures selected { (n : ℕ) → n < length tree.now.nodes → slice_index_or runs.new n false
+        ≡ runs_now tree.now (λ x. slice_index dues.old.remains x) (λ x. slice_index ends.now x) n }
 {
     let mut level = tree.levels();
     while level > 0 {

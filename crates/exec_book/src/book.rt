@@ -1,5 +1,6 @@
 //! The book, how it begins, and what it tells.
-ghost use Rattle.std.specs.Prelude.{◌≡◌, ◌<◌, ◌≤◌, ◌+◌, ◌*◌, ◌↔◌, vec_capacity, ℕ, [], Some, length, replicate, IfOk, IfErr, IsTrue, true};
+ghost use Rattle.std.specs.Prelude.{◌≡◌, ◌<◌, ◌≤◌, ◌+◌, ◌*◌, ◌↔◌, vec_capacity, ℕ, [], Some, length, replicate, IfOk};
+ghost use Rattle.std.specs.Prelude.{IfErr, IsTrue, true};
 ghost use Rattle.sched_base.specs.declared.rows.Row.{Row};
 ghost use Rattle.sched_base.specs.Rows.{is_of_task};
 ghost use Rattle.sched_base.specs.Tables.{IsTable, rounds_of as rounds_in};
@@ -51,7 +52,15 @@ impl<Q: PostLedger, J: Job> Model for Book<Q, J> {
 
     ghost Value = { BookContents J };
 
-    ghost view = { λ b. record { plan = b.plan; window = b.window; state = b.state; log = b.log.items; table = table_in (option_map (λ h. h.rounds) b.held); jobs = jobs_in (option_map (λ h. h.desk) b.held); side = option_map (λ h. h.side) b.held } };
+    ghost view = { λ b. record {
+      plan = b.plan;
+      window = b.window;
+      state = b.state;
+      log = b.log.items;
+      table = table_in (option_map (λ h. h.rounds) b.held);
+      jobs = jobs_in (option_map (λ h. h.desk) b.held);
+      side = option_map (λ h. h.side) b.held;
+    } };
 
     ghost invariant = { λ b. record {
       rows : RowsPart b.plan b.rounds b.window b.state (option_map (λ h. h.rounds) b.held);
@@ -87,7 +96,15 @@ impl<Q: PostLedger, J: Job> Book<Q, J> {
         requires small_window { window ≤ 1024 }
         requires side { side ≡ 0 }
         requires jobs { AllAtHome J.id J.used J.made Q.made (length plan.set.tasks) (λ t. 0) jobs.places }
-        ensures book { IfOk result (λ b. b ≡ record { plan = plan; window = window; state = start plan.tree.processors; log = []; table = record { lanes = replicate plan.tree.processors []; room = rounds }; jobs = jobs; side = Some 0 }) }
+        ensures book { IfOk result (λ b. b ≡ record {
+          plan = plan;
+          window = window;
+          state = start plan.tree.processors;
+          log = [];
+          table = record { lanes = replicate plan.tree.processors []; room = rounds };
+          jobs = jobs;
+          side = Some 0;
+        }) }
         ensures back { IfErr result (λ e. e.jobs ≡ jobs) }
     {
         let Ok(parts) = Parts::new(alloc, &plan, rounds) else {
@@ -208,7 +225,8 @@ impl<Q: PostLedger, J: Job> Book<Q, J> {
     /// What the job that went with the row that is out on lane p had used then: the ticks of its task's posted rows.
     pub fn handed(&self, p: u32) -> u128
         requires { (r : Row) × (t : ℕ) × OutRow (plan_rows self.now.plan) self.now.state p r × (is_of_task t r.leaf ≡ true) }
-        ensures { (r : Row) (t : ℕ) → OutRow (plan_rows self.now.plan) self.now.state p r → is_of_task t r.leaf ≡ true → result ≡ posted_ticks (plan_rows self.now.plan) self.now.state t }
+        ensures { (r : Row) (t : ℕ) → OutRow (plan_rows self.now.plan) self.now.state p r → is_of_task t r.leaf ≡ true →
+            result ≡ posted_ticks (plan_rows self.now.plan) self.now.state t }
     {
         let Some(held) = &self.held else {
             unreachable!()

@@ -1,7 +1,8 @@
 //! Idle fill: idle clients that take what the items of a packing leave of the processors.
 #![tactic(auto)]
 
-ghost use Rattle.std.specs.Prelude.{◌≡◌, ◌≤◌, ◌<◌, ◌+◌, ◌-◌, ◌*◌, ◌/◌, ◌⊎◌, ◌++◌, length, map, replicate, slice_set, OnOk, OnErr};
+ghost use Rattle.std.specs.Prelude.{◌≡◌, ◌≤◌, ◌<◌, ◌+◌, ◌-◌, ◌*◌, ◌/◌, ◌⊎◌, ◌++◌, length, map, replicate};
+ghost use Rattle.std.specs.Prelude.{slice_set, OnOk, OnErr};
 ghost use Rattle.sched_base.specs.FirstFit.{idles};
 ghost use Rattle.server_pack.specs.Servers.{server_at, rates_of, rate_sum, HasNoIdle, idle_alone, with_idle, with_idles};
 
@@ -22,7 +23,8 @@ pub fn fill(
     requires no_idle { HasNoIdle packing.old.servers }
     requires few { processors ≤ 32 }
     requires fits { rate_sum packing.old.servers ≤ processors * scale }
-    ensures filled { OnOk result (packing.new.servers ≡ with_idles (idles scale (processors * scale - rate_sum packing.old.servers) (rates_of packing.old.servers)) packing.old.servers) }
+    ensures filled { OnOk result (packing.new.servers ≡ with_idles (idles scale (processors * scale - rate_sum packing.old.servers)
+        (rates_of packing.old.servers)) packing.old.servers) }
     ensures sum { OnOk result (rate_sum packing.new.servers ≡ processors * scale) }
     ensures scale { packing.new.scale ≡ packing.old.scale }
     ensures err { OnErr result (packing.new ≡ packing.old) }
@@ -51,7 +53,8 @@ fn total(packing: &Packing) -> u128
 /// Gives each server in order an idle client, while slack remains, and says what then remains.
 fn top_up(packing: &mut Packing, slack: u128) -> u128
     requires { HasNoIdle packing.old.servers }
-    ensures filled { packing.new.servers ++ map idle_alone (replicate (result / packing.old.scale) packing.old.scale) ≡ with_idles (idles packing.old.scale slack (rates_of packing.old.servers)) packing.old.servers }
+    ensures filled { packing.new.servers ++ map idle_alone (replicate (result / packing.old.scale) packing.old.scale)
+        ≡ with_idles (idles packing.old.scale slack (rates_of packing.old.servers)) packing.old.servers }
     ensures sum { rate_sum packing.new.servers + result ≡ rate_sum packing.old.servers + slack }
     ensures full { (result ≡ 0) ⊎ (rate_sum packing.new.servers ≡ length packing.new.servers * packing.old.scale) }
     ensures scale { packing.new.scale ≡ packing.old.scale }

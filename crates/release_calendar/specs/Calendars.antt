@@ -1,5 +1,6 @@
 -- Calendars, and how they belong to a plan.
-use Rattle.std.specs.Prelude.{◌≡◌, ℕ, ◌<◌, ◌≤◌, ◌^◌, ◌⊎◌, ◌+◌, ◌==◌, ◌&&◌, not, Bool, true, false, List, [], ◌∷◌, length, slice_index, slice_index_or}
+use Rattle.std.specs.Prelude.{◌≡◌, ℕ, ◌<◌, ◌≤◌, ◌^◌, ◌⊎◌, ◌+◌, ◌==◌, ◌&&◌, not, Bool, true, false, List, []}
+use Rattle.std.specs.Prelude.{◌∷◌, length, slice_index, slice_index_or}
 use Rattle.knockout.specs.Knockouts.{never}
 use Rattle.sched_base.specs.Counting.{bit}
 use Rattle.sched_base.specs.declared.sets.Task as declared

@@ -37,7 +37,8 @@ impl Model for Calendar {
 
     ghost view = { λ c. record { unit = c.unit; next = c.next; begins = c.begins.items; ends = c.ends.items; begun = numbers (take c.turned c.begun.items) } };
 
-    ghost invariant = { λ c. (length c.ends.items ≡ length c.begins.items) × EndsFit c.ends.items × (c.order ≡ c.ends.items) × (length c.begun.items ≡ length c.begins.items) × (c.turned ≤ length c.begun.items) };
+    ghost invariant = { λ c. (length c.ends.items ≡ length c.begins.items) × EndsFit c.ends.items × (c.order ≡ c.ends.items)
+        × (length c.begun.items ≡ length c.begins.items) × (c.turned ≤ length c.begun.items) };
 }
 
 impl Calendar {
@@ -76,7 +77,8 @@ impl Calendar {
         requires due { length due.old ≡ length plan.now.tree.nodes }
         ensures unit { self.new.unit ≡ self.old.next }
         ensures belongs { BelongsTo plan.now self.new }
-        ensures due { (x : ℕ) → x < length plan.now.tree.nodes → slice_index_or due.new x false ≡ (not (is_pack (kind_at plan.now.tree x)) && boundary_of plan.now x self.old.next) }
+        ensures due { (x : ℕ) → x < length plan.now.tree.nodes → slice_index_or due.new x false
+            ≡ (not (is_pack (kind_at plan.now.tree x)) && boundary_of plan.now x self.old.next) }
         ensures begun { AreListed due.new self.new.begun }
     {
         let _lawful = plan.tree();

@@ -1,5 +1,7 @@
 //! How windows turn: those that end at a unit are followed by the next ones.
-ghost use Rattle.std.specs.Prelude.{◌≡◌, ◌≢◌, ℕ, ◌<◌, ◌≤◌, ◌^◌, ◌+◌, ◌++◌, ◌&&◌, [], ◌∷◌, not, true, false, length, replicate, take, slice_index, slice_index_or, slice_set, IfOk};
+ghost use Rattle.std.specs.Prelude.{◌≡◌, ◌≢◌, ℕ, ◌<◌, ◌≤◌, ◌^◌, ◌+◌, ◌++◌, ◌&&◌, [], ◌∷◌, not, true};
+ghost use Rattle.std.specs.Prelude.{false, length, replicate, take};
+ghost use Rattle.std.specs.Prelude.{slice_index, slice_index_or, slice_set, IfOk};
 ghost use Rattle.run_tree.specs.Windows.{window_end};
 ghost use Rattle.run_tree.specs.Tree.{kind_at, is_pack, is_leaf, numbers, IsMember};
 ghost use Rattle.run_tree.specs.Plans.{IsPlan, boundary_of};
@@ -76,9 +78,12 @@ fn turn_node(plan: &Plan, n: NodeId, at: u64, begins: &mut [u64], ends: &mut [u1
     requires at { at ≤ plan.now.set.horizon }
     requires begins { length begins.old ≡ length plan.now.tree.nodes }
     requires ends { length ends.old ≡ length plan.now.tree.nodes }
-    ensures turned { is_pack (kind_at plan.now.tree n.0) ≡ false → slice_index ends.old n.0 ≡ at → (slice_index begins.new n.0 ≡ at) × (slice_index ends.new n.0 ≡ window_end (boundary_of plan.now n.0) at) }
-    ensures kept { is_pack (kind_at plan.now.tree n.0) ≡ false → (slice_index ends.old n.0 ≡ at → ⊥) → (slice_index begins.new n.0 ≡ slice_index begins.old n.0) × (slice_index ends.new n.0 ≡ slice_index ends.old n.0) }
-    ensures others { (x : ℕ) → (x ≡ n.0 → ⊥) → (slice_index begins.new x ≡ slice_index begins.old x) × (slice_index ends.new x ≡ slice_index ends.old x) }
+    ensures turned { is_pack (kind_at plan.now.tree n.0) ≡ false → slice_index ends.old n.0 ≡ at → (slice_index begins.new n.0 ≡ at)
+        × (slice_index ends.new n.0 ≡ window_end (boundary_of plan.now n.0) at) }
+    ensures kept { is_pack (kind_at plan.now.tree n.0) ≡ false → (slice_index ends.old n.0 ≡ at → ⊥) →
+        (slice_index begins.new n.0 ≡ slice_index begins.old n.0) × (slice_index ends.new n.0 ≡ slice_index ends.old n.0) }
+    ensures others { (x : ℕ) → (x ≡ n.0 → ⊥) → (slice_index begins.new x ≡ slice_index begins.old x)
+        × (slice_index ends.new x ≡ slice_index ends.old x) }
     ensures packs { is_pack (kind_at plan.now.tree n.0) ≡ true → slice_index ends.new n.0 ≡ slice_index ends.old n.0 }
     ensures fit { EndsFit ends.old → EndsFit ends.new }
 {
@@ -312,7 +317,8 @@ pub(crate) fn turn_marked(
     ensures order { order.new ≡ ends.new }
     ensures packs { PacksNeverEnd plan.now.tree ends.new }
     ensures fit { EndsFit ends.old → EndsFit ends.new }
-    ensures due { (x : ℕ) → x < length plan.now.tree.nodes → slice_index_or due.new x false ≡ (not (is_pack (kind_at plan.now.tree x)) && boundary_of plan.now x at) }
+    ensures due { (x : ℕ) → x < length plan.now.tree.nodes → slice_index_or due.new x false
+        ≡ (not (is_pack (kind_at plan.now.tree x)) && boundary_of plan.now x at) }
     ensures listed { AreListed due.new (numbers (take result.1 begun.new)) }
     ensures count { result.1 ≤ length begun.new }
 {

@@ -13,7 +13,9 @@ pub fn table_law()
     ensures valid { (p : PlanContents) → IsPlan p → IsValid p.set p.tree.scale (stop_of p) (stop_of p) (schedule_of p) }
     ensures processors { (p : PlanContents) → IsPlan p → length (lanes_of p.tree.processors (schedule_of p)) ≡ p.set.processors }
     ensures placed { (p : PlanContents) → IsPlan p → AllByRecursion (λ r. r.processor < p.tree.processors) (schedule_of p) }
-    ensures lane { (p : PlanContents) (q : ℕ) → q < p.tree.processors → lane_of (lanes_of p.tree.processors (schedule_of p)) q ≡ rows_on q (schedule_of p) }
+    ensures lane { (p : PlanContents) (q : ℕ) → q < p.tree.processors →
+        lane_of (lanes_of p.tree.processors (schedule_of p)) q ≡ rows_on q (schedule_of p) }
     ensures rows { (p : PlanContents) → IsPlan p → AllByRecursion (λ r. NamesOneOf p.set.tasks r.leaf) (schedule_of p) }
-    ensures lanes { (p : PlanContents) → IsPlan p → AllByRecursion (λ rows. AllByRecursion (λ r. NamesOneOf p.set.tasks r.leaf) rows) (lanes_of p.tree.processors (schedule_of p)) }
+    ensures lanes { (p : PlanContents) → IsPlan p → AllByRecursion (λ rows. AllByRecursion (λ r. NamesOneOf p.set.tasks r.leaf) rows)
+        (lanes_of p.tree.processors (schedule_of p)) }
 {}

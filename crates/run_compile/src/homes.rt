@@ -25,8 +25,10 @@ pub(crate) fn homes_of(
 // Writes each server as the home of its items, none of which another server has.
 fn write_homes(homes: &mut [u32], packing: &Packing)
     requires inside { (s : ℕ) → All (λ item. item < length homes.old) (server_at packing.now.servers s).members }
-    requires apart { (s t i j : ℕ) → i < length (server_at packing.now.servers s).members → j < length (server_at packing.now.servers t).members → slice_index (server_at packing.now.servers s).members i ≡ slice_index (server_at packing.now.servers t).members j → s ≡ t }
-    ensures { (s i : ℕ) → s < length packing.now.servers → i < length (server_at packing.now.servers s).members → slice_index homes.new (slice_index (server_at packing.now.servers s).members i) ≡ s }
+    requires apart { (s t i j : ℕ) → i < length (server_at packing.now.servers s).members → j < length (server_at packing.now.servers t).members →
+        slice_index (server_at packing.now.servers s).members i ≡ slice_index (server_at packing.now.servers t).members j → s ≡ t }
+    ensures { (s i : ℕ) → s < length packing.now.servers → i < length (server_at packing.now.servers s).members →
+        slice_index homes.new (slice_index (server_at packing.now.servers s).members i) ≡ s }
 {
     for s in 0..packing.servers() {
         write_home(homes, packing.members(s), s);
@@ -37,7 +39,8 @@ fn write_homes(homes: &mut [u32], packing: &Packing)
 fn write_home(homes: &mut [u32], items: &[u32], s: u32)
     requires { All (λ item. item < length homes.old) items.now }
     ensures written { (i : ℕ) → i < length items.now → slice_index homes.new (slice_index items.now i) ≡ s }
-    ensures others { (j : ℕ) → ((i : ℕ) → i < length items.now → slice_index items.now i ≢ j) → slice_index homes.new j ≡ slice_index homes.old j }
+    ensures others { (j : ℕ) → ((i : ℕ) → i < length items.now → slice_index items.now i ≢ j) →
+        slice_index homes.new j ≡ slice_index homes.old j }
 {
     for item in items {
         homes[*item as usize] = s;

@@ -50,7 +50,8 @@ fn earliest(plan: &Plan, past: &[Tick], members: &[NodeId]) -> Option<usize>
     requires nodes { (k : ℕ) → k < length members.now → slice_index (numbers members.now) k < length plan.now.tree.nodes }
     requires small { IsSmall plan.now }
     requires early { length past.now ≤ stop_of plan.now }
-    ensures value { result ≡ earliest_of (map (λ m. record { end = end_of plan.now past.now m; remain = left_of plan.now past.now m }) (numbers members.now)) }
+    ensures value { result ≡ earliest_of
+        (map (λ m. record { end = end_of plan.now past.now m; remain = left_of plan.now past.now m }) (numbers members.now)) }
     ensures within { IfSome result (λ k. k < length members.now) }
 {
     let (first, rest) = members.split_first()?;

@@ -1,5 +1,6 @@
 //! Events, and the rounds between them.
-ghost use Rattle.std.specs.Prelude.{◌≡◌, ◌≤◌, ◌<◌, ◌+◌, ◌==◌, ◌&&◌, ◌%◌, ◌-◌, not, [], length, slice_index_or, false, IfOk, suc};
+ghost use Rattle.std.specs.Prelude.{◌≡◌, ◌≤◌, ◌<◌, ◌+◌, ◌==◌, ◌&&◌, ◌%◌, ◌-◌, not, [], length, slice_index_or};
+ghost use Rattle.std.specs.Prelude.{false, IfOk, suc};
 ghost use Rattle.std.specs.List.{list_any, range_with_len};
 ghost use Rattle.run_tree.specs.Tree.{kind_at, is_pack};
 ghost use Rattle.run_tree.specs.Boundaries.{set_boundary};
@@ -34,7 +35,8 @@ fn task_begins(plan: &Plan, ticks: usize, x: NodeId) -> bool
 fn some_task_begins(plan: &Plan, ticks: usize) -> bool
     requires small { IsSmall plan.now }
     requires early { ticks ≤ stop_of plan.now }
-    ensures { result ≡ list_any (λ x. task_begins_at (set_boundary plan.now.set.tasks) plan.now.tree ticks x) (range_with_len 0 (length plan.now.tree.nodes)) }
+    ensures { result ≡ list_any (λ x. task_begins_at (set_boundary plan.now.set.tasks) plan.now.tree ticks x)
+        (range_with_len 0 (length plan.now.tree.nodes)) }
 {
     for x in 0..plan.tree().nodes() {
         if task_begins(plan, ticks, NodeId(x)) {
@@ -48,7 +50,8 @@ fn some_task_begins(plan: &Plan, ticks: usize) -> bool
 fn some_boundary(plan: &Plan, ticks: usize) -> bool
     requires small { IsSmall plan.now }
     requires early { ticks ≤ stop_of plan.now }
-    ensures { result ≡ (ticks % plan.now.tree.scale == 0 && list_any (λ x. task_begins_at (set_boundary plan.now.set.tasks) plan.now.tree ticks x) (range_with_len 0 (length plan.now.tree.nodes))) }
+    ensures { result ≡ (ticks % plan.now.tree.scale == 0 && list_any (λ x. task_begins_at (set_boundary plan.now.set.tasks) plan.now.tree ticks x)
+        (range_with_len 0 (length plan.now.tree.nodes))) }
 {
     ticks as u128 % plan.scale() == 0 && some_task_begins(plan, ticks)
 }
@@ -59,7 +62,8 @@ fn runs_dry(plan: &Plan, past: &[Tick], x: NodeId) -> bool
     requires small { IsSmall plan.now }
     requires early { length past.now ≤ stop_of plan.now }
     requires some { 0 < length past.now }
-    ensures { result ≡ (not (is_pack (kind_at plan.now.tree x.0)) && slice_index_or (slice_index_or past.now (length past.now - 1) []) x.0 false && left_of plan.now past.now x.0 == 0) }
+    ensures { result ≡ (not (is_pack (kind_at plan.now.tree x.0)) && slice_index_or
+        (slice_index_or past.now (length past.now - 1) []) x.0 false && left_of plan.now past.now x.0 == 0) }
 {
     let is_member = match plan.tree().kind(x) {
         Kind::Pack(_) => false,
@@ -75,7 +79,8 @@ fn some_runs_dry(plan: &Plan, past: &[Tick]) -> bool
     requires small { IsSmall plan.now }
     requires past { AreTicks plan.now past.now }
     requires some { 0 < length past.now }
-    ensures { result ≡ list_any (λ x. runs_dry_at (set_boundary plan.now.set.tasks) plan.now.tree (length past.now - 1) x) (range_with_len 0 (length plan.now.tree.nodes)) }
+    ensures { result ≡ list_any (λ x. runs_dry_at (set_boundary plan.now.set.tasks) plan.now.tree (length past.now - 1) x)
+        (range_with_len 0 (length plan.now.tree.nodes)) }
 {
     for x in 0..plan.tree().nodes() {
         if runs_dry(plan, past, NodeId(x)) {

@@ -1,5 +1,6 @@
 -- What each command writes, and which bytes it refuses and why. A new command adds its case to these definitions.
-use Rattle.std.specs.Prelude.{◌≡◌, ℕ, ◌+◌, ◌*◌, ◌/◌, ◌^◌, ◌≤◌, ◌<◌, ◌||◌, not, nat_eq, Bool, true, false, if◌then◌else◌, List, Ok, Err}
+use Rattle.std.specs.Prelude.{◌≡◌, ℕ, ◌+◌, ◌*◌, ◌/◌, ◌^◌, ◌≤◌, ◌<◌, ◌||◌, not, nat_eq, Bool, true, false}
+use Rattle.std.specs.Prelude.{if◌then◌else◌, List, Ok, Err}
 use Rattle.std.specs.List.{list_any}
 use Rattle.sched_base.specs.declared.sets.Task.{Task}
 use Rattle.sched_base.specs.Sets.{SetContents}

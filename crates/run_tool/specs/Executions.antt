@@ -1,5 +1,6 @@
 -- What an execution does with the gates and the jobs.
-use Rattle.std.specs.Prelude.{ℕ, ◌≡◌, ◌<◌, ◌≤◌, ◌+◌, List, [], Option, Some, IfSome, option_map, length, map, slice_get, slice_index, take, Vec}
+use Rattle.std.specs.Prelude.{ℕ, ◌≡◌, ◌<◌, ◌≤◌, ◌+◌, List, [], Option, Some, IfSome, option_map, length, map, slice_get}
+use Rattle.std.specs.Prelude.{slice_index, take, Vec}
 use Rattle.sched_base.specs.declared.rows.Leaf.TheVariants.{Task}
 use Rattle.sched_base.specs.declared.rows.TaskId.{TaskId}
 use Rattle.sched_base.specs.declared.rows.Row.{Row}
@@ -101,7 +102,8 @@ pub record JobStopped (p : PlanContents) (old new : Crew) (row : Row) : Type 0 w
   pub task : (task : TaskId) × (row.leaf ≡ Task task) × JobRose old new task.0
   pub gates : (q : ℕ) → GateKept old new q
   pub at : (posted ran : List ℕ) × RanPart p old new posted ran × RowAt (plan_rows p) row.processor (slice_index posted row.processor) row
-      × (slice_index ran row.processor ≡ slice_index posted row.processor + 1) × ((q : ℕ) → q < row.processor → slice_index ran q ≡ slice_index posted q)
+      × (slice_index ran row.processor ≡ slice_index posted row.processor + 1)
+      × ((q : ℕ) → q < row.processor → slice_index ran q ≡ slice_index posted q)
 
 -- no gate and no job failed
 pub record NothingRose (old new : Crew) : Type 0 where

@@ -20,7 +20,8 @@ node_in nodes i = slice_index_or nodes i no_node
 
 -- a new member at the end of pack i of these nodes, whose numbers begin at `base`
 abbrev pub with_member : ℕ → Kind → ℕ → ℕ → List Node → List Node
-with_member base k rate i nodes = slice_set nodes i (joined (node_in nodes i) (base + length nodes) rate) ++ member_node k rate (base + i) (length (node_in nodes i).members) ∷ []
+with_member base k rate i nodes = slice_set nodes i (joined (node_in nodes i) (base + length nodes) rate) ++ member_node k rate (base + i)
+    (length (node_in nodes i).members) ∷ []
 
 -- a new pack at the end
 abbrev pub with_pack : ℕ → ℕ → Growth → Growth
@@ -42,7 +43,8 @@ grown base level k rate b g = grown_in base level k rate b g (nat_lt b (length g
 abbrev pub with_duals_of : List Node → ℕ → ℕ → List ℕ → List ℕ → Growth → Growth
 with_duals_of below scale level [] homes g = g
 with_duals_of below scale level (p ∷ packs) [] g = g
-with_duals_of below scale level (p ∷ packs) (b ∷ homes) g = with_duals_of below scale level packs homes (grown (length below) level (kind.Dual (record { 0 = p })) (scale - (node_in below p).rate) b g)
+with_duals_of below scale level (p ∷ packs) (b ∷ homes) g = with_duals_of below scale level packs homes
+    (grown (length below) level (kind.Dual (record { 0 = p })) (scale - (node_in below p).rate) b g)
 
 -- a dual's primal is among the first n nodes
 abbrev pub IsPrimalBelow : ℕ → Kind → Type 0

@@ -42,6 +42,8 @@ packs_named m order = map (λ i. slice_index m.last i) order
 
 -- the order names each pack of the last level that isn't a root once, by its place there
 pub record NamesLower (m : Making) (order : List ℕ) : Type 0 where
-  pub lower : (k : ℕ) → k < length order → (slice_index order k < length m.last) × (rate m.tree (slice_index m.last (slice_index order k)) < m.tree.scale)
+  pub lower : (k : ℕ) → k < length order → (slice_index order k < length m.last)
+      × (rate m.tree (slice_index m.last (slice_index order k)) < m.tree.scale)
   pub once : (j k : ℕ) → j < length order → k < length order → slice_index order j ≡ slice_index order k → j ≡ k
-  pub all : (i : ℕ) → i < length m.last → rate m.tree (slice_index m.last i) < m.tree.scale → (k : ℕ) × (k < length order) × (slice_index order k ≡ i)
+  pub all : (i : ℕ) → i < length m.last → rate m.tree (slice_index m.last i) < m.tree.scale → (k : ℕ) × (k < length order)
+      × (slice_index order k ≡ i)

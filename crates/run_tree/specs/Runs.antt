@@ -1,5 +1,7 @@
 -- Which nodes run at each tick.
-use Rattle.std.specs.Prelude.{ℕ, zero, suc, ◌-◌, ◌*◌, ◌/◌, ◌&&◌, not, Bool, true, false, List, [], ◌∷◌, ◌++◌, map, filter, drop, length, Option, Some, None, slice_index_or, count_by}
+use Rattle.std.specs.Prelude.{ℕ, zero, suc, ◌-◌, ◌*◌, ◌/◌, ◌&&◌, not, Bool, true, false, List, [], ◌∷◌, ◌++◌, map, filter}
+use Rattle.std.specs.Prelude.{drop, length}
+use Rattle.std.specs.Prelude.{Option, Some, None, slice_index_or, count_by}
 use Rattle.std.specs.List.{range_with_len}
 use Rattle.sched_base.specs.declared.rows.Leaf.{Leaf}
 use Rattle.sched_base.specs.Candidates.{earliest, is_at}

@@ -1,5 +1,6 @@
 -- Reduction trees: servers packed over leaves, their duals packed again, up to servers that run all the time.
-use Rattle.std.specs.Prelude.{ℕ, suc, ◌+◌, ◌*◌, ◌<◌, ◌≤◌, ◌≡◌, ◌==◌, ◌&&◌, Bool, true, false, List, [], length, map, Option, Some, None, slice_index_or}
+use Rattle.std.specs.Prelude.{ℕ, suc, ◌+◌, ◌*◌, ◌<◌, ◌≤◌, ◌≡◌, ◌==◌, ◌&&◌, Bool, true, false, List, [], length, map}
+use Rattle.std.specs.Prelude.{Option, Some, None, slice_index_or}
 use Rattle.sched_base.specs.Counting.{sum_to, bit}
 use Rattle.sched_base.specs.declared.rows.Leaf.{Leaf}
 use Rattle.sched_base.specs.declared.rows.Leaf.TheVariants.{Empty}
@@ -130,7 +131,8 @@ pub record IsTree (t : Tree) : Type 0 where
   pub summed : (p : ℕ) → IsPack t p → sum_to (length (members t p)) (λ k. rate t (member t p k)) ≡ rate t p
   pub within : (p : ℕ) → IsPack t p → rate t p ≤ t.scale
   -- each leaf and each dual stands in one pack at one place
-  pub members_are : (p k : ℕ) → IsPack t p → k < length (members t p) → IsMember t (member t p k) × (home t (member t p k) ≡ p) × (place t (member t p k) ≡ k)
+  pub members_are : (p k : ℕ) → IsPack t p → k < length (members t p) → IsMember t (member t p k) × (home t (member t p k) ≡ p)
+      × (place t (member t p k) ≡ k)
   pub homes_are : (x : ℕ) → IsMember t x → IsPack t (home t x) × (place t x < length (members t (home t x))) × (member t (home t x) (place t x) ≡ x)
   -- leaves stand in level 0, the duals of a level's packs in the next
   pub leaves_are : (x : ℕ) → IsLeaf t x → (level t (home t x) ≡ 0) × (0 < rate t x)
@@ -140,4 +142,5 @@ pub record IsTree (t : Tree) : Type 0 where
   pub pairs : (p q : ℕ) → IsPack t p → IsPack t q → (p ≡ q → ⊥) → level t p ≡ level t q → t.scale < rate t p + rate t q
   -- a pack of the scale's rate is a root, and each other one has its dual, of the rate that it lacks
   pub roots_are : (p : ℕ) → IsPack t p → dual t p ≡ None → rate t p ≡ t.scale
-  pub has_dual : (p d : ℕ) → IsPack t p → dual t p ≡ Some d → IsDual t d × (primal t d ≡ p) × (rate t d + rate t p ≡ t.scale) × (rate t p < t.scale)
+  pub has_dual : (p d : ℕ) → IsPack t p → dual t p ≡ Some d → IsDual t d × (primal t d ≡ p) × (rate t d + rate t p ≡ t.scale)
+      × (rate t p < t.scale)

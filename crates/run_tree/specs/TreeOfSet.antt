@@ -39,7 +39,8 @@ idle_count t = sum_to (length t.nodes) (λ x. bit (is_leaf (kind_at t x) && is_i
 
 -- level 0 holds each of the tasks once, with its rate, and else idle leaves alone
 pub record HoldsTasks (tasks : List declared.Task) (t : Tree) : Type 0 where
-  pub has_task : (j : ℕ) → j < length tasks → (x : ℕ) × IsLeaf t x × (leaf t x ≡ Task (task_id j)) × (rate t x ≡ rate_of t.scale (task_at tasks j))
+  pub has_task : (j : ℕ) → j < length tasks → (x : ℕ) × IsLeaf t x × (leaf t x ≡ Task (task_id j))
+      × (rate t x ≡ rate_of t.scale (task_at tasks j))
   pub once : (x y : ℕ) (id : TaskId) → IsLeaf t x → IsLeaf t y → leaf t x ≡ Task id → leaf t y ≡ Task id → x ≡ y
   pub known : (x : ℕ) (id : TaskId) → IsLeaf t x → leaf t x ≡ Task id → id.0 < length tasks
   pub real : (x : ℕ) → IsLeaf t x → is_real (leaf t x) ≡ true

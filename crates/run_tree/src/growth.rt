@@ -1,5 +1,7 @@
 //! Nodes in a row as they are made.
-ghost use Rattle.std.specs.Prelude.{◌≡◌, ◌≤◌, ◌<◌, ◌+◌, ◌-◌, ◌^◌, ℕ, suc, [], ◌∷◌, ◌++◌, length, slice_index, slice_index_or, slice_set, vec_capacity, vec_len, OnOk, OnErr, IfOk};
+ghost use Rattle.std.specs.Prelude.{◌≡◌, ◌≤◌, ◌<◌, ◌+◌, ◌-◌, ◌^◌, ℕ, suc, [], ◌∷◌, ◌++◌, length, slice_index};
+ghost use Rattle.std.specs.Prelude.{slice_index_or, slice_set};
+ghost use Rattle.std.specs.Prelude.{vec_capacity, vec_len, OnOk, OnErr, IfOk};
 ghost use Rattle.run_tree.specs.Tree.{Node as SeenNode};
 ghost use Rattle.run_tree.specs.Making.{member_node, pack_node, joined};
 ghost use Rattle.run_tree.specs.Growth.{no_growth, node_in, with_member, grown, IsPrimalBelow, mark_primal, with_duals, with_duals_of};
@@ -70,7 +72,8 @@ fn open(
     rate: u128,
 ) -> Result<(), NoMemory>
     requires numbers_fit { base + length nodes.old.items + 1 < 2 ^ 32 }
-    ensures nodes { OnOk result (nodes.new.items ≡ (nodes.old.items ++ joined (pack_node level) (base + length nodes.old.items + 1) rate ∷ []) ++ member_node kind rate (base + length nodes.old.items) 0 ∷ []) }
+    ensures nodes { OnOk result (nodes.new.items ≡ (nodes.old.items ++ joined (pack_node level)
+        (base + length nodes.old.items + 1) rate ∷ []) ++ member_node kind rate (base + length nodes.old.items) 0 ∷ []) }
     ensures packs { OnOk result (packs.new.items ≡ packs.old.items ++ (base + length nodes.old.items) ∷ []) }
     ensures err { OnErr result ((nodes.new.items ≡ nodes.old.items) × (packs.new.items ≡ packs.old.items)) }
 {
@@ -198,7 +201,8 @@ impl Growth {
         b: u32,
     ) -> Result<(), NoMemory>
         requires numbers_fit { base + length self.old.nodes + 1 < 2 ^ 32 }
-        requires packs { (i : ℕ) → i < length self.old.packs → (base ≤ slice_index self.old.packs i) × (slice_index self.old.packs i < base + length self.old.nodes) }
+        requires packs { (i : ℕ) → i < length self.old.packs → (base ≤ slice_index self.old.packs i)
+            × (slice_index self.old.packs i < base + length self.old.nodes) }
         requires rate_fits { b < length self.old.packs → (node_in self.old.nodes (slice_index self.old.packs b - base)).rate + rate < 2 ^ 128 }
         requires members_fit { b < length self.old.packs → length (node_in self.old.nodes (slice_index self.old.packs b - base)).members < 2 ^ 32 }
         ensures ok { OnOk result (self.new ≡ grown base level kind rate b self.old) }

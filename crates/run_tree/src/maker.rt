@@ -45,9 +45,20 @@ impl Model for TreeMaker {
 
     ghost Value = { Making };
 
-    ghost view = { λ m. record { tree = record { processors = m.processors; scale = m.scale; levels = m.levels; nodes = m.growth.nodes }; last = m.growth.packs } };
+    ghost view = { λ m. record {
+      tree = record { processors = m.processors; scale = m.scale; levels = m.levels; nodes = m.growth.nodes };
+      last = m.growth.packs;
+    } };
 
-    ghost invariant = { λ m. IsMaker m.lower.items (record { tree = record { processors = m.processors; scale = m.scale; levels = m.levels; nodes = m.growth.nodes }; last = m.growth.packs }) };
+    ghost invariant = { λ m. IsMaker m.lower.items (record {
+      tree = record {
+        processors = m.processors;
+        scale = m.scale;
+        levels = m.levels;
+        nodes = m.growth.nodes;
+      };
+      last = m.growth.packs;
+    }) };
 }
 
 // The same levels again.

@@ -27,7 +27,14 @@ impl Model for Node {
 
     ghost Value = { tree.Node };
 
-    ghost view = { λ n. record { kind = n.kind; rate = n.rate; home = n.home; place = n.place; members = tree.numbers n.members.items; dual = option_map (λ d. d.0) n.dual } };
+    ghost view = { λ n. record {
+      kind = n.kind;
+      rate = n.rate;
+      home = n.home;
+      place = n.place;
+      members = tree.numbers n.members.items;
+      dual = option_map (λ d. d.0) n.dual;
+    } };
 }
 
 impl Node {

@@ -1,6 +1,7 @@
 //! Reduction trees.
 ghost use Rattle.std.specs.Prelude.{◌≡◌, ◌<◌, length, option_map, slice_index, IfOk};
-ghost use Rattle.run_tree.specs.Tree.{IsTree, kind_at, rate as rate_in, home as home_in, place as place_in, members as members_in, member as member_in, dual as dual_in, numbers};
+ghost use Rattle.run_tree.specs.Tree.{IsTree, kind_at, rate as rate_in, home as home_in, place as place_in, members as members_in};
+ghost use Rattle.run_tree.specs.Tree.{member as member_in, dual as dual_in, numbers};
 ghost use Rattle.run_tree.specs.Schedule.{packs_at};
 ghost use Rattle.run_tree.specs.Plans.{IsLawfulTree};
 

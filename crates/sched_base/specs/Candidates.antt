@@ -1,5 +1,6 @@
 -- The earliest deadline: which of several members a server serves at one tick.
-use Rattle.std.specs.Prelude.{ℕ, suc, ◌≡◌, ◌<◌, ◌≤◌, ◌⊎◌, ◌==◌, ◌&&◌, nat_lt, nat_le, Bool, true, false, List, [], ◌∷◌, Option, Some, None, slice_index_or}
+use Rattle.std.specs.Prelude.{ℕ, suc, ◌≡◌, ◌<◌, ◌≤◌, ◌⊎◌, ◌==◌, ◌&&◌, nat_lt, nat_le, Bool, true, false, List, []}
+use Rattle.std.specs.Prelude.{◌∷◌, Option, Some, None, slice_index_or}
 use Rattle.sched_base.specs.declared.candidates.Candidate.{Candidate}
 
 -- stands where a list has no such candidate, and is never looked at
@@ -29,4 +30,5 @@ is_at (Some j) k = j == k
 pub record IsEarliest (cs : List Candidate) (n k : ℕ) : Type 0 where
   pub below : k < n
   pub some : 0 < (candidate_at cs k).remain
-  pub first : (j : ℕ) → j < n → 0 < (candidate_at cs j).remain → ((candidate_at cs k).end < (candidate_at cs j).end) ⊎ (((candidate_at cs k).end ≡ (candidate_at cs j).end) × (k ≤ j))
+  pub first : (j : ℕ) → j < n → 0 < (candidate_at cs j).remain → ((candidate_at cs k).end < (candidate_at cs j).end)
+      ⊎ (((candidate_at cs k).end ≡ (candidate_at cs j).end) × (k ≤ j))

@@ -1,5 +1,6 @@
 -- First fit and idle fill, over lists of rates.
-use Rattle.std.specs.Prelude.{ℕ, zero, suc, ◌+◌, ◌-◌, ◌*◌, ◌/◌, ◌≡◌, ◌<◌, ◌≤◌, ◌==◌, nat_le, min, true, false, List, [], ◌∷◌, length, replicate, slice_index}
+use Rattle.std.specs.Prelude.{ℕ, zero, suc, ◌+◌, ◌-◌, ◌*◌, ◌/◌, ◌≡◌, ◌<◌, ◌≤◌, ◌==◌, nat_le, min, true, false}
+use Rattle.std.specs.Prelude.{List, [], ◌∷◌, length, replicate, slice_index}
 use Rattle.sched_base.specs.Counting.{bit, sum_to}
 
 -- the first server, by its rate, that has room for the item's; their number where none has
@@ -25,7 +26,8 @@ packed scale rates = packed_from scale rates []
 -- the server of each item
 abbrev pub homes_from : ℕ → List ℕ → List ℕ → List ℕ
 homes_from scale [] servers = []
-homes_from scale (rate ∷ rates) servers = first_with_room scale rate servers ∷ homes_from scale rates (with_item rate (first_with_room scale rate servers) servers)
+homes_from scale (rate ∷ rates) servers = first_with_room scale rate servers ∷ homes_from scale rates
+    (with_item rate (first_with_room scale rate servers) servers)
 
 -- the server of each item, by first fit
 unfoldable pub homes : ℕ → List ℕ → List ℕ

@@ -9,5 +9,7 @@ use Rattle.sched_base.specs.Tables.{lane_of, RowAt}
 pub record IsFront (lanes front : List (List Row)) (horizon : ℕ) : Type 0 where
   pub same_lanes : length front ≡ length lanes
   pub first_of_lanes : (p : ℕ) → lane_of front p ≡ take (length (lane_of front p)) (lane_of lanes p)
-  pub first_of_tasks : (p q k j : ℕ) (r s : Row) (task : TaskId) → RowAt front p k r → RowAt lanes q j s → r.leaf ≡ Task task → s.leaf ≡ Task task → s.start < r.start → RowAt front q j s
+  pub first_of_tasks : (p q k j : ℕ) (r s : Row) (task : TaskId) → RowAt front p k r → RowAt lanes q j s → r.leaf ≡ Task task →
+      s.leaf ≡ Task task →
+      s.start < r.start → RowAt front q j s
   pub before_horizon : (p k : ℕ) (r : Row) → RowAt lanes p k r → r.start < horizon → RowAt front p k r

@@ -1,5 +1,6 @@
 -- Placing: which pack of level 0 each processor holds, tick by tick. Packs are numbered in their order, processors from 0.
-use Rattle.std.specs.Prelude.{ℕ, suc, ◌&&◌, not, Bool, true, false, List, [], ◌∷◌, map, filter, find, length, replicate, Option, Some, None, slice_index_or}
+use Rattle.std.specs.Prelude.{ℕ, suc, ◌&&◌, not, Bool, true, false, List, [], ◌∷◌, map, filter, find, length, replicate, Option, Some}
+use Rattle.std.specs.Prelude.{None, slice_index_or}
 use Rattle.std.specs.List.{range_with_len, list_any}
 use Rattle.sched_base.specs.Candidates.{is_at}
 

@@ -1,5 +1,6 @@
 -- Whole rounds of rows: for each processor its rows, one for each round.
-use Rattle.std.specs.Prelude.{ℕ, ◌≡◌, ◌<◌, ◌≤◌, ◌+◌, ◌-◌, ◌*◌, ◌^◌, List, [], ◌∷◌, ◌++◌, Some, length, slice_get, slice_index_or, map, take}
+use Rattle.std.specs.Prelude.{ℕ, ◌≡◌, ◌<◌, ◌≤◌, ◌+◌, ◌-◌, ◌*◌, ◌^◌, List, [], ◌∷◌, ◌++◌, Some, length}
+use Rattle.std.specs.Prelude.{slice_get, slice_index_or, map, take}
 use Rattle.sched_base.specs.declared.rows.Leaf.TheVariants.{Task}
 use Rattle.sched_base.specs.declared.rows.TaskId.{TaskId}
 use Rattle.sched_base.specs.declared.rows.Row.{Row}
@@ -39,7 +40,8 @@ pub record IsRound (start : ℕ) (rows : List Row) : Type 0 where
   pub forward : (p : ℕ) (r : Row) → slice_get rows p ≡ Some r → (r.start < r.end) × (r.end < 2 ^ 127)
   pub ends : (p q : ℕ) (r s : Row) → slice_get rows p ≡ Some r → slice_get rows q ≡ Some s → r.end ≡ s.end
   -- no task stands twice in it
-  pub once : (p q : ℕ) (r s : Row) (task : TaskId) → slice_get rows p ≡ Some r → slice_get rows q ≡ Some s → r.leaf ≡ Task task → s.leaf ≡ Task task → p ≡ q
+  pub once : (p q : ℕ) (r s : Row) (task : TaskId) → slice_get rows p ≡ Some r → slice_get rows q ≡ Some s → r.leaf ≡ Task task →
+      s.leaf ≡ Task task → p ≡ q
 
 -- the rows of one more round, at the ends of the lanes
 abbrev pub with_round : List (List Row) → List Row → List (List Row)

@@ -22,8 +22,10 @@ pub record IsValid (s : SetContents) (scale horizon stop : ℕ) (rows : List Row
   -- no task runs on two processors at once
   pub tasks_apart : AllApart (λ r q. (j : ℕ) → is_of_task j r.leaf ≡ true → is_of_task j q.leaf ≡ true → DontOverlap r q) rows
   -- a period that ends by the horizon gives its task exactly its work
-  pub full : (j k : ℕ) → j < length s.tasks → period_start scale (task_at s.tasks j) (k + 1) ≤ horizon → served scale s rows j k ≡ (task_at s.tasks j).work * scale
+  pub full : (j k : ℕ) → j < length s.tasks → period_start scale (task_at s.tasks j) (k + 1) ≤ horizon →
+      served scale s rows j k ≡ (task_at s.tasks j).work * scale
   -- no period gives more
   pub no_more : (j k : ℕ) → j < length s.tasks → served scale s rows j k ≤ (task_at s.tasks j).work * scale
   -- no task runs before its offset
-  pub released : AllByRecursion (λ r. (j : ℕ) → j < length s.tasks → is_of_task j r.leaf ≡ true → (task_at s.tasks j).offset * scale ≤ r.start) rows
+  pub released : AllByRecursion (λ r. (j : ℕ) → j < length s.tasks → is_of_task j r.leaf ≡ true →
+      (task_at s.tasks j).offset * scale ≤ r.start) rows

@@ -1,5 +1,7 @@
 //! Sets of periodic tasks.
-ghost use Rattle.std.specs.Prelude.{◌≡◌, ◌≤◌, ◌<◌, ◌^◌, ◌+◌, true, [], ◌∷◌, ◌++◌, length, slice_get, Some, OnOk, OnErr, IfSome, IfNone, IfOk, IsTrue, ◌↔◌, option_map};
+ghost use Rattle.std.specs.Prelude.{◌≡◌, ◌≤◌, ◌<◌, ◌^◌, ◌+◌, true, [], ◌∷◌, ◌++◌, length, slice_get, Some, OnOk};
+ghost use Rattle.std.specs.Prelude.{OnErr, IfSome, IfNone};
+ghost use Rattle.std.specs.Prelude.{IfOk, IsTrue, ◌↔◌, option_map};
 ghost use Rattle.sched_base.specs.Names.{is_lawful_name};
 ghost use Rattle.sched_base.specs.Sets.{IsFree, IsLawful};
 
@@ -68,7 +70,10 @@ impl TaskSet {
         requires some_work { 1 ≤ work }
         requires work_fits { work ≤ period }
         requires period_fits { period < 2 ^ 32 }
-        ensures ok { OnOk result (self.new ≡ record self.old { tasks = self.old.tasks ++ (record { name = name.now; work = work; period = period; offset = 0 }) ∷ [] }) }
+        ensures ok { OnOk result (self.new ≡ record self.old {
+          tasks = self.old.tasks ++
+              (record { name = name.now; work = work; period = period; offset = 0 }) ∷ [];
+        }) }
         ensures err { OnErr result (self.new ≡ self.old) }
     {
         self.add_late(name, work, period, 0)
@@ -89,7 +94,10 @@ impl TaskSet {
         requires work_fits { work ≤ period }
         requires period_fits { period < 2 ^ 32 }
         requires offset_fits { offset < 2 ^ 32 }
-        ensures ok { OnOk result (self.new ≡ record self.old { tasks = self.old.tasks ++ (record { name = name.now; work = work; period = period; offset = offset }) ∷ [] }) }
+        ensures ok { OnOk result (self.new ≡ record self.old {
+          tasks = self.old.tasks ++
+              (record { name = name.now; work = work; period = period; offset = offset }) ∷ [];
+        }) }
         ensures err { OnErr result (self.new ≡ self.old) }
     {
         let task = Task {

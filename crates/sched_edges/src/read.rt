@@ -63,7 +63,8 @@ impl Bytes {
 pub fn read_all<R: Source>(alloc: Global, source: &mut R, limit: usize) -> Result<Bytes, TakeFault>
     ensures all { IfOk result (GaveAll (R.left source.old) (R.left source.new) limit) }
     ensures fits { OnOk result (HoldsAtMost limit (R.left source.old)) }
-    ensures too_long { (count : ℕ) → result ≡ Err (TakeFault.TooLong count) → (count ≡ limit + 1) × GaveCount (R.left source.old) (R.left source.new) count }
+    ensures too_long { (count : ℕ) → result ≡ Err (TakeFault.TooLong count) → (count ≡ limit + 1)
+        × GaveCount (R.left source.old) (R.left source.new) count }
     ensures exceeds { (count : ℕ) → result ≡ Err (TakeFault.TooLong count) → HoldsMore limit (R.left source.old) }
     ensures bounded { OnErr result (GaveAtMost (R.left source.old) (R.left source.new) (limit + 1)) }
     ensures unfinished { result ≡ Err TakeFault.Read → GaveAtMost (R.left source.old) (R.left source.new) limit }
@@ -94,7 +95,8 @@ fn read_rest<R: Source>(
     requires some { 0 < length buffer.old }
     requires none { bytes.old.items ≡ [] }
     ensures all { OnOk result (GaveAll (R.left source.old) (R.left source.new) limit bytes.new.items) }
-    ensures too_long { (count : ℕ) → result ≡ Err (TakeFault.TooLong count) → (count ≡ limit + 1) × GaveCount (R.left source.old) (R.left source.new) count }
+    ensures too_long { (count : ℕ) → result ≡ Err (TakeFault.TooLong count) → (count ≡ limit + 1)
+        × GaveCount (R.left source.old) (R.left source.new) count }
     ensures bounded { OnErr result (GaveAtMost (R.left source.old) (R.left source.new) (limit + 1)) }
     ensures unfinished { result ≡ Err TakeFault.Read → GaveAtMost (R.left source.old) (R.left source.new) limit }
     ensures later { R.faults source.old ≤ R.faults source.new }

@@ -11,4 +11,5 @@ use Rattle.run_tree.specs.Runs.{runs}
 abbrev pub RunsRate : (Leaf → ℕ → Bool) → Tree → ℕ → Type 0
 RunsRate of_leaf t x = (u : ℕ) →
     ticks (runs of_leaf t x) (window_end (is_boundary of_leaf t x) u * t.scale)
-    ≡ ticks (runs of_leaf t x) (window_begin (is_boundary of_leaf t x) u * t.scale) + rate t x * (window_end (is_boundary of_leaf t x) u - window_begin (is_boundary of_leaf t x) u)
+    ≡ ticks (runs of_leaf t x) (window_begin (is_boundary of_leaf t x) u * t.scale) + rate t x *
+    (window_end (is_boundary of_leaf t x) u - window_begin (is_boundary of_leaf t x) u)

@@ -10,5 +10,6 @@ ghost use Rattle.sched_laws.specs.Migration.{NoneMigrates};
 /// processors, all rows of a task have one processor.
 #[tactic(auto, using(crate::proofs::OneLevel::set_stays))]
 pub fn one_level_law()
-    ensures { (s : SetContents) → IsLawful s → (t : Tree) → IsTreeOf s t → ((p : ℕ) → IsPack t p → level t p ≡ 0 → dual t p ≡ None) → (stop : ℕ) → NoneMigrates (schedule s.tasks t stop) }
+    ensures { (s : SetContents) → IsLawful s → (t : Tree) → IsTreeOf s t → ((p : ℕ) → IsPack t p → level t p ≡ 0 → dual t p ≡ None) →
+        (stop : ℕ) → NoneMigrates (schedule s.tasks t stop) }
 {}

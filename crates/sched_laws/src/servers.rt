@@ -10,13 +10,20 @@ ghost use Rattle.sched_laws.specs.Rates.{RunsRate};
 /// member runs exactly its due in each of the member's windows, and at each tick at which the pack runs a member runs.
 #[tactic(auto, using(crate::proofs::LevelRates::one_pack_served, crate::proofs::LevelRates::one_pack_runs))]
 pub fn edf_law()
-    ensures served { (of_leaf : Leaf → ℕ → Bool) (t : Tree) → IsTree t → HaveBoundaries of_leaf t → (p k : ℕ) → IsPack t p → RunsRate of_leaf t p → k < length (members t p) → RunsRate of_leaf t (member t p k) }
-    ensures runs { (of_leaf : Leaf → ℕ → Bool) (t : Tree) → IsTree t → HaveBoundaries of_leaf t → (p n : ℕ) → IsPack t p → RunsRate of_leaf t p → runs of_leaf t p n ≡ true → (k : ℕ) × (k < length (members t p)) × (runs of_leaf t (member t p k) n ≡ true) }
+    ensures served { (of_leaf : Leaf → ℕ → Bool) (t : Tree) → IsTree t → HaveBoundaries of_leaf t → (p k : ℕ) → IsPack t p →
+        RunsRate of_leaf t p →
+        k < length (members t p) → RunsRate of_leaf t (member t p k) }
+    ensures runs { (of_leaf : Leaf → ℕ → Bool) (t : Tree) → IsTree t → HaveBoundaries of_leaf t → (p n : ℕ) → IsPack t p →
+        RunsRate of_leaf t p →
+        runs of_leaf t p n ≡ true → (k : ℕ) × (k < length (members t p)) × (runs of_leaf t (member t p k) n ≡ true) }
 {}
 
 /// The law of duals: a dual has the boundaries of its primal, and where it runs its rate in each of its windows the
 /// primal runs its own in each of the same windows.
 pub fn dual_law()
-    ensures same { (of_leaf : Leaf → ℕ → Bool) (t : Tree) → IsTree t → (p d : ℕ) → IsPack t p → dual t p ≡ Some d → (u : ℕ) → is_boundary of_leaf t d u ≡ is_boundary of_leaf t p u }
-    ensures served { (of_leaf : Leaf → ℕ → Bool) (t : Tree) → IsTree t → HaveBoundaries of_leaf t → (p d : ℕ) → IsPack t p → dual t p ≡ Some d → RunsRate of_leaf t d → RunsRate of_leaf t p }
+    ensures same { (of_leaf : Leaf → ℕ → Bool) (t : Tree) → IsTree t → (p d : ℕ) → IsPack t p → dual t p ≡ Some d → (u : ℕ) →
+        is_boundary of_leaf t d u ≡ is_boundary of_leaf t p u }
+    ensures served { (of_leaf : Leaf → ℕ → Bool) (t : Tree) → IsTree t → HaveBoundaries of_leaf t → (p d : ℕ) → IsPack t p →
+        dual t p ≡ Some d →
+        RunsRate of_leaf t d → RunsRate of_leaf t p }
 {}

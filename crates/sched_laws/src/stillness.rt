@@ -12,6 +12,9 @@ ghost use Rattle.run_tree.specs.TreeOfSet.{IsTreeOf};
 /// processor keeps its pack.
 
 pub fn still_law()
-    ensures nodes { (s : SetContents) → IsLawful s → (t : Tree) → IsTreeOf s t → (n : ℕ) → n + 1 < 2 ^ 33 * t.scale → is_event (set_boundary s.tasks) t (n + 1) ≡ false → (x : ℕ) → x < length t.nodes → runs (set_boundary s.tasks) t x (n + 1) ≡ runs (set_boundary s.tasks) t x n }
-    ensures places { (s : SetContents) → IsLawful s → (t : Tree) → IsTreeOf s t → (n : ℕ) → n + 1 < 2 ^ 33 * t.scale → is_event (set_boundary s.tasks) t (n + 1) ≡ false → onto_at (set_boundary s.tasks) t (n + 1) ≡ onto_at (set_boundary s.tasks) t n }
+    ensures nodes { (s : SetContents) → IsLawful s → (t : Tree) → IsTreeOf s t → (n : ℕ) → n + 1 < 2 ^ 33 * t.scale →
+        is_event (set_boundary s.tasks) t (n + 1) ≡ false → (x : ℕ) → x < length t.nodes →
+        runs (set_boundary s.tasks) t x (n + 1) ≡ runs (set_boundary s.tasks) t x n }
+    ensures places { (s : SetContents) → IsLawful s → (t : Tree) → IsTreeOf s t → (n : ℕ) → n + 1 < 2 ^ 33 * t.scale →
+        is_event (set_boundary s.tasks) t (n + 1) ≡ false → onto_at (set_boundary s.tasks) t (n + 1) ≡ onto_at (set_boundary s.tasks) t n }
 {}

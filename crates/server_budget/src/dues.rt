@@ -1,5 +1,6 @@
 //! What is left of each due, while nodes run and rest. Time passes at no cost.
-ghost use Rattle.std.specs.Prelude.{◌≡◌, ℕ, ◌<◌, ◌≤◌, ◌+◌, ◌-◌, ◌*◌, ◌^◌, true, false, length, replicate, slice_index, slice_index_or, slice_set, IfOk};
+ghost use Rattle.std.specs.Prelude.{◌≡◌, ℕ, ◌<◌, ◌≤◌, ◌+◌, ◌-◌, ◌*◌, ◌^◌, true, false, length, replicate};
+ghost use Rattle.std.specs.Prelude.{slice_index, slice_index_or, slice_set, IfOk};
 ghost use Rattle.sched_base.specs.Counting.{bit};
 ghost use Rattle.server_budget.specs.Dues.{left_by, remains_by, AreAhead};
 
@@ -92,7 +93,8 @@ impl Dues {
         ensures tick { self.new.tick ≡ self.old.tick + ticks }
         ensures runs { self.new.runs ≡ self.old.runs }
         ensures nodes { length self.new.remains ≡ length self.old.remains }
-        ensures spent { (x : ℕ) → x < length self.old.remains → slice_index self.new.remains x ≡ slice_index self.old.remains x - bit (slice_index_or self.old.runs x false) * ticks }
+        ensures spent { (x : ℕ) → x < length self.old.remains → slice_index self.new.remains x
+            ≡ slice_index self.old.remains x - bit (slice_index_or self.old.runs x false) * ticks }
     {
         self.tick += ticks;
     }

@@ -1,5 +1,6 @@
 -- What contracts see of a packing.
-use Rattle.std.specs.Prelude.{ℕ, zero, suc, ◌+◌, ◌≡◌, ◌≤◌, ◌^◌, ◌==◌, List, [], ◌∷◌, ◌++◌, length, map, filter, sum_by, slice_index, slice_index_or}
+use Rattle.std.specs.Prelude.{ℕ, zero, suc, ◌+◌, ◌≡◌, ◌≤◌, ◌^◌, ◌==◌, List, [], ◌∷◌, ◌++◌, length, map, filter}
+use Rattle.std.specs.Prelude.{sum_by, slice_index, slice_index_or}
 use Rattle.std.specs.List.{range_with_len}
 use Rattle.server_pack.specs.declared.packing.Server.{Server}
 

@@ -4,7 +4,8 @@ ghost use Rattle.std.specs.List.{position};
 ghost use Rattle.toml.specs.View.{table_view, items_view};
 ghost use Rattle.task_reader.specs.Tree.{number_at};
 ghost use Rattle.task_reader.specs.Written.{natural, written_tasks};
-ghost use Rattle.task_reader.specs.Limits.{is_within, is_repeated, has_bad_name, has_bad_period, has_bad_work, has_bad_offset, bad_processors, bad_horizon, too_many, bad_name, same_name, bad_period, bad_work, bad_offset};
+ghost use Rattle.task_reader.specs.Limits.{is_within, is_repeated, has_bad_name, has_bad_period, has_bad_work, has_bad_offset};
+ghost use Rattle.task_reader.specs.Limits.{bad_processors, bad_horizon, too_many, bad_name, same_name, bad_period, bad_work, bad_offset};
 
 use crate::refusals::{Key, ReadSet};
 use crate::tree::number_at;

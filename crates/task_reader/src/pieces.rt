@@ -1,5 +1,6 @@
 //! The pieces of a text that holds several sets.
-ghost use Rattle.std.specs.Prelude.{ℕ, List, ◌+◌, ◌≡◌, ◌≤◌, ◌<◌, ◌^◌, ◌++◌, ◌∷◌, [], true, length, map, slice_get, Some, IfOk};
+ghost use Rattle.std.specs.Prelude.{ℕ, List, ◌+◌, ◌≡◌, ◌≤◌, ◌<◌, ◌^◌, ◌++◌, ◌∷◌, [], true, length, map};
+ghost use Rattle.std.specs.Prelude.{slice_get, Some, IfOk};
 ghost use Rattle.std.specs.List.{All, AllByRecursion, filter};
 ghost use Rattle.task_reader.specs.Pieces.{full_lines_of, divides, pieces_of, bytes_in, IsWithin, joined, ends_line, IsOnePiece};
 
@@ -94,6 +95,7 @@ fn divides(line: &[u8]) -> bool
 /// each two, are cut into these texts again. This runs nothing: its clauses are the law.
 pub fn pieces_law()
     ensures count { (bytes : List ℕ) → length (pieces_of bytes) ≡ length (filter divides (full_lines_of bytes)) + 1 }
-    ensures again { (texts : List (List ℕ)) (last : List ℕ) → AllByRecursion (λ text. IsOnePiece text × (ends_line text ≡ true)) texts → IsOnePiece last
+    ensures again { (texts : List (List ℕ)) (last : List ℕ) → AllByRecursion (λ text. IsOnePiece text × (ends_line text ≡ true)) texts →
+        IsOnePiece last
         → pieces_of (joined texts last) ≡ texts ++ last ∷ [] }
 {}

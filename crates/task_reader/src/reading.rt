@@ -128,7 +128,9 @@ fn add(set: &mut TaskSet, task: &WrittenTask) -> Result<(), NoMemory>
 /// lawful. In this law no key has a fallback, and no refusal an order.
 pub fn reading_law()
     ensures text { (bytes : List ℕ) (s : SetContents) → set_read_from bytes ≡ Ok s → is_utf8 bytes ≡ true }
-    ensures read { (bytes : List ℕ) (s : SetContents) → set_read_from bytes ≡ Ok s → (top : Members) × (parse_document bytes ≡ Some top) × Writes top s }
+    ensures read { (bytes : List ℕ) (s : SetContents) → set_read_from bytes ≡ Ok s → (top : Members) × (parse_document bytes ≡ Some top)
+        × Writes top s }
     ensures lawful { (bytes : List ℕ) (s : SetContents) → set_read_from bytes ≡ Ok s → IsLawful s }
-    ensures written { (bytes : List ℕ) (top : Members) (s : SetContents) → is_utf8 bytes ≡ true → parse_document bytes ≡ Some top → Writes top s → IsLawful s → set_read_from bytes ≡ Ok s }
+    ensures written { (bytes : List ℕ) (top : Members) (s : SetContents) → is_utf8 bytes ≡ true → parse_document bytes ≡ Some top → Writes top s →
+        IsLawful s → set_read_from bytes ≡ Ok s }
 {}

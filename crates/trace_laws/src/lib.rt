@@ -14,5 +14,6 @@ ghost use Rattle.trace_check.specs.RoundTrip.{trace_again};
 
 /// The law of merged rows. Where the rows of a table are a valid schedule, those that reading their text gives are one too.
 pub fn merged_law()
-    ensures { (s : SetContents) (scale horizon stop : ℕ) (lanes : List (List Row)) → IsTable lanes → IsValid s scale horizon stop (all_rows lanes) → IsValid s scale horizon stop (trace_again s scale (merged_lanes lanes)).rows }
+    ensures { (s : SetContents) (scale horizon stop : ℕ) (lanes : List (List Row)) → IsTable lanes → IsValid s scale horizon stop (all_rows lanes) →
+        IsValid s scale horizon stop (trace_again s scale (merged_lanes lanes)).rows }
 {}

@@ -42,7 +42,8 @@ fn write_mets_of_task<W: Sink>(
     requires scale { scale ≤ 2 ^ 94 }
     requires lawful { IsLawfulTask task.now }
     requires place { task_at set.now.tasks number ≡ task.now }
-    ensures wrote { Wrote (W.taken sink.old) (W.taken sink.new) (text_of (mets_of_task scale set.now (merged_lanes table.now.lanes) (number, task.now))) result }
+    ensures wrote { Wrote (W.taken sink.old) (W.taken sink.new) (text_of
+        (mets_of_task scale set.now (merged_lanes table.now.lanes) (number, task.now))) result }
     ensures cause { HasCause (W.faults sink.old) (W.faults sink.new) result }
 {
     let _horizon = set.horizon();

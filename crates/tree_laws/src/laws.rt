@@ -17,7 +17,8 @@ pub fn tree_law()
     // It has the set's scale.
     ensures scale { (s : SetContents) (scale : ℕ) → IsLawful s → IsScale s.tasks scale → Fits scale s → (tree_of scale s).scale ≡ scale }
     // The rates of the set's tasks are those of which the other laws speak.
-    ensures rates { (s : SetContents) (scale : ℕ) → IsLawful s → IsScale s.tasks scale → Fits scale s → RatesFit s.processors scale (map (rate_of scale) s.tasks) }
+    ensures rates { (s : SetContents) (scale : ℕ) → IsLawful s → IsScale s.tasks scale → Fits scale s →
+        RatesFit s.processors scale (map (rate_of scale) s.tasks) }
 {}
 
 /// The sizes of the compiled tree, level by level.
@@ -25,35 +26,57 @@ pub fn sizes_law()
     // First fit needs no more servers than items.
     ensures servers { (scale : ℕ) (rates : List ℕ) → length (packed scale rates) ≤ length rates }
     // Level 0 has as many packs as first fit needs, or as there are processors.
-    ensures packs { (processors scale : ℕ) (rates : List ℕ) → RatesFit processors scale rates → length (first_level processors scale rates).last ≤ max processors (length (packed scale rates)) }
+    ensures packs { (processors scale : ℕ) (rates : List ℕ) → RatesFit processors scale rates →
+        length (first_level processors scale rates).last ≤ max processors (length (packed scale rates)) }
     // It has a leaf for each task, and at most one idle leaf for each pack.
-    ensures leaves { (processors scale : ℕ) (rates : List ℕ) → RatesFit processors scale rates → leaf_count (first_level processors scale rates).tree ≤ length rates + max processors (length (packed scale rates)) }
+    ensures leaves { (processors scale : ℕ) (rates : List ℕ) → RatesFit processors scale rates →
+        leaf_count (first_level processors scale rates).tree ≤ length rates + max processors (length (packed scale rates)) }
     // A further level has fewer packs than the one below has packs that aren't roots.
-    ensures fewer { (processors scale : ℕ) (rates : List ℕ) (n : ℕ) → RatesFit processors scale rates → let first = first_level processors scale rates in IsRaised (suc n) first → length (raised (suc n) first).last < length (lower_packs (raised n first)) }
+    ensures fewer { (processors scale : ℕ) (rates : List ℕ) (n : ℕ) → RatesFit processors scale rates →
+        let first = first_level processors scale rates in
+        IsRaised (suc n) first → length (raised (suc n) first).last < length (lower_packs (raised n first)) }
     // So the levels above level 0, together with the packs of the last one, are at most as many as the packs of level 0.
-    ensures few { (processors scale : ℕ) (rates : List ℕ) (n : ℕ) → RatesFit processors scale rates → let first = first_level processors scale rates in IsRaised n first → n + length (raised n first).last ≤ length first.last }
-    ensures levels { (processors scale : ℕ) (rates : List ℕ) (n : ℕ) → RatesFit processors scale rates → let first = first_level processors scale rates in IsRaised n first → (raised n first).tree.levels ≡ n + 1 }
+    ensures few { (processors scale : ℕ) (rates : List ℕ) (n : ℕ) → RatesFit processors scale rates →
+        let first = first_level processors scale rates in IsRaised n first → n + length (raised n first).last ≤ length first.last }
+    ensures levels { (processors scale : ℕ) (rates : List ℕ) (n : ℕ) → RatesFit processors scale rates →
+        let first = first_level processors scale rates in IsRaised n first → (raised n first).tree.levels ≡ n + 1 }
     // The rates of a level's packs are from 1 to the scale.
-    ensures rates { (processors scale : ℕ) (rates : List ℕ) (n : ℕ) → RatesFit processors scale rates → let first = first_level processors scale rates in IsRaised n first → All (λ rate. (1 ≤ rate) × (rate ≤ scale)) (last_rates (raised n first)) }
-    ensures scale { (processors scale : ℕ) (rates : List ℕ) (n : ℕ) → RatesFit processors scale rates → let first = first_level processors scale rates in IsRaised n first → (raised n first).tree.scale ≡ scale }
-    ensures processors { (processors scale : ℕ) (rates : List ℕ) (n : ℕ) → RatesFit processors scale rates → let first = first_level processors scale rates in IsRaised n first → (raised n first).tree.processors ≡ processors }
+    ensures rates { (processors scale : ℕ) (rates : List ℕ) (n : ℕ) → RatesFit processors scale rates →
+        let first = first_level processors scale rates in IsRaised n first → All (λ rate. (1 ≤ rate) × (rate ≤ scale)) (last_rates (raised n first)) }
+    ensures scale { (processors scale : ℕ) (rates : List ℕ) (n : ℕ) → RatesFit processors scale rates →
+        let first = first_level processors scale rates in IsRaised n first → (raised n first).tree.scale ≡ scale }
+    ensures processors { (processors scale : ℕ) (rates : List ℕ) (n : ℕ) → RatesFit processors scale rates →
+        let first = first_level processors scale rates in IsRaised n first → (raised n first).tree.processors ≡ processors }
     // The level with roots alone is the last one.
-    ensures last { (processors scale : ℕ) (rates : List ℕ) (n : ℕ) → RatesFit processors scale rates → let first = first_level processors scale rates in IsRaised n first → length (lower_packs (raised n first)) ≡ 0 → tree_of_rates processors scale rates ≡ (raised n first).tree }
+    ensures last { (processors scale : ℕ) (rates : List ℕ) (n : ℕ) → RatesFit processors scale rates →
+        let first = first_level processors scale rates in IsRaised n first → length (lower_packs (raised n first)) ≡ 0 →
+        tree_of_rates processors scale rates ≡ (raised n first).tree }
 {}
 
 /// Items that go to the homes that first fit gives them are packed by first fit, and the idle leaves that the servers'
 /// rates ask for make level 0 whole.
 pub fn homes_law()
-    ensures tasks { (processors scale : ℕ) (rates : List ℕ) → RatesFit processors scale rates → put_items (task_items 0 rates) (homes scale rates) (started processors scale) ≡ pack_items (task_items 0 rates) (started processors scale) }
-    ensures servers { (processors scale : ℕ) (rates : List ℕ) → RatesFit processors scale rates → last_rates (pack_items (task_items 0 rates) (started processors scale)) ≡ packed scale rates }
+    ensures tasks { (processors scale : ℕ) (rates : List ℕ) → RatesFit processors scale rates →
+        put_items (task_items 0 rates) (homes scale rates) (started processors scale) ≡ pack_items (task_items 0 rates) (started processors scale) }
+    ensures servers { (processors scale : ℕ) (rates : List ℕ) → RatesFit processors scale rates →
+        last_rates (pack_items (task_items 0 rates) (started processors scale)) ≡ packed scale rates }
     ensures sum { (scale : ℕ) (rates : List ℕ) → sum (packed scale rates) ≡ sum rates }
-    ensures idles { (processors scale : ℕ) (rates : List ℕ) → RatesFit processors scale rates → put_idles 0 0 (idles scale (processors * scale - sum rates) (packed scale rates)) (pack_items (task_items 0 rates) (started processors scale)) ≡ first_level processors scale rates }
+    ensures idles { (processors scale : ℕ) (rates : List ℕ) → RatesFit processors scale rates →
+        put_idles 0 0 (idles scale (processors * scale - sum rates) (packed scale rates)) (pack_items (task_items 0 rates) (started processors scale))
+        ≡ first_level processors scale rates }
     // The next level is made of the duals, each told its home.
-    ensures next { (processors scale : ℕ) (rates : List ℕ) (n : ℕ) → RatesFit processors scale rates → let m = raised n (first_level processors scale rates) in IsRaised n (first_level processors scale rates) → lifted (lower_packs m) (homes scale (lower_duals m)) m ≡ raised (suc n) (first_level processors scale rates) }
-    ensures next_rates { (processors scale : ℕ) (rates : List ℕ) (n : ℕ) → RatesFit processors scale rates → let first = first_level processors scale rates in IsRaised n first → last_rates (raised (suc n) first) ≡ packed scale (lower_duals (raised n first)) }
+    ensures next { (processors scale : ℕ) (rates : List ℕ) (n : ℕ) → RatesFit processors scale rates →
+        let m = raised n (first_level processors scale rates) in IsRaised n (first_level processors scale rates) →
+        lifted (lower_packs m) (homes scale (lower_duals m)) m ≡ raised (suc n) (first_level processors scale rates) }
+    ensures next_rates { (processors scale : ℕ) (rates : List ℕ) (n : ℕ) → RatesFit processors scale rates →
+        let first = first_level processors scale rates in
+        IsRaised n first → last_rates (raised (suc n) first) ≡ packed scale (lower_duals (raised n first)) }
 {}
 
 /// Where first fit needs no more servers than there are processors, each pack of level 0 of the compiled tree is a root.
 pub fn no_migration_premise()
-    ensures { (s : SetContents) (scale : ℕ) → IsLawful s → IsScale s.tasks scale → Fits scale s → length (packed scale (map (rate_of scale) s.tasks)) ≤ s.processors → (p : ℕ) → IsPack (tree_of scale s) p → level (tree_of scale s) p ≡ 0 → dual (tree_of scale s) p ≡ None }
+    ensures { (s : SetContents) (scale : ℕ) → IsLawful s → IsScale s.tasks scale → Fits scale s →
+        length (packed scale (map (rate_of scale) s.tasks)) ≤ s.processors → (p : ℕ) → IsPack (tree_of scale s) p →
+        level (tree_of scale s) p ≡ 0 →
+        dual (tree_of scale s) p ≡ None }
 {}

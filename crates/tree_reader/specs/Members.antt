@@ -1,5 +1,6 @@
 -- The words of a pack line, and what they say.
-use Rattle.std.specs.Prelude.{ℕ, zero, suc, ◌-◌, ◌^◌, ◌==◌, if◌then◌else◌, List, [], ◌∷◌, Option, Some, None, option_map, option_and_then}
+use Rattle.std.specs.Prelude.{ℕ, zero, suc, ◌-◌, ◌^◌, ◌==◌, if◌then◌else◌, List, [], ◌∷◌, Option, Some, None, option_map}
+use Rattle.std.specs.Prelude.{option_and_then}
 use Rattle.sched_base.specs.Names.{is_lawful_name}
 use Rattle.trace_text.specs.Words.{onto_first_line, number_of}
 use Rattle.trace_check.specs.Steps.{within}

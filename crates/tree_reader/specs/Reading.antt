@@ -1,6 +1,7 @@
 -- The reading of a tree text: what it says, or the least line at fault. Each line's test depends on earlier lines alone, but for the scale's, so the
 -- first that fails is the least.
-use Rattle.std.specs.Prelude.{ℕ, zero, suc, ◌+◌, ◌-◌, ◌^◌, ◌==◌, nat_le, Bool, true, false, ◌&&◌, is_some, if◌then◌else◌, List, [], ◌∷◌, ◌++◌}
+use Rattle.std.specs.Prelude.{ℕ, zero, suc, ◌+◌, ◌-◌, ◌^◌, ◌==◌, nat_le, Bool, true, false, ◌&&◌, is_some, if◌then◌else◌}
+use Rattle.std.specs.Prelude.{List, [], ◌∷◌, ◌++◌}
 use Rattle.std.specs.Prelude.{Option, Some, None, length, codes, Result, Ok, Err}
 use Rattle.std.specs.List.{sum_by}
 use Rattle.sched_base.specs.Sets.{SetContents}
@@ -32,7 +33,8 @@ tree_head lines =
 abbrev pub idles_from : ℕ → ℕ → ℕ → List ℕ → List (List ℕ) → Result (List ℕ × List (List ℕ)) ℕ
 idles_from first scale zero done lines = Ok (done, lines)
 idles_from first scale (suc n) done lines =
-    and_then (next_line (first + length done) (second_number (codes "idle") (length done) 1 scale) lines) (λ p. idles_from first scale n (done ++ p.0 ∷ []) p.1)
+    and_then (next_line (first + length done) (second_number (codes "idle") (length done) 1 scale) lines)
+    (λ p. idles_from first scale n (done ++ p.0 ∷ []) p.1)
 
 -- ---- levels
 

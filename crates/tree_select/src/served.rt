@@ -105,11 +105,15 @@ pub fn hand_over(
     ensures result { result ≡ served_by (slice_index_or runs.old p.0 false) chosen }
     ensures now { (j : ℕ) → j < length (members tree.now p.0) → slice_index_or runs.new (member tree.now p.0 j) false ≡ is_at result j }
     ensures led { AreLed tree.now runs.new }
-    ensures served { (remains ends : List ℕ) → chosen ≡ picked tree.now remains ends p.0 → AreServed tree.now remains ends stale.old runs.old → AreServed tree.now remains ends stale.new runs.new }
-    ensures others { (q j : ℕ) → IsPack tree.now q → q ≢ p.0 → j < length (members tree.now q) → slice_index_or runs.new (member tree.now q j) false ≡ slice_index_or runs.old (member tree.now q j) false }
+    ensures served { (remains ends : List ℕ) → chosen ≡ picked tree.now remains ends p.0 → AreServed tree.now remains ends stale.old runs.old →
+        AreServed tree.now remains ends stale.new runs.new }
+    ensures others { (q j : ℕ) → IsPack tree.now q → q ≢ p.0 → j < length (members tree.now q) →
+        slice_index_or runs.new (member tree.now q j) false ≡ slice_index_or runs.old (member tree.now q j) false }
     ensures own { slice_index_or stale.new p.0 false ≡ false }
-    ensures unmarked { (q : ℕ) → IsPack tree.now q → q ≢ p.0 → slice_index_or stale.new q false ≡ false → slice_index_or stale.old q false ≡ false }
-    ensures marks { (q : ℕ) → IsPack tree.now q → q ≢ p.0 → level tree.now p.0 ≤ level tree.now q → slice_index_or stale.new q false ≡ slice_index_or stale.old q false }
+    ensures unmarked { (q : ℕ) → IsPack tree.now q → q ≢ p.0 → slice_index_or stale.new q false ≡ false →
+        slice_index_or stale.old q false ≡ false }
+    ensures marks { (q : ℕ) → IsPack tree.now q → q ≢ p.0 → level tree.now p.0 ≤ level tree.now q →
+        slice_index_or stale.new q false ≡ slice_index_or stale.old q false }
 {
     stale[p.0 as usize] = false;
     let next = served_by(runs[p.0 as usize], chosen);

@@ -35,4 +35,8 @@ three_of_five letter = record { name = letter ∷ []; work = 3; period = 5; offs
 
 -- five tasks of rate 3/5, a to e, on three processors
 abbrev pub five_tasks_set : SetContents
-five_tasks_set = record { processors = 3; horizon = 5; tasks = three_of_five 97 ∷ three_of_five 98 ∷ three_of_five 99 ∷ three_of_five 100 ∷ three_of_five 101 ∷ [] }
+five_tasks_set = record {
+  processors = 3;
+  horizon = 5;
+  tasks = three_of_five 97 ∷ three_of_five 98 ∷ three_of_five 99 ∷ three_of_five 100 ∷ three_of_five 101 ∷ [];
+}

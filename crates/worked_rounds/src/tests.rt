@@ -38,7 +38,10 @@ fn add(
     period: u64,
     offset: u64,
 ) -> Result<(), Fail>
-    ensures { OnOk result (set.new ≡ record set.old { tasks = set.old.tasks ++ (record { name = name.now; work = work; period = period; offset = offset }) ∷ [] }) }
+    ensures { OnOk result (set.new ≡ record set.old {
+      tasks = set.old.tasks ++
+          (record { name = name.now; work = work; period = period; offset = offset }) ∷ [];
+    }) }
 {
     assert!(rt; lawful_name(name));
     assert!(rt; set.find(name).is_none());
