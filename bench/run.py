@@ -1,6 +1,8 @@
 #!/usr/bin/env python3
-"""Times a program on the sets: `run.py PROGRAM [NAME ..]` writes a table: of each set the horizon near the limit of rows, the lines of
-rows, the least of five processor times, the lines a second, and the peak memory."""
+"""Times `trace` on the sets: `run.py PROGRAM [PLAIN] [-- NAME ..]` writes a table: of each set the processors, the tasks, the horizon near
+the limit of rows, the lines of rows, the least of five processor times in ms of the plain program and of the program, their ratio,
+thousands of lines a second, the peak memory in MB and millions of instructions (by callgrind, where `INSTRUCTIONS=1` stands in the
+environment). Both must write the same text."""
 import os
 import subprocess
 import sys
@@ -9,31 +11,65 @@ import tempfile
 import fit
 import sets
 
+TIMES = int(os.environ.get("RUNS", "5"))
+
 
 def once(program, source):
-    """Seconds, peak memory in megabytes, status, and the last words that were written."""
+    """Seconds of processor time, peak memory in MB, and what was written."""
     with tempfile.TemporaryFile() as out:
         source.seek(0)
         child = subprocess.Popen([program, "trace"], stdin=source, stdout=out, stderr=subprocess.PIPE)
         _, status, used = os.wait4(child.pid, 0)
-        took = used.ru_utime + used.ru_stime
-        out.seek(max(0, out.seek(0, 2) - 40))
-        return took, used.ru_maxrss / 1000, status, out.read().split()[-1:]
+        child.returncode = os.waitstatus_to_exitcode(status)
+        if child.returncode != 0:
+            sys.exit("%s ended with status %d" % (program, child.returncode))
+        out.seek(0)
+        return used.ru_utime + used.ru_stime, used.ru_maxrss / 1024, out.read()
 
 
-def measure(program, name):
-    horizon = fit.greatest(program, name)
+def least(program, source):
+    runs = [once(program, source) for _ in range(TIMES)]
+    return min(run[0] for run in runs), max(run[1] for run in runs), runs[0][2]
+
+
+def instructions(program, source):
+    """Millions of instructions of one run."""
+    source.seek(0)
+    words = ["valgrind", "--tool=callgrind", "--callgrind-out-file=/dev/null", program, "trace"]
+    said = subprocess.run(words, stdin=source, stdout=subprocess.DEVNULL, stderr=subprocess.PIPE, text=True).stderr
+    return int(said.rsplit("Collected :", 1)[1].split()[0]) / 1e6
+
+
+def measure(name, program, plain):
+    horizon = fit.greatest(plain or program, name)
     with tempfile.TemporaryFile() as source:
         source.write(sets.text(name, horizon).encode())
-        runs = [once(program, source) for _ in range(5)]
+        took, peak, text = least(program, source)
+        theirs, ratio = "", ""
+        if plain:
+            least_plain, _, other = least(plain, source)
+            if other != text:
+                sys.exit("%s: the two texts differ" % name)
+            theirs, ratio = "%.0f" % (least_plain * 1000), "%.2f" % (took / least_plain)
+        count = "%.0f" % instructions(program, source) if os.environ.get("INSTRUCTIONS") else ""
     spec = sets.SETS[name]
-    took = min(run[0] for run in runs)
-    rows = int(runs[0][3][0]) if runs[0][2] == 0 and runs[0][3] else 0
-    print("| %s | %d | %d | %d | %d | %.0f | %.1f | %.0f |" % (name, spec["processors"], spec["count"], horizon, rows, took * 1000, rows / took / 1e6, max(run[1] for run in runs)), flush=True)
+    rows = int(text[-20:].split()[-1])
+    print(
+        "| %s | %d | %d | %d | %d | %s | %.0f | %s | %.0f | %.0f | %s |"
+        % (name, spec["processors"], spec["count"], horizon, rows, theirs, took * 1000, ratio, rows / took / 1000, peak, count),
+        flush=True,
+    )
+
+
+def main():
+    words = sys.argv[1:]
+    names = words[words.index("--") + 1 :] if "--" in words else list(sets.SETS)
+    programs = words[: words.index("--")] if "--" in words else words
+    print("| set | processors | tasks | horizon | lines | plain ms | ms | ratio | thousand lines a second | MB | million instructions |")
+    print("|---|---|---|---|---|---|---|---|---|---|---|")
+    for name in names:
+        measure(name, programs[0], programs[1] if len(programs) > 1 else None)
 
 
 if __name__ == "__main__":
-    print("| set | processors | tasks | horizon | lines of rows | ms | million lines a second | MB |")
-    print("|---|---|---|---|---|---|---|---|")
-    for name in sys.argv[2:] or sets.SETS:
-        measure(sys.argv[1], name)
+    main()
