@@ -13,7 +13,6 @@ use busy_gate::BusyGate;
 use event_core::count_rounds;
 use exec_workers::{Kit, execute};
 use run_compile::compile;
-use sched_base::NoMemory;
 use sched_edges::Jobs;
 use std::alloc::Global;
 use std::sync::Wait;
@@ -37,7 +36,7 @@ const WINDOW: u32 = 32;
 const BOUND: u128 = 1_000;
 
 // A kit with a gate for each processor.
-fn kits_of(alloc: Global, processors: u32) -> Result<Vec<Kit<BusyGate>>, NoMemory>
+fn kits_of(alloc: Global, processors: u32) -> anyhow::Result<Vec<Kit<BusyGate>>>
     ensures { IfOk result (λ kits. AreFilled processors kits.items) }
 {
     let mut kits = Vec::new(alloc);
@@ -53,7 +52,7 @@ fn execute_set(rt: &(impl Print + Threads + Wait + Sync), alloc: Global) -> anyh
     let plan = compile(alloc, set).map_err(|_| anyhow!("the set doesn't fit"))?;
     let rounds = count_rounds(alloc, &plan)?;
     let tasks = plan.set().count();
-    let mut kits = kits_of(alloc, plan.tree().processors()).map_err(|_| anyhow!("no memory"))?;
+    let mut kits = kits_of(alloc, plan.tree().processors())?;
     let mut jobs = Jobs::with_room(alloc, tasks).map_err(|_| anyhow!("no memory"))?;
     for id in 0..tasks {
         jobs.add(Box::new(alloc, BoundedJob::new(id, BOUND))?);

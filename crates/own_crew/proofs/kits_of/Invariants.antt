@@ -1,7 +1,9 @@
-use Rattle.std.proofs.Common.{length}
+use Rattle.std.proofs.Common.{◌≡◌, length}
 use Rattle.exec_workers.specs.Kits.{AreFilled}
 use Rattle.own_crew.proofs.kits_of.Given as goal
 
--- a gate in each kit so far
 abbrev pub invariant-loop : goal.invariant-loop
-invariant-loop l = AreFilled l.counter l.kits.items
+invariant-loop l = record {
+  long : length l.kits.items ≡ l.counter;
+  filled : AreFilled l.counter l.kits.items;
+}
