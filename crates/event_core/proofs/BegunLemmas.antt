@@ -1,9 +1,9 @@
 -- Windows that begin: their members get dues and ends, and their packs are marked.
-use Rattle.std.proofs.Common.{◌≡◌, ◌≢◌, ℕ, ◌+◌, ◌-◌, ◌*◌, ◌<◌, ◌≤◌, ◌^◌, ◌&&◌, not, ltb, Bool, true, false, List, [], length, get_or, refl, ap, ap₂, arith, inl, inr, sym, subst, le_refl, ◌∙◌, get_or-set_same, get_or-set_other}
-use Rattle.std.proofs.lemmas.Bool.{cases_eq, cases_lt, cases_Bool, both_ways, and_from, and_right}
+use Rattle.std.proofs.Common.{◌≡◌, ◌≢◌, ℕ, ◌+◌, ◌<◌, Bool, true, false, List, [], length, get_or, refl, ap, ap₂, arith, inl, inr, sym, subst, ◌∙◌, get_or-set_same, get_or-set_other}
+use Rattle.std.proofs.lemmas.Bool.{cases_eq, both_ways}
 use Rattle.std.proofs.lemmas.List.{length-set}
 use Rattle.std.proofs.Math.ListN.{set}
-use Rattle.run_tree.specs.Tree.{Tree, IsTree, IsPack, IsMember, home, place, rate, members, member}
+use Rattle.run_tree.specs.Tree.{Tree, IsTree, IsMember, home, place, member}
 use Rattle.event_core.specs.Serving.{due_of, AreBegun}
 
 pub begun_none : (t : Tree) (begins ends begun remains : List ℕ) (ready : List (List ℕ)) (stale : List Bool) → AreBegun t begins ends begun remains ready stale remains ready stale 0

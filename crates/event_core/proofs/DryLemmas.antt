@@ -1,6 +1,6 @@
 -- Ticks pass, and some members run dry.
-use Rattle.std.proofs.Common.{◌≡◌, ◌≢◌, ℕ, ◌+◌, ◌-◌, ◌*◌, ◌<◌, ◌≤◌, ◌⊎◌, ltb, Bool, true, false, List, [], length, map, get_or, Option, Some, None, refl, ap, arith, inl, inr, sym, subst, ◌∙◌, eq-eqb, get_or-set_same, get_or-set_other}
-use Rattle.std.proofs.lemmas.Bool.{cases_eq, cases_lt, cases_Bool, both_ways, lt-ltb, eqb-true}
+use Rattle.std.proofs.Common.{◌≡◌, ◌≢◌, ℕ, ◌+◌, ◌-◌, ◌*◌, ◌<◌, ◌≤◌, ◌⊎◌, ltb, Bool, true, false, List, [], length, get_or, Option, Some, None, refl, ap, arith, inl, inr, sym, subst, ◌∙◌, eq-eqb, get_or-set_same, get_or-set_other}
+use Rattle.std.proofs.lemmas.Bool.{cases_eq, cases_lt, cases_Bool, both_ways, lt-ltb}
 use Rattle.std.proofs.lemmas.List.{length-map, length-set, get_or-map}
 use Rattle.std.proofs.Math.ListN.{set}
 use Rattle.sched_base.specs.Counting.{bit}
@@ -11,10 +11,10 @@ use Rattle.run_tree.specs.Tree.{Tree, IsTree, IsPack, IsMember, members, member,
 use Rattle.run_tree.specs.Schedule.{packs_at}
 use Rattle.knockout.specs.Knockouts.{never}
 use Rattle.edf_pick.specs.Ready.{ready_end, AreReady}
-use Rattle.edf_pick.proofs.ReadyLemmas.{ready_some, ready_none}
+use Rattle.edf_pick.proofs.ReadyLemmas.{ready_none}
 use Rattle.server_budget.specs.Dues.{DueContents}
 use Rattle.tree_select.specs.Selected.{candidates}
-use Rattle.tree_select.specs.Reselected.{AreFreshFrom, IsServed}
+use Rattle.tree_select.specs.Reselected.{AreFreshFrom}
 use Rattle.tree_select.proofs.LevelLemmas.{place_in_level}
 use Rattle.tree_select.proofs.ServedLemmas.{still_served}
 use Rattle.event_core.specs.Serving.{ServingContents, no_tick, dry_by, IsServing, AreReadyBut, IsDrying, IsDried}

@@ -1,8 +1,8 @@
 -- The first tick at which a member that runs has nothing left.
-use Rattle.std.proofs.Common.{◌≡◌, ◌≢◌, ℕ, ◌+◌, ◌-◌, ◌<◌, ◌≤◌, ◌⊎◌, min, Bool, true, false, List, length, get_or, Option, Some, None, refl, ap, arith, inl, inr, sym, subst, le_refl, ◌∙◌, eq-eqb}
+use Rattle.std.proofs.Common.{◌≡◌, ℕ, ◌+◌, ◌-◌, ◌<◌, ◌≤◌, min, true, false, List, length, get_or, Option, Some, None, refl, ap, arith, inl, inr, sym, subst, le_refl, ◌∙◌, eq-eqb}
 use Rattle.std.proofs.lemmas.Bool.{cases_eq, cases_lt, both_ways, eqb-true}
 use Rattle.sched_base.specs.Candidates.{is_at}
-use Rattle.run_tree.specs.Tree.{Tree, IsTree, IsPack, IsMember, home, place, members, member, level}
+use Rattle.run_tree.specs.Tree.{Tree, IsTree, IsPack, IsMember, home, place, member, level}
 use Rattle.run_tree.specs.Schedule.{packs_at}
 use Rattle.tree_select.specs.Reselected.{AreFreshFrom}
 use Rattle.tree_select.proofs.LevelLemmas.{place_in_level}

@@ -1,5 +1,5 @@
 -- What is kept of packs at tick 0.
-use Rattle.std.proofs.Common.{◌≡◌, ◌≢◌, ℕ, ◌+◌, ◌-◌, ◌<◌, ◌≤◌, not, ltb, Bool, true, false, List, [], length, replicate, map, get_or, Option, Some, None, refl, ap, arith, inl, inr, sym, subst, subst₂, zero-add, ◌⊎◌, ◌∙◌}
+use Rattle.std.proofs.Common.{◌≡◌, ℕ, ◌+◌, ◌-◌, ◌<◌, not, Bool, true, false, List, [], length, replicate, get_or, Option, Some, None, refl, ap, arith, inl, inr, sym, subst, subst₂, zero-add, ◌∙◌}
 use Rattle.std.specs.List.{range_with_len}
 use Rattle.std.proofs.lemmas.Bool.{cases_Bool, cases_lt, both_ways, not-true}
 use Rattle.std.proofs.lemmas.List.{length-replicate, get_or-replicate, get_or_past}
@@ -7,18 +7,16 @@ use Rattle.std.proofs.Math.ListN.{set}
 use Rattle.std.proofs.lemmas.List.FromFn.{get_or-range_with_len}
 use Rattle.sched_base.specs.declared.candidates.Candidate.{Candidate}
 use Rattle.sched_base.specs.Candidates.{candidate_at, is_at}
-use Rattle.run_tree.specs.Tree.{Tree, IsTree, IsPack, IsMember, kind_at, is_pack, home, place, dual, rate, members, member}
+use Rattle.run_tree.specs.Tree.{Tree, IsTree, IsPack, IsMember, kind_at, is_pack, home, place, dual, members, member}
 use Rattle.run_tree.specs.Runs.{unless_dual}
 use Rattle.run_tree.specs.Plans.{PlanContents, IsPlan}
 use Rattle.knockout.specs.Knockouts.{never}
-use Rattle.edf_pick.specs.Ready.{ready_end, AreReady}
 use Rattle.edf_pick.proofs.ReadyLemmas.{ready_none}
 use Rattle.server_budget.specs.Dues.{DueContents}
 use Rattle.tree_select.specs.Selected.{candidates}
-use Rattle.tree_select.specs.Reselected.{AreLed}
 use Rattle.tree_select.proofs.ReselectLemmas.{dual_is}
 use Rattle.release_calendar.specs.Calendars.{CalendarContents, BelongsTo}
-use Rattle.event_core.specs.Serving.{ServingContents, due_of, no_tick, dry_by, AreLong, IsServing, IsBlank, AreBegun}
+use Rattle.event_core.specs.Serving.{ServingContents, due_of, IsServing, IsBlank, AreBegun}
 use Rattle.event_core.proofs.BegunLemmas.{begun_step, begun_skip, begun_places}
 use Rattle.event_core.proofs.DryLemmas.{candidate_is, candidates_long}
 use Rattle.event_core.proofs.TurnedLemmas.{turned_serving, end_near, due_some}
@@ -129,3 +127,7 @@ module _ (p : PlanContents) (h : IsPlan p) (s s' : ServingContents) (b : IsBlank
       turned_serving p.tree h.tree.tree d d' c.ends c.ends s s' (blank_serving p h s b d none_left none_run c.ends (λ x i. end_near p h c belongs x i))
       (λ x i. inl ((let e = first_filled x i in let l = due_some p h c belongs x i in omega (arith, e, l)), a.put x x i.0 (in_range x i.0) i, a.marked x x i.0 (in_range x i.0) i))
       (λ x i. end_near p h c belongs x i) a.long a.unmarked tick dues serves dry runs
+
+  -- all packs are still marked
+  pub first_marked : (q : ℕ) → IsPack p.tree q → get_or s'.stale q false ≡ false → ⊥
+  first_marked q i off = both_ways (get_or s.stale q false) (a.unmarked q off) (ap (λ (xs : List Bool). get_or xs q false) b.stale ∙ get_or-replicate (length p.tree.nodes) q true false i.0)

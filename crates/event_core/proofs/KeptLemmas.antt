@@ -1,29 +1,29 @@
 -- What is kept of packs, from one step of a round to the next.
-use Rattle.std.proofs.Common.{◌≡◌, ◌≢◌, ℕ, zero, suc, ◌+◌, ◌-◌, ◌*◌, ◌/◌, ◌<◌, ◌≤◌, ◌^◌, ◌⊎◌, ◌&&◌, not, min, ltb, Bool, true, false, List, [], ◌∷◌, length, get_or, Option, Some, None, Vec, refl, ap, ap₂, arith, inl, inr, sym, subst, le_of_lt, mul-le-mul, eq-eqb, ◌∙◌}
+use Rattle.std.proofs.Common.{◌≡◌, ◌≢◌, ℕ, zero, suc, ◌+◌, ◌-◌, ◌*◌, ◌/◌, ◌<◌, ◌≤◌, ◌^◌, ◌⊎◌, ◌&&◌, not, min, Bool, true, false, List, [], ◌∷◌, length, get_or, Option, Some, Vec, refl, ap, ap₂, arith, inl, inr, sym, subst, le_of_lt, mul-le-mul, eq-eqb, ◌∙◌}
 use Rattle.std.specs.Vec.{with_items}
-use Rattle.std.proofs.lemmas.Bool.{cases_eq, cases_lt, cases_Bool, both_ways, and_from, and_parts, and_right, not-true, ne_eqb}
+use Rattle.std.proofs.lemmas.Bool.{cases_eq, cases_lt, cases_Bool, both_ways, and_from, and_parts, not-true, ne_eqb}
 use Rattle.std.proofs.lemmas.List.{with_items_is, get_or_past}
 use Rattle.sched_base.specs.declared.rows.Leaf.{Leaf}
 use Rattle.sched_base.specs.declared.rows.Leaf.TheVariants.{Empty}
-use Rattle.sched_base.specs.Counting.{bit, ticks}
+use Rattle.sched_base.specs.Counting.{bit}
 use Rattle.sched_base.specs.Candidates.{is_at}
 use Rattle.sched_base.specs.Places.{Placing, place as placed_by}
 use Rattle.run_tree.specs.Windows.{window_begin, window_end}
-use Rattle.run_tree.specs.Tree.{Tree, IsTree, IsPack, IsMember, kind_at, is_pack, leaf, home, place, rate, level, members, member}
+use Rattle.run_tree.specs.Tree.{Tree, IsTree, IsMember, kind_at, is_pack, leaf, home, place, rate, level, member}
 use Rattle.run_tree.specs.Boundaries.{set_boundary}
 use Rattle.run_tree.specs.Plans.{PlanContents, IsPlan, boundary_of, stop_of}
 use Rattle.run_tree.proofs.RunLemmas.{left_is, on_time}
 use Rattle.server_budget.specs.Dues.{DueContents}
 use Rattle.tree_select.specs.Reselected.{AreFreshFrom}
-use Rattle.tree_select.specs.Selected.{candidates}
 use Rattle.release_calendar.specs.Calendars.{CalendarContents, BelongsTo, AreListed}
-use Rattle.event_core.specs.Serving.{ServingContents, no_tick, lists, AreFitting, AreLong, AreAt, IsServing, IsSoonest, AreBegun}
-use Rattle.event_core.specs.Cores.{CoreContents, dues_of, runs_at, left_of, IsAtRound, IsCoreOf}
-use Rattle.event_core.specs.Steps.{SaysRuns, IsShortest, HasRun, HasTurned, leaf_by, packs_by}
+use Rattle.event_core.specs.Serving.{ServingContents, no_tick, lists, AreFitting, IsServing, IsSoonest, AreBegun}
+use Rattle.event_core.specs.Cores.{CoreContents, dues_of, IsAtRound, IsInRound}
+use Rattle.event_core.specs.Steps.{IsShortest, HasRun, HasTurned, leaf_by, packs_by}
+use Rattle.event_core.specs.Cores.{SaysRuns}
 use Rattle.event_core.proofs.DryLemmas.{candidates_long}
 use Rattle.event_core.proofs.EndLemmas.{is_shortest}
 use Rattle.event_core.proofs.OneRound.{some_ticks, round_run}
-use Rattle.event_core.proofs.QuietRounds.{plan_leaves, ends_late}
+use Rattle.event_core.proofs.QuietRounds.{plan_leaves}
 use Rattle.event_core.proofs.TurnedLemmas.{turned_serving, end_near, end_goes_on, due_some, listed_refilled}
 use Rattle.event_core.proofs.WindowsOfCalendar.{member_boundaries, short_window}
 
@@ -66,7 +66,7 @@ fitting p h c b x i =
 
 -- ---- the ticks of a round
 
-module _ (p : PlanContents) (h : IsPlan p) (c : CoreContents) (b : IsCoreOf p c) (fresh : AreFreshFrom p.tree c.serving.stale 0) (early : c.tick < stop_of p) (most end : ℕ) (is_most : most ≡ min (stop_of p) (c.calendar.next * p.tree.scale))
+module _ (p : PlanContents) (h : IsPlan p) (c : CoreContents) (b : IsInRound p c) (fresh : AreFreshFrom p.tree c.serving.stale 0) (early : c.tick < stop_of p) (most end : ℕ) (is_most : most ≡ min (stop_of p) (c.calendar.next * p.tree.scale))
     (soon : IsSoonest p.tree c.serving.dry (λ q. 0 ≤ level p.tree q) most end) where
   pub most_fits : most < no_tick
   most_fits = (let s = stop_fits p h in omega (arith, s, is_most))

@@ -16,3 +16,5 @@ pub mod OneRound
 pub mod NextCores
 pub mod RoundsInOrder
 pub mod FirstLevel
+pub mod SettledPacks
+pub mod RowsGone

@@ -1,6 +1,6 @@
 -- Packs go on serving where some of their members' windows begin.
-use Rattle.std.proofs.Common.{◌≡◌, ◌≢◌, ℕ, ◌+◌, ◌-◌, ◌*◌, ◌<◌, ◌≤◌, ◌^◌, ◌⊎◌, ◌&&◌, not, ltb, Bool, true, false, List, [], length, map, get_or, Option, Some, None, refl, ap, ap₂, arith, inl, inr, sym, subst, mul-pos, ◌∙◌}
-use Rattle.std.proofs.lemmas.Bool.{cases_Bool, cases_lt, both_ways, and_from, and_parts, and_right, not-true}
+use Rattle.std.proofs.Common.{◌≡◌, ◌≢◌, ℕ, ◌+◌, ◌-◌, ◌<◌, ◌≤◌, ◌⊎◌, ltb, Bool, true, false, List, [], length, get_or, Option, Some, None, refl, ap, ap₂, arith, inl, inr, sym, subst, mul-pos, ◌∙◌}
+use Rattle.std.proofs.lemmas.Bool.{cases_lt, both_ways}
 use Rattle.std.proofs.lemmas.List.{get_or_past}
 use Rattle.sched_base.specs.declared.candidates.Candidate.{Candidate}
 use Rattle.sched_base.specs.Candidates.{candidate_at, is_at}
@@ -11,7 +11,7 @@ use Rattle.run_tree.specs.Plans.{PlanContents, IsPlan, boundary_of}
 use Rattle.run_tree.proofs.KindLemmas.{KindOf, kind_of}
 use Rattle.run_tree.proofs.WindowLemmas.{end_is, begin_is, windows_of}
 use Rattle.knockout.specs.Knockouts.{never}
-use Rattle.edf_pick.specs.Ready.{ready_end, AreReady}
+use Rattle.edf_pick.specs.Ready.{ready_end}
 use Rattle.edf_pick.proofs.ReadyLemmas.{ready_some}
 use Rattle.server_budget.specs.Dues.{DueContents}
 use Rattle.tree_select.specs.Selected.{candidates}

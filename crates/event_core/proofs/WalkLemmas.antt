@@ -1,5 +1,5 @@
 -- The walk over packs that are to be looked at again.
-use Rattle.std.proofs.Common.{◌≡◌, ◌≢◌, ℕ, ◌+◌, ◌<◌, Bool, false, List, [], length, Option, Some, None, refl, ap, ap₂, arith, inl, inr, sym, subst, ◌∙◌, get_or, get_or-set_same, get_or-set_other}
+use Rattle.std.proofs.Common.{◌≡◌, ◌≢◌, ℕ, ◌+◌, ◌<◌, false, List, [], length, Option, Some, None, refl, ap, ap₂, arith, inl, inr, sym, subst, ◌∙◌, get_or, get_or-set_same, get_or-set_other}
 use Rattle.std.proofs.lemmas.Bool.{cases_eq}
 use Rattle.std.proofs.lemmas.List.{length-map}
 use Rattle.std.proofs.Math.ListN.{set}

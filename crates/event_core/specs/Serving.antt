@@ -1,10 +1,13 @@
 -- The member of a pack that runs, and what is left of its due.
-use Rattle.std.specs.Prelude.{ℕ, ◌+◌, ◌-◌, ◌*◌, ◌<◌, ◌≤◌, ◌≡◌, ◌≢◌, ◌⊎◌, Bool, true, false, List, []}
-use Rattle.std.specs.Prelude.{length, replicate, Option, Some, None}
+use Rattle.std.specs.Prelude.{ℕ, ◌+◌, ◌-◌, ◌*◌, ◌<◌, ◌≤◌, ◌≡◌, ◌≢◌, ◌⊎◌, ◌&&◌, not, Bool, true, false, List, []}
+use Rattle.std.specs.Prelude.{filter, length, replicate, Option, Some, None}
 use Rattle.std.specs.Prelude.{slice_set, slice_index, slice_index_or}
 use Rattle.sched_base.specs.declared.candidates.Candidate.{Candidate}
+use Rattle.std.specs.List.{range_with_len}
 use Rattle.sched_base.specs.Candidates.{candidate_at, is_at}
+use Rattle.sched_base.specs.Places.{is_held}
 use Rattle.run_tree.specs.Tree.{Tree, IsPack, IsMember, kind_at, is_pack, home, place, rate, members, member}
+use Rattle.run_tree.specs.Schedule.{packs_at}
 use Rattle.knockout.specs.Knockouts.{never}
 use Rattle.edf_pick.specs.Ready.{ready_end, AreReady}
 use Rattle.server_budget.specs.Dues.{DueContents}
@@ -85,6 +88,33 @@ pub record IsBlank (t : Tree) (s : ServingContents) : Type 0 where
   pub stale : s.stale ≡ replicate (length t.nodes) true
   pub runs_long : length s.runs ≡ length t.nodes
   pub runs : (x : ℕ) → x < length t.nodes → slice_index_or s.runs x false ≡ is_pack (kind_at t x)
+
+-- ---- what changes in level 0
+
+-- of pack p alone a mark went away, and the packs that aren't marked run as before
+pub record AreStill (t : Tree) (p : ℕ) (stale runs stale' runs' : List Bool) : Type 0 where
+  pub unmarked : (q : ℕ) → IsPack t q → q ≢ p → slice_index_or stale' q false ≡ false → slice_index_or stale q false ≡ false
+  pub still : (q : ℕ) → IsPack t q → slice_index_or stale' q false ≡ false → slice_index_or runs' q false ≡ slice_index_or runs q false
+
+-- whether pack i of level 0 runs by this list
+abbrev pub first_runs : Tree → List Bool → ℕ → Bool
+first_runs t runs i = slice_index_or runs (slice_index (packs_at t 0) i) false
+
+-- pack i of level 0 is on a processor where it runs, unless it is marked
+abbrev pub IsSettled : Tree → List (Option ℕ) → List Bool → List Bool → ℕ → Type 0
+IsSettled t onto stale runs i = slice_index_or stale (slice_index (packs_at t 0) i) false ≡ false → is_held onto i ≡ first_runs t runs i
+
+-- so are all of them from number n on
+abbrev pub AreSettledFrom : Tree → List (Option ℕ) → List Bool → List Bool → ℕ → Type 0
+AreSettledFrom t onto stale runs n = (i : ℕ) → n ≤ i → i < length (packs_at t 0) → IsSettled t onto stale runs i
+
+-- the packs of level 0 below number n that are on processors and run no more, in order
+abbrev pub stops_below : Tree → List (Option ℕ) → List Bool → ℕ → List ℕ
+stops_below t onto runs n = filter (λ i. not (first_runs t runs i) && is_held onto i) (range_with_len 0 n)
+
+-- those that run and are on none
+abbrev pub begins_below : Tree → List (Option ℕ) → List Bool → ℕ → List ℕ
+begins_below t onto runs n = filter (λ i. first_runs t runs i && not (is_held onto i)) (range_with_len 0 n)
 
 -- ---- the end of a round
 

@@ -199,6 +199,7 @@ fn first_serving(
     ensures left { IfOk result (λ r. HasLeft plan.now 0 r.0.remains) }
     ensures long { IfOk result (λ r. AreLong plan.now.tree r.0 r.1) }
     ensures serving { IfOk result (λ r. IsServing plan.now.tree r.0 calendar.now.ends r.1) }
+    ensures marked { IfOk result (λ r. (q : ℕ) → IsPack plan.now.tree q → slice_index_or r.1.stale q false ≡ false → ⊥) }
 {
     let mut dues = Dues::new(alloc, plan.tree())?;
     let mut serving = blank_serving(alloc, plan)?;

@@ -1,17 +1,21 @@
 //! What a core keeps of packs and nodes from round to round.
 ghost use Rattle.std.specs.Prelude.{ℕ, [], ◌≡◌, ◌≢◌, ◌<◌, ◌≤◌, ◌^◌, length, replicate, false, None, slice_index, slice_index_or};
-ghost use Rattle.run_tree.specs.Tree.{IsMember, home, level as level_of, place};
+ghost use Rattle.run_tree.specs.Tree.{IsMember, IsPack, home, level as level_of, place};
 ghost use Rattle.run_tree.specs.Plans.{IsPlan};
 ghost use Rattle.run_tree.specs.Runs.{runs_now};
+ghost use Rattle.run_tree.specs.Schedule.{packs_at};
+ghost use Rattle.cpu_assign.specs.Changed.{AreChanged};
 ghost use Rattle.release_calendar.specs.Calendars.{BelongsTo};
 ghost use Rattle.tree_select.specs.Reselected.{AreFreshFrom};
-ghost use Rattle.event_core.specs.Serving.{due_of, AreBegun, AreFitting, AreLong, IsBlank, IsDrying, IsServing, IsSoonest};
+ghost use Rattle.event_core.specs.Serving.{due_of, AreBegun, AreFitting, AreLong, AreSettledFrom, IsBlank, IsDrying, IsServing, IsSoonest};
+ghost use Rattle.event_core.specs.Steps.{packs_by};
 
 use crate::begun::begin_all;
 use crate::dried::run_dry;
 use crate::ends::first_dry;
 use crate::firsts::begin_first;
 use crate::walks::serve_all;
+use cpu_assign::{Changes, Places};
 use knockout::Knockout;
 use release_calendar::Calendar;
 use run_tree::Plan;
@@ -43,11 +47,22 @@ impl Model for Serving {
 }
 
 impl Serving {
-    /// Says again of each node whether it runs, and lets members stop and start.
-    pub(crate) fn select(&mut self, plan: &Plan, ends: &[u128], dues: &mut Dues)
+    /// Says again of each node whether it runs, and lets members stop and start. The packs of level 0 that stop and begin are
+    /// listed.
+    pub(crate) fn select(
+        &mut self,
+        plan: &Plan,
+        ends: &[u128],
+        dues: &mut Dues,
+        places: &Places,
+        changes: &mut Changes,
+    )
         requires long { AreLong plan.now.tree dues.old self.old }
         requires fits { AreFitting plan.now.tree dues.old }
         requires serving { IsServing plan.now.tree dues.old ends.now self.old }
+        requires last { length places.now.last ≡ length (packs_at plan.now.tree 0) }
+        requires settled { AreSettledFrom plan.now.tree places.now.onto self.old.stale self.old.runs 0 }
+        requires room { changes.old.room ≡ length (packs_at plan.now.tree 0) }
         ensures long { AreLong plan.now.tree dues.new self.new }
         ensures tick { dues.new.tick ≡ dues.old.tick }
         ensures remains { dues.new.remains ≡ dues.old.remains }
@@ -55,6 +70,8 @@ impl Serving {
         ensures fresh { AreFreshFrom plan.now.tree self.new.stale 0 }
         ensures selected { (n : ℕ) → n < length plan.now.tree.nodes → slice_index_or self.new.runs n false
             ≡ runs_now plan.now.tree (λ x. slice_index dues.old.remains x) (λ x. slice_index ends.now x) n }
+        ensures changed { AreChanged (packs_by plan.now.tree self.new.runs) places.now.onto changes.new }
+        ensures room { changes.new.room ≡ changes.old.room }
     {
         serve_all(
             plan.tree(),
@@ -65,6 +82,8 @@ impl Serving {
             dues,
             &mut self.stale,
             &mut self.runs,
+            places,
+            changes,
         );
     }
 
@@ -132,16 +151,9 @@ impl Serving {
         ensures nodes { length dues.new.remains ≡ length plan.now.tree.nodes }
         ensures long { AreLong plan.now.tree dues.new self.new }
         ensures serving { IsServing plan.now.tree dues.new calendar.now.ends self.new }
+        ensures marked { (q : ℕ) → IsPack plan.now.tree q → slice_index_or self.new.stale q false ≡ false → ⊥ }
     {
         begin_first(plan, calendar, dues, &mut self.ready, &mut self.stale);
-    }
-
-    /// Whether node n runs.
-    pub(crate) fn runs(&self, n: NodeId) -> bool
-        requires { n.0 < length self.now.runs }
-        ensures { result ≡ slice_index_or self.now.runs n.0 false }
-    {
-        self.runs[n.0 as usize]
     }
 
     /// The place of the member of pack p that runs.

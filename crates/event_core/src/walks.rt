@@ -1,12 +1,17 @@
 //! The walk over the packs that are to be looked at again.
-ghost use Rattle.std.specs.Prelude.{ℕ, [], ◌≡◌, ◌≢◌, ◌+◌, ◌<◌, ◌≤◌, length, true, false, Some, slice_index, slice_index_or};
+ghost use Rattle.std.specs.Prelude.{ℕ, List, Option, [], ◌≡◌, ◌≢◌, ◌+◌, ◌&&◌, ◌<◌, ◌≤◌, not, length, true, false, Some};
+ghost use Rattle.std.specs.Prelude.{slice_index, slice_index_or};
+ghost use Rattle.sched_base.specs.Places.{is_held};
 ghost use Rattle.run_tree.specs.Tree.{IsTree, IsPack, member, members, level};
 ghost use Rattle.run_tree.specs.Schedule.{packs_at};
 ghost use Rattle.run_tree.specs.Runs.{runs_now};
+ghost use Rattle.cpu_assign.specs.Changed.{with_pack, AreChanged};
 ghost use Rattle.tree_select.specs.Reselected.{AreFresh, AreFreshFrom};
-ghost use Rattle.event_core.specs.Serving.{dry_by, lists, AreFitting, IsServing};
+ghost use Rattle.event_core.specs.Serving.{dry_by, first_runs, lists, AreFitting, AreSettledFrom, AreStill, IsServing, IsSettled};
+ghost use Rattle.event_core.specs.Steps.{packs_by};
 
 use crate::serving::{id_of, serve};
+use cpu_assign::{Changes, Places};
 use knockout::Knockout;
 use run_tree::Tree;
 use sched_base::NodeId;
@@ -62,6 +67,7 @@ fn serve_pack(
     ensures nodes { length dues.new.runs ≡ length dues.old.runs }
     ensures serving { IsServing tree.now dues.new ends.now (lists ready.now serves.new dry.new stale.new runs.new) }
     ensures own { slice_index_or stale.new p.0 false ≡ false }
+    ensures still { AreStill tree.now p.0 stale.old runs.old stale.new runs.new }
     ensures marks { (q : ℕ) → IsPack tree.now q → q ≢ p.0 → level tree.now p.0 ≤ level tree.now q →
         slice_index_or stale.new q false ≡ slice_index_or stale.old q false }
 {
@@ -99,6 +105,7 @@ fn serve_marked(
     ensures nodes { length dues.new.runs ≡ length dues.old.runs }
     ensures serving { IsServing tree.now dues.new ends.now (lists ready.now serves.new dry.new stale.new runs.new) }
     ensures own { slice_index_or stale.new p.0 false ≡ false }
+    ensures still { AreStill tree.now p.0 stale.old runs.old stale.new runs.new }
     ensures marks { (q : ℕ) → IsPack tree.now q → q ≢ p.0 → level tree.now p.0 ≤ level tree.now q →
         slice_index_or stale.new q false ≡ slice_index_or stale.old q false }
 {
@@ -118,7 +125,7 @@ pub(crate) fn pack_of(tree: &Tree, level: u32, i: u32) -> NodeId
     tree.pack(level, i)
 }
 
-// The marked packs of one level, once none above it is marked.
+// The marked packs of one level above the first, once none above it is marked.
 fn serve_level(
     tree: &Tree,
     level: u32,
@@ -132,6 +139,7 @@ fn serve_level(
 )
     requires tree { IsTree tree.now }
     requires level { level < tree.now.levels }
+    requires above_first { 1 ≤ level }
     requires ready { length ready.now ≡ length tree.now.nodes }
     requires serves { length serves.old ≡ length tree.now.nodes }
     requires dry { length dry.old ≡ length tree.now.nodes }
@@ -146,6 +154,7 @@ fn serve_level(
     ensures nodes { length dues.new.runs ≡ length dues.old.runs }
     ensures serving { IsServing tree.now dues.new ends.now (lists ready.now serves.new dry.new stale.new runs.new) }
     ensures fresh { AreFreshFrom tree.now stale.new level }
+    ensures settled { (onto : List (Option ℕ)) → AreSettledFrom tree.now onto stale.old runs.old 0 → AreSettledFrom tree.now onto stale.new runs.new 0 }
 {
     for i in 0..tree.packs(level) {
         let p = pack_of(tree, level, i);
@@ -153,8 +162,144 @@ fn serve_level(
     }
 }
 
+// Pack p, which is number i of level 0, serves the member that it picks now, and is listed where it stops or begins.
+fn serve_listed(
+    tree: &Tree,
+    p: NodeId,
+    i: u32,
+    ends: &[u128],
+    ready: &[Knockout],
+    serves: &mut [Option<u32>],
+    dry: &mut [u128],
+    dues: &mut Dues,
+    stale: &mut [bool],
+    runs: &mut [bool],
+    places: &Places,
+    changes: &mut Changes,
+)
+    requires tree { IsTree tree.now }
+    requires pack { IsPack tree.now p.0 }
+    requires held { i < length places.now.last }
+    requires ready { length ready.now ≡ length tree.now.nodes }
+    requires serves { length serves.old ≡ length tree.now.nodes }
+    requires dry { length dry.old ≡ length tree.now.nodes }
+    requires nodes { length dues.old.runs ≡ length tree.now.nodes }
+    requires stale { length stale.old ≡ length tree.now.nodes }
+    requires runs { length runs.old ≡ length tree.now.nodes }
+    requires fits { AreFitting tree.now dues.old }
+    requires serving { IsServing tree.now dues.old ends.now (lists ready.now serves.old dry.old stale.old runs.old) }
+    requires stopped { length changes.old.stopped < changes.old.room }
+    requires begun { length changes.old.begun < changes.old.room }
+    ensures tick { dues.new.tick ≡ dues.old.tick }
+    ensures remains { dues.new.remains ≡ dues.old.remains }
+    ensures nodes { length dues.new.runs ≡ length dues.old.runs }
+    ensures serving { IsServing tree.now dues.new ends.now (lists ready.now serves.new dry.new stale.new runs.new) }
+    ensures own { slice_index_or stale.new p.0 false ≡ false }
+    ensures still { AreStill tree.now p.0 stale.old runs.old stale.new runs.new }
+    ensures marks { (q : ℕ) → IsPack tree.now q → q ≢ p.0 → level tree.now p.0 ≤ level tree.now q →
+        slice_index_or stale.new q false ≡ slice_index_or stale.old q false }
+    ensures stopped { changes.new.stopped ≡ with_pack changes.old.stopped i (not (slice_index_or runs.new p.0 false) && is_held places.now.onto i) }
+    ensures begun { changes.new.begun ≡ with_pack changes.old.begun i (slice_index_or runs.new p.0 false && not (is_held places.now.onto i)) }
+    ensures room { changes.new.room ≡ changes.old.room }
+{
+    serve_pack(tree, p, ends, ready, serves, dry, dues, stale, runs);
+    changes.see(i, runs[p.0 as usize], places.holds(i));
+}
+
+// The same, where the pack is marked; else it goes on as it was.
+fn serve_first(
+    tree: &Tree,
+    p: NodeId,
+    i: u32,
+    ends: &[u128],
+    ready: &[Knockout],
+    serves: &mut [Option<u32>],
+    dry: &mut [u128],
+    dues: &mut Dues,
+    stale: &mut [bool],
+    runs: &mut [bool],
+    places: &Places,
+    changes: &mut Changes,
+)
+    requires tree { IsTree tree.now }
+    requires pack { IsPack tree.now p.0 }
+    requires held { i < length places.now.last }
+    requires ready { length ready.now ≡ length tree.now.nodes }
+    requires serves { length serves.old ≡ length tree.now.nodes }
+    requires dry { length dry.old ≡ length tree.now.nodes }
+    requires nodes { length dues.old.runs ≡ length tree.now.nodes }
+    requires stale { length stale.old ≡ length tree.now.nodes }
+    requires runs { length runs.old ≡ length tree.now.nodes }
+    requires fits { AreFitting tree.now dues.old }
+    requires serving { IsServing tree.now dues.old ends.now (lists ready.now serves.old dry.old stale.old runs.old) }
+    requires settled { slice_index_or stale.old p.0 false ≡ false → is_held places.now.onto i ≡ slice_index_or runs.old p.0 false }
+    requires stopped { length changes.old.stopped < changes.old.room }
+    requires begun { length changes.old.begun < changes.old.room }
+    ensures tick { dues.new.tick ≡ dues.old.tick }
+    ensures remains { dues.new.remains ≡ dues.old.remains }
+    ensures nodes { length dues.new.runs ≡ length dues.old.runs }
+    ensures serving { IsServing tree.now dues.new ends.now (lists ready.now serves.new dry.new stale.new runs.new) }
+    ensures own { slice_index_or stale.new p.0 false ≡ false }
+    ensures still { AreStill tree.now p.0 stale.old runs.old stale.new runs.new }
+    ensures marks { (q : ℕ) → IsPack tree.now q → q ≢ p.0 → level tree.now p.0 ≤ level tree.now q →
+        slice_index_or stale.new q false ≡ slice_index_or stale.old q false }
+    ensures stopped { changes.new.stopped ≡ with_pack changes.old.stopped i (not (slice_index_or runs.new p.0 false) && is_held places.now.onto i) }
+    ensures begun { changes.new.begun ≡ with_pack changes.old.begun i (slice_index_or runs.new p.0 false && not (is_held places.now.onto i)) }
+    ensures room { changes.new.room ≡ changes.old.room }
+{
+    if stale[p.0 as usize] {
+        serve_listed(
+            tree, p, i, ends, ready, serves, dry, dues, stale, runs, places, changes,
+        );
+    }
+}
+
+// The marked packs of level 0, once none above it is marked. Those that stop and begin are listed.
+fn serve_first_level(
+    tree: &Tree,
+    ends: &[u128],
+    ready: &[Knockout],
+    serves: &mut [Option<u32>],
+    dry: &mut [u128],
+    dues: &mut Dues,
+    stale: &mut [bool],
+    runs: &mut [bool],
+    places: &Places,
+    changes: &mut Changes,
+)
+    requires tree { IsTree tree.now }
+    requires levels { 0 < tree.now.levels }
+    requires ready { length ready.now ≡ length tree.now.nodes }
+    requires serves { length serves.old ≡ length tree.now.nodes }
+    requires dry { length dry.old ≡ length tree.now.nodes }
+    requires nodes { length dues.old.runs ≡ length tree.now.nodes }
+    requires stale { length stale.old ≡ length tree.now.nodes }
+    requires runs { length runs.old ≡ length tree.now.nodes }
+    requires fits { AreFitting tree.now dues.old }
+    requires serving { IsServing tree.now dues.old ends.now (lists ready.now serves.old dry.old stale.old runs.old) }
+    requires above { AreFreshFrom tree.now stale.old 1 }
+    requires last { length places.now.last ≡ length (packs_at tree.now 0) }
+    requires settled { AreSettledFrom tree.now places.now.onto stale.old runs.old 0 }
+    requires room { changes.old.room ≡ length (packs_at tree.now 0) }
+    ensures tick { dues.new.tick ≡ dues.old.tick }
+    ensures remains { dues.new.remains ≡ dues.old.remains }
+    ensures nodes { length dues.new.runs ≡ length dues.old.runs }
+    ensures serving { IsServing tree.now dues.new ends.now (lists ready.now serves.new dry.new stale.new runs.new) }
+    ensures fresh { AreFreshFrom tree.now stale.new 0 }
+    ensures changed { AreChanged (packs_by tree.now runs.new) places.now.onto changes.new }
+    ensures room { changes.new.room ≡ changes.old.room }
+{
+    changes.clear();
+    for i in 0..tree.packs(0) {
+        let p = pack_of(tree, 0, i);
+        serve_first(
+            tree, p, i, ends, ready, serves, dry, dues, stale, runs, places, changes,
+        );
+    }
+}
+
 /// Says again of each node whether it runs, where the lists are right but for the marked packs, and lets members stop and start.
-/// No mark is left at a pack.
+/// No mark is left at a pack. The packs of level 0 that stop and begin are listed.
 pub(crate) fn serve_all(
     tree: &Tree,
     ends: &[u128],
@@ -164,6 +309,8 @@ pub(crate) fn serve_all(
     dues: &mut Dues,
     stale: &mut [bool],
     runs: &mut [bool],
+    places: &Places,
+    changes: &mut Changes,
 )
     requires ready { length ready.now ≡ length tree.now.nodes }
     requires serves { length serves.old ≡ length tree.now.nodes }
@@ -173,6 +320,9 @@ pub(crate) fn serve_all(
     requires runs { length runs.old ≡ length tree.now.nodes }
     requires fits { AreFitting tree.now dues.old }
     requires serving { IsServing tree.now dues.old ends.now (lists ready.now serves.old dry.old stale.old runs.old) }
+    requires last { length places.now.last ≡ length (packs_at tree.now 0) }
+    requires settled { AreSettledFrom tree.now places.now.onto stale.old runs.old 0 }
+    requires room { changes.old.room ≡ length (packs_at tree.now 0) }
     ensures tick { dues.new.tick ≡ dues.old.tick }
     ensures remains { dues.new.remains ≡ dues.old.remains }
     ensures nodes { length dues.new.runs ≡ length dues.old.runs }
@@ -180,10 +330,15 @@ pub(crate) fn serve_all(
     ensures fresh { AreFreshFrom tree.now stale.new 0 }
     ensures selected { (n : ℕ) → n < length tree.now.nodes → slice_index_or runs.new n false
         ≡ runs_now tree.now (λ x. slice_index dues.old.remains x) (λ x. slice_index ends.now x) n }
+    ensures changed { AreChanged (packs_by tree.now runs.new) places.now.onto changes.new }
+    ensures room { changes.new.room ≡ changes.old.room }
 {
     let mut level = tree.levels();
-    while level > 0 {
+    while level > 1 {
         level -= 1;
         serve_level(tree, level, ends, ready, serves, dry, dues, stale, runs);
     }
+    serve_first_level(
+        tree, ends, ready, serves, dry, dues, stale, runs, places, changes,
+    );
 }

@@ -1,4 +1,4 @@
-use Rattle.std.proofs.Common.{arith, ap, length, refl, subst, sym, ◌<◌, ◌∙◌, List, ℕ, Bool}
+use Rattle.std.proofs.Common.{arith, ap, length, refl, subst, sym, ◌∙◌, List, ℕ, Bool}
 use Rattle.run_tree.specs.Tree.{IsMember}
 use Rattle.event_core.proofs.BegunLemmas.{begun_none, begun_step, begun_places, begun_of}
 use Rattle.event_core.proofs.begun.begin_all.Goals as goal

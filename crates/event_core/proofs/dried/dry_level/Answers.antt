@@ -1,4 +1,4 @@
-use Rattle.std.proofs.Common.{arith, ap, ◌<◌, List, ℕ, get_or}
+use Rattle.std.proofs.Common.{arith}
 use Rattle.event_core.specs.Serving.{lists}
 use Rattle.event_core.proofs.DryLemmas.{drying_none, drying_step, drying_level, dry_within}
 use Rattle.event_core.proofs.dried.dry_level.Goals as goal

@@ -1,6 +1,6 @@
-use Rattle.std.proofs.Common.{arith, subst, ℕ, ◌-◌, ◌+◌, ◌<◌, ◌≤◌, ◌≡◌}
+use Rattle.std.proofs.Common.{arith, ◌-◌, ◌+◌, ◌≤◌, ◌≡◌}
 use Rattle.run_tree.specs.Tree.{level}
-use Rattle.event_core.specs.Serving.{lists, IsDrying}
+use Rattle.event_core.specs.Serving.{lists}
 use Rattle.event_core.proofs.DryLemmas.{drying_wide, all_dried}
 use Rattle.event_core.proofs.dried.run_dry.Goals as goal
 

@@ -1,4 +1,4 @@
-use Rattle.std.proofs.Common.{arith, subst, ℕ, ◌-◌, ◌<◌, ◌≤◌, ◌≡◌}
+use Rattle.std.proofs.Common.{arith, subst, ℕ, ◌-◌, ◌≤◌, ◌≡◌}
 use Rattle.run_tree.specs.Tree.{level}
 use Rattle.event_core.specs.Serving.{IsSoonest}
 use Rattle.event_core.proofs.EndLemmas.{soonest_top, soonest_level}

@@ -1,4 +1,4 @@
-use Rattle.std.proofs.Common.{arith, refl, ◌<◌}
+use Rattle.std.proofs.Common.{arith}
 use Rattle.event_core.proofs.EndLemmas.{soonest_first, soonest_pack, level_is_all}
 use Rattle.event_core.proofs.ends.first_of_level.Goals as goal
 

@@ -1,4 +1,4 @@
-use Rattle.std.proofs.Common.{arith, ap, length, refl, ◌<◌, ◌∙◌, List, Bool}
+use Rattle.std.proofs.Common.{arith, ap, length, refl, ◌∙◌, List, Bool}
 use Rattle.std.specs.List.{range_with_len}
 use Rattle.event_core.proofs.BegunLemmas.{begun_none, begun_places, begun_of}
 use Rattle.event_core.proofs.FirstLemmas.{begun_next}

@@ -1,4 +1,4 @@
-use Rattle.std.proofs.Common.{arith, sym, ◌<◌, ◌∙◌}
+use Rattle.std.proofs.Common.{sym, ◌∙◌}
 use Rattle.event_core.proofs.FirstLemmas.{member_is}
 use Rattle.event_core.proofs.firsts.begin_if.Goals as goal
 

@@ -1,5 +1,7 @@
-use Rattle.std.proofs.Common.{ap₂, refl, ◌∙◌}
+use Rattle.std.proofs.Common.{ap₂, arith, get_or, ◌∙◌}
 use Rattle.sched_base.specs.Places.{unplaced}
+use Rattle.run_tree.specs.Schedule.{packs_at}
+use Rattle.run_tree.proofs.TreeLemmas.{first_is_pack}
 use Rattle.event_core.proofs.NextCores.{first_core}
 use Rattle.event_core.proofs.firsts.first_state.Goals as goal
 
@@ -11,5 +13,7 @@ returns c = (
         c.in_ok-places.places (c.in_ok-places.ensures ∙ ap₂ unplaced c.pack_count.ensures c.processor_count.ensures.value) c.in_ok-dues.dues.tick c.in_ok-dues.ensures.tick c.in_ok-dues.dues.runs c.in_ok-dues.serving;
     long = c.in_ok-dues.ensures.long;
     serving = c.in_ok-dues.ensures.serving;
+    settled = λ i low l off. absurd (c.in_ok-dues.ensures.marked (get_or (packs_at c.args.plan.now.tree 0) i 0) (first_is_pack c.args.plan.now.tree c.requires.plan.tree.tree i l) off);
+    shown = λ start r. absurd (let up = r.above in let zero = c.in_ok-dues.ensures.tick in omega (arith, up, zero));
   },
 )

@@ -1,5 +1,5 @@
-use Rattle.std.proofs.Common.{List, ℕ, arith, ap, refl, subst, sym, length, ◌∙◌, ◌+◌, ◌-◌, ◌≤◌}
-use Rattle.event_core.specs.Serving.{IsServing, IsDrying, AreLong}
+use Rattle.std.proofs.Common.{List, ℕ, arith, subst, sym, ◌-◌}
+use Rattle.event_core.specs.Serving.{IsServing, IsDrying}
 use Rattle.event_core.proofs.DryLemmas.{passed}
 use Rattle.event_core.proofs.rounds.pass_to.Goals as goal
 

@@ -1,4 +1,4 @@
-use Rattle.std.proofs.Common.{false, None, Some, sym, ap, ◌∙◌, ℕ, Option}
+use Rattle.std.proofs.Common.{sym, ap, ◌∙◌, ℕ, Option}
 use Rattle.sched_base.specs.Candidates.{is_at}
 use Rattle.run_tree.specs.Tree.{leaf, members}
 use Rattle.event_core.proofs.KeptLemmas.{leaf_none, leaf_one}

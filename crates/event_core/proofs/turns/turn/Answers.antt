@@ -1,4 +1,4 @@
-use Rattle.std.proofs.Common.{arith, ap, length}
+use Rattle.std.proofs.Common.{arith}
 use Rattle.event_core.proofs.KeptLemmas.{listed_members, has_turned, still_serving, places_stand}
 use Rattle.event_core.proofs.turns.turn.Goals as goal
 

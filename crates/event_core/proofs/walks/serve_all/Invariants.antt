@@ -1,12 +1,13 @@
 use Rattle.std.proofs.Common.{◌≡◌, ◌≤◌, length}
 use Rattle.tree_select.specs.Reselected.{AreFreshFrom}
-use Rattle.event_core.specs.Serving.{lists, IsServing}
+use Rattle.event_core.specs.Serving.{lists, AreSettledFrom, IsServing}
 use Rattle.event_core.proofs.walks.serve_all.Given as goal
 
 abbrev pub invariant-loop-level : goal.invariant-loop-level
 invariant-loop-level l =
     (l.level ≤ l.tree.levels) × (l.dues.tick ≡ l.fn.dues.tick) × (l.dues.remains ≡ l.fn.dues.remains) × (length l.dues.runs ≡ length l.fn.dues.runs)
-    × IsServing l.tree l.dues l.ends (lists l.ready l.serves l.dry l.stale l.runs) × AreFreshFrom l.tree l.stale l.level
+    × IsServing l.tree l.dues l.ends (lists l.ready l.serves l.dry l.stale l.runs) × AreFreshFrom l.tree l.stale l.level × (1 ≤ l.level)
+    × AreSettledFrom l.tree l.places.onto l.stale l.runs 0
 
 abbrev pub decreases-loop-level : goal.decreases-loop-level
 decreases-loop-level l = l.level

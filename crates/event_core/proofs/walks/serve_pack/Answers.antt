@@ -1,4 +1,4 @@
-use Rattle.std.proofs.Common.{arith, ap, length, refl, List, subst, sym, true, ℕ, ◌∙◌, eq-eqb}
+use Rattle.std.proofs.Common.{arith, ap, length, refl, List, subst, sym, ℕ, ◌∙◌, eq-eqb}
 use Rattle.std.proofs.Math.ListN.{set}
 use Rattle.edf_pick.specs.Ready.{AreReady}
 use Rattle.sched_base.specs.Candidates.{is_at}
@@ -26,3 +26,6 @@ returns-clause-serving c =
     c.requires.pack (omega (arith, b, long)) (omega (arith, b, long')) c.serve-next.ensures.tick c.serve-next.ensures.remains refl refl (ap (λ (n : ℕ). set c.args.dry.now c.args.p.0 n) c.dry_of.ensures)
     c.serve-next.ensures.within c.serve-next.ensures.now c.serve-next.ensures.others c.serve-next.ensures.agree c.serve-next.ensures.rest c.serve-next.ensures.unmarked c.serve-next.ensures.led
     (c.serve-next.ensures.served c.args.ends.now (subst (λ (xs : List ℕ). AreReady (candidates c.args.tree.now c.args.dues.now.remains c.args.ends.now c.args.p.0) xs) (sym c.ready_at.ensures) (c.requires.serving.picks c.args.p.0 c.requires.pack)) c.requires.serving.served) c.requires.serving
+
+pub returns-clause-still : goal.returns-clause-still
+returns-clause-still c = record { unmarked = c.serve-next.ensures.unmarked; still = c.serve-next.ensures.still }

@@ -14,3 +14,6 @@ returns-clause-served c = λ remains ends is served.
 pub returns-clause-unmarked : goal.returns-clause-unmarked
 returns-clause-unmarked c = λ q j ne off.
     handed_unmarked c.args.tree.now c.requires.tree c.args.p.0 c.served_by-next.result c.args.stale.now c.args.runs.now c.hand_if.new.stale c.hand_if.new.runs c.hand_if.ensures q j ne off
+
+pub returns-clause-still : goal.returns-clause-still
+returns-clause-still c = λ q j off. (c.hand_if.ensures.unmarked q j off).1

@@ -1,4 +1,4 @@
-use Rattle.std.proofs.Common.{arith, subst, sym, ◌≡◌}
+use Rattle.std.proofs.Common.{arith, subst, sym}
 use Rattle.event_core.specs.Cores.{CoreContents, IsCoreOf}
 use Rattle.event_core.specs.States.{contents}
 use Rattle.event_core.proofs.OneRound.{last_long, onto_long}
@@ -14,6 +14,7 @@ invariant_of-self c =
     let new = c.run_round.ensures.core in
     let due = c.self.invariant.0 in
     let packs = c.self.invariant.1 in
+    let room = c.run_round.ensures.room in
     let onto = c.self.invariant.2 in
     let nodes = old.at.nodes in
     let nodes' = new.at.nodes in
@@ -21,7 +22,7 @@ invariant_of-self c =
     let last' = last_long p h after new.at in
     let processors = onto_long p h before old.at in
     let processors' = onto_long p h after new.at in
-    (omega (arith, due, nodes, nodes'), omega (arith, packs, last, last'), omega (arith, onto, processors, processors'))
+    (omega (arith, due, nodes, nodes'), omega (arith, packs, room, last, last'), omega (arith, onto, processors, processors'))
 
 pub run_round-requires-clause-due : goal.run_round-requires-clause-due
 run_round-requires-clause-due c =
@@ -30,8 +31,8 @@ run_round-requires-clause-due c =
     let nodes = old.at.nodes in
     omega (arith, room, nodes)
 
-pub run_round-requires-clause-packs : goal.run_round-requires-clause-packs
-run_round-requires-clause-packs c =
+pub run_round-requires-clause-room : goal.run_round-requires-clause-room
+run_round-requires-clause-room c =
     let old = subst (λ (k : CoreContents). IsCoreOf c.args.plan.now k) (sym c.self.view_is) c.requires.belongs in
     let room = c.self.invariant.1 in
     let last = last_long c.args.plan.now c.scale-lawful.ensures.lawful (contents c.self.inside.state) old.at in

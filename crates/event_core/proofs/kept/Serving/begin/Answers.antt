@@ -1,4 +1,4 @@
-use Rattle.std.proofs.Common.{ap, arith, length, get_or, subst, subst₂, sym, ◌∙◌, ◌<◌, ℕ, List, Bool, []}
+use Rattle.std.proofs.Common.{ap, length, get_or, subst, subst₂, sym, ◌∙◌, ◌<◌, ℕ, List, Bool, []}
 use Rattle.run_tree.specs.Tree.{IsMember, home, place}
 use Rattle.event_core.specs.Serving.{ServingContents, AreBegun}
 use Rattle.event_core.proofs.KeptLemmas.{back}

@@ -1,8 +1,8 @@
-use Rattle.std.proofs.Common.{ap, length, get_or, refl, subst, subst₂, sym, ◌∙◌, ◌<◌, ℕ, List, Bool, []}
+use Rattle.std.proofs.Common.{ap, false, length, get_or, refl, subst, subst₂, sym, ◌∙◌, ◌<◌, ◌≡◌, ℕ, List, Bool, []}
 use Rattle.std.specs.List.{range_with_len}
-use Rattle.run_tree.specs.Tree.{IsMember, home, place}
+use Rattle.run_tree.specs.Tree.{IsMember, IsPack, home, place}
 use Rattle.event_core.specs.Serving.{ServingContents, lists, AreBegun, IsServing}
-use Rattle.event_core.proofs.FirstLemmas.{blank_places, first_filled, first_serving}
+use Rattle.event_core.proofs.FirstLemmas.{blank_places, first_filled, first_marked, first_serving}
 use Rattle.event_core.proofs.KeptLemmas.{back, same_lists}
 use Rattle.event_core.proofs.kept.Serving.begin_first.Goals as goal
 
@@ -33,3 +33,14 @@ returns-clause-serving c =
     (same_lists _ _ _ _ _ _ _ _ _ _ (sym (back c.self.inside.ready _ _ c.deref_mut.ensures.value c.begin_first.auto.ready)) (sym (ap (λ (k : ServingContents). k.serves) c.self.view_is)) (sym (ap (λ (k : ServingContents). k.dry) c.self.view_is))
     (sym (back c.self.inside.stale _ _ c.deref_mut-2.ensures.value c.begin_first.auto.stale)) (sym (ap (λ (k : ServingContents). k.runs) c.self.view_is)))
     (first_serving p c.requires.plan s s' c.requires.blank c.args.dues.now c.begin_first.new.dues c.requires.remains c.requires.dues c.args.calendar.now c.requires.calendar (c.begin_first.ensures.tick ∙ sym c.requires.first) c.begin_first.ensures.runs refl refl refl a)
+
+pub returns-clause-marked : goal.returns-clause-marked
+returns-clause-marked c =
+    let p = c.args.plan.now in
+    let s = c.args.self.now in
+    let s' = lists c.begin_first.new.ready s.serves s.dry c.begin_first.new.stale s.runs in
+    let Begun : List (List ℕ) → List Bool → Type 0 = λ ready stale.
+    AreBegun p.tree c.args.calendar.now.begins c.args.calendar.now.ends (range_with_len 0 (length p.tree.nodes)) c.args.dues.now.remains ready stale c.begin_first.new.dues.remains c.begin_first.new.ready c.begin_first.new.stale (length p.tree.nodes) in
+    let a = subst₂ Begun (c.deref_mut.ensures.value ∙ ap (λ (k : ServingContents). k.ready) c.self.view_is) (c.deref_mut-2.ensures.value ∙ ap (λ (k : ServingContents). k.stale) c.self.view_is) c.begin_first.ensures.begun in
+    let marked = first_marked p c.requires.plan s s' c.requires.blank c.args.dues.now c.begin_first.new.dues c.requires.remains c.requires.dues c.args.calendar.now c.requires.calendar (c.begin_first.ensures.tick ∙ sym c.requires.first) c.begin_first.ensures.runs refl refl refl a in
+    subst (λ (stale : List Bool). (q : ℕ) → IsPack p.tree q → get_or stale q false ≡ false → ⊥) (sym (back c.self.inside.stale _ _ c.deref_mut-2.ensures.value c.begin_first.auto.stale)) marked

@@ -1,6 +1,6 @@
-use Rattle.std.proofs.Common.{refl, subst, subst₂, sym, ◌∙◌, ℕ}
+use Rattle.std.proofs.Common.{subst₂, sym, ◌∙◌, ℕ}
 use Rattle.run_tree.specs.Tree.{Tree}
-use Rattle.event_core.specs.Serving.{ServingContents, AreLong, IsServing, IsDrying}
+use Rattle.event_core.specs.Serving.{ServingContents, IsServing, IsDrying}
 use Rattle.event_core.proofs.KeptLemmas.{back, same_lists}
 use Rattle.event_core.proofs.kept.Serving.run_dry.Goals as goal
 

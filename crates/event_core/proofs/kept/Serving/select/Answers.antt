@@ -1,7 +1,6 @@
-use Rattle.std.proofs.Common.{refl, subst, subst₂, sym, ◌∙◌}
+use Rattle.std.proofs.Common.{subst₂, sym, ◌∙◌}
 use Rattle.run_tree.specs.Tree.{Tree}
-use Rattle.tree_select.specs.Reselected.{AreFreshFrom}
-use Rattle.event_core.specs.Serving.{ServingContents, AreLong, IsServing}
+use Rattle.event_core.specs.Serving.{ServingContents, IsServing}
 use Rattle.event_core.proofs.KeptLemmas.{back, same_lists}
 use Rattle.event_core.proofs.kept.Serving.select.Goals as goal
 
