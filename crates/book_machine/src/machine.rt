@@ -2,12 +2,14 @@
 ghost use Rattle.std.specs.Prelude.{◌≡◌, ◌≤◌, ◌<◌, ◌+◌, ◌↔◌, ℕ, length, true, IsTrue, IfOk, IfSome, IfNone};
 ghost use Rattle.book_machine.specs.Machine.{IsLegal, MayTake, IsReady, WaitsFor, IsOut, IsStuck};
 ghost use Rattle.book_machine.specs.Machine.{after, start, posted_at, least_posted as least_count, horizon_of};
+ghost use Rattle.book_machine.specs.Links.{LinkIsPosted, ArePostedInOrder};
 ghost use Rattle.sched_base.specs.declared.rows.Row.{Row};
 ghost use Rattle.sched_base.specs.Tables.{rounds_of};
 
 use crate::events::Event;
+use crate::links::{Link, LinkedTable};
 use crate::search::{any_left, any_out, least_posted, lowest, waits_for};
-use sched_base::{NoMemory, ProcId, RowTable};
+use sched_base::{Leaf, NoMemory, ProcId, RowTable};
 use std::alloc::Global;
 use std::marker::Model;
 
@@ -178,6 +180,57 @@ impl MachineState {
             waits_for(table, lanes, p, round, table.row(p, round).leaf)
         } else {
             Some(lowest(lanes, table.processors(), least))
+        }
+    }
+
+    /// The same, where each posted row has its leaf's earlier rows posted: one look at the row's link tells that the lane waits
+    /// for none. It searches only where the link's row isn't posted, or where rows of no task are behind.
+    pub fn waits_by_link(&self, linked: &LinkedTable, window: u32, p: u32) -> Option<u32>
+        requires lanes { length self.now.lanes ≡ length linked.now.lanes }
+        requires round { posted_at self.now p < least_count self.now + window → posted_at self.now p < rounds_of linked.now.lanes }
+        requires lane { p < length self.now.lanes }
+        requires in_order { ArePostedInOrder linked.now.lanes self.now }
+        ensures some { IfSome result (λ q. WaitsFor linked.now.lanes window self.now p q) }
+        ensures none { IfNone result (IsReady linked.now.lanes window self.now p) }
+    {
+        if self.is_clear(linked, window, p) {
+            None
+        } else {
+            self.waits_for(linked.table(), window, p)
+        }
+    }
+
+    // Whether one look tells that lane p waits for none.
+    fn is_clear(&self, linked: &LinkedTable, window: u32, p: u32) -> bool
+        requires lanes { length self.now.lanes ≡ length linked.now.lanes }
+        requires round { posted_at self.now p < least_count self.now + window → posted_at self.now p < rounds_of linked.now.lanes }
+        requires lane { p < length self.now.lanes }
+        requires in_order { ArePostedInOrder linked.now.lanes self.now }
+        ensures { IsTrue result → IsReady linked.now.lanes window self.now p }
+    {
+        let round = self.posted(p);
+        if round - self.least >= window as u64 {
+            return false;
+        }
+        match linked.table().row(p, round).leaf {
+            Leaf::Task(_) => self.has_posted(linked.link(p, round)),
+            Leaf::Wait(_) => round == self.least,
+            Leaf::Idle(_) => round == self.least,
+            Leaf::Empty => round == self.least,
+        }
+    }
+
+    // Whether the row to which a link leads is posted.
+    fn has_posted(&self, link: Link) -> bool
+        ensures { IsTrue result ↔ LinkIsPosted self.now link }
+    {
+        match link {
+            Link::First => true,
+            Link::After(place) => match self.lanes.get(place.lane as usize) {
+                Some(lane) => u64::from(place.round) < lane.posted,
+                None => false,
+            },
+            Link::Unknown => false,
         }
     }
 

@@ -27,7 +27,7 @@ use sched_base::RowTable;
 use sched_edges::{Gate, Job, JobList};
 use std::sync::{Mutex, Wait};
 use std::thread::Threads;
-use unit_ledger::{PostLedger, Seats};
+use unit_ledger::{PostLedger, Posts, Seats};
 
 /// What a run leaves beside the gates: the jobs, the rounds computed, the failure that is to be named, and the number of
 /// posted rows, with which the ledger closed.
@@ -36,7 +36,7 @@ pub(crate) struct Ended<J> {
     pub(crate) jobs: JobList<J>,
     pub(crate) table: RowTable,
     pub(crate) fault: Option<FirstFault>,
-    pub(crate) posts: u64,
+    pub(crate) posts: Posts,
 }
 
 /// Runs the gates of the first kits over a book that nobody has taken from. `counts` says how often each task's job has

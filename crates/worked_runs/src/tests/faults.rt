@@ -95,27 +95,27 @@ fn assert_stopped(rt: &impl Abort, left: &Left, stop: &Stop) {
     let Err(found) = left.answer else {
         panic!(rt; "a run that didn't fail");
     };
-    let posts = posts_of(left);
-    let (fault, ran) = match stop.task {
-        None => (
-            ExecFault::Gate {
-                processor,
-                row,
-                posts,
-            },
-            stop.round,
-        ),
-        Some(task) => (
-            ExecFault::Job {
-                task,
-                processor,
-                row,
-                posts,
-            },
-            stop.round + 1,
-        ),
+    let (at, task, posts) = match found {
+        ExecFault::Gate {
+            processor,
+            row,
+            posts,
+        } => ((processor, row), None, posts),
+        ExecFault::Job {
+            task,
+            processor,
+            row,
+            posts,
+        } => ((processor, row), Some(task), posts),
+        ExecFault::NoMemory => panic!(rt; "memory was refused"),
     };
-    assert_eq!(rt; found, fault);
+    assert_eq!(rt; at, (processor, row));
+    assert_eq!(rt; task, stop.task);
+    assert_eq!(rt; posts.number(), posts_of(left));
+    let ran = match stop.task {
+        None => stop.round,
+        Some(_) => stop.round + 1,
+    };
     assert_eq!(rt; of_processor(&left.ran, processor).len(), ran);
 }
 

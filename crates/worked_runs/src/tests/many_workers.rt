@@ -87,7 +87,7 @@ fn run_at<X: Threads + Wait + Clock + Abort + Copy + Send + Sync>(
     let Ok(done) = execute(&rt, alloc, plan, rounds, window, &mut kits, &mut jobs) else {
         panic!(rt; "a run that failed");
     };
-    assert_eq!(rt; done.posts, 600);
+    assert_eq!(rt; done.posts.number(), 600);
     for (kit, p) in kits.iter().zip(0..PROCESSORS) {
         assert_ran(&rt, kit, p);
     }

@@ -16,7 +16,7 @@ fn runs_three_tasks(rt: HostRuntime) -> Result<(), Fail> {
         assert_eq!(rt; done.table.lane(0), first.as_slice());
         assert_eq!(rt; done.table.lane(1), second.as_slice());
         assert_eq!(rt; done.totals.as_slice(), [6, 6, 6].as_slice());
-        assert_eq!(rt; done.posts, 6);
+        assert_eq!(rt; done.posts.number(), 6);
         assert_eq!(rt; left.ran[0].as_slice(), first.as_slice());
         assert_eq!(rt; left.ran[1].as_slice(), second.as_slice());
         assert_eq!(rt; left.jobs, [(6, 0), (6, 0), (6, 0)]);

@@ -1,0 +1,13 @@
+use Rattle.std.proofs.Common.{◌≡◌, ◌∙◌, sym, ap, subst, inr, refl, arith, List, []}
+use Rattle.std.proofs.lemmas.List.{get_or_default}
+use Rattle.sched_base.specs.Tables.{Table}
+use Rattle.book_machine.specs.declared.links.Link.{Link}
+use Rattle.book_machine.specs.declared.links.Link.TheVariants.{Unknown}
+use Rattle.book_machine.specs.Links.{Says, link_at}
+use Rattle.book_machine.proofs.LinkLemmas.{linked_says}
+use Rattle.book_machine.proofs.links.LinkedTable.link.Goals as goal
+
+pub returns : goal.returns
+returns c r task at is =
+    let links = c.self.inside.links.items in
+    linked_says c.self.inside.table links c.self.inside.trails.items c.self.invariant c.args.self.now c.self.view_is c.args.p c.args.k r task c.index.result.now c.get.result c.requires.round c.index.ensures c.get.ensures at is

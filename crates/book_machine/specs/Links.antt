@@ -1,0 +1,72 @@
+-- What the links of a table say: of each row of a task the task's last row before it on another processor.
+use Rattle.std.specs.Prelude.{ℕ, ◌≡◌, ◌≢◌, ◌<◌, ◌≤◌, ◌+◌, ◌^◌, ◌⊎◌, List, [], Some, length, slice_get, slice_index_or}
+use Rattle.sched_base.specs.declared.rows.Row.{Row}
+use Rattle.sched_base.specs.declared.rows.Leaf.TheVariants.{Task}
+use Rattle.sched_base.specs.declared.rows.TaskId.{TaskId}
+use Rattle.sched_base.specs.Tables.{Table, RowAt, rounds_of}
+use Rattle.book_machine.specs.Machine.{State, posted_at, EarlierPosted}
+use Rattle.book_machine.specs.declared.links.Link.{Link}
+use Rattle.book_machine.specs.declared.links.Link.TheVariants.{First, After, Unknown}
+use Rattle.book_machine.specs.declared.links.Trail.{Trail}
+use Rattle.book_machine.specs.declared.links.Trail.TheVariants.{NoRow, Last}
+
+-- (u, i) is a place in a round before n, or in round n on a processor below p
+abbrev pub IsBefore : ℕ → ℕ → ℕ → ℕ → Type 0
+IsBefore n p u i = (i < n) ⊎ ((i ≡ n) × (u < p))
+
+-- at (q, j) stands the task's last row before (n, p) on another processor than `lane`
+pub record IsLink (rows : List (List Row)) (task : TaskId) (lane n p q j : ℕ) : Type 0 where
+  pub other : q ≢ lane
+  pub row : Row
+  pub at : RowAt rows q j row
+  pub of_task : row.leaf ≡ Task task
+  pub last : (u i : ℕ) (r : Row) → u ≢ lane → IsBefore n p u i → RowAt rows u i r → r.leaf ≡ Task task → i ≤ j
+
+-- what a link says of the task's rows before (n, p) on other processors than `lane`
+abbrev pub Says : List (List Row) → TaskId → ℕ → ℕ → ℕ → Link → Type 0
+Says rows task lane n p First = (u i : ℕ) (r : Row) → u ≢ lane → IsBefore n p u i → RowAt rows u i r → r.leaf ≢ Task task
+Says rows task lane n p (After place) = IsLink rows task lane n p place.lane place.round
+Says rows task lane n p Unknown = Unit {0}
+
+-- no row of the task before (n, p) stands after round j
+abbrev pub NoneAfter : List (List Row) → TaskId → ℕ → ℕ → ℕ → Type 0
+NoneAfter rows task n p j = (u i : ℕ) (r : Row) → IsBefore n p u i → RowAt rows u i r → r.leaf ≡ Task task → i ≤ j
+
+-- at (q, j) stands the task's last row before (n, p)
+pub record IsLast (rows : List (List Row)) (task : TaskId) (n p q j : ℕ) : Type 0 where
+  pub row : Row
+  pub at : RowAt rows q j row
+  pub of_task : row.leaf ≡ Task task
+  pub last : NoneAfter rows task n p j
+
+-- what a trail says of the task's rows before (n, p): its last one, and the last one on another processor than that
+abbrev pub IsTrail : List (List Row) → TaskId → ℕ → ℕ → Trail → Type 0
+IsTrail rows task n p NoRow = (u i : ℕ) (r : Row) → IsBefore n p u i → RowAt rows u i r → r.leaf ≢ Task task
+IsTrail rows task n p (Last place link) = IsLast rows task n p place.lane place.round × Says rows task place.lane n p link
+
+-- the link of the row of processor p in round k
+abbrev pub link_at : List (List Link) → ℕ → ℕ → Link
+link_at links p k = slice_index_or (slice_index_or links p []) k Unknown
+
+-- the rows before (n, p) have their links, and each task its trail up to there
+pub record AreLinked (rows : List (List Row)) (n p : ℕ) (links : List (List Link)) (trails : List Trail) : Type 0 where
+  pub lanes : length links ≡ length rows
+  pub says : (u k : ℕ) (r : Row) (task : TaskId) → IsBefore n p u k → RowAt rows u k r → r.leaf ≡ Task task →
+      Says rows task u k u (link_at links u k)
+  pub ends : (task : TaskId) (trail : Trail) → slice_get trails task.0 ≡ Some trail → IsTrail rows task n p trail
+
+-- the row to which a link leads is posted
+abbrev pub LinkIsPosted : State → Link → Type 0
+LinkIsPosted s First = Unit {0}
+LinkIsPosted s (After place) = place.round < posted_at s place.lane
+LinkIsPosted s Unknown = ⊥
+
+-- each posted row has its leaf's earlier rows posted
+abbrev pub ArePostedInOrder : List (List Row) → State → Type 0
+ArePostedInOrder rows s = (p k : ℕ) (r : Row) → k < posted_at s p → RowAt rows p k r → EarlierPosted rows s.lanes p k r.leaf
+
+-- what the fields of a linked table keep
+pub record IsLinkedTable (table : Table) (links : List (List Link)) (trails : List Trail) : Type 0 where
+  pub some : 1 ≤ length table.lanes
+  pub few : rounds_of table.lanes + table.room < 2 ^ 32
+  pub linked : AreLinked table.lanes (rounds_of table.lanes) 0 links trails

@@ -1,0 +1,245 @@
+//! Links: for each row of a task the task's last row before it on another processor.
+ghost use Rattle.std.specs.Prelude.{◌≡◌, ◌≤◌, ◌<◌, ◌+◌, ◌^◌, ℕ, List, [], Some, replicate, length, slice_get, slice_set};
+ghost use Rattle.std.specs.Prelude.{slice_index_or, IfOk};
+ghost use Rattle.sched_base.specs.declared.rows.Row.{Row};
+ghost use Rattle.sched_base.specs.declared.rows.Leaf.TheVariants.{Task};
+ghost use Rattle.sched_base.specs.declared.rows.TaskId.{TaskId};
+ghost use Rattle.sched_base.specs.Tables.{rounds_of, end_of, RowAt, IsRound, IsTable, with_round};
+ghost use Rattle.book_machine.specs.declared.links.Link.TheVariants.{Unknown};
+ghost use Rattle.book_machine.specs.declared.links.Trail.{Trail};
+ghost use Rattle.book_machine.specs.declared.links.Trail.TheVariants.{NoRow, Last};
+ghost use Rattle.book_machine.specs.Links.{IsTrail, Says, AreLinked};
+
+use sched_base::{Leaf, NoMemory, Row, RowTable, TaskId};
+use std::alloc::Global;
+use std::marker::Model;
+
+/// The place of a row: its processor and its round.
+#[derive(Clone, Copy, Debug, PartialEq, Eq)]
+pub struct Place {
+    pub lane: u32,
+    pub round: u32,
+}
+
+/// What is kept of the rows of a row's task that stand before it on other processors.
+#[derive(Clone, Copy, Debug, PartialEq, Eq)]
+pub enum Link {
+    /// There is none.
+    First,
+    /// The last one stands there.
+    After(Place),
+    /// Nothing: the row is of no task, or of one past the number of tasks that the table was made for.
+    Unknown,
+}
+
+/// Where a task's last row stands so far.
+#[derive(Clone, Copy, Debug, PartialEq, Eq)]
+pub(crate) enum Trail {
+    /// There is none.
+    NoRow,
+    /// There, with its link.
+    Last(Place, Link),
+}
+
+impl Trail {
+    // The link of the task's next row, on lane p.
+    fn link(&self, p: u32) -> Link
+        ensures { (rows : List (List Row)) (task : TaskId) (n : ℕ) → IsTrail rows task n p self.now → Says rows task p n p result }
+    {
+        match *self {
+            Trail::NoRow => Link::First,
+            Trail::Last(place, link) => {
+                if place.lane == p {
+                    link
+                } else {
+                    Link::After(place)
+                }
+            }
+        }
+    }
+}
+
+/// A table of whole rounds, as `RowTable`, that finds the last row of a row's task on another processor by one look.
+#[derive(Drop)]
+pub struct LinkedTable {
+    table: RowTable,
+    links: Vec<LaneLinks>,
+    // of each task where its last row stands
+    trails: Vec<Trail>,
+}
+
+impl Model for LinkedTable {
+    ghost use Rattle.sched_base.specs.Tables.{Table};
+    ghost use Rattle.book_machine.specs.Links.{IsLinkedTable};
+
+    ghost Value = { Table };
+
+    ghost view = { λ t. t.table };
+
+    ghost invariant = { λ t. IsLinkedTable t.table t.links.items t.trails.items };
+}
+
+impl LinkedTable {
+    /// No round yet, with room for that many, whose rows name that many tasks. All memory is taken here.
+    pub fn new(
+        alloc: Global,
+        processors: u32,
+        rounds: u64,
+        tasks: u32,
+    ) -> Result<LinkedTable, NoMemory>
+        requires some { 1 ≤ processors }
+        requires few { rounds < 2 ^ 32 }
+        ensures none { IfOk result (λ t. t.lanes ≡ replicate processors []) }
+        ensures room { IfOk result (λ t. t.room ≡ rounds) }
+    {
+        let table = RowTable::new(alloc, processors, rounds)?;
+        let links = blank_links(alloc, processors, rounds)?;
+        let trails = no_trails(alloc, tasks)?;
+        Ok(LinkedTable {
+            table,
+            links,
+            trails,
+        })
+    }
+
+    /// Appends the next round, one row for each processor in order.
+    pub fn push_round(&mut self, rows: &[Row])
+        requires whole { length rows.now ≡ length self.old.lanes }
+        requires round { IsRound (end_of self.old.lanes) rows.now }
+        requires room { 1 ≤ self.old.room }
+        ensures lanes { self.new.lanes ≡ with_round self.old.lanes rows.now }
+        ensures room { self.new.room + 1 ≡ self.old.room }
+    {
+        let round = self.table.rounds() as u32;
+        self.table.push_round(rows);
+        link_round(&self.table, round, &mut self.links, &mut self.trails);
+    }
+
+    /// The table alone.
+    pub fn table(&self) -> &RowTable
+        ensures { result.now ≡ self.now }
+    {
+        &self.table
+    }
+
+    /// The table, with its links let go.
+    pub fn into_table(self) -> RowTable
+        ensures { result ≡ self }
+    {
+        self.table
+    }
+
+    /// The link of the row of processor p in round k.
+    pub(crate) fn link(&self, p: u32, k: u64) -> Link
+        requires processor { p < length self.now.lanes }
+        requires round { k < rounds_of self.now.lanes }
+        ensures { (r : Row) (task : TaskId) → RowAt self.now.lanes p k r → r.leaf ≡ Task task → Says self.now.lanes task p k p result }
+    {
+        self.links[p as usize].get(k)
+    }
+}
+
+/// The links of one processor's rows.
+#[derive(Drop)]
+pub(crate) struct LaneLinks {
+    links: Vec<Link>,
+}
+
+impl Model for LaneLinks {
+    ghost use Rattle.std.specs.Prelude.{List};
+    ghost use Rattle.book_machine.specs.declared.links.Link.{Link};
+
+    ghost Value = { List Link };
+
+    ghost view = { λ l. l.links.items };
+}
+
+impl LaneLinks {
+    fn blank(alloc: Global, rounds: u64) -> Result<LaneLinks, NoMemory> {
+        Ok(LaneLinks {
+            links: vec![in alloc; Link::Unknown; rounds as usize]?,
+        })
+    }
+
+    fn get(&self, round: u64) -> Link
+        ensures { result ≡ slice_index_or self.now round Unknown }
+    {
+        match self.links.get(round as usize) {
+            Some(link) => *link,
+            None => Link::Unknown,
+        }
+    }
+
+    fn put(&mut self, round: u32, link: Link)
+        ensures { self.new ≡ slice_set self.old round link }
+    {
+        if let Some(place) = self.links.get_mut(round as usize) {
+            *place = link;
+        }
+    }
+}
+
+fn blank_links(alloc: Global, processors: u32, rounds: u64) -> Result<Vec<LaneLinks>, NoMemory>
+    ensures { IfOk result (λ v. length v.items ≡ processors) }
+{
+    let mut links = Vec::new(alloc);
+    for _p in 0..processors {
+        links.push(LaneLinks::blank(alloc, rounds)?)?;
+    }
+    Ok(links)
+}
+
+fn no_trails(alloc: Global, tasks: u32) -> Result<Vec<Trail>, NoMemory>
+    ensures { IfOk result (λ v. v.items ≡ replicate tasks NoRow) }
+{
+    Ok(vec![in alloc; Trail::NoRow; tasks as usize]?)
+}
+
+// Links the rows of the last round.
+fn link_round(table: &RowTable, round: u32, links: &mut Vec<LaneLinks>, trails: &mut Vec<Trail>)
+    requires last { round + 1 ≡ rounds_of table.now.lanes }
+    requires before { AreLinked table.now.lanes round 0 links.old.items trails.old.items }
+    ensures { AreLinked table.now.lanes (round + 1) 0 links.new.items trails.new.items }
+{
+    for p in 0..table.processors() {
+        link_row(table, round, p, links, trails);
+    }
+}
+
+// Links the row of processor p in the round.
+fn link_row(
+    table: &RowTable,
+    round: u32,
+    p: u32,
+    links: &mut Vec<LaneLinks>,
+    trails: &mut Vec<Trail>,
+)
+    requires lane { p < length table.now.lanes }
+    requires round { round < rounds_of table.now.lanes }
+    requires before { AreLinked table.now.lanes round p links.old.items trails.old.items }
+    ensures { AreLinked table.now.lanes round (p + 1) links.new.items trails.new.items }
+{
+    let link = match table.row(p, u64::from(round)).leaf {
+        Leaf::Task(task) => follow(trails, task, Place { lane: p, round }),
+        Leaf::Wait(_) => Link::Unknown,
+        Leaf::Idle(_) => Link::Unknown,
+        Leaf::Empty => Link::Unknown,
+    };
+    links[p as usize].put(round, link);
+}
+
+// Moves the task's trail to its next row, which stands there, and gives the row's link.
+fn follow(trails: &mut Vec<Trail>, task: TaskId, place: Place) -> Link
+    ensures link { (rows : List (List Row)) → ((trail : Trail) → slice_get trails.old.items task.0 ≡ Some trail →
+        IsTrail rows task place.round place.lane trail) → Says rows task place.lane place.round place.lane result }
+    ensures trails { trails.new.items ≡ slice_set trails.old.items task.0 (Last place result) }
+{
+    match trails.get_mut(task.0 as usize) {
+        Some(trail) => {
+            let link = trail.link(place.lane);
+            *trail = Trail::Last(place, link);
+            link
+        }
+        None => Link::Unknown,
+    }
+}
