@@ -4,8 +4,8 @@ ghost use Rattle.std.specs.List.{position};
 ghost use Rattle.toml.specs.View.{table_view, items_view};
 ghost use Rattle.task_reader.specs.Tree.{number_at};
 ghost use Rattle.task_reader.specs.Written.{natural, written_tasks};
-ghost use Rattle.task_reader.specs.Limits.{is_within, is_repeated, has_bad_name, has_bad_period, has_bad_work, has_bad_offset};
-ghost use Rattle.task_reader.specs.Limits.{bad_processors, bad_horizon, too_many, bad_name, same_name, bad_period, bad_work, bad_offset};
+ghost use Rattle.task_reader.specs.Limits.{is_within, is_repeated, bad_processors, bad_horizon, too_many, same_name};
+ghost use Rattle.task_reader.specs.Flaws.{has_flaw, refusal_at, first_flaw};
 
 use crate::refusals::{Key, ReadSet};
 use crate::tree::number_at;
@@ -62,46 +62,56 @@ pub(crate) fn too_many(tasks: &[Value]) -> Option<ReadSet>
     }
 }
 
-fn has_bad_name(task: &WrittenTask) -> bool
-    ensures { result ≡ has_bad_name task.now }
-{
-    !lawful_name(task.name())
+/// What may be wrong with a task by itself.
+#[derive(Clone, Copy)]
+pub(crate) enum Flaw {
+    Name,
+    Period,
+    Work,
+    Offset,
 }
 
-fn has_bad_period(task: &WrittenTask) -> bool
-    ensures { result ≡ has_bad_period task.now }
-{
-    !is_within(task.period(), MOST_UNITS)
-}
+impl Flaw {
+    fn is_in(self, task: &WrittenTask) -> bool
+        ensures { result ≡ has_flaw self task.now }
+    {
+        match self {
+            Flaw::Name => !lawful_name(task.name()),
+            Flaw::Period => !is_within(task.period(), MOST_UNITS),
+            Flaw::Work => !is_within(task.work(), task.period()),
+            Flaw::Offset => task.offset() < 0 || MOST_UNITS < task.offset(),
+        }
+    }
 
-fn has_bad_work(task: &WrittenTask) -> bool
-    ensures { result ≡ has_bad_work task.now }
-{
-    !is_within(task.work(), task.period())
-}
-
-fn has_bad_offset(task: &WrittenTask) -> bool
-    ensures { result ≡ has_bad_offset task.now }
-{
-    task.offset() < 0 || MOST_UNITS < task.offset()
-}
-
-/// The first task whose name isn't lawful.
-pub(crate) fn bad_name(tasks: &[WrittenTask]) -> Option<ReadSet>
-    requires { length tasks.now ≤ 256 }
-    ensures { result ≡ bad_name tasks.now }
-{
-    match first_bad_name(tasks) {
-        Some(i) => Some(ReadSet::BadName { index: i as u32 }),
-        None => None,
+    fn refusal(self, index: u32) -> ReadSet
+        ensures { result ≡ refusal_at self index }
+    {
+        match self {
+            Flaw::Name => ReadSet::BadName { index },
+            Flaw::Period => ReadSet::BadPeriod { index },
+            Flaw::Work => ReadSet::BadWork { index },
+            Flaw::Offset => ReadSet::BadOffset { index },
+        }
     }
 }
 
-fn first_bad_name(tasks: &[WrittenTask]) -> Option<usize>
-    ensures first { result ≡ position has_bad_name tasks.now }
+// The place of the first task that has this flaw.
+fn place_of(tasks: &[WrittenTask], flaw: Flaw) -> Option<usize>
+    ensures first { result ≡ position (has_flaw flaw) tasks.now }
     ensures within { IfSome result (λ i. i < length tasks.now) }
 {
-    tasks.iter().position(|task| has_bad_name(task))
+    tasks.iter().position(|task| flaw.is_in(task))
+}
+
+/// The refusal of the first task that has this flaw, if any.
+pub(crate) fn first_flaw(tasks: &[WrittenTask], flaw: Flaw) -> Option<ReadSet>
+    requires { length tasks.now ≤ 256 }
+    ensures { result ≡ first_flaw flaw tasks.now }
+{
+    match place_of(tasks, flaw) {
+        Some(i) => Some(flaw.refusal(i as u32)),
+        None => None,
+    }
 }
 
 fn is_repeated(earlier: &[WrittenTask], task: &WrittenTask) -> bool
@@ -121,58 +131,4 @@ pub(crate) fn same_name(tasks: &[WrittenTask]) -> Option<ReadSet>
         }
     }
     None
-}
-
-/// The first task whose period is out of its limits.
-pub(crate) fn bad_period(tasks: &[WrittenTask]) -> Option<ReadSet>
-    requires { length tasks.now ≤ 256 }
-    ensures { result ≡ bad_period tasks.now }
-{
-    match first_bad_period(tasks) {
-        Some(i) => Some(ReadSet::BadPeriod { index: i as u32 }),
-        None => None,
-    }
-}
-
-fn first_bad_period(tasks: &[WrittenTask]) -> Option<usize>
-    ensures first { result ≡ position has_bad_period tasks.now }
-    ensures within { IfSome result (λ i. i < length tasks.now) }
-{
-    tasks.iter().position(|task| has_bad_period(task))
-}
-
-/// The first task whose work is out of its limits.
-pub(crate) fn bad_work(tasks: &[WrittenTask]) -> Option<ReadSet>
-    requires { length tasks.now ≤ 256 }
-    ensures { result ≡ bad_work tasks.now }
-{
-    match first_bad_work(tasks) {
-        Some(i) => Some(ReadSet::BadWork { index: i as u32 }),
-        None => None,
-    }
-}
-
-fn first_bad_work(tasks: &[WrittenTask]) -> Option<usize>
-    ensures first { result ≡ position has_bad_work tasks.now }
-    ensures within { IfSome result (λ i. i < length tasks.now) }
-{
-    tasks.iter().position(|task| has_bad_work(task))
-}
-
-/// The first task whose offset is out of its limits.
-pub(crate) fn bad_offset(tasks: &[WrittenTask]) -> Option<ReadSet>
-    requires { length tasks.now ≤ 256 }
-    ensures { result ≡ bad_offset tasks.now }
-{
-    match first_bad_offset(tasks) {
-        Some(i) => Some(ReadSet::BadOffset { index: i as u32 }),
-        None => None,
-    }
-}
-
-fn first_bad_offset(tasks: &[WrittenTask]) -> Option<usize>
-    ensures first { result ≡ position has_bad_offset tasks.now }
-    ensures within { IfSome result (λ i. i < length tasks.now) }
-{
-    tasks.iter().position(|task| has_bad_offset(task))
 }

@@ -11,9 +11,7 @@ ghost use Rattle.task_reader.specs.Written.{written_tasks, task_of};
 ghost use Rattle.task_reader.specs.Reading.{set_of, refusal_of, answer_of, set_read_from};
 ghost use Rattle.task_reader.specs.Writes.{Writes};
 
-use crate::limits::{
-    bad_horizon, bad_name, bad_offset, bad_period, bad_processors, bad_work, same_name, too_many,
-};
+use crate::limits::{Flaw, bad_horizon, bad_processors, first_flaw, same_name, too_many};
 use crate::members::{missing, unknown, wrong};
 use crate::refusals::{Key, ReadSet};
 use crate::tree::{number_at, tasks_of};
@@ -64,19 +62,19 @@ fn read_document(alloc: Global, top: &Table) -> Result<TaskSet, ReadSet>
         return Err(refusal);
     }
     let tasks = written_tasks(alloc, tasks_of(top))?;
-    if let Some(refusal) = bad_name(&tasks) {
+    if let Some(refusal) = first_flaw(&tasks, Flaw::Name) {
         return Err(refusal);
     }
     if let Some(refusal) = same_name(&tasks) {
         return Err(refusal);
     }
-    if let Some(refusal) = bad_period(&tasks) {
+    if let Some(refusal) = first_flaw(&tasks, Flaw::Period) {
         return Err(refusal);
     }
-    if let Some(refusal) = bad_work(&tasks) {
+    if let Some(refusal) = first_flaw(&tasks, Flaw::Work) {
         return Err(refusal);
     }
-    if let Some(refusal) = bad_offset(&tasks) {
+    if let Some(refusal) = first_flaw(&tasks, Flaw::Offset) {
         return Err(refusal);
     }
     Ok(set_of(alloc, top, &tasks)?)

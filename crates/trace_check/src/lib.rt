@@ -14,9 +14,9 @@ mod tail_lines;
 mod task_lines;
 mod traces;
 
-pub use faults::TraceFault;
+pub use faults::{BadLine, TraceFault};
 pub use head_lines::{Head, next_number, next_scale, number_after};
-pub use laws::round_trip_law;
+pub use laws::{merged_law, reads_lawful_law, round_trip_law};
 pub use reading::read_trace;
 pub use task_lines::{is_scale, read_tasks};
 pub use trace_rows::{FaultKind, Verdict};

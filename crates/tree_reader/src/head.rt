@@ -6,13 +6,13 @@ ghost use Rattle.trace_check.specs.declared.head_lines.Head.{Head as Said};
 ghost use Rattle.trace_check.specs.HeadLines.{capped};
 ghost use Rattle.tree_reader.specs.Reading.{tree_head};
 
-use trace_check::{Head, next_number, next_scale};
+use trace_check::{BadLine, Head, next_number, next_scale};
 use trace_lines::Version;
 
-/// Reads the first five lines: what they say, and the lines that follow, or the number of the line at fault.
-pub(crate) fn read_head(text: &[u8]) -> Result<(Head, &[u8]), u64>
+/// Reads the first five lines: what they say, and the lines that follow, or the first line at fault.
+pub(crate) fn read_head(text: &[u8]) -> Result<(Head, &[u8]), BadLine>
     ensures read { IfOk result (λ p. (h : Said) × (tree_head (lines_of text.now) ≡ Ok (h, lines_of p.1.now)) × (p.0 ≡ capped h)) }
-    ensures fault { IfErr result (λ at. tree_head (lines_of text.now) ≡ Err at) }
+    ensures fault { IfErr result (λ bad. tree_head (lines_of text.now) ≡ Err bad.line) }
     ensures version { IfOk result (λ p. p.0.version ≡ One) }
     ensures processors { IfOk result (λ p. (1 ≤ p.0.processors) × (p.0.processors ≤ 32)) }
     ensures horizon { IfOk result (λ p. (1 ≤ p.0.horizon) × (p.0.horizon < 2 ^ 32)) }

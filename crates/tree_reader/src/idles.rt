@@ -30,10 +30,7 @@ pub(crate) fn read_idles<'a>(
     for k in 0..count {
         let at = first + u64::from(k);
         let number = u128::from(k);
-        let (rate, later) = match next_second(rest, at, b"idle", number, 1, scale) {
-            Ok(read) => read,
-            Err(line) => return Err(TreeFault::BadLine { line }),
-        };
+        let (rate, later) = next_second(rest, at, b"idle", number, 1, scale)?;
         idles.push(rate)?;
         rest = later;
     }

@@ -8,6 +8,7 @@ ghost use Rattle.tree_reader.specs.Packs.{pack_of, second_number};
 use crate::members::read_members;
 use sched_base::NoMemory;
 use std::alloc::Global;
+use trace_check::BadLine;
 use trace_text::{after_word, cut_space, first_line, read_number};
 use tree_check::Pack;
 
@@ -38,20 +39,20 @@ pub(crate) fn next_second<'a>(
     k: u128,
     low: u128,
     high: u128,
-) -> Result<(u128, &'a [u8]), u64>
+) -> Result<(u128, &'a [u8]), BadLine>
     requires first { k < 2 ^ 128 - 1 }
     requires second { high < 2 ^ 128 - 1 }
     ensures read { IfOk result (λ p. next_line line (second_number word.now k low high) (lines_of text.now) ≡ Ok (p.0, lines_of p.1.now)) }
-    ensures fault { IfErr result (λ at. next_line line (second_number word.now k low high) (lines_of text.now) ≡ Err at) }
+    ensures fault { IfErr result (λ bad. next_line line (second_number word.now k low high) (lines_of text.now) ≡ Err bad.line) }
     ensures limits { IfOk result (λ p. (low ≤ p.0) × (p.0 ≤ high)) }
 {
     if text.is_empty() {
-        return Err(line);
+        return Err(BadLine { line });
     }
     let (first, rest) = first_line(text);
     match second_number(word, k, low, high, first) {
         Some(number) => Ok((number, rest)),
-        None => Err(line),
+        None => Err(BadLine { line }),
     }
 }
 

@@ -2,7 +2,7 @@
 ghost use Rattle.std.specs.Prelude.{◌≡◌, true, Ok, IfOk, IfErr};
 ghost use Rattle.trace_text.specs.Words.{lines_of};
 ghost use Rattle.trace_check.specs.TaskLines.{is_scale};
-ghost use Rattle.tree_reader.specs.Faults.{Stops, same_fault};
+ghost use Rattle.tree_reader.specs.Faults.{Stops};
 ghost use Rattle.tree_reader.specs.Reading.{reading, body};
 
 use crate::faults::TreeFault;
@@ -11,18 +11,8 @@ use crate::idles::read_idles;
 use crate::levels::read_levels;
 use sched_base::TaskSet;
 use std::alloc::Global;
-use trace_check::{TraceFault, is_scale, next_number, read_tasks};
+use trace_check::{is_scale, next_number, read_tasks};
 use tree_check::ReadTree;
-
-// The same fault, of a tree text.
-fn same_fault(fault: TraceFault) -> TreeFault
-    ensures { result ≡ same_fault fault }
-{
-    match fault {
-        TraceFault::BadLine { line } => TreeFault::BadLine { line },
-        TraceFault::NoMemory => TreeFault::NoMemory,
-    }
-}
 
 // What follows the tasks.
 fn read_body(alloc: Global, set: TaskSet, scale: u128, text: &[u8]) -> Result<ReadTree, TreeFault>
@@ -31,18 +21,9 @@ fn read_body(alloc: Global, set: TaskSet, scale: u128, text: &[u8]) -> Result<Re
     ensures fault { IfErr result (Stops (body set scale (lines_of text.now))) }
 {
     let tasks = u64::from(set.count());
-    let (count, rest) = match next_number(text, 6 + tasks, b"idles", 0, 1_024) {
-        Ok(read) => read,
-        Err(line) => return Err(TreeFault::BadLine { line }),
-    };
-    let (idles, rest) = match read_idles(alloc, scale, count as u32, 7 + tasks, rest) {
-        Ok(read) => read,
-        Err(fault) => return Err(fault),
-    };
-    let levels = match read_levels(alloc, scale, 7 + tasks + idles.len() as u64, rest) {
-        Ok(levels) => levels,
-        Err(fault) => return Err(fault),
-    };
+    let (count, rest) = next_number(text, 6 + tasks, b"idles", 0, 1_024)?;
+    let (idles, rest) = read_idles(alloc, scale, count as u32, 7 + tasks, rest)?;
+    let levels = read_levels(alloc, scale, 7 + tasks + idles.len() as u64, rest)?;
     Ok(ReadTree::new(set, scale, idles, levels))
 }
 
@@ -53,14 +34,8 @@ pub fn read_tree(alloc: Global, bytes: &[u8]) -> Result<ReadTree, TreeFault>
     ensures tree { IfOk result (λ t. reading bytes.now ≡ Ok t) }
     ensures fault { IfErr result (Stops (reading bytes.now)) }
 {
-    let (head, rest) = match read_head(bytes) {
-        Ok(read) => read,
-        Err(line) => return Err(TreeFault::BadLine { line }),
-    };
-    let (set, rest) = match read_tasks(alloc, &head, rest) {
-        Ok(read) => read,
-        Err(fault) => return Err(same_fault(fault)),
-    };
+    let (head, rest) = read_head(bytes)?;
+    let (set, rest) = read_tasks(alloc, &head, rest)?;
     // The scale is judged once all task lines are right, and stands on line 4.
     if !is_scale(&set, head.scale) {
         return Err(TreeFault::BadLine { line: 4 });

@@ -1,25 +1,27 @@
 use Rattle.std.proofs.Common.{◌≡◌, ◌+◌, ◌-◌, ◌∷◌, ◌++◌, ◌≤◌, [], ℕ, List, length, length-append, sym, ap, subst, ◌∙◌, arith}
+use Rattle.std.proofs.lemmas.Result.{err_from_is_err_and}
 use Rattle.std.specs.List.{AllByRecursion}
 use Rattle.trace_text.specs.Words.{lines_of}
 use Rattle.tree_reader.specs.Reading.{idles_from}
 use Rattle.tree_reader.proofs.ReadingLemmas.{idles_more, idles_stop, all_push}
 use Rattle.tree_reader.proofs.idles.read_idles.Goals as goal
 
-pub returns-in-Err-clause-fault : goal.returns-in-Err-clause-fault
-returns-in-Err-clause-fault c =
-    c.loop-k.invariant.0
-    ∙ idles_stop c.args.first c.args.scale (c.args.count - c.loop-k.k) (c.args.first + c.from.result) c.from-number.result c.loop-k.idles.items (lines_of c.loop-k.rest.now) c.in-Err.line (omega arith) (omega arith) (omega arith) c.in-Err.ensures.fault
+pub returns-in_err-rate-clause-fault : goal.returns-in_err-rate-clause-fault
+returns-in_err-rate-clause-fault c =
+    let why = err_from_is_err_and c.from_residual.result c.from_residual.ensures.1 in
+    rw (why.1, why.2) (c.loop-k.invariant.0
+    ∙ idles_stop c.args.first c.args.scale (c.args.count - c.loop-k.k) (c.args.first + c.from.result) c.from-number.result c.loop-k.idles.items (lines_of c.loop-k.rest.now) c.in_err-rate.field-0.0.line (omega arith) (omega arith) (omega arith) c.in_err-rate.ensures.fault)
 
 pub loop-k-preserved : goal.loop-k-preserved
 loop-k-preserved c =
     let first = c.args.first in
     let scale = c.args.scale in
     let less : c.args.count - c.loop-k.k - 1 ≡ c.args.count - (c.loop-k.k + 1) = omega arith in
-    let pushed : c.push.new.self.items ≡ c.loop-k.idles.items ++ c.in-Ok.read.0 ∷ [] = c.in_ok-push.ensures.items in (
+    let pushed : c.push.new.self.items ≡ c.loop-k.idles.items ++ c.in_ok-rate.rate ∷ [] = c.in_ok-push.ensures.items in (
       c.loop-k.invariant.0
-          ∙ idles_more first scale (c.args.count - c.loop-k.k) (c.args.first + c.from.result) c.from-number.result c.loop-k.idles.items (lines_of c.loop-k.rest.now) (lines_of c.in-Ok.read.1.now) c.in-Ok.read.0 (omega arith) (omega arith) (omega arith) c.in-Ok.ensures.read
-          ∙ ap (λ n. idles_from first scale n (c.loop-k.idles.items ++ c.in-Ok.read.0 ∷ []) (lines_of c.in-Ok.read.1.now)) less
-          ∙ ap (λ xs. idles_from first scale (c.args.count - (c.loop-k.k + 1)) xs (lines_of c.in-Ok.read.1.now)) (sym pushed),
-      (let e = length-append c.loop-k.idles.items (c.in-Ok.read.0 ∷ []) in let g = ap length pushed in omega (arith, e, g, c.loop-k.invariant.1)),
-      (let P : ℕ → Type 0 = λ r. (1 ≤ r) × (r ≤ scale) in subst (λ (xs : List ℕ). AllByRecursion P xs) (sym pushed) (all_push P c.loop-k.idles.items c.in-Ok.read.0 c.loop-k.invariant.2 c.in-Ok.ensures.limits)),
+          ∙ idles_more first scale (c.args.count - c.loop-k.k) (c.args.first + c.from.result) c.from-number.result c.loop-k.idles.items (lines_of c.loop-k.rest.now) (lines_of c.in_ok-rate.later.now) c.in_ok-rate.rate (omega arith) (omega arith) (omega arith) c.in_ok-rate.ensures.read
+          ∙ ap (λ n. idles_from first scale n (c.loop-k.idles.items ++ c.in_ok-rate.rate ∷ []) (lines_of c.in_ok-rate.later.now)) less
+          ∙ ap (λ xs. idles_from first scale (c.args.count - (c.loop-k.k + 1)) xs (lines_of c.in_ok-rate.later.now)) (sym pushed),
+      (let e = length-append c.loop-k.idles.items (c.in_ok-rate.rate ∷ []) in let g = ap length pushed in omega (arith, e, g, c.loop-k.invariant.1)),
+      (let P : ℕ → Type 0 = λ r. (1 ≤ r) × (r ≤ scale) in subst (λ (xs : List ℕ). AllByRecursion P xs) (sym pushed) (all_push P c.loop-k.idles.items c.in_ok-rate.rate c.loop-k.invariant.2 c.in_ok-rate.ensures.limits)),
     )

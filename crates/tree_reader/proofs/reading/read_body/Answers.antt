@@ -1,4 +1,5 @@
 use Rattle.std.proofs.Common.{◌≡◌, ◌+◌, Ok, Err, refl, sym, ap, subst, ◌∙◌, arith}
+use Rattle.std.proofs.lemmas.Result.{err_from_is_err_and}
 use Rattle.trace_text.specs.Words.{lines_of}
 use Rattle.trace_check.proofs.ScaleTest.{is_scale_to}
 use Rattle.tree_check.specs.Written.{Written}
@@ -6,8 +7,10 @@ use Rattle.tree_reader.specs.Reading.{body}
 use Rattle.tree_reader.proofs.ReadingLemmas.{body_count, body_idles, body_levels, stops_then, after_idles, written_is}
 use Rattle.tree_reader.proofs.reading.read_body.Goals as goal
 
-pub returns-in-Err-clause-fault : goal.returns-in-Err-clause-fault
-returns-in-Err-clause-fault c = body_count c.args.set c.args.scale _ (lines_of c.args.text.now) (Err c.in-Err.line) (omega arith) c.in-Err.ensures.fault
+pub returns-in_err-count-clause-fault : goal.returns-in_err-count-clause-fault
+returns-in_err-count-clause-fault c =
+    let why = err_from_is_err_and c.from_residual.result c.from_residual.ensures.1 in
+    rw (why.1, why.2) (body_count c.args.set c.args.scale _ (lines_of c.args.text.now) (Err c.in_err-count.field-0.0.line) (omega arith) c.in_err-count.ensures.fault)
 
 pub read_idles-requires-clause-scale : goal.read_idles-requires-clause-scale
 read_idles-requires-clause-scale c = (is_scale_to c.args.set.tasks c.args.scale c.requires).1
@@ -17,6 +20,6 @@ read_levels-requires-clause-scale c = (is_scale_to c.args.set.tasks c.args.scale
 
 pub new-requires : goal.new-requires
 new-requires c =
-    let w : Written = record { set = c.args.set; scale = c.args.scale; idles = c.in-Ok-read_idles.read.0.items; levels = c.in-Ok-read_levels.levels.items } in
-    written_is w c.count.ensures.lawful c.requires (omega (arith, c.in-Ok-read_idles.ensures.count, c.in-Ok.ensures.limits)) c.in-Ok-read_idles.ensures.each c.in-Ok-read_levels.ensures.some c.in-Ok-read_levels.ensures.lawful
-    (omega (arith, c.in-Ok-read_levels.ensures.lines, c.from-tasks.ensures, c.count.ensures.value, c.len.ensures))
+    let w : Written = record { set = c.args.set; scale = c.args.scale; idles = c.in_ok-idles.idles.items; levels = c.in_ok-levels.levels.items } in
+    written_is w c.count.ensures.lawful c.requires (omega (arith, c.in_ok-idles.ensures.count, c.in_ok-count.ensures.limits)) c.in_ok-idles.ensures.each c.in_ok-levels.ensures.some c.in_ok-levels.ensures.lawful
+    (omega (arith, c.in_ok-levels.ensures.lines, c.from-tasks.ensures, c.count.ensures.value, c.len.ensures))
