@@ -5,3 +5,4 @@ pub mod FinishLemmas
 pub mod EndLemmas
 pub mod ReachLemmas
 pub mod LongTableLemmas
+pub mod MergedLemmas

@@ -1,8 +1,10 @@
 -- The parts of a trace text that both versions have up to the totals.
-use Rattle.std.specs.Prelude.{ℕ, List, ◌++◌}
-use Rattle.std.specs.List.{flat_map}
+use Rattle.std.specs.Prelude.{ℕ, List, ◌++◌, codes, map, slice_index}
+use Rattle.std.specs.List.{enumerate_from, flat_map}
 use Rattle.sched_base.specs.declared.rows.Row.{Row}
+use Rattle.sched_base.specs.declared.sets.Task.{Task}
 use Rattle.sched_base.specs.Sets.{SetContents}
+use Rattle.sched_edges.specs.Lines.{named_line}
 use Rattle.trace_lines.specs.declared.versions.Version.{Version}
 use Rattle.trace_lines.specs.Lines.{task_line, row_line}
 use Rattle.trace_lines.specs.Text.{head_lines, total_lines}
@@ -15,3 +17,7 @@ text_of lines = flat_map (λ line. line) lines
 abbrev pub body_text : Version → SetContents → ℕ → List Row → List ℕ
 body_text version s scale rows =
     text_of (head_lines version s scale) ++ (flat_map (task_line version) s.tasks ++ (flat_map (row_line s.tasks) rows ++ text_of (total_lines s rows)))
+
+-- the lines of these totals, one for each task in order
+abbrev pub lines_of_totals : List Task → List ℕ → List (List ℕ)
+lines_of_totals tasks totals = map (λ p. named_line (codes "total") p.1.name (slice_index totals p.0)) (enumerate_from 0 tasks)

@@ -1,18 +1,21 @@
 //! A trace text from its first line up to its totals.
 ghost use Rattle.std.specs.Prelude.{◌≡◌, ◌≤◌, ◌*◌, length, IfOk};
 ghost use Rattle.std.specs.List.{AllByRecursion, flat_map};
-ghost use Rattle.sched_base.specs.Tables.{rounds_of};
+ghost use Rattle.sched_base.specs.Tables.{all_rows, rounds_of};
 ghost use Rattle.sched_edges.specs.Causes.{HasCause};
 ghost use Rattle.sched_edges.specs.Streams.{Wrote};
 ghost use Rattle.trace_lines.specs.Conditions.{NameTasks};
 ghost use Rattle.trace_lines.specs.Lines.{task_line, version_number};
 ghost use Rattle.trace_lines.specs.Merging.{merged_lanes};
-ghost use Rattle.trace_lines.specs.Text.{head_lines, total_lines};
+ghost use Rattle.trace_lines.specs.Text.{head_lines};
+ghost use Rattle.merged_rows.specs.Sums.{totals_of as merged_totals};
 ghost use Rattle.trace_writer.specs.Conditions.{totals_of};
-ghost use Rattle.trace_writer.specs.Parts.{text_of, body_text};
+ghost use Rattle.trace_writer.specs.Parts.{text_of, body_text, lines_of_totals};
 
 use crate::lines::line_of_task;
+use crate::merged::write_merged_rows;
 use crate::rows::write_rows;
+use merged_rows::MergedRows;
 use sched_base::{RowTable, TaskSet};
 use sched_edges::{Failed, Sink, named_line, number_line, write_all, write_lines};
 use trace_lines::Version;
@@ -35,9 +38,33 @@ pub(crate) fn write_body<W: Sink>(
 {
     write_head(sink, version, set, scale)?;
     write_tasks(sink, version, set)?;
+    let _processors = table.processors();
     let rows = write_rows(sink, set, table)?;
-    write_totals(sink, set, table, totals)?;
+    write_totals(sink, set, totals)?;
     Ok(rows)
+}
+
+/// The same of rows that are merged already.
+pub(crate) fn write_merged_body<W: Sink>(
+    sink: &mut W,
+    version: Version,
+    set: &TaskSet,
+    scale: u128,
+    rows: &MergedRows,
+    totals: &[u128],
+) -> Result<u64, Failed>
+    requires names { AllByRecursion (NameTasks set.now.tasks) rows.now.lanes }
+    requires few { length (all_rows rows.now.lanes) ≤ 2_097_152 }
+    requires totals { totals.now ≡ merged_totals (length set.now.tasks) (all_rows rows.now.lanes) }
+    ensures wrote { Wrote (W.taken sink.old) (W.taken sink.new) (body_text version set.now scale (all_rows rows.now.lanes)) result }
+    ensures count { IfOk result (λ n. n ≡ length (all_rows rows.now.lanes)) }
+    ensures cause { HasCause (W.faults sink.old) (W.faults sink.new) result }
+{
+    write_head(sink, version, set, scale)?;
+    write_tasks(sink, version, set)?;
+    let count = write_merged_rows(sink, set, rows)?;
+    write_totals(sink, set, totals)?;
+    Ok(count)
 }
 
 fn write_head<W: Sink>(
@@ -78,18 +105,11 @@ fn write_tasks<W: Sink>(sink: &mut W, version: Version, set: &TaskSet) -> Result
     Ok(())
 }
 
-// The table is only spoken of: its rows have these totals, merged or not.
-fn write_totals<W: Sink>(
-    sink: &mut W,
-    set: &TaskSet,
-    table: &RowTable,
-    totals: &[u128],
-) -> Result<(), Failed>
-    requires totals { totals.now ≡ totals_of set.now.tasks table.now.lanes }
-    ensures wrote { Wrote (W.taken sink.old) (W.taken sink.new) (text_of (total_lines set.now (merged_lanes table.now.lanes))) result }
+fn write_totals<W: Sink>(sink: &mut W, set: &TaskSet, totals: &[u128]) -> Result<(), Failed>
+    requires totals { length totals.now ≡ length set.now.tasks }
+    ensures wrote { Wrote (W.taken sink.old) (W.taken sink.new) (text_of (lines_of_totals set.now.tasks totals.now)) result }
     ensures cause { HasCause (W.faults sink.old) (W.faults sink.new) result }
 {
-    let _processors = table.processors();
     for (i, task) in set.tasks().iter().enumerate() {
         let line = named_line(b"total", task.name.as_slice(), totals[i]);
         write_all(sink, line.as_slice())?;

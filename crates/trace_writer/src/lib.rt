@@ -4,12 +4,13 @@
 mod body;
 mod finishes;
 mod lines;
+mod merged;
 mod mets;
 mod reaches;
 mod rows;
 mod text;
 
-pub use text::{write_met, write_trace};
+pub use text::{write_merged, write_met, write_trace};
 
 #[cfg(test)]
 mod tests;

@@ -2,17 +2,19 @@
 ghost use Rattle.std.specs.Prelude.{◌≡◌, ◌≤◌, ◌*◌, ◌^◌, length};
 ghost use Rattle.std.specs.List.{AllByRecursion};
 ghost use Rattle.sched_base.specs.Scale.{IsScale};
-ghost use Rattle.sched_base.specs.Tables.{rounds_of};
+ghost use Rattle.sched_base.specs.Tables.{all_rows, rounds_of};
 ghost use Rattle.sched_edges.specs.Causes.{HasCause};
 ghost use Rattle.sched_edges.specs.Streams.{Wrote};
 ghost use Rattle.trace_lines.specs.declared.versions.Version.TheVariants.{One, Two};
 ghost use Rattle.trace_lines.specs.Conditions.{NameTasks, AreOnTime};
 ghost use Rattle.trace_lines.specs.Merging.{merged_lanes};
 ghost use Rattle.trace_lines.specs.Text.{trace_text};
+ghost use Rattle.merged_rows.specs.Sums.{totals_of as merged_totals};
 ghost use Rattle.trace_writer.specs.Conditions.{totals_of};
 
-use crate::body::write_body;
+use crate::body::{write_body, write_merged_body};
 use crate::mets::write_mets;
+use merged_rows::MergedRows;
 use sched_base::{RowTable, TaskSet};
 use sched_edges::{Failed, Sink, number_line, write_all};
 use trace_lines::Version;
@@ -41,7 +43,28 @@ pub fn write_trace<W: Sink>(
     write_all(sink, line.as_slice())
 }
 
-/// The same of version 2: each task's line has its offset, and after the totals stands for each period that ends by the
+/// The same of rows that are merged already.
+pub fn write_merged<W: Sink>(
+    sink: &mut W,
+    set: &TaskSet,
+    scale: u128,
+    rows: &MergedRows,
+    totals: &[u128],
+) -> Result<(), Failed>
+    requires on_time { AreOnTime set.now.tasks }
+    requires processors { length rows.now.lanes ≡ set.now.processors }
+    requires names { AllByRecursion (NameTasks set.now.tasks) rows.now.lanes }
+    requires few { length (all_rows rows.now.lanes) ≤ 2_097_152 }
+    requires totals { totals.now ≡ merged_totals (length set.now.tasks) (all_rows rows.now.lanes) }
+    ensures wrote { Wrote (W.taken sink.old) (W.taken sink.new) (trace_text One set.now scale (all_rows rows.now.lanes)) result }
+    ensures cause { HasCause (W.faults sink.old) (W.faults sink.new) result }
+{
+    let count = write_merged_body(sink, Version::One, set, scale, rows, totals)?;
+    let line = number_line(b"rows", u128::from(count));
+    write_all(sink, line.as_slice())
+}
+
+/// The text of a table's rows in version 2: each task's line has its offset, and after the totals stands for each period that ends by the
 /// horizon when it was done.
 ///
 /// It takes no memory: for each task it goes once through the table's rows and through the task's periods.

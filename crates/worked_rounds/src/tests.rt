@@ -11,6 +11,7 @@ use std::process::Abort;
 use std::test::Fail;
 
 mod by_hand;
+mod merged;
 mod tables;
 
 /// The plan of a set of tasks, each told by its name, work, period and offset.

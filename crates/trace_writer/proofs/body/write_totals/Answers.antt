@@ -1,47 +1,42 @@
-use Rattle.std.proofs.Common.{◌≡◌, ◌<◌, ◌≤◌, ◌∙◌, length, get_or, ap, arith}
+use Rattle.std.proofs.Common.{◌<◌, ◌≤◌, length, ap, arith}
 use Rattle.std.specs.List.{enumerate_from}
 use Rattle.std.proofs.lemmas.List.{take_all}
 use Rattle.std.proofs.lemmas.List.FromFn.{length-enumerate_from}
 use Rattle.sched_edges.proofs.Wrote.{item_written, wrote_item}
-use Rattle.trace_lines.specs.Finishes.{ticks_of}
-use Rattle.trace_lines.specs.Merging.{merged_lanes}
-use Rattle.trace_writer.proofs.TotalLemmas.{total_line, total_lines_are, numbered, length-totals_of, total_at}
+use Rattle.trace_writer.proofs.TotalLemmas.{total_line, total_lines_are, numbered}
 use Rattle.trace_writer.proofs.body.write_totals.Goals as goal
 
 pub bounds-totals-i : goal.bounds-totals-i
 bounds-totals-i g c =
-    let many = ap length c.requires.totals ∙ length-totals_of c.args.set.now.tasks c.args.table.now.lanes in
     let items = ap length c.tasks-task-items.ensures.value in
-    omega (arith, many, items, c.loop-i-test.true)
+    omega (arith, c.requires, items, c.loop-i-test.true)
 
 pub returns-in_err-write_all-clause-wrote : goal.returns-in_err-write_all-clause-wrote
 returns-in_err-write_all-clause-wrote g c =
     let tasks = c.args.set.now.tasks in
-    let lanes = c.args.table.now.lanes in
+    let totals = c.args.totals.now in
     let i = c.loop-i.i in
     let items = ap length c.tasks-task-items.ensures.value in
     let within : i < length tasks = omega (arith, items, c.loop-i-test.true) in
     let among : i < length (enumerate_from 0 tasks) = omega (arith, within, length-enumerate_from 0 tasks) in
-    let total : get_or c.args.totals.now i 0 ≡ ticks_of (merged_lanes lanes) i = ap (λ ts. get_or ts i 0) c.requires.totals ∙ total_at tasks lanes i c.processors-processors.ensures.lawful within in
     let is = rw c.tasks-task-items.ensures.value at c.task-item.is in
-    let wrote = rw (c.as_slice-in-loop-i.ensures.bytes, c.named_line-line.ensures, c.as_slice.ensures.bytes, total) at c.in_err-write_all.ensures.wrote in
-    rw (total_lines_are c.args.set.now (merged_lanes lanes))
-    (wrote_item (total_line (merged_lanes lanes)) (enumerate_from 0 tasks) i (i, c.task-item.result) _ _ _ _ _ among (numbered tasks i c.task-item.result within is) c.loop-i.invariant.0 wrote c.from_residual.ensures.0)
+    let wrote = rw (c.as_slice-in-loop-i.ensures.bytes, c.named_line-line.ensures, c.as_slice.ensures.bytes) at c.in_err-write_all.ensures.wrote in
+    rw (total_lines_are tasks totals)
+    (wrote_item (total_line totals) (enumerate_from 0 tasks) i (i, c.task-item.result) _ _ _ _ _ among (numbered tasks i c.task-item.result within is) c.loop-i.invariant.0 wrote c.from_residual.ensures.0)
 
 pub loop-i-preserved : goal.loop-i-preserved
 loop-i-preserved g c =
     let tasks = c.args.set.now.tasks in
-    let lanes = c.args.table.now.lanes in
+    let totals = c.args.totals.now in
     let i = c.loop-i.i in
     let items = ap length c.tasks-task-items.ensures.value in
     let within : i < length tasks = omega (arith, items, c.loop-i-test.true) in
     let among : i < length (enumerate_from 0 tasks) = omega (arith, within, length-enumerate_from 0 tasks) in
-    let total : get_or c.args.totals.now i 0 ≡ ticks_of (merged_lanes lanes) i = ap (λ ts. get_or ts i 0) c.requires.totals ∙ total_at tasks lanes i c.processors-processors.ensures.lawful within in
     let is = rw c.tasks-task-items.ensures.value at c.task-item.is in
-    let wrote = rw (c.as_slice-in-loop-i.ensures.bytes, c.named_line-line.ensures, c.as_slice.ensures.bytes, total) at c.in_ok-write_all.ensures.wrote in
+    let wrote = rw (c.as_slice-in-loop-i.ensures.bytes, c.named_line-line.ensures, c.as_slice.ensures.bytes) at c.in_ok-write_all.ensures.wrote in
     let before = c.loop-i.invariant.1 in
     let later = c.write_all.ensures.cause.later in
-    (item_written (total_line (merged_lanes lanes)) (enumerate_from 0 tasks) i (i, c.task-item.result) _ _ _ among (numbered tasks i c.task-item.result within is) c.loop-i.invariant.0 wrote.ok, omega (arith, before, later))
+    (item_written (total_line totals) (enumerate_from 0 tasks) i (i, c.task-item.result) _ _ _ among (numbered tasks i c.task-item.result within is) c.loop-i.invariant.0 wrote.ok, omega (arith, before, later))
 
 pub returns-clause-wrote : goal.returns-clause-wrote
 returns-clause-wrote g c =
@@ -49,4 +44,4 @@ returns-clause-wrote g c =
     let items = ap length c.tasks-task-items.ensures.value in
     let past : length (enumerate_from 0 tasks) ≤ c.loop-i.i = omega (arith, items, c.loop-i-test.false, length-enumerate_from 0 tasks) in
     let all = take_all c.loop-i.i (enumerate_from 0 tasks) past in
-    rw (total_lines_are c.args.set.now (merged_lanes c.args.table.now.lanes)) (record { ok = rw all at c.loop-i.invariant.0; err = tt })
+    rw (total_lines_are tasks c.args.totals.now) (record { ok = rw all at c.loop-i.invariant.0; err = tt })

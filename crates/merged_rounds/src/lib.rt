@@ -1,0 +1,6 @@
+//! The schedule of a plan, merged while its rounds go by.
+#![tactic(auto)]
+
+mod passes;
+
+pub use passes::merged_of;

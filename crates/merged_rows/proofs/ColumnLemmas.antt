@@ -1,0 +1,232 @@
+-- Rows by where they begin: one row more, one round more.
+use Rattle.std.proofs.Common.{◌≡◌, ℕ, zero, suc, ◌+◌, ◌-◌, ◌<◌, inl, inr, Bool, true, false, List, [], ◌∷◌, ◌++◌, ◌&&◌, Some, None, length, map, take, drop, set, get_or, replicate, eqb, eq-eqb, refl, sym, ap, ◌∙◌, arith, add-one}
+use Rattle.std.specs.Prelude.{slice_get}
+use Rattle.std.proofs.lemmas.Bool.{cases_Bool, cond-true, cond-false}
+use Rattle.std.proofs.lemmas.List.{take_at}
+use Rattle.std.proofs.lemmas.Option.{slice_get-get_or}
+use Rattle.sched_base.specs.declared.rows.Leaf.{Leaf}
+use Rattle.sched_base.specs.declared.rows.Row.{Row}
+use Rattle.sched_base.specs.Tables.{IsRound, end_after, lane_of, with_round}
+use Rattle.trace_lines.specs.Merging.{shown, lengthened, merge_onto, merged}
+use Rattle.trace_lines.proofs.MergeLemmas.{goes_on}
+use Rattle.merged_rows.specs.Columns.{Begun, begun_of, rows_up_to, lanes_up_to, shows_last, showing, showing_each}
+use Rattle.merged_rows.proofs.PushLemmas.{merged_with, merged_round, round_push}
+
+-- ---- one lane
+
+-- a row that begins at the end of the others
+abbrev pub new_row : ℕ → Leaf → Begun
+new_row start leaf = record { start = start; leaf = leaf }
+
+-- a row of processor p
+abbrev pub row_on : ℕ → ℕ → ℕ → Leaf → Row
+row_on p start end leaf = record { processor = p; start = start; end = end; leaf = leaf }
+
+-- where it shows the same as the last row, that one goes on
+row_goes_on : (p end to : ℕ) (lane : List Begun) (leaf : Leaf) → shows_last lane leaf ≡ true → merged_with (rows_up_to p end lane) (row_on p end to leaf) ≡ rows_up_to p to lane
+row_goes_on p end to [] leaf on = absurd (let e : false ≡ true = on in cc)
+row_goes_on p end to (b ∷ []) leaf on =
+    cond-true (goes_on (row_on p b.start end b.leaf) (row_on p end to leaf)) (row_on p b.start to b.leaf ∷ []) (row_on p b.start end b.leaf ∷ (row_on p end to leaf ∷ []))
+    (let here : eqb end end ≡ true = eq-eqb end end refl in ap (λ x. x && eqb (shown b.leaf) (shown leaf)) here ∙ on)
+row_goes_on p end to (b ∷ (c ∷ [])) leaf on = ap (λ rows. row_on p b.start c.start b.leaf ∷ rows) (row_goes_on p end to (c ∷ []) leaf on)
+row_goes_on p end to (b ∷ (c ∷ (d ∷ lane))) leaf on = ap (λ rows. row_on p b.start c.start b.leaf ∷ rows) (row_goes_on p end to (c ∷ (d ∷ lane)) leaf on)
+
+-- else it begins there
+row_begins : (p end to : ℕ) (lane : List Begun) (leaf : Leaf) → shows_last lane leaf ≡ false
+    → merged_with (rows_up_to p end lane) (row_on p end to leaf) ≡ rows_up_to p to (lane ++ new_row end leaf ∷ [])
+row_begins p end to [] leaf off = refl
+row_begins p end to (b ∷ []) leaf off =
+    cond-false (goes_on (row_on p b.start end b.leaf) (row_on p end to leaf)) (row_on p b.start to b.leaf ∷ []) (row_on p b.start end b.leaf ∷ (row_on p end to leaf ∷ []))
+    (let here : eqb end end ≡ true = eq-eqb end end refl in ap (λ x. x && eqb (shown b.leaf) (shown leaf)) here ∙ off)
+row_begins p end to (b ∷ (c ∷ [])) leaf off = ap (λ rows. row_on p b.start c.start b.leaf ∷ rows) (row_begins p end to (c ∷ []) leaf off)
+row_begins p end to (b ∷ (c ∷ (d ∷ lane))) leaf off = ap (λ rows. row_on p b.start c.start b.leaf ∷ rows) (row_begins p end to (c ∷ (d ∷ lane)) leaf off)
+
+lane_shows : (p end to : ℕ) (lane : List Begun) (leaf : Leaf) → merged_with (rows_up_to p end lane) (row_on p end to leaf) ≡ rows_up_to p to (showing lane end leaf)
+lane_shows p end to lane leaf = elim (cases_Bool (shows_last lane leaf)) [
+  | inl on ↦ row_goes_on p end to lane leaf on ∙ ap (rows_up_to p to) (sym (cond-true (shows_last lane leaf) lane (lane ++ new_row end leaf ∷ []) on))
+  | inr off ↦ row_begins p end to lane leaf off ∙ ap (rows_up_to p to) (sym (cond-false (shows_last lane leaf) lane (lane ++ new_row end leaf ∷ []) off))
+]
+
+-- ---- all lanes
+
+-- rows of processors from a on, from a start up to an end
+pub record AreFrom (a start end : ℕ) (rows : List Row) : Type 0 where
+  pub is : (k : ℕ) (r : Row) → slice_get rows k ≡ Some r → (r.processor ≡ a + k) × (r.start ≡ start) × (r.end ≡ end)
+
+next_from : (a start end : ℕ) (r : Row) (rows : List Row) → AreFrom a start end (r ∷ rows) → AreFrom (a + 1) start end rows
+next_from a start end r rows h = record { is = λ k s at. (let is = h.is (suc k) s at in (omega (arith, is.0), is.1, is.2)) }
+
+row_is : (r : Row) (p start end : ℕ) → r.processor ≡ p → r.start ≡ start → r.end ≡ end → r ≡ row_on p start end r.leaf
+row_is r p start end own from to =
+    ap (λ n. row_on n r.start r.end r.leaf) own ∙ ap (λ n. row_on p n r.end r.leaf) from ∙ ap (λ n. row_on p start n r.leaf) to
+
+pub round_shows : (a start end : ℕ) (lanes : List (List Begun)) (rows : List Row) → length rows ≡ length lanes → AreFrom a start end rows
+    → merged_round (lanes_up_to a start lanes) rows ≡ lanes_up_to a end (showing_each lanes start rows)
+round_shows a start end [] rows whole h = refl
+round_shows a start end (lane ∷ lanes) [] whole h = absurd (omega (arith, whole))
+round_shows a start end (lane ∷ lanes) (r ∷ rows) whole h =
+    let is = h.is 0 r refl in
+    let here : r.processor ≡ a = omega (arith, is.0) in
+    let first : merged_with (rows_up_to a start lane) r ≡ rows_up_to a end (showing lane start r.leaf) =
+    ap (merged_with (rows_up_to a start lane)) (row_is r a start end here is.1 is.2) ∙ lane_shows a start end lane r.leaf in
+    ap (λ x. x ∷ merged_round (lanes_up_to (a + 1) start lanes) rows) first
+    ∙ ap (λ xs. rows_up_to a end (showing lane start r.leaf) ∷ xs) (round_shows (a + 1) start end lanes rows (omega (arith, whole)) (next_from a start end r rows h))
+
+-- ---- columns
+
+pub length-begun_of : (starts : List ℕ) (leaves : List Leaf) → length starts ≡ length leaves → length (begun_of starts leaves) ≡ length starts
+length-begun_of [] leaves even = refl
+length-begun_of (s ∷ starts) [] even = absurd (omega (arith, even))
+length-begun_of (s ∷ starts) (l ∷ leaves) even = ap suc (length-begun_of starts leaves (omega (arith, even)))
+
+-- one row more, in both columns
+pub begun_push : (starts : List ℕ) (leaves : List Leaf) (start : ℕ) (leaf : Leaf) → length starts ≡ length leaves
+    → begun_of (starts ++ start ∷ []) (leaves ++ leaf ∷ []) ≡ begun_of starts leaves ++ new_row start leaf ∷ []
+begun_push [] [] start leaf even = refl
+begun_push [] (l ∷ leaves) start leaf even = absurd (omega (arith, even))
+begun_push (s ∷ starts) [] start leaf even = absurd (omega (arith, even))
+begun_push (s ∷ starts) (l ∷ leaves) start leaf even = ap (λ lane. new_row s l ∷ lane) (begun_push starts leaves start leaf (omega (arith, even)))
+
+pub begun_at : (starts : List ℕ) (leaves : List Leaf) (i start : ℕ) (leaf : Leaf) → slice_get starts i ≡ Some start → slice_get leaves i ≡ Some leaf
+    → slice_get (begun_of starts leaves) i ≡ Some (new_row start leaf)
+begun_at [] leaves i start leaf at there = absurd (let e : None ≡ Some start = at in cc)
+begun_at (s ∷ starts) [] i start leaf at there = absurd (let e : None ≡ Some leaf = there in cc)
+begun_at (s ∷ starts) (l ∷ leaves) zero start leaf at there =
+    let e : Some s ≡ Some start = at in
+    let f : Some l ≡ Some leaf = there in
+    let e' : s ≡ start = cc in
+    let f' : l ≡ leaf = cc in
+    ap (λ n. Some (new_row n l)) e' ∙ ap (λ x. Some (new_row start x)) f'
+begun_at (s ∷ starts) (l ∷ leaves) (suc i) start leaf at there = begun_at starts leaves i start leaf at there
+
+-- what the last row shows
+pub shows_by_last : (starts : List ℕ) (leaves : List Leaf) (last leaf : Leaf) → length starts ≡ length leaves → slice_get leaves (length leaves - 1) ≡ Some last
+    → shows_last (begun_of starts leaves) leaf ≡ eqb (shown last) (shown leaf)
+shows_by_last [] [] last leaf even at = absurd (let e : None ≡ Some last = at in cc)
+shows_by_last [] (l ∷ leaves) last leaf even at = absurd (omega (arith, even))
+shows_by_last (s ∷ starts) [] last leaf even at = absurd (omega (arith, even))
+shows_by_last (s ∷ []) (l ∷ []) last leaf even at = let e : Some l ≡ Some last = at in let e' : l ≡ last = cc in ap (λ x. eqb (shown x) (shown leaf)) e'
+shows_by_last (s ∷ []) (l ∷ (k ∷ leaves)) last leaf even at = absurd (omega (arith, even))
+shows_by_last (s ∷ (t ∷ starts)) (l ∷ []) last leaf even at = absurd (omega (arith, even))
+shows_by_last (s ∷ (t ∷ starts)) (l ∷ (k ∷ leaves)) last leaf even at =
+    let e : length (l ∷ (k ∷ leaves)) - 1 ≡ suc (length (k ∷ leaves) - 1) = omega arith in
+    shows_by_last (t ∷ starts) (k ∷ leaves) last leaf (omega (arith, even)) (sym (ap (slice_get (l ∷ (k ∷ leaves))) e) ∙ at)
+
+-- ---- reading
+
+pub length-rows_up_to : (p end : ℕ) (lane : List Begun) → length (rows_up_to p end lane) ≡ length lane
+length-rows_up_to p end [] = refl
+length-rows_up_to p end (b ∷ []) = refl
+length-rows_up_to p end (b ∷ (c ∷ lane)) = ap suc (length-rows_up_to p end (c ∷ lane))
+
+pub length-lanes_up_to : (a end : ℕ) (lanes : List (List Begun)) → length (lanes_up_to a end lanes) ≡ length lanes
+length-lanes_up_to a end [] = refl
+length-lanes_up_to a end (lane ∷ lanes) = ap suc (length-lanes_up_to (a + 1) end lanes)
+
+-- the last row goes on up to the end
+pub last_row : (p end i : ℕ) (lane : List Begun) (start : ℕ) (leaf : Leaf) → i + 1 ≡ length lane → slice_get lane i ≡ Some (new_row start leaf)
+    → slice_get (rows_up_to p end lane) i ≡ Some (row_on p start end leaf)
+last_row p end i [] start leaf last at = absurd (omega (arith, last))
+last_row p end zero (b ∷ []) start leaf last at = let e : Some b ≡ Some (new_row start leaf) = at in let e' : b ≡ new_row start leaf = cc in ap (λ (x : Begun). Some (row_on p x.start end x.leaf)) e'
+last_row p end (suc i) (b ∷ []) start leaf last at = absurd (omega (arith, last))
+last_row p end zero (b ∷ (c ∷ lane)) start leaf last at = absurd (omega (arith, last))
+last_row p end (suc i) (b ∷ (c ∷ lane)) start leaf last at = last_row p end i (c ∷ lane) start leaf (omega (arith, last)) at
+
+-- each other one up to the start of the next
+pub inner_row : (p end i : ℕ) (lane : List Begun) (start : ℕ) (leaf : Leaf) (next : Begun) → slice_get lane i ≡ Some (new_row start leaf) → slice_get lane (i + 1) ≡ Some next
+    → slice_get (rows_up_to p end lane) i ≡ Some (row_on p start next.start leaf)
+inner_row p end i [] start leaf next at then = absurd (let e : None ≡ Some (new_row start leaf) = at in cc)
+inner_row p end zero (b ∷ []) start leaf next at then = absurd (let e : None ≡ Some next = then in cc)
+inner_row p end (suc i) (b ∷ []) start leaf next at then = absurd (let e : None ≡ Some (new_row start leaf) = at in cc)
+inner_row p end zero (b ∷ (c ∷ lane)) start leaf next at then =
+    let e : Some b ≡ Some (new_row start leaf) = at in
+    let e' : b ≡ new_row start leaf = cc in
+    let f : Some c ≡ Some next = then in
+    let f' : c ≡ next = cc in
+    ap (λ (x : Begun). Some (row_on p x.start c.start x.leaf)) e' ∙ ap (λ (x : Begun). Some (row_on p start x.start leaf)) f'
+inner_row p end (suc i) (b ∷ (c ∷ lane)) start leaf next at then =
+    let e : suc i + 1 ≡ suc (i + 1) = omega arith in inner_row p end i (c ∷ lane) start leaf next at (sym (ap (slice_get (b ∷ (c ∷ lane))) e) ∙ then)
+
+-- the lane of processor p
+pub lane_up_to : (a end : ℕ) (lanes : List (List Begun)) (p : ℕ) (lane : List Begun) → p < length lanes
+    → lane_of (lanes_up_to a end lanes) p ≡ rows_up_to (a + p) end (get_or lanes p lane)
+lane_up_to a end [] p none within = absurd (omega (arith, within))
+lane_up_to a end (lane ∷ lanes) zero none within = let e : a ≡ a + 0 = omega arith in ap (λ n. rows_up_to n end lane) e
+lane_up_to a end (lane ∷ lanes) (suc p) none within =
+    let e : a + 1 + p ≡ a + suc p = omega arith in lane_up_to (a + 1) end lanes p none (omega (arith, within)) ∙ ap (λ n. rows_up_to n end (get_or lanes p none)) e
+
+-- ---- the loop over the processors
+
+pub showing_none : (lanes : List (List Begun)) (start : ℕ) → showing_each lanes start [] ≡ lanes
+showing_none [] start = refl
+showing_none (lane ∷ lanes) start = refl
+
+pub length-showing_each : (lanes : List (List Begun)) (start : ℕ) (rows : List Row) → length (showing_each lanes start rows) ≡ length lanes
+length-showing_each [] start rows = refl
+length-showing_each (lane ∷ lanes) start [] = refl
+length-showing_each (lane ∷ lanes) start (r ∷ rows) = ap suc (length-showing_each lanes start rows)
+
+-- lanes from p on are as before
+pub get_or-showing : (lanes : List (List Begun)) (start : ℕ) (rows : List Row) (p : ℕ) (lane : List Begun) → p < length lanes
+    → get_or (showing_each lanes start (take p rows)) p lane ≡ get_or lanes p lane
+get_or-showing [] start rows p lane within = absurd (omega (arith, within))
+get_or-showing (l ∷ lanes) start rows zero lane within = refl
+get_or-showing (l ∷ lanes) start [] (suc p) lane within = refl
+get_or-showing (l ∷ lanes) start (r ∷ rows) (suc p) lane within = get_or-showing lanes start rows p lane (omega (arith, within))
+
+showing_next : (lanes : List (List Begun)) (start : ℕ) (rows : List Row) (p : ℕ) (lane : List Begun) (r : Row) → p < length lanes → p < length rows
+    → set (showing_each lanes start (take p rows)) p (showing (get_or lanes p lane) start (get_or rows p r).leaf) ≡ showing_each lanes start (take (suc p) rows)
+showing_next [] start rows p lane r a b = absurd (omega (arith, a))
+showing_next (l ∷ lanes) start [] p lane r a b = absurd (omega (arith, b))
+showing_next (l ∷ lanes) start (s ∷ rows) zero lane r a b = ap (λ ls. showing l start s.leaf ∷ ls) (sym (showing_none lanes start))
+showing_next (l ∷ lanes) start (s ∷ rows) (suc p) lane r a b =
+    ap (λ ls. showing l start s.leaf ∷ ls) (showing_next lanes start rows p lane r (omega (arith, a)) (omega (arith, b)))
+
+-- a step of the loop
+pub showing_more : (lanes : List (List Begun)) (start : ℕ) (rows : List Row) (p : ℕ) (lane : List Begun) (r : Row) → p < length lanes → p < length rows
+    → set (showing_each lanes start (take p rows)) p (showing (get_or lanes p lane) start (get_or rows p r).leaf) ≡ showing_each lanes start (take (p + 1) rows)
+showing_more lanes start rows p lane r a b = rw add-one (showing_next lanes start rows p lane r a b)
+
+-- processors with no row
+pub none_up_to : (a end n : ℕ) → lanes_up_to a end (replicate n []) ≡ replicate n []
+none_up_to a end zero = refl
+none_up_to a end (suc n) = ap (λ lanes. [] ∷ lanes) (none_up_to (a + 1) end n)
+
+-- the lane of processor p, from the one that was read there
+pub lane_here : (end : ℕ) (lanes : List (List Begun)) (p : ℕ) (lane : List Begun) → p < length lanes → lane ≡ get_or lanes p lane
+    → lane_of (lanes_up_to 0 end lanes) p ≡ rows_up_to p end lane
+lane_here end lanes p lane within is =
+    let e : 0 + p ≡ p = omega arith in
+    lane_up_to 0 end lanes p lane within ∙ ap (λ n. rows_up_to n end (get_or lanes p lane)) e ∙ ap (rows_up_to p end) (sym is)
+
+-- where the last row ends
+pub end_by_last : (rows : List Row) (before : ℕ) (r : Row) → slice_get rows (length rows - 1) ≡ Some r → r.end ≡ end_after before rows
+end_by_last [] before r at = absurd (let e : None ≡ Some r = at in cc)
+end_by_last (q ∷ []) before r at = let e : Some q ≡ Some r = at in let e' : q ≡ r = cc in ap (λ (x : Row). x.end) (sym e')
+end_by_last (q ∷ (s ∷ rows)) before r at =
+    let e : length (q ∷ (s ∷ rows)) - 1 ≡ suc (length (s ∷ rows) - 1) = omega arith in
+    end_by_last (s ∷ rows) q.end r (sym (ap (slice_get (q ∷ (s ∷ rows))) e) ∙ at)
+
+-- the rows of a round go on from the start to where it ends
+from_round : (start : ℕ) (rows : List Row) → IsRound start rows → AreFrom 0 start (end_after start rows) rows
+from_round start [] h = record { is = λ k r at. absurd (let e : None ≡ Some r = at in cc) }
+from_round start (q ∷ rows) h =
+    let n = length (q ∷ rows) - 1 in
+    let last : slice_get (q ∷ rows) n ≡ Some (get_or (q ∷ rows) n q) = slice_get-get_or (q ∷ rows) n q (omega arith) in
+    record {
+      is = λ k r at. (
+        h.own k r at ∙ (let e : k ≡ 0 + k = omega arith in e),
+        h.starts k r at,
+        h.ends k n r (get_or (q ∷ rows) n q) at last ∙ end_by_last (q ∷ rows) start (get_or (q ∷ rows) n q) last,
+      );
+    }
+
+-- the round, merged with what is there
+pub with_next : (start : ℕ) (held : List (List Begun)) (lanes : List (List Row)) (rows : List Row) → length rows ≡ length held → IsRound start rows → lanes_up_to 0 start held ≡ map merged lanes
+    → lanes_up_to 0 (end_after start rows) (showing_each held start rows) ≡ map merged (with_round lanes rows)
+with_next start held lanes rows whole round is =
+    sym (round_shows 0 start (end_after start rows) held rows whole (from_round start rows round)) ∙ ap (λ ls. merged_round ls rows) is ∙ sym (round_push lanes rows)
+
+-- what a loan of all lanes leaves
+pub written_back : (lanes seen new now : List (List Begun)) (n : ℕ) → seen ≡ lanes → length seen ≡ n → length new ≡ length seen → new ≡ now → take n (new ++ drop (length new) lanes) ≡ now
+written_back lanes seen new now n same many as_many is = take_at new (drop (length new) lanes) n (as_many ∙ many) ∙ is

@@ -1,0 +1,3 @@
+pub mod PushLemmas
+mod ColumnLemmas
+mod SumLemmas

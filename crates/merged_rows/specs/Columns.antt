@@ -1,0 +1,48 @@
+-- Merged rows by where they begin and what they show.
+use Rattle.std.specs.Prelude.{ℕ, ◌+◌, ◌==◌, Bool, false, if◌then◌else◌, List, [], ◌∷◌, ◌++◌}
+use Rattle.sched_base.specs.declared.rows.Leaf.{Leaf}
+use Rattle.sched_base.specs.declared.rows.Row.{Row}
+use Rattle.trace_lines.specs.Merging.{shown}
+
+-- what is seen of merged rows: those of each processor, and the tick up to which they go
+pub record MergedContents : Type 0 where
+  pub lanes : List (List Row)
+  pub end : ℕ
+
+-- a row as it begins
+pub record Begun : Type 0 where
+  pub start : ℕ
+  pub leaf : Leaf
+
+-- starts and leaves, beside each other
+abbrev pub begun_of : List ℕ → List Leaf → List Begun
+begun_of [] leaves = []
+begun_of (start ∷ starts) [] = []
+begun_of (start ∷ starts) (leaf ∷ leaves) = record { start = start; leaf = leaf } ∷ begun_of starts leaves
+
+-- the rows of processor p: each goes on up to the start of the next one, the last up to `end`
+abbrev pub rows_up_to : ℕ → ℕ → List Begun → List Row
+rows_up_to p end [] = []
+rows_up_to p end (b ∷ []) = record { processor = p; start = b.start; end = end; leaf = b.leaf } ∷ []
+rows_up_to p end (b ∷ (next ∷ later)) = record { processor = p; start = b.start; end = next.start; leaf = b.leaf } ∷ rows_up_to p end (next ∷ later)
+
+-- the rows of all processors from p on
+abbrev pub lanes_up_to : ℕ → ℕ → List (List Begun) → List (List Row)
+lanes_up_to p end [] = []
+lanes_up_to p end (lane ∷ lanes) = rows_up_to p end lane ∷ lanes_up_to (p + 1) end lanes
+
+-- whether the last row shows what this leaf does
+abbrev pub shows_last : List Begun → Leaf → Bool
+shows_last [] leaf = false
+shows_last (b ∷ []) leaf = shown b.leaf == shown leaf
+shows_last (b ∷ (next ∷ later)) leaf = shows_last (next ∷ later) leaf
+
+-- the processor shows this leaf from here on: where the last row shows the same, it goes on
+abbrev pub showing : List Begun → ℕ → Leaf → List Begun
+showing lane start leaf = if shows_last lane leaf then lane else lane ++ record { start = start; leaf = leaf } ∷ []
+
+-- each processor shows what its row does
+abbrev pub showing_each : List (List Begun) → ℕ → List Row → List (List Begun)
+showing_each [] start rows = []
+showing_each (lane ∷ lanes) start [] = lane ∷ lanes
+showing_each (lane ∷ lanes) start (r ∷ rows) = showing lane start r.leaf ∷ showing_each lanes start rows

@@ -1,0 +1,95 @@
+//! The merged rows of one processor, as two columns.
+ghost use Rattle.std.specs.Prelude.{◌≡◌, ◌<◌, ◌==◌, [], ◌∷◌, ◌++◌, length, OnOk, OnErr, Some, slice_get};
+ghost use Rattle.trace_lines.specs.Merging.{shown};
+ghost use Rattle.merged_rows.specs.Columns.{Begun, shows_last, showing};
+
+use sched_base::{Leaf, NoMemory};
+use std::alloc::Global;
+use std::marker::Model;
+
+/// The rows of one processor as they begin, each at a tick and with what it shows. A row goes on up to the next one's start.
+#[derive(Drop)]
+pub(crate) struct MergedLane {
+    starts: Vec<u128>,
+    leaves: Vec<Leaf>,
+}
+
+impl Model for MergedLane {
+    ghost use Rattle.std.specs.Prelude.{◌≡◌, List, vec_len};
+    ghost use Rattle.merged_rows.specs.Columns.{Begun, begun_of};
+
+    ghost Value = { List Begun };
+
+    ghost view = { λ l. begun_of l.starts.items l.leaves.items };
+
+    ghost invariant = { λ l. vec_len l.starts ≡ vec_len l.leaves };
+}
+
+impl MergedLane {
+    /// No row yet. It takes no memory.
+    pub(crate) fn new(alloc: Global) -> MergedLane
+        ensures { result ≡ [] }
+    {
+        MergedLane {
+            starts: Vec::new(alloc),
+            leaves: Vec::new(alloc),
+        }
+    }
+
+    /// What is shown from tick `start` on: where the last row shows the same, it goes on.
+    pub(crate) fn show(&mut self, start: u128, leaf: Leaf) -> Result<(), NoMemory>
+        ensures shown { OnOk result (self.new ≡ showing self.old start leaf) }
+    {
+        if self.shows(leaf) {
+            return Ok(());
+        }
+        self.begin(start, leaf)
+    }
+
+    // Whether the last row shows what this leaf does.
+    fn shows(&self, leaf: Leaf) -> bool
+        ensures { result ≡ shows_last self.now leaf }
+    {
+        match self.leaves.last() {
+            Some(last) => is_shown_alike(*last, leaf),
+            None => false,
+        }
+    }
+
+    fn begin(&mut self, start: u128, leaf: Leaf) -> Result<(), NoMemory>
+        ensures begun { OnOk result (self.new ≡ self.old ++ record { start = start; leaf = leaf } ∷ []) }
+        ensures err { OnErr result (self.new ≡ self.old) }
+    {
+        self.starts.reserve(1)?;
+        self.leaves.reserve(1)?;
+        self.starts.push_reserved(start);
+        self.leaves.push_reserved(leaf);
+        Ok(())
+    }
+
+    /// The number of rows.
+    pub(crate) fn count(&self) -> usize
+        ensures { result ≡ length self.now }
+    {
+        self.starts.len()
+    }
+
+    /// Where row i begins, and what it shows.
+    pub(crate) fn at(&self, i: usize) -> (u128, Leaf)
+        requires { i < length self.now }
+        ensures { slice_get self.now i ≡ Some (record { start = result.0; leaf = result.1 }) }
+    {
+        (self.starts[i], self.leaves[i])
+    }
+}
+
+// Whether two leaves are printed alike: all but tasks are.
+fn is_shown_alike(first: Leaf, second: Leaf) -> bool
+    ensures { result ≡ (shown first == shown second) }
+{
+    match (first, second) {
+        (Leaf::Task(one), Leaf::Task(other)) => one.0 == other.0,
+        (Leaf::Task(_), _) | (_, Leaf::Task(_)) => false,
+        _ => true,
+    }
+}

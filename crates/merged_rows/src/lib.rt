@@ -1,0 +1,13 @@
+//! The merged rows of each processor, kept while rounds go by: memory goes by how often processors change what they show, and
+//! not by the number of rounds.
+#![tactic(auto)]
+
+mod lanes;
+mod merging;
+mod totals;
+
+pub use merging::MergedRows;
+pub use totals::totals_of;
+
+#[cfg(test)]
+mod tests;

@@ -1,0 +1,121 @@
+//! The merged rows of all processors.
+ghost use Rattle.std.specs.Prelude.{◌≡◌, ◌<◌, [], List, Some, length, map, replicate, slice_get, IfOk, OnOk};
+ghost use Rattle.sched_base.specs.declared.rows.Row.{Row as declared_row};
+ghost use Rattle.sched_base.specs.Tables.{IsRound, RowAt, end_after, lane_of, with_round};
+ghost use Rattle.trace_lines.specs.Merging.{merged};
+ghost use Rattle.merged_rows.specs.Columns.{rows_up_to, showing_each};
+
+use crate::lanes::MergedLane;
+use sched_base::{NoMemory, Row};
+use std::alloc::Global;
+use std::marker::Model;
+
+/// The rows of each processor up to a tick, merged: those that follow one another under one name are one row.
+///
+/// Seen as these rows, lane by lane, and the tick. They take 24 bytes for each merged row.
+#[derive(Drop)]
+pub struct MergedRows {
+    lanes: Vec<MergedLane>,
+    end: u128,
+}
+
+impl Model for MergedRows {
+    ghost use Rattle.std.specs.Prelude.{◌<◌, ◌^◌, length};
+    ghost use Rattle.merged_rows.specs.Columns.{MergedContents, lanes_up_to};
+
+    ghost Value = { MergedContents };
+
+    ghost view = { λ m. record { lanes = lanes_up_to 0 m.end m.lanes.items; end = m.end } };
+
+    ghost invariant = { λ m. length m.lanes.items < 2 ^ 32 };
+}
+
+impl MergedRows {
+    /// No round yet, up to tick 0.
+    pub fn new(alloc: Global, processors: u32) -> Result<MergedRows, NoMemory>
+        ensures none { IfOk result (λ m. m.lanes ≡ replicate processors []) }
+        ensures start { IfOk result (λ m. m.end ≡ 0) }
+    {
+        let mut lanes = Vec::new(alloc);
+        for _p in 0..processors {
+            lanes.push(MergedLane::new(alloc))?;
+        }
+        Ok(MergedRows { lanes, end: 0 })
+    }
+
+    /// With the next round, one row for each processor in order. Memory is taken for a processor that shows something else than before.
+    pub fn with_round(mut self, rows: &[Row]) -> Result<MergedRows, NoMemory>
+        requires whole { length rows.now ≡ length self.lanes }
+        requires round { IsRound self.end rows.now }
+        ensures merged { IfOk result (λ m. (lanes : List (List declared_row)) → self.lanes ≡ map merged lanes
+            → m.lanes ≡ map merged (with_round lanes rows.now)) }
+        ensures end { IfOk result (λ m. m.end ≡ end_after self.end rows.now) }
+        ensures processors { IfOk result (λ m. length m.lanes ≡ length self.lanes) }
+    {
+        show_each(self.lanes.as_mut_slice(), self.end, rows)?;
+        self.end = end_of_round(self.end, rows);
+        Ok(self)
+    }
+
+    /// The number of processors.
+    pub fn processors(&self) -> u32
+        ensures { result ≡ length self.now.lanes }
+    {
+        self.lanes.len() as u32
+    }
+
+    /// The number of merged rows of processor p.
+    pub fn count(&self, p: u32) -> usize
+        requires { p < length self.now.lanes }
+        ensures { result ≡ length (lane_of self.now.lanes p) }
+    {
+        self.lanes[p as usize].count()
+    }
+
+    /// Merged row i of processor p.
+    pub fn row(&self, p: u32, i: usize) -> Row
+        requires processor { p < length self.now.lanes }
+        requires row { i < length (lane_of self.now.lanes p) }
+        ensures { RowAt self.now.lanes p i result }
+    {
+        row_of(&self.lanes[p as usize], self.end, p, i)
+    }
+}
+
+// Each processor shows what its row of the round does, from tick `start` on.
+fn show_each(lanes: &mut [MergedLane], start: u128, rows: &[Row]) -> Result<(), NoMemory>
+    requires whole { length rows.now ≡ length lanes.old }
+    ensures shown { OnOk result (lanes.new ≡ showing_each lanes.old start rows.now) }
+{
+    for p in 0..rows.len() {
+        lanes[p].show(start, rows[p].leaf)?;
+    }
+    Ok(())
+}
+
+// Where the last row ends, or `before` where there is none.
+fn end_of_round(before: u128, rows: &[Row]) -> u128
+    ensures { result ≡ end_after before rows.now }
+{
+    match rows.last() {
+        Some(row) => row.end,
+        None => before,
+    }
+}
+
+// Row i of processor p: up to the start of the next one, or to `end`.
+fn row_of(lane: &MergedLane, end: u128, p: u32, i: usize) -> Row
+    requires { i < length lane.now }
+    ensures { slice_get (rows_up_to p end lane.now) i ≡ Some result }
+{
+    let count = lane.count();
+    let next = i + 1;
+    let (start, leaf) = lane.at(i);
+    let end = if next < count { lane.at(next).0 } else { end };
+    Row {
+        processor: p,
+        leaf,
+        start,
+        end,
+    }
+}

@@ -1,0 +1,16 @@
+use Rattle.sched_edges.proofs.Wrote.{wrote_then, wrote_cut}
+use Rattle.trace_lines.specs.declared.versions.Version.TheVariants.{One}
+use Rattle.sched_base.specs.Tables.{all_rows}
+use Rattle.trace_writer.proofs.TextLemmas.{trace_parts}
+use Rattle.trace_writer.proofs.text.write_merged.Goals as goal
+
+pub returns-in_err-count-clause-wrote : goal.returns-in_err-count-clause-wrote
+returns-in_err-count-clause-wrote g c =
+    rw (trace_parts One c.args.set.now c.args.scale (all_rows c.args.rows.now.lanes))
+    (wrote_cut _ _ _ _ _ _ c.in_err-count.ensures.wrote c.from_residual.ensures.0)
+
+pub returns-clause-wrote : goal.returns-clause-wrote
+returns-clause-wrote g c =
+    let end = rw (c.as_slice.ensures.bytes, c.number_line-line.ensures, c.from.ensures, c.in_ok-count.ensures.count) at c.write_all.ensures.wrote in
+    rw (trace_parts One c.args.set.now c.args.scale (all_rows c.args.rows.now.lanes))
+    (wrote_then _ _ _ _ _ _ _ c.in_ok-count.ensures.wrote end)

@@ -1,0 +1,52 @@
+//! The lines of rows that are merged already.
+ghost use Rattle.std.specs.Prelude.{◌≡◌, ◌≤◌, ◌<◌, length, IfOk};
+ghost use Rattle.std.specs.List.{AllByRecursion, flat_map};
+ghost use Rattle.sched_base.specs.Tables.{all_rows, lane_of};
+ghost use Rattle.sched_edges.specs.Causes.{HasCause};
+ghost use Rattle.sched_edges.specs.Streams.{Wrote};
+ghost use Rattle.trace_lines.specs.Conditions.{NameTasks};
+ghost use Rattle.trace_lines.specs.Lines.{row_line};
+
+use crate::lines::line_of_row;
+use merged_rows::MergedRows;
+use sched_base::TaskSet;
+use sched_edges::{Failed, Sink, write_all};
+
+/// Writes the rows of all processors, and says how many lines these are.
+pub(crate) fn write_merged_rows<W: Sink>(
+    sink: &mut W,
+    set: &TaskSet,
+    rows: &MergedRows,
+) -> Result<u64, Failed>
+    requires names { AllByRecursion (NameTasks set.now.tasks) rows.now.lanes }
+    requires few { length (all_rows rows.now.lanes) ≤ 2_097_152 }
+    ensures wrote { Wrote (W.taken sink.old) (W.taken sink.new) (flat_map (row_line set.now.tasks) (all_rows rows.now.lanes)) result }
+    ensures count { IfOk result (λ n. n ≡ length (all_rows rows.now.lanes)) }
+    ensures cause { HasCause (W.faults sink.old) (W.faults sink.new) result }
+{
+    let mut count = 0;
+    for p in 0..rows.processors() {
+        count += write_merged_lane(sink, set, rows, p)?;
+    }
+    Ok(count)
+}
+
+// Writes the rows of processor p, and says how many lines these are.
+fn write_merged_lane<W: Sink>(
+    sink: &mut W,
+    set: &TaskSet,
+    rows: &MergedRows,
+    p: u32,
+) -> Result<u64, Failed>
+    requires processor { p < length rows.now.lanes }
+    requires names { NameTasks set.now.tasks (lane_of rows.now.lanes p) }
+    ensures wrote { Wrote (W.taken sink.old) (W.taken sink.new) (flat_map (row_line set.now.tasks) (lane_of rows.now.lanes p)) result }
+    ensures count { IfOk result (λ n. n ≡ length (lane_of rows.now.lanes p)) }
+    ensures cause { HasCause (W.faults sink.old) (W.faults sink.new) result }
+{
+    let count = rows.count(p);
+    for i in 0..count {
+        write_all(sink, line_of_row(set, &rows.row(p, i)).as_slice())?;
+    }
+    Ok(count as u64)
+}
