@@ -1,0 +1,29 @@
+//! The laws of reading tree texts: of which set such a text speaks, and that what is written of a plan is read again.
+#![tactic(auto)]
+
+ghost use Rattle.std.specs.Prelude.{ℕ, ◌≡◌, ◌≤◌, ◌^◌, List, Ok};
+ghost use Rattle.sched_base.specs.Scale.{IsScale, Fits};
+ghost use Rattle.sched_base.specs.Sets.{SetContents, IsLawful};
+ghost use Rattle.run_tree.specs.Compiled.{tree_of};
+ghost use Rattle.run_tree.specs.Tree.{Tree};
+ghost use Rattle.run_tree.specs.TreeOfSet.{IsTreeOf, idle_count};
+ghost use Rattle.trace_lines.specs.Conditions.{AreOnTime};
+ghost use Rattle.tree_check.specs.Written.{Written};
+ghost use Rattle.tree_reader.specs.Reading.{reading};
+ghost use Rattle.reading_laws.specs.Again.{IsReadAgain};
+
+/// The set of a text that is read is within the limits of a set, and each of its tasks is released at unit 0.
+pub fn form_law()
+    ensures lawful { (bytes : List ℕ) (w : Written) → reading bytes ≡ Ok w → IsLawful w.set }
+    ensures on_time { (bytes : List ℕ) (w : Written) → reading bytes ≡ Ok w → AreOnTime w.set.tasks }
+{}
+
+/// The law of reading again. The text of a reduction tree of a set whose tasks are released at unit 0, with a scale of at most 2^94 and
+/// at most 1,024 idle leaves, is read, and says just what the tree is written as; and the tree of that text runs as the tree itself does.
+pub fn again_law()
+    ensures tree { (s : SetContents) (t : Tree) → IsLawful s → AreOnTime s.tasks → IsTreeOf s t → t.scale ≤ 2 ^ 94 → idle_count t ≤ 1024 →
+        IsReadAgain (record { set = s; tree = t }) }
+    // So is that of the compiled tree, which has at most 256 idle leaves.
+    ensures compiled { (s : SetContents) (scale : ℕ) → IsLawful s → AreOnTime s.tasks → IsScale s.tasks scale → scale ≤ 2 ^ 94 → Fits scale s →
+        IsReadAgain (record { set = s; tree = tree_of scale s }) }
+{}

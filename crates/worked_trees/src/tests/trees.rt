@@ -1,0 +1,72 @@
+//! Texts of trees, whatever rule packed them.
+use super::answers::{Answer, ONE_IDLE, THREE_LEVELS, answer_for, with_lines};
+use std::test::Fail;
+
+#[test]
+fn trees_packed_by_any_rule_are_written_again(rt: HostRuntime) -> Result<(), Fail> {
+    // a text, and the lines that differ
+    let rows: &[(&str, &[(usize, &str)])] = &[
+        (THREE_LEVELS, &[]),
+        (ONE_IDLE, &[]),
+        // as first fit packs it
+        (
+            THREE_LEVELS,
+            &[(19, "pack 4 ~0 ~1\n"), (20, "pack 4 ~2 ~3\n")],
+        ),
+        // packs and members in another order
+        (THREE_LEVELS, &[(13, "pack 3 e\n"), (17, "pack 3 a\n")]),
+        (
+            THREE_LEVELS,
+            &[(19, "pack 4 ~3 ~1\n"), (20, "pack 4 ~2 ~0\n")],
+        ),
+        (
+            THREE_LEVELS,
+            &[
+                (19, "pack 2 ~0\n"),
+                (21, "pack 4 ~4 ~2\n"),
+                (23, "pack 5 ~2 ~0 ~1\n"),
+            ],
+        ),
+        (ONE_IDLE, &[(12, "pack 4 -0 a\n")]),
+        (ONE_IDLE, &[(12, "pack 3 a\n"), (14, "pack 4 c -0\n")]),
+        // a processor that no task asks for
+        (
+            ONE_IDLE,
+            &[
+                (2, "processors 3\n"),
+                (9, "idles 2\n"),
+                (10, "idle 0 1\nidle 1 5\n"),
+                (11, "level 0 4\n"),
+                (14, "pack 3 c\npack 5 -1\n"),
+            ],
+        ),
+        // a root beside packs that are none
+        (
+            "run-tree 1\nprocessors 3\nhorizon 5\nscale 5\ntasks 4\ntask a 3 5\ntask b 5 5\ntask c 3 5\ntask d 4 5\nidles 0\nlevel 0 4\n\
+                pack 3 a\npack 5 b\npack 3 c\npack 4 d\nlevel 1 1\npack 5 ~2 ~3 ~0\nlevels 2\n",
+            &[],
+        ),
+        // no task
+        (
+            "run-tree 1\nprocessors 2\nhorizon 1\nscale 1\ntasks 0\nidles 2\nidle 0 1\nidle 1 1\nlevel 0 2\npack 1 -1\npack 1 -0\nlevels 1\n",
+            &[],
+        ),
+    ];
+    for (text, told) in rows {
+        let text = with_lines(rt.alloc(), text, told)?;
+        let again = answer_for(rt.alloc(), &text)?;
+        assert_eq!(rt; again, Answer::Tree(text));
+    }
+    Ok(())
+}
+
+#[test]
+fn the_last_line_feed_may_be_missing(rt: HostRuntime) -> Result<(), Fail> {
+    let text = with_lines(rt.alloc(), THREE_LEVELS, &[(24, "levels 3")])?;
+    let again = answer_for(rt.alloc(), &text)?;
+    assert_eq!(rt;
+        again,
+        Answer::Tree(String::from_str(rt.alloc(), THREE_LEVELS)?)
+    );
+    Ok(())
+}
