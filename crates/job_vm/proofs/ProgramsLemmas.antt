@@ -1,5 +1,5 @@
 -- Reading programs line by line.
-use Rattle.std.proofs.Common.{ℕ, zero, suc, ◌+◌, ◌-◌, ◌<◌, ◌≤◌, ◌≡◌, Bool, true, false, cond, not, List, [], ◌∷◌, ◌++◌, length, set, get_or, Option, None, Some, Result, Ok, Err, option_map, codes, sym, refl, ap, ◌∙◌, arith}
+use Rattle.std.proofs.Common.{ℕ, zero, suc, ◌+◌, ◌-◌, ◌≤◌, ◌≡◌, true, false, List, [], ◌∷◌, ◌++◌, length, set, get_or, Option, None, Some, Result, Ok, Err, option_map, codes, sym, refl, ap, ◌∙◌, arith}
 use Rattle.std.proofs.lemmas.Bool.{cond-true, cond-false}
 use Rattle.std.specs.Prelude.{◌==◌}
 use Rattle.std.specs.List.{after_first}
@@ -8,7 +8,7 @@ use Rattle.trace_text.specs.Words.{lines_of}
 use Rattle.job_vm.specs.Faults.{Stops, StopsAt}
 use Rattle.job_vm.specs.declared.faults.JobTextFault.{JobTextFault}
 use Rattle.job_vm.specs.declared.faults.JobTextFault.TheVariants.{BadProgram, NoMemory}
-use Rattle.job_vm.specs.Programs.{Program, Progress, JobTextHeld, is_tasks, lengthened, line_read, programs_from, programs_of, behind_lines, job_text, reading}
+use Rattle.job_vm.specs.Programs.{Program, Progress, is_tasks, lengthened, line_read, programs_from, programs_of, behind_lines, job_text, reading}
 
 -- the line `tasks` ends the reading
 tasks_end : (at : ℕ) (done : Progress) (lines more : List (List ℕ)) (line : List ℕ) → lines ≡ line ∷ more → is_tasks line ≡ true → programs_from at done lines ≡ Ok (done.programs, at)

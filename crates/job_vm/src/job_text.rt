@@ -1,5 +1,5 @@
 //! The text that says which program each task's job runs.
-ghost use Rattle.std.specs.Prelude.{◌≡◌, ◌<◌, length, Ok, Some, IfOk, IfErr, option_map, slice_get};
+ghost use Rattle.std.specs.Prelude.{◌≡◌, ◌≤◌, ◌<◌, length, Ok, Some, IfOk, IfErr, option_map, slice_get};
 ghost use Rattle.job_vm.specs.Faults.{Stops};
 ghost use Rattle.job_vm.specs.Programs.{reading};
 
@@ -58,6 +58,13 @@ impl JobText {
         self.programs[j as usize].code()
     }
 
+    /// The programs.
+    pub(crate) fn programs(&self) -> &[ReadProgram]
+        ensures { result.now ≡ self.now.programs }
+    {
+        self.programs.as_slice()
+    }
+
     /// The index of the byte behind the line `tasks`, where the text of the set begins.
     pub fn set_start(&self) -> usize
         ensures { result ≡ self.now.set_start }
@@ -70,6 +77,7 @@ impl JobText {
 /// fault.
 pub fn read_jobs(alloc: Global, bytes: &[u8]) -> Result<JobText, JobTextFault>
     ensures text { IfOk result (λ t. reading bytes.now ≡ Ok t) }
+    ensures within { IfOk result (λ t. t.set_start ≤ length bytes.now) }
     ensures fault { IfErr result (Stops (reading bytes.now)) }
 {
     if bytes.is_empty() {

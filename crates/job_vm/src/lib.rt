@@ -4,8 +4,11 @@
 mod faults;
 mod instructions;
 mod job_text;
+mod loading;
 mod operations;
 mod programs;
+mod results;
+mod strays;
 #[cfg(test)]
 mod tests;
 mod vm;
@@ -13,4 +16,7 @@ mod vm_job;
 
 pub use faults::JobTextFault;
 pub use job_text::{JobText, read_jobs};
+pub use loading::load_programs;
+pub use results::write_jobs;
+pub use strays::first_stray;
 pub use vm_job::VmJob;

@@ -1,4 +1,4 @@
-use Rattle.std.proofs.Common.{◌≡◌, ◌+◌, ◌^◌, ◌∙◌, min, ap, sym, codes, None, Some, option_map, arith}
+use Rattle.std.proofs.Common.{◌∙◌, ap, sym, Some, option_map, arith}
 use Rattle.std.specs.Str.{bytes_eq}
 use Rattle.job_vm.specs.Instructions.{word_of}
 use Rattle.job_vm.proofs.InstructionsLemmas.{named_set, named_add, named_sub, named_mul, named_jz, named_jump, named_none}

@@ -1,6 +1,6 @@
-use Rattle.std.proofs.Common.{◌∙◌, ap, sym, codes, None, Some}
+use Rattle.std.proofs.Common.{◌∙◌, ap, sym, None, Some}
 use Rattle.std.specs.Str.{bytes_eq}
-use Rattle.job_vm.proofs.InstructionsLemmas.{halt_is, words_are, of_words}
+use Rattle.job_vm.proofs.InstructionsLemmas.{halt_is, words_are}
 use Rattle.job_vm.proofs.instructions.instruction_of.Goals as goal
 
 pub returns-then-eq : goal.returns-then-eq

@@ -1,4 +1,4 @@
-use Rattle.std.proofs.Common.{◌≡◌, ◌∙◌, ap, sym, not, arith, length}
+use Rattle.std.proofs.Common.{◌∙◌, ap, sym, not, arith}
 use Rattle.std.specs.Str.{bytes_eq}
 use Rattle.std.proofs.lemmas.Bool.{eqb-true, not-true}
 use Rattle.trace_text.specs.Words.{lines_of}

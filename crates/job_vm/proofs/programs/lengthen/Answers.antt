@@ -1,4 +1,4 @@
-use Rattle.std.proofs.Common.{◌≡◌, ◌-◌, ◌∙◌, sym, ap, Some, set, arith}
+use Rattle.std.proofs.Common.{◌-◌, ◌∙◌, sym, ap, Some, set, arith}
 use Rattle.job_vm.proofs.ProgramsLemmas.{with_word, lengthened_last}
 use Rattle.job_vm.proofs.programs.lengthen.Goals as goal
 

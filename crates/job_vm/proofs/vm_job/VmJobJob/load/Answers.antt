@@ -1,4 +1,4 @@
-use Rattle.std.proofs.Common.{◌∙◌, arith}
+use Rattle.std.proofs.Common.{◌∙◌}
 use Rattle.job_vm.proofs.MachineLemmas.{alone_start}
 use Rattle.job_vm.proofs.vm_job.VmJobJob.load.Goals as goal
 

@@ -1,0 +1,13 @@
+use Rattle.std.proofs.Common.{◌∷◌, get_or}
+use Rattle.std.specs.Prelude.{decimal}
+use Rattle.std.proofs.lemmas.List.{get_or_default}
+use Rattle.sched_edges.proofs.Wrote.{wrote_item}
+use Rattle.job_vm.proofs.results.write_numbers.Goals as goal
+
+pub returns-in_err-write_all-clause-wrote : goal.returns-in_err-write_all-clause-wrote
+returns-in_err-write_all-clause-wrote g c =
+    let numbers = c.args.numbers.now in
+    let i = c.loop-number.number-index in
+    let line = rw (c.as_slice.ensures.bytes, c.word_of.ensures) at c.in_err-write_all.ensures.wrote in
+    wrote_item (λ n. 32 ∷ decimal n) numbers i (get_or numbers i 0) _ _ _ _ c.from_residual.result c.loop-number-test.true
+    (get_or_default numbers i 0 (get_or numbers i 0) c.loop-number-test.true) c.loop-number.invariant.0 line c.from_residual.ensures.0

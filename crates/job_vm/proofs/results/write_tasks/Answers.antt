@@ -1,0 +1,51 @@
+use Rattle.std.proofs.Common.{◌<◌, ◌∙◌, length, ap, arith}
+use Rattle.std.specs.Prelude.{slice_get}
+use Rattle.sched_base.specs.Sets.{task_at}
+use Rattle.sched_edges.specs.Jobs.{JobPlaces}
+use Rattle.sched_edges.proofs.Wrote.{number_written, wrote_number}
+use Rattle.job_vm.specs.Results.{told_at, job_line}
+use Rattle.job_vm.specs.Seen.{seen}
+use Rattle.job_vm.proofs.ResultsLemmas.{line_of_task}
+use Rattle.job_vm.proofs.results.write_tasks.Goals as goal
+
+pub told_at-units-requires-clause-there : goal.told_at-units-requires-clause-there
+told_at-units-requires-clause-there g c =
+    let count = c.count-i-end.ensures.value in
+    let test = c.loop-i-test.true in
+    let job = c.requires.jobs c.loop-i.i (omega (arith, count, test)) in
+    (job.0, ap (λ (s : JobPlaces g.row.J.Denot). slice_get s.places c.loop-i.i) c.loop-i.invariant.same ∙ job.1)
+
+pub returns-in_err-write_job-clause-wrote : goal.returns-in_err-write_job-clause-wrote
+returns-in_err-write_job-clause-wrote g c =
+    let tasks = c.args.set.now.tasks in
+    let jobs = seen g.J.Job c.args.jobs.now.places in
+    let i = c.loop-i.i in
+    let count = c.count-i-end.ensures.value in
+    let test = c.loop-i-test.true in
+    let within : i < length tasks = omega (arith, count, test) in
+    let is = rw c.tasks.ensures.value at c.index-tasks-i.is in
+    let same = ap (λ (s : JobPlaces g.row.J.Denot). seen g.J.Job s.places) c.loop-i.invariant.same in
+    let line = line_of_task tasks c.args.scale jobs (seen g.J.Job c.loop-i.jobs.places) i c.index-tasks-i.result c.as_slice.result.now _ within is c.as_slice.ensures.bytes same c.told_at-units.ensures.told in
+    let wrote = rw line at c.in_err-write_job.ensures.wrote in
+    wrote_number (λ k. job_line (task_at tasks k).name (told_at c.args.scale jobs k)) (length tasks) i _ _ _ _ c.from_residual.result within
+    c.loop-i.invariant.wrote wrote c.from_residual.ensures.0
+
+pub loop-i-preserved : goal.loop-i-preserved
+loop-i-preserved g c =
+    let tasks = c.args.set.now.tasks in
+    let jobs = seen g.J.Job c.args.jobs.now.places in
+    let i = c.loop-i.i in
+    let count = c.count-i-end.ensures.value in
+    let test = c.loop-i-test.true in
+    let within : i < length tasks = omega (arith, count, test) in
+    let is = rw c.tasks.ensures.value at c.index-tasks-i.is in
+    let same = ap (λ (s : JobPlaces g.row.J.Denot). seen g.J.Job s.places) c.loop-i.invariant.same in
+    let line = line_of_task tasks c.args.scale jobs (seen g.J.Job c.loop-i.jobs.places) i c.index-tasks-i.result c.as_slice.result.now _ within is c.as_slice.ensures.bytes same c.told_at-units.ensures.told in
+    let wrote = rw line at c.in_ok-write_job.ensures.wrote.ok in
+    let before = c.loop-i.invariant.later in
+    let later = c.in_ok-write_job.ensures.cause.later in
+    record {
+      wrote = number_written (λ k. job_line (task_at tasks k).name (told_at c.args.scale jobs k)) i _ _ _ c.loop-i.invariant.wrote wrote;
+      later = omega (arith, before, later);
+      same = c.told_at-units.ensures.same ∙ c.loop-i.invariant.same;
+    }

@@ -1,0 +1,15 @@
+use Rattle.std.proofs.Common.{rules}
+use Rattle.job_vm.proofs.SearchLemmas.{stray_here, stray_none}
+use Rattle.job_vm.proofs.strays.first_stray.Goals as goal
+
+pub returns-then-not-names_task : goal.returns-then-not-names_task
+returns-then-not-names_task c =
+    let is = rw c.programs-program-items.ensures at c.program-item.is in
+    let within = rw c.programs-program-items.ensures at c.loop-program-test.true in
+    stray_here c.args.set.now.tasks c.args.text.now.programs c.loop-program.program-index c.line.result c.program-item.result
+    c.loop-program.invariant within is (search rules) c.line.ensures
+
+pub returns : goal.returns
+returns c =
+    let past = rw c.programs-program-items.ensures at c.loop-program-test.false in
+    stray_none c.args.set.now.tasks c.args.text.now.programs c.loop-program.program-index c.loop-program.invariant past
