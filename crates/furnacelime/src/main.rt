@@ -7,9 +7,10 @@ ghost use Rattle.run_tool.specs.Executions.{gates_of};
 ghost use Rattle.run_tool.specs.Ready.{AreFirstGates};
 
 use exec_workers::Kit;
+use job_vm::VmJob;
 use run_tool::{Status, close_run, run};
 use sched_base::NoMemory;
-use sched_edges::{CountJob, Jobs, Sink, Source, StdSink, StdSource, SureGate};
+use sched_edges::{Jobs, Sink, Source, StdSink, StdSource, SureGate};
 use std::alloc::Global;
 use std::io::BufWriter;
 use std::process::ExitCode;
@@ -58,7 +59,7 @@ fn run_words<R: Source, W: Sink, E: Sink, X: Threads + Wait + Sync>(
     let mut kits = all_kits(alloc)?;
     let mut jobs = Jobs::with_room(alloc, JOBS)?;
     for id in 0..JOBS {
-        jobs.add(Box::new(alloc, CountJob::new(id))?);
+        jobs.add(Box::new(alloc, VmJob::new(alloc, id))?);
     }
     Ok(run(rt, alloc, words, source, out, err, &mut kits, &mut jobs))
 }

@@ -1,5 +1,5 @@
 -- Where nothing fails, the answer for the bytes is given.
-use Rattle.std.proofs.Common.{◌≡◌, ◌⊎◌, inl, inr, true, false, ℕ, ◌+◌, ◌^◌, ◌≤◌, ◌<◌, List, ◌++◌, length, Result, Ok, Err, Option, Some, None, refl}
+use Rattle.std.proofs.Common.{false, ◌≡◌, ◌⊎◌, inl, inr, ℕ, ◌+◌, ◌^◌, ◌≤◌, ◌<◌, List, ◌++◌, length, Result, Ok, Err, Option, Some, None, refl}
 use Rattle.std.proofs.Common.{sym, ◌∙◌, ap, subst, arith, append-nil}
 use Rattle.sched_base.specs.Sets.{SetContents}
 use Rattle.sched_base.specs.Scale.{IsScale, PassesAt, total_of, room_of, Fits}
@@ -17,15 +17,22 @@ use Rattle.run_tool.specs.declared.refusal.Refusal.{Refusal}
 use Rattle.run_tool.specs.declared.refusal.Refusal.TheVariants as why
 use Rattle.run_tool.specs.declared.status.Status.{Status}
 use Rattle.run_tool.specs.declared.status.Status.TheVariants.{Done, Invalid, Usage, ReadFault, WriteFault, NoMemory, BadInput, Overload}
-use Rattle.run_tool.specs.declared.status.Status.TheVariants.{ScaleTooLarge, TooLong, GateFault, JobFault, InputTooLong}
+use Rattle.run_tool.specs.declared.status.Status.TheVariants.{ScaleTooLarge, TooLong, GateFault, JobFault, InputTooLong, BadTree}
 use Rattle.sched_base.specs.Tables.{row_limit}
-use Rattle.run_tool.specs.Commands.{SetText, rates, server_tree, schedule_rows, Output, of_set, of_trace, of_drill, output_of, limit_of, ReadsSet}
-use Rattle.run_tool.specs.Commands.{plan_of, rows_of, HasRoom, HasTooManyRows, HasNoRoom, WritesSet, Writes, CallsFor, RefusesSet, RefusesText}
+use Rattle.run_tool.specs.Commands.{SetText, rates, server_tree, schedule_rows, wrapped_rows, Output, of_set, of_trace, of_tree, of_batch, of_jobs, of_drill}
+use Rattle.run_tool.specs.Commands.{output_of, limit_of, ReadsSet, text_of}
+use Rattle.run_tool.specs.Commands.{plan_of, rows_of, wrapped_rows_of, HasRoom, HasTooManyRows, HasTooManyWrapped, HasNoRoom, WritesSet, Writes, CallsFor, RefusesSet}
+use Rattle.run_tool.specs.Commands.{RefusesText}
 use Rattle.run_tool.specs.Commands.{Refuses}
+use Rattle.run_tool.proofs.FollowLemmas.{followed_or_refused, one_follow_status}
 use Rattle.run_tool.specs.Checks.{TellsTrace, Judges, RefusesTrace}
 use Rattle.run_tool.specs.Refusals.{status_of, set_status}
 use Rattle.run_tool.specs.Ends.{Streams, ErrorStream, IsTold, IsDone, StopsAs, StopsDrill, Stops, IsAnswer, AnswersBytes, Answers, IsAnswered}
 use Rattle.run_tool.specs.Refuse.{IsRefused}
+use Rattle.job_vm.specs.Programs.{JobTextHeld, reading as job_reading}
+use Rattle.job_vm.specs.Seen.{JobSeen}
+use Rattle.job_vm.specs.Strays.{first_stray}
+use Rattle.run_tool.specs.JobPrograms.{ReadsJobs, IsJobsToRun, set_bytes, WritesResult, HasBadProgram, RefusesJobs}
 
 -- a source that tells its bytes gave just these
 same_bytes : (bytes given : List ℕ) (left : Option (List ℕ)) (n : ℕ) → GaveAll (Some bytes) left n given → given ≡ bytes
@@ -70,6 +77,8 @@ fits_not_refused bytes s scale (why.Overload total room) reads fits refuses =
     let (t, other, reads', over, is_total, is_room) = refuses in
     no_overload bytes s t scale other total room reads fits reads' over is_total is_room
 fits_not_refused bytes s scale (why.BadLine line) reads fits refuses = refuses
+fits_not_refused bytes s scale (why.BadProgram line) reads fits refuses = refuses
+fits_not_refused bytes s scale (why.BadTree line kind) reads fits refuses = refuses
 fits_not_refused bytes s scale (why.GateFault row name) reads fits refuses = refuses
 fits_not_refused bytes s scale (why.JobFault row name) reads fits refuses = refuses
 fits_not_refused bytes s scale why.Usage reads fits refuses = refuses
@@ -91,16 +100,31 @@ not_too_many bytes s scale rows reads room many =
     subst (λ (n : ℕ). row_limit < rows_of (plan_of s n)) one (subst (λ (x : SetContents). row_limit < rows_of (plan_of x other)) same over) in
     absurd (omega (arith, room, over'))
 
+not_too_many_wrapped : (bytes : List ℕ) (s : SetContents) (scale rows : ℕ) → ReadsSet bytes s scale → wrapped_rows_of s scale ≤ row_limit
+    → HasTooManyWrapped bytes rows → ⊥
+not_too_many_wrapped bytes s scale rows reads room many =
+    let (t, other, reads', fits, over, is_rows) = many in
+    let same : t ≡ s = same_set bytes t s reads'.read reads.read in
+    let scale' : IsScale s.tasks other = subst (λ (x : SetContents). IsScale x.tasks other) same reads'.is_scale in
+    let one : other ≡ scale = same_scale s.tasks other scale scale' reads.is_scale in
+    let over' : row_limit < wrapped_rows_of s scale =
+    subst (λ (n : ℕ). row_limit < wrapped_rows_of s n) one (subst (λ (x : SetContents). row_limit < wrapped_rows_of x other) same over) in
+    absurd (omega (arith, room, over'))
+
 not_without_room : (what : SetText) (bytes : List ℕ) (s : SetContents) (scale rows : ℕ) → ReadsSet bytes s scale → HasRoom what s scale
     → HasNoRoom what bytes rows → ⊥
 not_without_room rates bytes s scale rows reads room none = none
 not_without_room server_tree bytes s scale rows reads room none = none
 not_without_room (schedule_rows met) bytes s scale rows reads room none = not_too_many bytes s scale rows reads room none
+not_without_room wrapped_rows bytes s scale rows reads room none = not_too_many_wrapped bytes s scale rows reads room none
 
-too_many : (what : SetText) (bytes : List ℕ) (rows : ℕ) → HasNoRoom what bytes rows → HasTooManyRows bytes rows
-too_many rates bytes rows none = absurd none
-too_many server_tree bytes rows none = absurd none
-too_many (schedule_rows met) bytes rows none = none
+-- a set whose text has no room fits
+fits_without_room : (what : SetText) (bytes : List ℕ) (rows : ℕ) → HasNoRoom what bytes rows
+    → (s : SetContents) × (scale : ℕ) × ReadsSet bytes s scale × Fits scale s
+fits_without_room rates bytes rows none = absurd none
+fits_without_room server_tree bytes rows none = absurd none
+fits_without_room (schedule_rows met) bytes rows none = let (s, scale, reads, fits, over, is_rows) = none in (s, scale, reads, fits)
+fits_without_room wrapped_rows bytes rows none = let (s, scale, reads, fits, over, is_rows) = none in (s, scale, reads, fits)
 
 -- bytes are refused as a set, or their schedule has too many rows
 abbrev AsSet : SetText → List ℕ → Refusal → Type 0
@@ -111,6 +135,8 @@ as_set what bytes (why.BadSet r) refuses = inl refuses
 as_set what bytes (why.ScaleTooLarge task) refuses = inl refuses
 as_set what bytes (why.Overload total room) refuses = inl refuses
 as_set what bytes (why.BadLine line) refuses = absurd refuses
+as_set what bytes (why.BadProgram line) refuses = absurd refuses
+as_set what bytes (why.BadTree line kind) refuses = absurd refuses
 as_set what bytes (why.GateFault row name) refuses = absurd refuses
 as_set what bytes (why.JobFault row name) refuses = absurd refuses
 as_set what bytes why.Usage refuses = absurd refuses
@@ -141,6 +167,8 @@ one_set_status bytes (why.Overload total room) (why.BadSet q) a b = absurd (not_
 one_set_status bytes (why.Overload total room) (why.ScaleTooLarge task) a b = absurd (no_pass bytes a.0 b.0 a.1 task a.2 b.1 b.2)
 one_set_status bytes (why.Overload total room) (why.Overload other more) a b = refl
 one_set_status bytes (why.BadLine line) q a b = absurd a
+one_set_status bytes (why.BadProgram line) q a b = absurd a
+one_set_status bytes (why.BadTree line kind) q a b = absurd a
 one_set_status bytes (why.GateFault row name) q a b = absurd a
 one_set_status bytes (why.JobFault row name) q a b = absurd a
 one_set_status bytes why.Usage q a b = absurd a
@@ -150,6 +178,8 @@ one_set_status bytes why.NoMemory q a b = absurd a
 one_set_status bytes (why.TooLong rows) q a b = absurd a
 one_set_status bytes (why.InputTooLong count) q a b = absurd a
 one_set_status bytes r (why.BadLine line) a b = absurd b
+one_set_status bytes r (why.BadProgram line) a b = absurd b
+one_set_status bytes r (why.BadTree line kind) a b = absurd b
 one_set_status bytes r (why.GateFault row name) a b = absurd b
 one_set_status bytes r (why.JobFault row name) a b = absurd b
 one_set_status bytes r why.Usage a b = absurd b
@@ -162,7 +192,7 @@ one_set_status bytes r (why.InputTooLong count) a b = absurd b
 -- a set whose schedule has too many rows isn't refused as a set
 long_not_refused : (what : SetText) (bytes : List ℕ) (rows : ℕ) (r : Refusal) → HasNoRoom what bytes rows → RefusesSet bytes r → ⊥
 long_not_refused what bytes rows r none refuses =
-    let (s, scale, reads, fits, over, is_rows) = too_many what bytes rows none in
+    let (s, scale, reads, fits) = fits_without_room what bytes rows none in
     fits_not_refused bytes s scale r reads fits refuses
 
 -- bytes where a text of a set is wanted are refused with one status
@@ -218,21 +248,121 @@ told_trace bytes text Done t read told = (t, read, told.0)
 told_trace bytes text Invalid t read told = (t, read, told.0)
 told_trace bytes text _ t read told = absurd told
 
+-- ---- job texts
+
+same_text : (bytes : List ℕ) (t u : JobTextHeld) → job_reading bytes ≡ Ok t → job_reading bytes ≡ Ok u → t ≡ u
+same_text bytes t u a b = let e : ◌≡◌ {A = Result JobTextHeld ℕ} (Ok t) (Ok u) = sym a ∙ b in cc
+
+-- a job text with a set behind it has no refusal of that set, and no other set
+same_job_set : (bytes : List ℕ) (t u : JobTextHeld) (r : Result SetContents ReadSet) (s : SetContents) → ReadsJobs bytes t s → job_reading bytes ≡ Ok u
+    → set_read_from (set_bytes u bytes) ≡ r → Ok s ≡ r
+same_job_set bytes t u r s reads read set =
+    sym reads.set ∙ (ap (λ (x : JobTextHeld). set_read_from (set_bytes x bytes)) (same_text bytes t u reads.read read) ∙ set)
+
+-- a job text whose programs are all of tasks has none that is bad
+no_bad_program : (bytes : List ℕ) (t : JobTextHeld) (s : SetContents) (line : ℕ) → ReadsJobs bytes t s → HasBadProgram bytes line → ⊥
+no_bad_program bytes t s line reads (inl stops) =
+    absurd (let e : ◌≡◌ {A = Result JobTextHeld ℕ} (Ok t) (Err line) = sym reads.read ∙ stops in cc)
+no_bad_program bytes t s line reads (inr stray) =
+    let (u, v, read, set, strays) = stray in
+    let text : t ≡ u = same_text bytes t u reads.read read in
+    let both : ◌≡◌ {A = Result SetContents ReadSet} (Ok s) (Ok v) = same_job_set bytes t u (Ok v) s reads read set in
+    let same : s ≡ v = cc in
+    absurd (let e : ◌≡◌ {A = Option ℕ} None (Some line) = sym reads.named ∙ ((λ i. first_stray (same i).tasks (text i).programs) ∙ strays) in cc)
+
+-- bytes are refused as a job text, for the set behind it, or for the schedule of that set
+abbrev AsJobs : List ℕ → Refusal → Type 0
+AsJobs bytes r =
+    ((line : ℕ) × (why.BadProgram line ≡ r) × HasBadProgram bytes line)
+    ⊎ (((q : ReadSet) × (why.BadSet q ≡ r) × ((t : JobTextHeld) × (job_reading bytes ≡ Ok t) × (set_read_from (set_bytes t bytes) ≡ Err q)))
+    ⊎ ((t : JobTextHeld) × (s : SetContents) × ReadsJobs bytes t s × RefusesText (schedule_rows false) (set_bytes t bytes) r))
+
+as_jobs : (bytes : List ℕ) (r : Refusal) → RefusesJobs bytes r → AsJobs bytes r
+as_jobs bytes (why.BadProgram line) refuses = inl (line, refl, refuses)
+as_jobs bytes (why.BadSet q) refuses = inr (inl (q, refl, refuses))
+as_jobs bytes _ refuses = inr (inr refuses)
+
+no_bad_set : (bytes : List ℕ) (t u : JobTextHeld) (s : SetContents) (q : ReadSet) → ReadsJobs bytes t s → job_reading bytes ≡ Ok u → set_read_from (set_bytes u bytes) ≡ Err q → ⊥
+no_bad_set bytes t u s q reads read set =
+    absurd (let e : ◌≡◌ {A = Result SetContents ReadSet} (Ok s) (Err q) = same_job_set bytes t u (Err q) s reads read set in cc)
+
+-- nothing is told of the jobs of bytes that are refused
+jobs_or_refused : (bytes result : List ℕ) (jobs : List (Option JobSeen)) (status : Status) (r : Refusal) → WritesResult jobs bytes status result → RefusesJobs bytes r → ⊥
+jobs_or_refused bytes result jobs status r writes refuses =
+    let (t, s, scale, run, is) = writes.1 in
+    elim (as_jobs bytes r refuses) [
+      | inl bad ↦ no_bad_program bytes t s bad.0 run.reads bad.2
+      | inr (inl set) ↦ no_bad_set bytes t set.2.0 s set.0 run.reads set.2.1 set.2.2
+      | inr (inr other) ↦
+          let same : other.0 ≡ t = same_text bytes other.0 t other.2.read run.reads.read in
+          set_writes_or_refuses (schedule_rows false) (set_bytes t bytes) (text_of (schedule_rows false) s scale) Done r
+          (refl, (s, scale, run.scaled, run.fits, run.room, refl))
+          (subst (λ (x : JobTextHeld). RefusesText (schedule_rows false) (set_bytes x bytes) r) same other.3)
+    ]
+
+-- a bad program isn't a bad set
+no_both : (bytes : List ℕ) (u : JobTextHeld) (line : ℕ) (q : ReadSet) → HasBadProgram bytes line → job_reading bytes ≡ Ok u → set_read_from (set_bytes u bytes) ≡ Err q → ⊥
+no_both bytes u line q (inl stops) read set = absurd (let e : ◌≡◌ {A = Result JobTextHeld ℕ} (Ok u) (Err line) = sym read ∙ stops in cc)
+no_both bytes u line q (inr stray) read set =
+    let (t, s, there, ok, strays) = stray in
+    let same : t ≡ u = same_text bytes t u there read in
+    absurd (let e : ◌≡◌ {A = Result SetContents ReadSet} (Ok s) (Err q) = sym ok ∙ (ap (λ (x : JobTextHeld). set_read_from (set_bytes x bytes)) same ∙ set) in cc)
+
+-- bytes where a job text is wanted are refused with one status
+one_jobs_status : (bytes : List ℕ) (r q : Refusal) → RefusesJobs bytes r → RefusesJobs bytes q → status_of r ≡ status_of q
+one_jobs_status bytes r q a b =
+    elim (as_jobs bytes r a) [
+      | inl bad ↦ elim (as_jobs bytes q b) [
+        | inl other ↦ sym (ap status_of bad.1) ∙ ap status_of other.1
+        | inr (inl set) ↦ absurd (no_both bytes set.2.0 bad.0 set.0 bad.2 set.2.1 set.2.2)
+        | inr (inr held) ↦ absurd (no_bad_program bytes held.0 held.1 bad.0 held.2 bad.2)
+      ]
+      | inr (inl set) ↦ elim (as_jobs bytes q b) [
+        | inl bad ↦ absurd (no_both bytes set.2.0 bad.0 set.0 bad.2 set.2.1 set.2.2)
+        | inr (inl other) ↦
+            let same : set.2.0 ≡ other.2.0 = same_text bytes set.2.0 other.2.0 set.2.1 other.2.1 in
+            let both : ◌≡◌ {A = Result SetContents ReadSet} (Err set.0) (Err other.0) =
+            sym set.2.2 ∙ (ap (λ (x : JobTextHeld). set_read_from (set_bytes x bytes)) same ∙ other.2.2) in
+            let one : set.0 ≡ other.0 = cc in
+            sym (ap status_of set.1) ∙ (ap set_status one ∙ ap status_of other.1)
+        | inr (inr held) ↦ absurd (no_bad_set bytes held.0 set.2.0 held.1 set.0 held.2 set.2.1 set.2.2)
+      ]
+      | inr (inr held) ↦ elim (as_jobs bytes q b) [
+        | inl bad ↦ absurd (no_bad_program bytes held.0 held.1 bad.0 held.2 bad.2)
+        | inr (inl set) ↦ absurd (no_bad_set bytes held.0 set.2.0 held.1 set.0 held.2 set.2.1 set.2.2)
+        | inr (inr other) ↦
+            let same : other.0 ≡ held.0 = same_text bytes other.0 held.0 other.2.read held.2.read in
+            one_text_status (schedule_rows false) (set_bytes held.0 bytes) r q held.3
+            (subst (λ (x : JobTextHeld). RefusesText (schedule_rows false) (set_bytes x bytes) q) same other.3)
+      ]
+    ]
+
+-- ---- all commands
+
 -- nothing is told of bytes that are refused
 told_or_refused : (o : Output) (bytes : List ℕ) (status : Status) (r : Refusal) → CallsFor o bytes status → Refuses o bytes r → ⊥
 told_or_refused (of_set what) bytes status r is refuses = set_writes_or_refuses what bytes is.0 status r is.1 refuses
 told_or_refused of_trace bytes status r is refuses = judged_or_refused bytes status r is refuses
+told_or_refused of_tree bytes status r is refuses = followed_or_refused bytes is.0 status r is.1 refuses
+told_or_refused of_batch bytes status r is refuses = refuses
+told_or_refused of_jobs bytes status r is refuses = jobs_or_refused bytes is.0 is.1.0 status r is.1.1 refuses
 told_or_refused (of_drill number) bytes status r is refuses = refuses
 
 -- bytes are told of with one status
 one_telling : (o : Output) (bytes : List ℕ) (a b : Status) → CallsFor o bytes a → CallsFor o bytes b → a ≡ b
 one_telling (of_set what) bytes a b x y = x.1.0 ∙ sym y.1.0
 one_telling of_trace bytes a b x y = one_judgment bytes a b x y
+one_telling of_tree bytes a b x y = x.1.0 ∙ sym y.1.0
+one_telling of_batch bytes a b x y = x ∙ sym y
+one_telling of_jobs bytes a b x y = x.1.1.0 ∙ sym y.1.1.0
 one_telling (of_drill number) bytes a b x y = x.1.0 ∙ sym y.1.0
 
 -- bytes are refused with one status
 one_status : (o : Output) (bytes : List ℕ) (r q : Refusal) → Refuses o bytes r → Refuses o bytes q → status_of r ≡ status_of q
 one_status (of_set what) bytes r q a b = one_text_status what bytes r q a b
+one_status of_tree bytes r q a b = one_follow_status bytes r q a b
+one_status of_batch bytes r q a b = absurd a
+one_status of_jobs bytes r q a b = one_jobs_status bytes r q a b
 one_status of_trace bytes r q a b = (refused_line bytes r a).1 ∙ sym (refused_line bytes q b).1
 one_status (of_drill number) bytes r q a b = absurd a
 
@@ -240,6 +370,9 @@ one_status (of_drill number) bytes r q a b = absurd a
 called_for : (o : Output) (bytes text : List ℕ) (status : Status) → Writes o bytes status text → CallsFor o bytes status
 called_for (of_set what) bytes text status writes = (text, writes)
 called_for of_trace bytes text status writes = told_trace bytes text status writes.0 writes.1 writes.2
+called_for of_tree bytes text status writes = (text, writes)
+called_for of_batch bytes text status writes = writes.0
+called_for of_jobs bytes text status writes = (text, writes)
 called_for (of_drill number) bytes text status writes = (text, writes)
 
 -- the answer, where the bytes call for a status
@@ -252,6 +385,7 @@ answer_called_for o bytes status BadInput within called is = absurd (told_or_ref
 answer_called_for o bytes status Overload within called is = absurd (told_or_refused o bytes status is.1.0 called is.1.2)
 answer_called_for o bytes status ScaleTooLarge within called is = absurd (told_or_refused o bytes status is.1.0 called is.1.2)
 answer_called_for o bytes status TooLong within called is = absurd (told_or_refused o bytes status is.1.0 called is.1.2)
+answer_called_for o bytes status BadTree within called is = absurd (told_or_refused o bytes status is.1.0 called is.1.2)
 answer_called_for o bytes status Usage within called is = absurd is
 answer_called_for o bytes status ReadFault within called is = absurd is
 answer_called_for o bytes status WriteFault within called is = absurd is
@@ -269,6 +403,7 @@ answer_refuses o bytes r BadInput within refuses is = one_status o bytes r is.1.
 answer_refuses o bytes r Overload within refuses is = one_status o bytes r is.1.0 refuses is.1.2 ∙ is.1.1
 answer_refuses o bytes r ScaleTooLarge within refuses is = one_status o bytes r is.1.0 refuses is.1.2 ∙ is.1.1
 answer_refuses o bytes r TooLong within refuses is = one_status o bytes r is.1.0 refuses is.1.2 ∙ is.1.1
+answer_refuses o bytes r BadTree within refuses is = one_status o bytes r is.1.0 refuses is.1.2 ∙ is.1.1
 answer_refuses o bytes r Usage within refuses is = absurd is
 answer_refuses o bytes r ReadFault within refuses is = absurd is
 answer_refuses o bytes r WriteFault within refuses is = absurd is
@@ -285,6 +420,7 @@ answer_too_long o bytes BadInput over is = let within = is.0 in absurd (omega (a
 answer_too_long o bytes Overload over is = let within = is.0 in absurd (omega (arith, within, over))
 answer_too_long o bytes ScaleTooLarge over is = let within = is.0 in absurd (omega (arith, within, over))
 answer_too_long o bytes TooLong over is = let within = is.0 in absurd (omega (arith, within, over))
+answer_too_long o bytes BadTree over is = let within = is.0 in absurd (omega (arith, within, over))
 answer_too_long o bytes Usage over is = absurd is
 answer_too_long o bytes ReadFault over is = absurd is
 answer_too_long o bytes WriteFault over is = absurd is
@@ -306,6 +442,9 @@ done_asked o status (Some bytes) old new e h = λ unread unwritten answer is.
 done_by : (o : Output) (status : Status) (old new : Streams) → IsDone o status old new → Answers o old.left old new status
 done_by (of_set what) status old new h = done_asked (of_set what) status old.left old new refl h
 done_by of_trace status old new h = done_asked of_trace status old.left old new refl h
+done_by of_tree status old new h = done_asked of_tree status old.left old new refl h
+done_by of_batch status old new h = done_asked of_batch status old.left old new refl h
+done_by of_jobs status old new h = done_asked of_jobs status old.left old new refl h
 done_by (of_drill number) status old new h = let (text, writes, took) = h.told in λ unwritten. inl writes.0
 
 -- a command that was done answered
@@ -339,6 +478,12 @@ stop_answered o bytes old new (why.BadSet r) answer e stops unread unwritten is 
     (subst (λ (l : Option (List ℕ)). GaveAll l new.left (limit_of o) stops.0) e stops.1) stops.2 is)
 stop_answered o bytes old new (why.BadLine line) answer e stops unread unwritten is =
     inl (refused_by o bytes stops.0 new.left (why.BadLine line) answer
+    (subst (λ (l : Option (List ℕ)). GaveAll l new.left (limit_of o) stops.0) e stops.1) stops.2 is)
+stop_answered o bytes old new (why.BadProgram line) answer e stops unread unwritten is =
+    inl (refused_by o bytes stops.0 new.left (why.BadProgram line) answer
+    (subst (λ (l : Option (List ℕ)). GaveAll l new.left (limit_of o) stops.0) e stops.1) stops.2 is)
+stop_answered o bytes old new (why.BadTree line kind) answer e stops unread unwritten is =
+    inl (refused_by o bytes stops.0 new.left (why.BadTree line kind) answer
     (subst (λ (l : Option (List ℕ)). GaveAll l new.left (limit_of o) stops.0) e stops.1) stops.2 is)
 stop_answered o bytes old new (why.GateFault row name) answer e stops unread unwritten is =
     inl (refused_by o bytes stops.0 new.left (why.GateFault row name) answer
@@ -375,6 +520,9 @@ stops_by : (o : Output) (old new : Streams) (err err' : ErrorStream) (r : Refusa
     → Answers o old.left old new status
 stops_by (of_set what) old new err err' r status stops told = stops_asked (of_set what) old.left old new err err' r status refl stops told
 stops_by of_trace old new err err' r status stops told = stops_asked of_trace old.left old new err err' r status refl stops told
+stops_by of_tree old new err err' r status stops told = stops_asked of_tree old.left old new err err' r status refl stops told
+stops_by of_batch old new err err' r status stops told = stops_asked of_batch old.left old new err err' r status refl stops told
+stops_by of_jobs old new err err' r status stops told = stops_asked of_jobs old.left old new err err' r status refl stops told
 stops_by (of_drill number) old new err err' r status stops told = λ unwritten. inr (told.status_is ∙ drill_wants number old new r stops unwritten)
 
 -- a command that stopped answered
@@ -390,6 +538,9 @@ wanting_asked o (Some bytes) old new status wanting = λ unread unwritten answer
 wanting_by : (o : Output) (old new : Streams) (status : Status) → status ≡ NoMemory → Answers o old.left old new status
 wanting_by (of_set what) old new status wanting = wanting_asked (of_set what) old.left old new status wanting
 wanting_by of_trace old new status wanting = wanting_asked of_trace old.left old new status wanting
+wanting_by of_tree old new status wanting = wanting_asked of_tree old.left old new status wanting
+wanting_by of_batch old new status wanting = wanting_asked of_batch old.left old new status wanting
+wanting_by of_jobs old new status wanting = wanting_asked of_jobs old.left old new status wanting
 wanting_by (of_drill number) old new status wanting = λ unwritten. inr wanting
 
 -- where there was no memory to read the words, that is told

@@ -1,6 +1,6 @@
 -- What `clap` makes of each command line.
 use Rattle.std.proofs.Common.{◌≡◌, ◌≢◌, ◌⊎◌, inl, inr, ℕ, zero, suc, ◌+◌, ◌-◌, if◌then◌else◌, ◌≤◌, ◌<◌, List, [], ◌∷◌, ◌++◌, codes, take, drop}
-use Rattle.std.proofs.Common.{Option, Some, None, Bool, true, false, ◌&&◌, option_map, option_and_then, length, slice_index, refl, sym, ap, ap₂}
+use Rattle.std.proofs.Common.{Option, Some, None, Bool, true, false, ◌&&◌, option_map, option_and_then, length, refl, sym, ap, ap₂}
 use Rattle.std.proofs.Common.{subst, ◌∙◌, arith, rules, tests}
 use Rattle.std.specs.Char.{is_ascii_digit}
 use Rattle.std.specs.Str.{bytes_eq}
@@ -9,16 +9,16 @@ use Rattle.clap.specs.declared.parser.matches.ArgMatches.{ArgMatches}
 use Rattle.clap.specs.declared.parser.matches.ArgMatches.TheViews.{out-ArgMatches}
 use Rattle.clap.proofs.OnLiterals.{clap_on_literals}
 use Rattle.run_tool.specs.declared.command.Command.{Command}
-use Rattle.run_tool.specs.declared.command.Command.TheVariants.{Read, Execute}
+use Rattle.run_tool.specs.declared.command.Command.TheVariants.{Read, Batch, Execute}
 use Rattle.run_tool.specs.declared.command.Reading.{Reading}
-use Rattle.run_tool.specs.declared.command.Reading.TheVariants.{Rate, Tree, Trace, TraceMet, Check}
+use Rattle.run_tool.specs.declared.command.Reading.TheVariants.{Rate, Tree, Trace, TraceMet, TraceWrap, Check, Follow}
 use Rattle.run_tool.specs.declared.command.Execution.{Execution}
-use Rattle.run_tool.specs.declared.command.Execution.TheVariants.{Exec, ExecMet, Drill}
+use Rattle.run_tool.specs.declared.command.Execution.TheVariants.{Exec, ExecMet, Drill, Jobs}
 use Rattle.run_tool.specs.Words.{window_of, exec_with, exec_by, drill_of, drill_with, after_text, HasWindow}
-use Rattle.run_tool.specs.Words.{reading_of, reading_named, reading_with, execution_of, execution_named, execution_with, execution_with_value}
-use Rattle.run_tool.specs.Words.{asks_to_execute, command_of}
-use Rattle.run_tool.specs.CommandLine.{parser, Spells, SpellsExec, SpellsDrill}
-use Rattle.run_tool.proofs.RunLemmas.{executes, reads}
+use Rattle.run_tool.specs.Words.{reading_of, reading_named, reading_with, reading_with_value, batch_of, execution_of, execution_named, execution_with, execution_with_value}
+use Rattle.run_tool.specs.Words.{asks_to_execute, asks_for_batch, asks_for_threads, command_of}
+use Rattle.run_tool.specs.CommandLine.{parser, Spells, SpellsWrap, SpellsExec}
+use Rattle.run_tool.proofs.WordLemmas.{executes, reads, batches, only_batch, if_is, same_text}
 
 pub simple : is_simple parser ≡ true
 unfolding clap_on_literals
@@ -114,6 +114,10 @@ read_number (d ∷ ds) n e =
     let (k, low, is) = digit_is d (number_begins_with_digit d ds n e) in
     subst (λ (b : ℕ). IsReadNumber (b ∷ ds)) (sym is) (number_digit k ds low)
 
+taken_wrap : (words : List Text) → SpellsWrap words → takes parser words ≡ true
+unfolding clap_on_literals
+taken_wrap words spells = elim spells [ inl own ↦ ap (takes parser) own | inr behind ↦ ap (takes parser) behind ]
+
 -- no command line is refused
 pub taken : (c : Command) (words : List Text) → Spells c words → takes parser words ≡ true
 unfolding clap_on_literals
@@ -121,10 +125,14 @@ taken (Read Rate) words e = ap (takes parser) e
 taken (Read Tree) words e = ap (takes parser) e
 taken (Read Trace) words e = ap (takes parser) e
 taken (Read TraceMet) words e = ap (takes parser) e
+taken (Read TraceWrap) words e = taken_wrap words e
 taken (Read Check) words e = ap (takes parser) e
+taken (Read Follow) words e = ap (takes parser) e
+taken Batch words e = ap (takes parser) e
 taken (Execute (Exec window)) words e = taken_exec window words e
 taken (Execute ExecMet) words e = ap (takes parser) e
 taken (Execute (Drill number)) words e = ap (takes parser) e.2 ∙ (read_number e.0 number e.1).taken
+taken (Execute Jobs) words e = ap (takes parser) e
 
 -- the first word of a command
 abbrev pub name_of : Command → Text
@@ -132,10 +140,14 @@ name_of (Read Rate) = codes "rate"
 name_of (Read Tree) = codes "tree"
 name_of (Read Trace) = codes "trace"
 name_of (Read TraceMet) = codes "trace"
+name_of (Read TraceWrap) = codes "trace"
 name_of (Read Check) = codes "check"
+name_of (Read Follow) = codes "follow"
+name_of Batch = codes "batch"
 name_of (Execute (Exec window)) = codes "exec"
 name_of (Execute ExecMet) = codes "exec"
 name_of (Execute (Drill number)) = codes "drill"
+name_of (Execute Jobs) = codes "jobs"
 
 abbrev Either : Bool → Type 0 → Type 0 → Type 0
 Either true a b = a
@@ -146,20 +158,27 @@ abbrev pub IsCalled : Text → Command → Type 0
 IsCalled name c =
     Either (bytes_eq name (codes "rate")) (c ≡ Read Rate)
     (Either (bytes_eq name (codes "tree")) (c ≡ Read Tree)
-    (Either (bytes_eq name (codes "trace")) ((c ≡ Read Trace) ⊎ (c ≡ Read TraceMet))
+    (Either (bytes_eq name (codes "trace")) ((c ≡ Read Trace) ⊎ ((c ≡ Read TraceMet) ⊎ (c ≡ Read TraceWrap)))
     (Either (bytes_eq name (codes "check")) (c ≡ Read Check)
+    (Either (bytes_eq name (codes "follow")) (c ≡ Read Follow)
+    (Either (bytes_eq name (codes "batch")) (c ≡ Batch)
     (Either (bytes_eq name (codes "exec")) (((window : ℕ) × (c ≡ Execute (Exec window))) ⊎ (c ≡ Execute ExecMet))
-    (Either (bytes_eq name (codes "drill")) ((number : ℕ) × (c ≡ Execute (Drill number))) ⊥)))))
+    (Either (bytes_eq name (codes "drill")) ((number : ℕ) × (c ≡ Execute (Drill number)))
+    (Either (bytes_eq name (codes "jobs")) (c ≡ Execute Jobs) ⊥))))))))
 
 called : (c : Command) → IsCalled (name_of c) c
 called (Read Rate) = refl
 called (Read Tree) = refl
 called (Read Trace) = inl refl
-called (Read TraceMet) = inr refl
+called (Read TraceMet) = inr (inl refl)
+called (Read TraceWrap) = inr (inr refl)
 called (Read Check) = refl
+called (Read Follow) = refl
+called Batch = refl
 called (Execute (Exec window)) = inl (window, refl)
 called (Execute ExecMet) = inr refl
 called (Execute (Drill number)) = (number, refl)
+called (Execute Jobs) = refl
 
 pub called_as : (c : Command) (name : Text) → name ≡ name_of c → IsCalled name c
 called_as c name e = subst (λ (n : Text). IsCalled n c) (sym e) (called c)
@@ -186,20 +205,31 @@ named_exec window words spells = elim spells [
   ]
 ]
 
+named_wrap : (words : List Text) → SpellsWrap words → named_by words ≡ Some (codes "trace")
+unfolding clap_on_literals
+named_wrap words spells = elim spells [ inl own ↦ ap named_by own | inr behind ↦ ap named_by behind ]
+
 named : (c : Command) (words : List Text) → Spells c words → named_by words ≡ Some (name_of c)
 unfolding clap_on_literals
 named (Read Rate) words e = ap named_by e
 named (Read Tree) words e = ap named_by e
 named (Read Trace) words e = ap named_by e
 named (Read TraceMet) words e = ap named_by e
+named (Read TraceWrap) words e = named_wrap words e
 named (Read Check) words e = ap named_by e
+named (Read Follow) words e = ap named_by e
+named Batch words e = ap named_by e
 named (Execute (Exec window)) words e = named_exec window words e
 named (Execute ExecMet) words e = ap named_by e
 named (Execute (Drill number)) words e = ap named_by e.2 ∙ (read_number e.0 number e.1).named
+named (Execute Jobs) words e = ap named_by e
 
--- the value of `--met`, and that of `--window`, in the matches of a subcommand
+-- the value of `--met`, that of `--by`, and that of `--window`, in the matches of a subcommand
 abbrev met_in : Option (List Row) → Option Text
 met_in = option_and_then (one_of (codes "met"))
+
+abbrev by_in : Option (List Row) → Option Text
+by_in = option_and_then (first_of (codes "by"))
 
 abbrev window_in : Option (List Row) → Option Text
 window_in = option_and_then (first_of (codes "window"))
@@ -215,6 +245,26 @@ unmet = refl
 met : met_in (matches_by (codes "trace" ∷ codes "--met" ∷ [])) ≡ Some (codes "true")
 unfolding clap_on_literals
 met = refl
+
+by_none : by_in (matches_by (codes "trace" ∷ [])) ≡ None
+unfolding clap_on_literals
+by_none = refl
+
+wrap_unmet : met_in (matches_by (codes "trace" ∷ codes "--by" ∷ codes "wrap" ∷ [])) ≡ Some (codes "false")
+unfolding clap_on_literals
+wrap_unmet = refl
+
+by_wrap : by_in (matches_by (codes "trace" ∷ codes "--by" ∷ codes "wrap" ∷ [])) ≡ Some (codes "wrap")
+unfolding clap_on_literals
+by_wrap = refl
+
+joined_wrap_unmet : met_in (matches_by (codes "trace" ∷ codes "--by=wrap" ∷ [])) ≡ Some (codes "false")
+unfolding clap_on_literals
+joined_wrap_unmet = refl
+
+joined_wrap : by_in (matches_by (codes "trace" ∷ codes "--by=wrap" ∷ [])) ≡ Some (codes "wrap")
+unfolding clap_on_literals
+joined_wrap = refl
 
 exec_met : met_in (matches_by (codes "exec" ∷ codes "--met" ∷ [])) ≡ Some (codes "true")
 unfolding clap_on_literals
@@ -246,17 +296,44 @@ pub names : (m : ArgMatches) (c : Command) (words : List Text) → Spells c word
 names m c words spells e =
     map_map (λ p. p.0) _ (out-ArgMatches m).subcommand ∙ ap (option_map (λ p. p.0)) e ∙ named c words spells
 
--- whether `--met` was used tells the two apart
+-- what the matches of `trace` say of its options
+abbrev pub TellsOptions : Reading → List Row → Type 0
+TellsOptions Trace rows = (one_of (codes "met") rows ≡ Some (codes "false")) × (first_of (codes "by") rows ≡ None)
+TellsOptions TraceMet rows = one_of (codes "met") rows ≡ Some (codes "true")
+TellsOptions TraceWrap rows = (one_of (codes "met") rows ≡ Some (codes "false")) × (first_of (codes "by") rows ≡ Some (codes "wrap"))
+TellsOptions _ rows = ⊥
+
+tells_wrap : (words : List Text) (rows : List Row) → SpellsWrap words → Some rows ≡ matches_by words → TellsOptions TraceWrap rows
+tells_wrap words rows spells is = elim spells [
+  | inl own ↦ (ap met_in (is ∙ ap matches_by own) ∙ wrap_unmet, ap by_in (is ∙ ap matches_by own) ∙ by_wrap)
+  | inr behind ↦ (ap met_in (is ∙ ap matches_by behind) ∙ joined_wrap_unmet, ap by_in (is ∙ ap matches_by behind) ∙ joined_wrap)
+]
+
+-- the options tell the commands of this name apart
 pub trace_used : (c : Command) (words : List Text) (rows : List Row) → Spells c words → IsCalled (codes "trace") c → Some rows ≡ matches_by words
-    → ((c ≡ Read Trace) × (one_of (codes "met") rows ≡ Some (codes "false"))) ⊎ ((c ≡ Read TraceMet) × (one_of (codes "met") rows ≡ Some (codes "true")))
+    → (x : Reading) × (c ≡ Read x) × TellsOptions x rows
 trace_used c words rows spells name is = elim name [
   | inl plain ↦
       let spelled : words ≡ codes "trace" ∷ [] = subst (λ (x : Command). Spells x words) plain spells in
-      inl (plain, ap met_in (is ∙ ap matches_by spelled) ∙ unmet)
-  | inr told ↦
-      let spelled : words ≡ codes "trace" ∷ codes "--met" ∷ [] = subst (λ (x : Command). Spells x words) told spells in
-      inr (told, ap met_in (is ∙ ap matches_by spelled) ∙ met)
+      (Trace, plain, (ap met_in (is ∙ ap matches_by spelled) ∙ unmet, ap by_in (is ∙ ap matches_by spelled) ∙ by_none))
+  | inr other ↦ elim other [
+    | inl told ↦
+        let spelled : words ≡ codes "trace" ∷ codes "--met" ∷ [] = subst (λ (x : Command). Spells x words) told spells in
+        (TraceMet, told, ap met_in (is ∙ ap matches_by spelled) ∙ met)
+    | inr wrap ↦ (TraceWrap, wrap, tells_wrap words rows (subst (λ (x : Command). Spells x words) wrap spells) is)
+  ]
 ]
+
+-- what `trace` is read as, by what is made of its options
+pub trace_told : (x : Reading) (rows : List Row) (result : Option Reading) → TellsOptions x rows
+    → (one_of (codes "met") rows ≡ Some (codes "true") → result ≡ Some TraceMet)
+    → (one_of (codes "met") rows ≡ Some (codes "false") → first_of (codes "by") rows ≡ None → result ≡ Some Trace)
+    → (one_of (codes "met") rows ≡ Some (codes "false") → first_of (codes "by") rows ≡ Some (codes "wrap") → result ≡ Some TraceWrap)
+    → result ≡ Some x
+trace_told Trace rows result tells told plain wrapped = plain tells.0 tells.1
+trace_told TraceMet rows result tells told plain wrapped = told tells
+trace_told TraceWrap rows result tells told plain wrapped = wrapped tells.0 tells.1
+trace_told _ rows result tells told plain wrapped = absurd tells
 
 -- what the matches of `exec` say of its options
 abbrev pub TellsExec : Execution → List Row → Type 0
@@ -302,10 +379,6 @@ drill_used c words rows spells name is =
       ap (λ (o : Option ℕ). option_map Execute (option_map (λ m. Drill m) o)) writes ∙ ap Some (sym own),
     )
 
-if_is : {A : Type 0} (b : Bool) (x y z : Option A) → (if b then x else y) ≡ z → ((b ≡ true) × (x ≡ z)) ⊎ ((b ≡ false) × (y ≡ z))
-if_is true x y z e = inl (refl, e)
-if_is false x y z e = inr (refl, e)
-
 both : (a b : Bool) → a && b ≡ true → (a ≡ true) × (b ≡ true)
 both true true e = (refl, refl)
 both true false e = absurd (let h : false ≡ true = e in cc)
@@ -316,9 +389,6 @@ some_is a b e = cc
 
 no_some : {A : Type 0} (a : A) → ◌≡◌ {A = Option A} None (Some a) → ⊥
 no_some a e = cc
-
-same_text : (a b : Text) → bytes_eq a b ≡ true → a ≡ b
-same_text a b e = search (rules, tests)
 
 take_drop : (n : ℕ) (xs : Text) → xs ≡ take n xs ++ drop n xs
 take_drop zero xs = refl
@@ -377,7 +447,10 @@ reading_named_spelled w x e = elim (if_is (bytes_eq w (codes "rate")) _ _ _ e) [
       | inl is ↦ reading_word w (codes "trace") Trace x refl is
       | inr other ↦ elim (if_is (bytes_eq w (codes "check")) _ _ _ other.1) [
         | inl is ↦ reading_word w (codes "check") Check x refl is
-        | inr other ↦ absurd (no_some x other.1)
+        | inr other ↦ elim (if_is (bytes_eq w (codes "follow")) _ _ _ other.1) [
+          | inl is ↦ reading_word w (codes "follow") Follow x refl is
+          | inr other ↦ absurd (no_some x other.1)
+        ]
       ]
     ]
   ]
@@ -389,21 +462,44 @@ reading_with_spelled w o x e = elim (if_is (bytes_eq w (codes "trace") && bytes_
       let (we, oe) = both (bytes_eq w (codes "trace")) (bytes_eq o (codes "--met")) is.0 in
       subst (λ (y : Reading). Spells (Read y) (w ∷ o ∷ [])) (some_is TraceMet x is.1)
       (ap₂ (λ a b. a ∷ b ∷ []) (same_text w _ we) (same_text o _ oe))
-  | inr other ↦ absurd (no_some x other.1)
+  | inr other ↦ elim (if_is (bytes_eq w (codes "trace") && bytes_eq o (codes "--by=wrap")) _ _ _ other.1) [
+    | inl is ↦
+        let (we, oe) = both (bytes_eq w (codes "trace")) (bytes_eq o (codes "--by=wrap")) is.0 in
+        subst (λ (y : Reading). Spells (Read y) (w ∷ o ∷ [])) (some_is TraceWrap x is.1)
+        (inr (ap₂ (λ a b. a ∷ b ∷ []) (same_text w _ we) (same_text o _ oe)))
+    | inr other ↦ absurd (no_some x other.1)
+  ]
 ]
+
+reading_value_spelled : (w o v : Text) (x : Reading) → reading_with_value w o v ≡ Some x → Spells (Read x) (w ∷ o ∷ v ∷ [])
+reading_value_spelled w o v x e =
+    let named = bytes_eq o (codes "--by") && bytes_eq v (codes "wrap") in
+    elim (if_is (bytes_eq w (codes "trace") && named) _ _ _ e) [
+      | inl is ↦
+          let (we, rest) = both (bytes_eq w (codes "trace")) named is.0 in
+          let (oe, ve) = both (bytes_eq o (codes "--by")) (bytes_eq v (codes "wrap")) rest in
+          subst (λ (y : Reading). Spells (Read y) (w ∷ o ∷ v ∷ [])) (some_is TraceWrap x is.1)
+          (inl (ap₂ ◌∷◌ (same_text w _ we) (ap₂ (λ a b. a ∷ b ∷ []) (same_text o _ oe) (same_text v _ ve))))
+      | inr other ↦ absurd (no_some x other.1)
+    ]
 
 reading_spelled : (words : List Text) (x : Reading) → reading_of words ≡ Some x → Spells (Read x) words
 reading_spelled [] x e = absurd (no_some x e)
 reading_spelled (w ∷ []) x e = reading_named_spelled w x e
 reading_spelled (w ∷ o ∷ []) x e = reading_with_spelled w o x e
-reading_spelled (w ∷ o ∷ v ∷ xs) x e = absurd (no_some x e)
+reading_spelled (w ∷ o ∷ v ∷ []) x e = reading_value_spelled w o v x e
+reading_spelled (w ∷ o ∷ v ∷ u ∷ xs) x e = absurd (no_some x e)
 
 execution_named_spelled : (w : Text) (x : Execution) → execution_named w ≡ Some x → Spells (Execute x) (w ∷ [])
 execution_named_spelled w x e = elim (if_is (bytes_eq w (codes "exec")) _ _ _ e) [
   | inl is ↦
       subst (λ (y : Execution). Spells (Execute y) (w ∷ [])) (some_is (Exec 32) x is.1)
       (inl (refl, ap (λ a. a ∷ []) (same_text w _ is.0)))
-  | inr other ↦ absurd (no_some x other.1)
+  | inr other ↦ elim (if_is (bytes_eq w (codes "jobs")) _ _ _ other.1) [
+    | inl is ↦
+        subst (λ (y : Execution). Spells (Execute y) (w ∷ [])) (some_is Jobs x is.1) (ap (λ a. a ∷ []) (same_text w _ is.0))
+    | inr other ↦ absurd (no_some x other.1)
+  ]
 ]
 
 execution_with_spelled : (w o : Text) (x : Execution) → execution_with w o ≡ Some x → Spells (Execute x) (w ∷ o ∷ [])
@@ -430,22 +526,34 @@ execution_spelled (w ∷ o ∷ []) x e = execution_with_spelled w o x e
 execution_spelled (w ∷ o ∷ v ∷ []) x e = execution_value_spelled w o v x e
 execution_spelled (w ∷ o ∷ v ∷ u ∷ xs) x e = absurd (no_some x e)
 
+batch_spelled : (words : List Text) (c : Command) → batch_of words ≡ Some c → Spells c words
+batch_spelled [] c e = absurd (no_some c e)
+batch_spelled (w ∷ []) c e = elim (if_is (bytes_eq w (codes "batch")) _ _ _ e) [
+  | inl is ↦ subst (λ (k : Command). Spells k (w ∷ [])) (some_is Batch c is.1) (ap (λ a. a ∷ []) (same_text w _ is.0))
+  | inr other ↦ absurd (no_some c other.1)
+]
+batch_spelled (w ∷ o ∷ words) c e = absurd (no_some c e)
+
 pub spelled : (words : List Text) (c : Command) → command_of words ≡ Some c → Spells c words
 spelled words c e = elim (if_is (asks_to_execute words) _ _ _ e) [
   | inl is ↦
       let (x, given, same) = mapped Execute (execution_of words) c is.1 in
       subst (λ (k : Command). Spells k words) same (execution_spelled words x given)
-  | inr is ↦
-      let (x, given, same) = mapped Read (reading_of words) c is.1 in
-      subst (λ (k : Command). Spells k words) same (reading_spelled words x given)
+  | inr is ↦ elim (if_is (asks_for_batch words) _ _ _ is.1) [
+    | inl many ↦ batch_spelled words c many.1
+    | inr few ↦
+        let (x, given, same) = mapped Read (reading_of words) c few.1 in
+        subst (λ (k : Command). Spells k words) same (reading_spelled words x given)
+  ]
 ]
 
 -- words of another number are no command line
-pub no_reading : (words : List Text) (x : Reading) → length words ≢ 1 → length words ≢ 2 → reading_of words ≡ Some x → ⊥
-no_reading [] x one two e = no_some x e
-no_reading (w ∷ []) x one two e = one refl
-no_reading (w ∷ o ∷ []) x one two e = two refl
-no_reading (w ∷ o ∷ v ∷ xs) x one two e = no_some x e
+pub no_reading : (words : List Text) (x : Reading) → length words ≢ 1 → length words ≢ 2 → length words ≢ 3 → reading_of words ≡ Some x → ⊥
+no_reading [] x one two three e = no_some x e
+no_reading (w ∷ []) x one two three e = one refl
+no_reading (w ∷ o ∷ []) x one two three e = two refl
+no_reading (w ∷ o ∷ v ∷ []) x one two three e = three refl
+no_reading (w ∷ o ∷ v ∷ u ∷ xs) x one two three e = no_some x e
 
 pub no_execution : (words : List Text) (x : Execution) → length words ≢ 1 → length words ≢ 2 → length words ≢ 3 → execution_of words ≡ Some x → ⊥
 no_execution [] x one two three e = no_some x e
@@ -481,19 +589,36 @@ read_is a b e = cc
 execute_is : (a b : Execution) → Execute a ≡ Execute b → a ≡ b
 execute_is a b e = cc
 
--- words that don't ask for an execution are the line of a command that reads, or none
-pub reading_line : (words : List Text) (x : Reading) → asks_to_execute words ≡ false → reading_of words ≡ Some x → Some (Read x) ≡ command_of words
+-- words that don't ask for what takes threads are the line of a command that reads, or none
+pub reading_line : (words : List Text) (x : Reading) → asks_for_threads words ≡ false → reading_of words ≡ Some x → Some (Read x) ≡ command_of words
 reading_line words x still e = sym (reads words still ∙ ap (option_map Read) e)
 
-pub reading_spelled_by : (words : List Text) (x : Reading) → asks_to_execute words ≡ false → command_of words ≡ Some (Read x) → reading_of words ≡ Some x
+pub reading_spelled_by : (words : List Text) (x : Reading) → asks_for_threads words ≡ false → command_of words ≡ Some (Read x) → reading_of words ≡ Some x
 reading_spelled_by words x still e =
     let (y, is, same) = mapped Read (reading_of words) (Read x) (sym (reads words still) ∙ e) in
     is ∙ ap Some (read_is y x same)
 
-pub not_executing : (words : List Text) (x : Execution) → asks_to_execute words ≡ false → command_of words ≡ Some (Execute x) → ⊥
-not_executing words x still e =
-    let (y, is, same) = mapped Read (reading_of words) (Execute x) (sym (reads words still) ∙ e) in
-    let bad : Read y ≡ Execute x = same in cc
+pub only_reading : (words : List Text) (c : Command) → asks_for_threads words ≡ false → command_of words ≡ Some c → (x : Reading) × (Read x ≡ c)
+only_reading words c still e =
+    let (y, is, same) = mapped Read (reading_of words) c (sym (reads words still) ∙ e) in
+    (y, same)
+
+-- the same of words that ask for many sets
+batch_alone : (words : List Text) → asks_for_batch words ≡ true → length words ≡ 1 → batch_of words ≡ Some Batch
+batch_alone [] asks one = absurd (omega (arith, one))
+batch_alone (w ∷ []) asks one = ap (λ (b : Bool). if b then Some Batch else None) asks
+batch_alone (w ∷ o ∷ words) asks one = absurd (omega (arith, one))
+
+pub batch_line : (words : List Text) → asks_for_batch words ≡ true → length words ≡ 1 → command_of words ≡ Some Batch
+batch_line words asks one = batches words asks ∙ batch_alone words asks one
+
+batch_single : (words : List Text) (c : Command) → batch_of words ≡ Some c → length words ≡ 1
+batch_single [] c is = absurd (no_some c is)
+batch_single (w ∷ []) c is = refl
+batch_single (w ∷ o ∷ words) c is = absurd (no_some c is)
+
+pub only_batching : (words : List Text) (c : Command) → asks_for_batch words ≡ true → command_of words ≡ Some c → (c ≡ Batch) × (length words ≡ 1)
+only_batching words c asks e = let is = sym (batches words asks) ∙ e in (only_batch words c is, batch_single words c is)
 
 -- and the same of words that do
 pub execution_line : (words : List Text) (x : Execution) → asks_to_execute words ≡ true → execution_of words ≡ Some x → Some (Execute x) ≡ command_of words
@@ -505,10 +630,10 @@ execution_spelled_by words x asks e =
     let (y, is, same) = mapped Execute (execution_of words) (Execute x) (sym (executes words asks) ∙ e) in
     is ∙ ap Some (execute_is y x same)
 
-pub not_reading : (words : List Text) (x : Reading) → asks_to_execute words ≡ true → command_of words ≡ Some (Read x) → ⊥
-not_reading words x asks e =
-    let (y, is, same) = mapped Execute (execution_of words) (Read x) (sym (executes words asks) ∙ e) in
-    let bad : Execute y ≡ Read x = same in cc
+pub only_executing : (words : List Text) (c : Command) → asks_to_execute words ≡ true → command_of words ≡ Some c → (x : Execution) × (Execute x ≡ c)
+only_executing words c asks e =
+    let (y, is, same) = mapped Execute (execution_of words) c (sym (executes words asks) ∙ e) in
+    (y, same)
 
 -- a window that was written is from 1 to 1,024
 window_bounds : (v : Text) (n : ℕ) → window_of v ≡ Some n → (1 ≤ n) × (n ≤ 1024)
@@ -524,6 +649,7 @@ window_by : (x : Execution) (words : List Text) → Spells (Execute x) words →
 window_by (Exec window) words spells = exec_window window words spells
 window_by ExecMet words spells = tt
 window_by (Drill number) words spells = tt
+window_by Jobs words spells = tt
 
 pub has_window : (words : List Text) (x : Execution) → execution_of words ≡ Some x → HasWindow x
 has_window words x e = window_by x words (execution_spelled words x e)

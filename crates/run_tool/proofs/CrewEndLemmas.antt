@@ -145,8 +145,8 @@ same_seen o x y here there = let same : Some (Some x) ≡ Some (Some y) = sym he
 
 -- ---- what a run may ask for
 
-module _ {G J : Type 0} (ran : G → Option (List Row)) (gate_faults : G → ℕ) (id used job_faults : J → ℕ) (kits : List (Kit G))
-    (places : List (Option J)) (ready : IsReady (crew (gates_of ran gate_faults kits) (jobs_of id used job_faults places))) where
+module _ {G J : Type 0} (ran : G → Option (List Row)) (gate_faults : G → ℕ) (id used job_faults : J → ℕ) (made : J → Made) (kits : List (Kit G))
+    (places : List (Option J)) (ready : IsReady (crew (gates_of ran gate_faults kits) (jobs_of id used job_faults made places))) where
   pub kits_filled : (m : ℕ) → m ≤ 32 → AreFilled m kits
   kits_filled m few q within =
       let (g, at, none) = ready.gates q (omega (arith, few, within)) in
@@ -163,7 +163,7 @@ module _ {G J : Type 0} (ran : G → Option (List Row)) (gate_faults : G → ℕ
   pub jobs_fresh : (n : ℕ) → n ≤ 256 → AreFresh id used n places
   jobs_fresh n few t within =
       let (j, at, own, none) = ready.jobs t (omega (arith, few, within)) in
-      let (job, there, same) = job_in_place id used job_faults places t j at in
+      let (job, there, same) = job_in_place id used job_faults made places t j at in
       (job, there, ap (λ (x : JobSeen). x.id) same ∙ own, ap (λ (x : JobSeen). x.used) same ∙ none)
 
 -- the rows of a plan, by its number of rounds
@@ -183,21 +183,22 @@ module _ {G J : Type 0} (ran : G → Option (List Row)) (gate_faults : G → ℕ
     (fresh : AreFresh id used (length p.set.tasks) places)
     (names : AllByRecursion (λ rows. AllByRecursion (λ x. NamesOneOf p.set.tasks x.leaf) rows) (plan_rows p)) where
   abbrev before : Crew
-  before = crew (gates_of ran gate_faults kits) (jobs_of id used job_faults places)
+  before = crew (gates_of ran gate_faults kits) (jobs_of id used job_faults made places)
 
   abbrev after : Crew
-  after = crew (gates_of ran gate_faults kits') (jobs_of id used job_faults places')
+  after = crew (gates_of ran gate_faults kits') (jobs_of id used job_faults made places')
 
   module _ (lanes : List LaneContents) (r : Ran ran gate_faults id used made job_faults p kits kits' places places' lanes) where
     inside : (q : ℕ) → q < p.tree.processors → q < length lanes
     inside q within = let width = r.width in omega (arith, within, width)
 
     -- a job after the run
-    job_now : (i : ℕ) (j : JobSeen) → Holds (jobs_of id used job_faults places) i j
-        → (k : JobSeen) × Holds (jobs_of id used job_faults places') i k × (k.id ≡ j.id)
+    job_now : (i : ℕ) (j : JobSeen) → Holds (jobs_of id used job_faults made places) i j
+        → (k : JobSeen) × Holds (jobs_of id used job_faults made places') i k × (k.id ≡ j.id)
         × (k.used ≡ j.used + ticks_of i (plan_rows p) (posted_by lanes)) × (((q : ℕ) (x : Row) (n : ℕ) → JobFailed lanes q i x n → ⊥) → k.faults ≡ j.faults)
+        × (k.made ≡ j.made)
     job_now i j at =
-        let (job, there, same) = job_in_place id used job_faults places i j at in
+        let (job, there, same) = job_in_place id used job_faults made places i j at in
         elim (below_or i (length p.set.tasks)) [
           | inl within ↦
               let (now, back, jr) = r.jobs i job within there in
@@ -205,21 +206,23 @@ module _ {G J : Type 0} (ran : G → Option (List Row)) (gate_faults : G → ℕ
               let unused : used job ≡ 0 = subst (λ (x : J). used x ≡ 0) (same_job places i start.0 job start.1 there) start.3 in
               let begun : j.used ≡ 0 = sym (ap (λ (x : JobSeen). x.used) same) ∙ unused in
               let worked = jr.worked in (
-                seen_job id used job_faults now,
-                place_shown id used job_faults places' i now back,
+                seen_job id used job_faults made now,
+                place_shown id used job_faults made places' i now back,
                 jr.own
                     ∙ ap (λ (x : JobSeen). x.id) same,
                 omega (arith, worked, begun),
                 λ none. jr.same none ∙ ap (λ (x : JobSeen). x.faults) same,
+                jr.made_of ∙ ap (λ (x : JobSeen). x.made) same,
               )
           | inr past ↦
               let none = no_ticks_of p.set.tasks i (plan_rows p) (posted_by lanes) names past in (
                 j,
-                subst (λ (x : JobSeen). Holds (jobs_of id used job_faults places') i x) same
-                    (place_shown id used job_faults places' i job (r.other_jobs i past ∙ there)),
+                subst (λ (x : JobSeen). Holds (jobs_of id used job_faults made places') i x) same
+                    (place_shown id used job_faults made places' i job (r.other_jobs i past ∙ there)),
                 refl,
                 omega (arith, none),
                 λ unfailed. refl,
+                refl,
               )
         ]
 
@@ -260,7 +263,7 @@ module _ {G J : Type 0} (ran : G → Option (List Row)) (gate_faults : G → ℕ
     part = record {
       beside = beside_by lanes;
       gates = λ q g at. let (k, back, list, kept) = gate_now q g at in (k, back, list);
-      jobs = λ i j at. let (k, back, own, worked, kept) = job_now i j at in (k, back, worked);
+      jobs = λ i j at. let (k, back, own, worked, kept, programmed) = job_now i j at in (k, back, worked, programmed);
       front = r.front;
     }
 
@@ -337,10 +340,10 @@ module _ {G J : Type 0} (ran : G → Option (List Row)) (gate_faults : G → ℕ
           let start = fresh t within in
           let (now, back, jr) = r.jobs t start.0 within start.1 in
           let risen = jr.risen q x n failed in (
-            seen_job id used job_faults start.0,
-            seen_job id used job_faults now,
-            place_shown id used job_faults places t start.0 start.1,
-            place_shown id used job_faults places' t now back,
+            seen_job id used job_faults made start.0,
+            seen_job id used job_faults made now,
+            place_shown id used job_faults made places t start.0 start.1,
+            place_shown id used job_faults made places' t now back,
             risen.rose,
           )
 
@@ -378,12 +381,12 @@ module _ {G J : Type 0} (ran : G → Option (List Row)) (gate_faults : G → ℕ
     ran_to_end e all = record {
       gates = gates_ran_all ran gate_faults id used made job_faults p kits kits' places places' lanes r h all.none_failed all.all_posted;
       jobs = λ i j at.
-          let (k, back, own, worked, kept) = job_now i j at in
+          let (k, back, own, worked, kept, programmed) = job_now i j at in
           let same =
           kept (λ q x n failed. absurd (let bad : ◌≡◌ {A = Option Cause} None (Some (cause.Job x n)) = sym (all.none_failed q failed.lane)
           ∙ failed.cause in cc)) in
           let ticks = worked ∙ ap (λ n. j.used + n) (ticks_at_end p h lanes r.width all.all_posted i) in
-          back ∙ (λ d. Some (Some (record { id = own d; used = ticks d; faults = same d })));
+          back ∙ (λ d. Some (Some (record { id = own d; used = ticks d; faults = same d; made = programmed d })));
       valid = all.valid;
     }
 
@@ -393,27 +396,27 @@ module _ {G J : Type 0} (ran : G → Option (List Row)) (gate_faults : G → ℕ
     (p : PlanContents) (kits kits' : List (Kit G)) (places places' : List (Option J)) where
   -- whatever is answered, all are back
   pub back_by : (result : Result Executed ExecFault) → Outcome ran gate_faults id used made job_faults p kits kits' places places' result
-      → AreBack (crew (gates_of ran gate_faults kits) (jobs_of id used job_faults places))
-      (crew (gates_of ran gate_faults kits') (jobs_of id used job_faults places'))
+      → AreBack (crew (gates_of ran gate_faults kits) (jobs_of id used job_faults made places))
+      (crew (gates_of ran gate_faults kits') (jobs_of id used job_faults made places'))
   back_by (Ok e) o = back_after ran gate_faults id used made job_faults p kits kits' places places' o.0 o.1
   back_by (Err (fault.Gate q x n)) o = back_after ran gate_faults id used made job_faults p kits kits' places places' o.0 o.1
   back_by (Err (fault.Job t q x n)) o = back_after ran gate_faults id used made job_faults p kits kits' places places' o.0 o.1
-  back_by (Err fault.NoMemory) o = back_kept ran gate_faults id used job_faults kits kits' places places' o
+  back_by (Err fault.NoMemory) o = back_kept ran gate_faults id used made job_faults kits kits' places places' o
 
-  module _ (h : IsPlan p) (ready : IsReady (crew (gates_of ran gate_faults kits) (jobs_of id used job_faults places)))
+  module _ (h : IsPlan p) (ready : IsReady (crew (gates_of ran gate_faults kits) (jobs_of id used job_faults made places)))
       (names : AllByRecursion (λ rows. AllByRecursion (λ x. NamesOneOf p.set.tasks x.leaf) rows) (plan_rows p))
       (result : Result Executed ExecFault) (o : Outcome ran gate_faults id used made job_faults p kits kits' places places' result) where
     filled : AreFilled p.tree.processors kits
-    filled = kits_filled ran gate_faults id used job_faults kits places ready p.tree.processors h.sized.few_processors
+    filled = kits_filled ran gate_faults id used job_faults made kits places ready p.tree.processors h.sized.few_processors
 
     fresh : AreFresh id used (length p.set.tasks) places
-    fresh = jobs_fresh ran gate_faults id used job_faults kits places ready (length p.set.tasks) h.lawful.few_tasks
+    fresh = jobs_fresh ran gate_faults id used job_faults made kits places ready (length p.set.tasks) h.lawful.few_tasks
 
     abbrev old : Crew
-    old = crew (gates_of ran gate_faults kits) (jobs_of id used job_faults places)
+    old = crew (gates_of ran gate_faults kits) (jobs_of id used job_faults made places)
 
     abbrev new : Crew
-    new = crew (gates_of ran gate_faults kits') (jobs_of id used job_faults places')
+    new = crew (gates_of ran gate_faults kits') (jobs_of id used job_faults made places')
 
     pub all_by : (e : Executed) → result ≡ Ok e → RanAll p old new
     all_by e is =

@@ -61,12 +61,12 @@ module _ {G : Type 0} (ran : G → Option (List Row)) (faults : G → ℕ) where
       slice_get-map (λ kit. option_map (λ gate. record { ran = ran gate; faults = faults gate }) kit.gate) kits q
       ∙ ap (option_map (λ kit. option_map (λ gate. record { ran = ran gate; faults = faults gate }) kit.gate)) at
 
-module _ {J : Type 0} (id used faults : J → ℕ) where
+module _ {J : Type 0} (id used faults : J → ℕ) (made : J → Made) where
   abbrev pub seen_job : J → JobSeen
-  seen_job job = record { id = id job; used = used job; faults = faults job }
+  seen_job job = record { id = id job; used = used job; faults = faults job; made = made job }
 
   in_place : (o : Option (Option J)) (j : JobSeen)
-      → option_map (λ place. option_map (λ job. record { id = id job; used = used job; faults = faults job }) place) o ≡ Some (Some j)
+      → option_map (λ place. option_map (λ job. record { id = id job; used = used job; faults = faults job; made = made job }) place) o ≡ Some (Some j)
       → (job : J) × (o ≡ Some (Some job)) × (seen_job job ≡ j)
   in_place None j e = absurd (let h : ◌≡◌ {A = Option (Option JobSeen)} None (Some (Some j)) = e in cc)
   in_place (Some place) j e =
@@ -74,16 +74,16 @@ module _ {J : Type 0} (id used faults : J → ℕ) where
       (job, ap Some is, same)
 
   -- a job that the crew shows is in its place
-  pub job_in_place : (places : List (Option J)) (i : ℕ) (j : JobSeen) → Holds (jobs_of id used faults places) i j
+  pub job_in_place : (places : List (Option J)) (i : ℕ) (j : JobSeen) → Holds (jobs_of id used faults made places) i j
       → (job : J) × JobAt places i job × (seen_job job ≡ j)
   job_in_place places i j at =
       in_place (slice_get places i) j (sym (slice_get-map
-      (λ place. option_map (λ job. record { id = id job; used = used job; faults = faults job }) place) places i) ∙ at)
+      (λ place. option_map (λ job. record { id = id job; used = used job; faults = faults job; made = made job }) place) places i) ∙ at)
 
-  pub place_shown : (places : List (Option J)) (i : ℕ) (job : J) → JobAt places i job → Holds (jobs_of id used faults places) i (seen_job job)
+  pub place_shown : (places : List (Option J)) (i : ℕ) (job : J) → JobAt places i job → Holds (jobs_of id used faults made places) i (seen_job job)
   place_shown places i job at =
-      slice_get-map (λ place. option_map (λ job. record { id = id job; used = used job; faults = faults job }) place) places i
-      ∙ ap (option_map (λ place. option_map (λ job. record { id = id job; used = used job; faults = faults job }) place)) at
+      slice_get-map (λ place. option_map (λ job. record { id = id job; used = used job; faults = faults job; made = made job }) place) places i
+      ∙ ap (option_map (λ place. option_map (λ job. record { id = id job; used = used job; faults = faults job; made = made job }) place)) at
 
 -- a gate's count never falls
 later_gate : (c : Option Cause) (before now : ℕ) → CountsGate c before now → before ≤ now
@@ -95,8 +95,8 @@ module _ {G J : Type 0} (ran : G → Option (List Row)) (gate_faults : G → ℕ
     (kits kits' : List (Kit G)) (places places' : List (Option J)) (lanes : List LaneContents)
     (r : Ran ran gate_faults id used made job_faults p kits kits' places places' lanes) where
   -- each gate is back in its kit, and each job in its place
-  pub back_after : AreBack (crew (gates_of ran gate_faults kits) (jobs_of id used job_faults places))
-      (crew (gates_of ran gate_faults kits') (jobs_of id used job_faults places'))
+  pub back_after : AreBack (crew (gates_of ran gate_faults kits) (jobs_of id used job_faults made places))
+      (crew (gates_of ran gate_faults kits') (jobs_of id used job_faults made places'))
   back_after = record {
     gates = λ q g at.
         let (gate, there, same) = gate_in_kit ran gate_faults kits q g at in
@@ -113,20 +113,20 @@ module _ {G J : Type 0} (ran : G → Option (List Row)) (gate_faults : G → ℕ
           )
         ];
     jobs = λ i j at.
-        let (job, there, same) = job_in_place id used job_faults places i j at in
+        let (job, there, same) = job_in_place id used job_faults made places i j at in
         elim (below_or i (length p.set.tasks)) [
           | inl within ↦
               let (now, back, jr) = r.jobs i job within there in (
-                seen_job id used job_faults now,
-                place_shown id used job_faults places' i now back,
+                seen_job id used job_faults made now,
+                place_shown id used job_faults made places' i now back,
                 jr.own
                     ∙ ap (λ (x : JobSeen). x.id) same,
                 subst (λ (x : JobSeen). x.faults ≤ job_faults now) same jr.later,
               )
           | inr past ↦ (
             j,
-            subst (λ (x : JobSeen). Holds (jobs_of id used job_faults places') i x) same
-                (place_shown id used job_faults places' i job (r.other_jobs i past ∙ there)),
+            subst (λ (x : JobSeen). Holds (jobs_of id used job_faults made places') i x) same
+                (place_shown id used job_faults made places' i job (r.other_jobs i past ∙ there)),
             refl,
             omega arith,
           )
@@ -173,11 +173,11 @@ module _ {G J : Type 0} (ran : G → Option (List Row)) (gate_faults : G → ℕ
         ]
 
 -- kits and places that are as before are back
-pub back_kept : {G J : Type 0} (ran : G → Option (List Row)) (gate_faults : G → ℕ) (id used job_faults : J → ℕ) (kits kits' : List (Kit G))
+pub back_kept : {G J : Type 0} (ran : G → Option (List Row)) (gate_faults : G → ℕ) (id used : J → ℕ) (made : J → Made) (job_faults : J → ℕ) (kits kits' : List (Kit G))
     (places places' : List (Option J)) → (kits' ≡ kits) × (places' ≡ places)
-    → AreBack (crew (gates_of ran gate_faults kits) (jobs_of id used job_faults places))
-    (crew (gates_of ran gate_faults kits') (jobs_of id used job_faults places'))
-back_kept ran gate_faults id used job_faults kits kits' places places' same =
-    subst (λ (c : Crew). AreBack (crew (gates_of ran gate_faults kits) (jobs_of id used job_faults places)) c)
-    (λ i. crew (gates_of ran gate_faults (sym same.0 i)) (jobs_of id used job_faults (sym same.1 i)))
+    → AreBack (crew (gates_of ran gate_faults kits) (jobs_of id used job_faults made places))
+    (crew (gates_of ran gate_faults kits') (jobs_of id used job_faults made places'))
+back_kept ran gate_faults id used made job_faults kits kits' places places' same =
+    subst (λ (c : Crew). AreBack (crew (gates_of ran gate_faults kits) (jobs_of id used job_faults made places)) c)
+    (λ i. crew (gates_of ran gate_faults (sym same.0 i)) (jobs_of id used job_faults made (sym same.1 i)))
     (record { gates = λ p g at. (g, at, omega arith); jobs = λ i j at. (j, at, refl, omega arith) })

@@ -1,14 +1,11 @@
 -- The set of a drill fits, its schedule has few rows, and what is told of them is its text.
-use Rattle.std.proofs.Common.{◌≡◌, ℕ, ◌+◌, ◌*◌, ◌^◌, ◌<◌, ◌≤◌, true, false, Option, Some, None, List, length, refl, sym, ◌∙◌, ap, subst, arith}
-use Rattle.std.specs.Prelude.{is_some}
+use Rattle.std.proofs.Common.{◌≡◌, ℕ, ◌*◌, ◌^◌, ◌≤◌, List, length, refl, sym, ◌∙◌, ap, subst, arith}
 use Rattle.std.specs.List.{concat, range_with_len}
-use Rattle.std.proofs.Math.Nat.{mul-le-mul_left}
 use Rattle.std.proofs.lemmas.List.FromFn.{length-range_with_len}
 use Rattle.sched_base.specs.declared.rows.Row.{Row}
 use Rattle.sched_base.specs.Sets.{SetContents, IsLawful}
 use Rattle.sched_base.specs.Scale.{IsScale, PassesAt, Fits}
 use Rattle.sched_base.specs.Valid.{IsValid}
-use Rattle.sched_base.specs.Tables.{IsTable, all_rows}
 use Rattle.run_tree.specs.Boundaries.{set_boundary}
 use Rattle.run_tree.specs.Compiled.{tree_of}
 use Rattle.run_tree.specs.Plans.{PlanContents, IsPlan, rounds_of, stop_of}

@@ -1,8 +1,12 @@
+pub mod FollowLemmas
+pub mod LoadedLemmas
+pub mod JobRunLemmas
+pub mod FollowedLemmas
 pub mod AnswerLemmas
-pub mod FaultLemmas
 pub mod LineLemmas
 pub mod TraceLemmas
 pub mod SoundLemmas
+pub mod WordLemmas
 pub mod CommandLineLemmas
 pub mod RunLemmas
 pub mod CrewLemmas
@@ -11,3 +15,4 @@ pub mod ReadyLemmas
 pub mod DrillLemmas
 pub mod DrillEndLemmas
 pub mod StopLemmas
+pub mod BatchLemmas

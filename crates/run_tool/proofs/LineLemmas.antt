@@ -68,6 +68,14 @@ job_line_is r d w t n v p u s e =
     one_word begun e (10 ∷ []) ∙ two_words placed u s end ∙ two_words named v p row ∙ one_word task n place ∙ one_word status t (32 ∷ (n ++ place))
     ∙ two_words r d w (32 ∷ (t ++ (32 ∷ (n ++ place))))
 
+-- a line of a tree text that is at fault
+pub tree_line_is : (r d w v n k : List ℕ) →
+    ((((r ++ (32 ∷ (d ++ (32 ∷ w)))) ++ (32 ∷ (v ++ (32 ∷ n)))) ++ 32 ∷ []) ++ k) ++ 10 ∷ [] ≡ r ++ line_end (d ∷ w ∷ v ∷ n ∷ k ∷ [])
+tree_line_is r d w v n k =
+    let status = r ++ (32 ∷ (d ++ (32 ∷ w))) in
+    let end = 32 ∷ (k ++ 10 ∷ []) in
+    one_word (status ++ (32 ∷ (v ++ (32 ∷ n)))) k (10 ∷ []) ∙ two_words status v n end ∙ two_words r d w (32 ∷ (v ++ (32 ∷ (n ++ end))))
+
 -- the line of an unknown key, whose parts are written one after the other
 pub key_parts : (p : Place) (key : List ℕ) → key_start p ++ (map printed_byte key ++ 10 ∷ []) ≡ refusal_line (BadSet (UnknownKey p key))
 unfolding refusal_line line_of

@@ -1,52 +1,38 @@
 -- What an execution told, and why it stopped, as the clauses of the top call say it.
-use Rattle.std.proofs.Common.{◌≡◌, inl, inr, ℕ, ◌≤◌, if◌then◌else◌, Bool, true, false, List, Option, Some, Result, refl, sym, ◌∙◌, ap, subst, arith}
-use Rattle.std.proofs.Common.{rules, tests, None, Ok, Err}
-use Rattle.std.specs.Prelude.{OnOk, IfErr, option_map}
+use Rattle.std.proofs.Common.{◌≡◌, inl, inr, ℕ, Bool, true, false, List, Option, Some, Result, refl, sym, ◌∙◌, subst, arith}
+use Rattle.std.proofs.Common.{None, Ok, Err}
+use Rattle.std.specs.Prelude.{OnOk, IfErr}
 use Rattle.std.specs.Io.KnownBytes.{Keeps}
-use Rattle.sched_base.specs.Sets.{SetContents}
 use Rattle.run_tool.specs.declared.command.Command.{Command}
-use Rattle.run_tool.specs.declared.command.Command.TheVariants.{Read, Execute}
-use Rattle.run_tool.specs.declared.command.Reading.{Reading}
+use Rattle.run_tool.specs.declared.command.Command.TheVariants.{Read, Batch, Execute}
 use Rattle.run_tool.specs.declared.command.Execution.{Execution}
-use Rattle.run_tool.specs.declared.command.Execution.TheVariants.{Exec, ExecMet, Drill}
+use Rattle.run_tool.specs.declared.command.Execution.TheVariants.{Exec, ExecMet, Drill, Jobs}
 use Rattle.run_tool.specs.declared.refusal.Refusal.{Refusal}
 use Rattle.run_tool.specs.declared.refusal.Refusal.TheVariants as why
 use Rattle.run_tool.specs.declared.status.Status.{Status}
 use Rattle.run_tool.specs.declared.status.Status.TheVariants.{Done}
-use Rattle.run_tool.specs.Words.{command_of, reading_of, execution_of, asks_to_execute}
+use Rattle.run_tool.specs.Words.{command_of, execution_of, asks_to_execute}
 use Rattle.run_tool.specs.Drill.{drill_text}
 use Rattle.run_tool.specs.Commands.{schedule_rows, output_of, set_limit, WritesSet, RefusesText}
 use Rattle.run_tool.specs.Refusals.{status_of}
 use Rattle.run_tool.specs.Refuse.{IsRefused}
 use Rattle.run_tool.specs.Ends.{Streams, ErrorStream, streams, IsUnread, IsQuiet, IsDone, IsTold, Stops, StopsAs, StopsDrill, Ends}
+use Rattle.run_tool.proofs.WordLemmas.{executes, only_execute, not_executing}
 use Rattle.run_tool.specs.Executions.{Crew, AreBack, NothingRose}
-use Rattle.run_tool.specs.Executed.{WritesRun, RefusesRun, RanDrill, StopsAtDrill, ToldRun, StopsRun, EndsWith, EndsRun, may_have_run}
+use Rattle.run_tool.specs.JobPrograms.{WritesResults, RefusesJobs}
+use Rattle.run_tool.proofs.LoadedLemmas.{rose_loaded}
+use Rattle.run_tool.specs.Executed.{WritesJobsRun, RefusesJobsRun}
+use Rattle.run_tool.specs.Executed.{WritesRun, RefusesRun, RanDrill, StopsAtDrill, ToldRun, StopsRun, EndsWith, EndsRun, NoneFailed, may_have_run}
 
 pub back_same : (c : Crew) → AreBack c c
 back_same c = record { gates = λ p g at. (g, at, omega arith); jobs = λ i j at. (j, at, refl, omega arith) }
 
--- words that ask for an execution are none of another command, and the other way round
-pub executes : (words : List (List ℕ)) → asks_to_execute words ≡ true → command_of words ≡ option_map Execute (execution_of words)
-executes words asks = ap (λ (b : Bool). if b then option_map Execute (execution_of words) else option_map Read (reading_of words)) asks
-
-pub reads : (words : List (List ℕ)) → asks_to_execute words ≡ false → command_of words ≡ option_map Read (reading_of words)
-reads words asks = ap (λ (b : Bool). if b then option_map Execute (execution_of words) else option_map Read (reading_of words)) asks
-
-only_read : (o : Option Reading) (c : Command) → option_map Read o ≡ Some c → (r : Reading) × (Read r ≡ c)
-only_read None c e = absurd (let h : ◌≡◌ {A = Option Command} None (Some c) = e in cc)
-only_read (Some r) c e = (r, let h : Some (Read r) ≡ Some c = e in cc)
-
-pub only_execute : (o : Option Execution) (c : Command) → option_map Execute o ≡ Some c → (e : Execution) × (Execute e ≡ c)
-only_execute None c e = absurd (let h : ◌≡◌ {A = Option Command} None (Some c) = e in cc)
-only_execute (Some x) c e = (x, let h : Some (Execute x) ≡ Some c = e in cc)
-
--- how a command that reads ends is how each command does
+-- how a command that executes nothing ends is how each command does
 pub ends_still : (words : List (List ℕ)) (c : Command) (old new : Streams) (err err' : ErrorStream) (b n : Crew) (status : Status)
     → asks_to_execute words ≡ false → command_of words ≡ Some c → Ends (output_of c) old new err err' status → EndsWith c old new err err' b n status
-ends_still words c old new err err' b n status asks e ends =
-    let (r, is) = only_read (reading_of words) c (sym (reads words asks) ∙ e) in
-    subst (λ (x : Command). EndsWith x old new err err' b n status) is
-    (subst (λ (x : Command). Ends (output_of x) old new err err' status) (sym is) ends)
+ends_still words (Read r) old new err err' b n status asks e ends = ends
+ends_still words Batch old new err err' b n status asks e ends = ends
+ends_still words (Execute x) old new err err' b n status asks e ends = absurd (not_executing words x asks e)
 
 -- what was run was written
 weaker_writes : (met : Bool) (b n : Crew) (bytes : List ℕ) (status : Status) (text : List ℕ) → WritesRun met b n bytes status text
@@ -64,9 +50,17 @@ drill_told number old new b n t =
     let (scale, is_scale, took, all) = ran in
     record { unread = unread; told = (drill_text number scale, (refl, (scale, is_scale, refl)), took) }
 
+-- what was computed was written
+weaker_results : (b n : Crew) (bytes : List ℕ) (status : Status) (result : List ℕ) → WritesJobsRun b n bytes status result → WritesResults bytes status result
+weaker_results b n bytes status result w = (b.jobs, (w.0, (w.1.0, w.1.1, w.1.2, w.1.3, w.1.4)))
+
+jobs_told : (old new : Streams) (b n : Crew) → IsTold set_limit (WritesJobsRun b n) Done old new → IsTold set_limit WritesResults Done old new
+jobs_told old new b n t = record { told = (t.told.0, t.told.1, t.told.2, weaker_results b n t.told.0 Done t.told.1 t.told.3, t.told.4) }
+
 pub done_is : (e : Execution) (old new : Streams) (b n : Crew) → ToldRun e old new b n → IsDone (output_of (Execute e)) Done old new
 done_is (Exec window) old new b n t = weaker_told false old new b n t
 done_is ExecMet old new b n t = weaker_told true old new b n t
+done_is Jobs old new b n t = jobs_told old new b n t
 done_is (Drill number) old new b n t = drill_told number old new b n t
 
 -- where nothing failed, what stopped it is what would stop a trace
@@ -79,6 +73,8 @@ weaker_stops met old new b n why.WriteFault quiet s = (s.0, s.1, s.2, s.3, weake
 weaker_stops met old new b n why.NoMemory quiet s = s
 weaker_stops met old new b n (why.BadSet q) quiet s = s
 weaker_stops met old new b n (why.BadLine line) quiet s = s
+weaker_stops met old new b n (why.BadProgram line) quiet s = s
+weaker_stops met old new b n (why.BadTree line kind) quiet s = s
 weaker_stops met old new b n (why.Overload total room) quiet s = s
 weaker_stops met old new b n (why.ScaleTooLarge task) quiet s = s
 weaker_stops met old new b n (why.TooLong rows) quiet s = s
@@ -112,11 +108,27 @@ drill_stops number old new b n (why.JobFault row name) quiet s =
     absurd (quiet.jobs task.0 rose)
 drill_stops number old new b n _ quiet s = let (unread, stops) = s in let (fails, keeps) = stops in absurd fails
 
+-- where nothing failed, what stopped `jobs` is a fault of a stream, want of memory, or a refusal of the bytes
+jobs_stops : (old new : Streams) (b n : Crew) (r : Refusal) → NothingRose b n → StopsAs set_limit (WritesJobsRun b n) (RefusesJobsRun b n) old new r
+    → StopsAs set_limit WritesResults RefusesJobs old new r
+jobs_stops old new b n why.WriteFault quiet s = (s.0, s.1, s.2, s.3, weaker_results b n s.0 s.2 s.1 s.4, s.5, s.6)
+jobs_stops old new b n (why.GateFault row name) quiet s = absurd (quiet.gates row.processor s.2.4.0.rose)
+jobs_stops old new b n (why.JobFault row name) quiet s =
+    let (text, set, scale, run, stopped) = s.2 in
+    let (task, leaf, rose) = stopped.0.task in
+    absurd (quiet.jobs task.0 (rose_loaded text scale set.tasks b n task.0 rose))
+jobs_stops old new b n _ quiet s = s
+
 pub stop_is : (e : Execution) (old new : Streams) (b n : Crew) (r : Refusal) → NothingRose b n → StopsRun e old new b n r
     → Stops (output_of (Execute e)) old new r
 stop_is (Exec window) old new b n r quiet s = weaker_stops false old new b n r quiet s
 stop_is ExecMet old new b n r quiet s = weaker_stops true old new b n r quiet s
+stop_is Jobs old new b n r quiet s = jobs_stops old new b n r quiet s.0
 stop_is (Drill number) old new b n r quiet s = drill_stops number old new b n r quiet s
+
+-- where nothing failed that an execution calls, no gate and no job failed
+pub none_failed : (asked : Option Command) (e : Execution) (b n : Crew) → Some (Execute e) ≡ asked → NoneFailed asked b n → NothingRose b n
+none_failed asked e b n is quiet = subst (λ (a : Option Command). NoneFailed a b n) (sym is) quiet
 
 -- how an execution that was done ends, whatever command the words are
 pub ends_done : (e : Execution) (k : Command) (old new : Streams) (err err' : ErrorStream) (b n : Crew) → Execute e ≡ k → ToldRun e old new b n
@@ -135,6 +147,7 @@ ends_stopped e k old new err err' b n r status same s refused =
 unread_stops : (e : Execution) (old new : Streams) (b n : Crew) → IsUnread old new → Keeps old.out new.out → n ≡ b → StopsRun e old new b n why.NoMemory
 unread_stops (Exec window) old new b n unread keeps same = keeps
 unread_stops ExecMet old new b n unread keeps same = keeps
+unread_stops Jobs old new b n unread keeps same = (keeps, inl same)
 unread_stops (Drill number) old new b n unread keeps same = (unread, (inl same, keeps))
 
 pub ends_unread : (words : List (List ℕ)) (k : Command) (old new : Streams) (err err' : ErrorStream) (b n : Crew) (status : Status)

@@ -4,9 +4,9 @@ use Rattle.clap.specs.Words.{App, Rule, new_app, new_rule, with_rule, with_subco
 use Rattle.clap.specs.Simple.{on_top}
 use Rattle.clap.specs.declared.builder.action.ArgAction.TheVariants.{Set, SetTrue}
 use Rattle.run_tool.specs.declared.command.Command.{Command}
-use Rattle.run_tool.specs.declared.command.Command.TheVariants.{Read, Execute}
-use Rattle.run_tool.specs.declared.command.Reading.TheVariants.{Rate, Tree, Trace, TraceMet, Check}
-use Rattle.run_tool.specs.declared.command.Execution.TheVariants.{Exec, ExecMet, Drill}
+use Rattle.run_tool.specs.declared.command.Command.TheVariants.{Read, Batch, Execute}
+use Rattle.run_tool.specs.declared.command.Reading.TheVariants.{Rate, Tree, Trace, TraceMet, TraceWrap, Check, Follow}
+use Rattle.run_tool.specs.declared.command.Execution.TheVariants.{Exec, ExecMet, Drill, Jobs}
 use Rattle.run_tool.specs.Words.{window_of, drill_of}
 
 -- the words are `exec` with a window: the usual one where none is written, as a value of its own or behind `=`
@@ -20,20 +20,33 @@ SpellsExec window words =
 abbrev pub SpellsDrill : ℕ → List (List ℕ) → Type 0
 SpellsDrill number words = (value : List ℕ) × (drill_of value ≡ Some number) × (words ≡ codes "drill" ∷ value ∷ [])
 
+-- the words are `trace` by wrapping, told by a word of its own or behind `=`
+abbrev pub SpellsWrap : List (List ℕ) → Type 0
+SpellsWrap words =
+    (words ≡ codes "trace" ∷ codes "--by" ∷ codes "wrap" ∷ []) ⊎ (words ≡ codes "trace" ∷ codes "--by=wrap" ∷ [])
+
 -- the words of a command
 abbrev pub Spells : Command → List (List ℕ) → Type 0
 Spells (Read Rate) words = words ≡ codes "rate" ∷ []
 Spells (Read Tree) words = words ≡ codes "tree" ∷ []
 Spells (Read Trace) words = words ≡ codes "trace" ∷ []
 Spells (Read TraceMet) words = words ≡ codes "trace" ∷ codes "--met" ∷ []
+Spells (Read TraceWrap) words = SpellsWrap words
 Spells (Read Check) words = words ≡ codes "check" ∷ []
+Spells (Read Follow) words = words ≡ codes "follow" ∷ []
+Spells Batch words = words ≡ codes "batch" ∷ []
 Spells (Execute (Exec window)) words = SpellsExec window words
 Spells (Execute ExecMet) words = words ≡ codes "exec" ∷ codes "--met" ∷ []
 Spells (Execute (Drill number)) words = SpellsDrill number words
+Spells (Execute Jobs) words = words ≡ codes "jobs" ∷ []
 
 -- the option `--met`
 abbrev pub met : Rule
 met = record (new_rule (codes "met")) { long = Some (codes "met"); action = Some SetTrue }
+
+-- the option `--by`, with a value
+abbrev pub by : Rule
+by = record (new_rule (codes "by")) { long = Some (codes "by"); action = Some Set }
 
 -- the option `--window`, with a value
 abbrev pub window : Rule
@@ -65,14 +78,23 @@ abbrev pub with_tree : App
 with_tree = with_command with_rate (new_app (codes "tree"))
 
 abbrev pub with_trace : App
-with_trace = with_command with_tree (with_rule (new_app (codes "trace")) met)
+with_trace = with_command with_tree (with_rule (with_rule (new_app (codes "trace")) met) by)
 
 abbrev pub with_check : App
 with_check = with_command with_trace (new_app (codes "check"))
 
+abbrev pub with_follow : App
+with_follow = with_command with_check (new_app (codes "follow"))
+
+abbrev pub with_batch : App
+with_batch = with_command with_follow (new_app (codes "batch"))
+
 abbrev pub with_exec : App
-with_exec = with_command with_check (with_rule (with_rule (new_app (codes "exec")) met) window)
+with_exec = with_command with_batch (with_rule (with_rule (new_app (codes "exec")) met) window)
+
+abbrev pub with_drill : App
+with_drill = with_command with_exec (with_rule (new_app (codes "drill")) number)
 
 -- the last of them
 abbrev pub parser : App
-parser = with_command with_exec (with_rule (new_app (codes "drill")) number)
+parser = with_command with_drill (new_app (codes "jobs"))

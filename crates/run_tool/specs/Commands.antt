@@ -1,52 +1,37 @@
 -- What each command writes, and which bytes it refuses and why. A new command adds its case to these definitions.
-use Rattle.std.specs.Prelude.{◌≡◌, ℕ, ◌+◌, ◌*◌, ◌/◌, ◌^◌, ◌≤◌, ◌<◌, ◌||◌, not, nat_eq, Bool, true, false}
-use Rattle.std.specs.Prelude.{if◌then◌else◌, List, Ok, Err}
-use Rattle.std.specs.List.{list_any}
-use Rattle.sched_base.specs.declared.sets.Task.{Task}
-use Rattle.sched_base.specs.Sets.{SetContents}
-use Rattle.sched_base.specs.Scale.{IsScale, PassesAt, total_of, room_of, Fits}
-use Rattle.task_reader.specs.Reading.{set_read_from}
+use Rattle.std.specs.Prelude.{◌≡◌, ℕ, true, false, List}
 use Rattle.run_tool.specs.declared.command.Command.{Command}
-use Rattle.run_tool.specs.declared.command.Command.TheVariants.{Read, Execute}
-use Rattle.run_tool.specs.declared.command.Reading.TheVariants.{Rate, Tree, Trace, TraceMet, Check}
-use Rattle.run_tool.specs.declared.command.Execution.TheVariants.{Exec, ExecMet, Drill}
+use Rattle.run_tool.specs.declared.command.Command.TheVariants.{Read, Batch, Execute}
+use Rattle.run_tool.specs.declared.command.Reading.TheVariants.{Rate, Tree, Trace, TraceMet, TraceWrap, Check, Follow}
+use Rattle.run_tool.specs.declared.command.Execution.TheVariants.{Exec, ExecMet, Drill, Jobs}
 use Rattle.run_tool.specs.declared.refusal.Refusal.{Refusal}
-use Rattle.run_tool.specs.declared.refusal.Refusal.TheVariants.{BadSet, Overload, ScaleTooLarge, TooLong}
-use Rattle.sched_base.specs.Valid.{IsValid}
-use Rattle.run_tree.specs.Compiled.{tree_of}
-use Rattle.run_tree.specs.TreeOfSet.{IsTreeOf}
-use Rattle.run_tree.specs.Plans.{PlanContents, schedule_of, rounds_of}
-use Rattle.sched_base.specs.Tables.{row_limit}
-use Rattle.sched_base.specs.Lanes.{lanes_of}
-use Rattle.trace_lines.specs.declared.versions.Version.{Version}
-use Rattle.trace_lines.specs.declared.versions.Version.TheVariants.{One, Two}
-use Rattle.trace_lines.specs.Merging.{merged_lanes}
-use Rattle.trace_lines.specs.Text.{trace_text}
-use Rattle.tree_text.specs.Text.{tree_text}
-use Rattle.run_tool.specs.RateText.{rate_text}
+use Rattle.run_tool.specs.Batch.{WritesBatch}
 use Rattle.run_tool.specs.Drill.{WritesDrill}
 use Rattle.run_tool.specs.Checks.{WritesVerdict, Judges, RefusesTrace}
+use Rattle.run_tool.specs.Follow.{WritesFollow, RefusesFollow}
+use Rattle.run_tool.specs.JobPrograms.{WritesResults, RefusesJobs}
 use Rattle.run_tool.specs.declared.status.Status.{Status}
 use Rattle.run_tool.specs.declared.status.Status.TheVariants.{Done}
+pub use Rattle.run_tool.specs.SetTexts.{SetText, rates, server_tree, schedule_rows, wrapped_rows, ReadsSet, plan_of, some_late, version_of}
+pub use Rattle.run_tool.specs.SetTexts.{schedule_text, wrapped_text, text_of, rows_of, wrapped_rows_of, HasRoom, WritesSet, IsSound, RefusesSet}
+pub use Rattle.run_tool.specs.SetTexts.{HasTooManyRows, HasTooManyWrapped, HasNoRoom, RefusesText}
 
--- the most bytes of a task set, and of a trace text
+-- the most bytes of a task set or a tree text, and of a trace text
 abbrev pub set_limit : ℕ
 set_limit = 1048576
 
 abbrev pub trace_limit : ℕ
 trace_limit = 536870912
 
--- a text of a set that fits: its rates, its tree, or its schedule, with or without when each period was done
-pub data SetText : Type 0 where
-  rates : SetText
-  server_tree : SetText
-  schedule_rows : Bool → SetText
-
--- what a command tells: a text of the set that it reads, the judgment of the trace that it reads, or what is counted of a drill,
--- which reads nothing
+-- what a command tells: a text of the set that it reads, the judgment of the trace that it reads, the schedule of the tree that it
+-- reads, the answers of the sets that it reads, what the programs of the jobs that it reads compute, or what is counted of a drill, which
+-- reads nothing
 pub data Output : Type 0 where
   of_set : SetText → Output
   of_trace : Output
+  of_tree : Output
+  of_batch : Output
+  of_jobs : Output
   of_drill : ℕ → Output
 
 -- what each command tells
@@ -55,106 +40,45 @@ output_of (Read Rate) = of_set rates
 output_of (Read Tree) = of_set server_tree
 output_of (Read Trace) = of_set (schedule_rows false)
 output_of (Read TraceMet) = of_set (schedule_rows true)
+output_of (Read TraceWrap) = of_set wrapped_rows
 output_of (Read Check) = of_trace
+output_of (Read Follow) = of_tree
+output_of Batch = of_batch
 output_of (Execute (Exec window)) = of_set (schedule_rows false)
 output_of (Execute ExecMet) = of_set (schedule_rows true)
 output_of (Execute (Drill number)) = of_drill number
+output_of (Execute Jobs) = of_jobs
 
 -- the most bytes that are read
 abbrev pub limit_of : Output → ℕ
 limit_of (of_set what) = set_limit
 limit_of of_trace = trace_limit
+limit_of of_tree = set_limit
+limit_of of_batch = set_limit
+limit_of of_jobs = set_limit
 limit_of (of_drill number) = 0
-
--- the bytes are this set, with this scale within 2 ^ 94
-pub record ReadsSet (bytes : List ℕ) (s : SetContents) (scale : ℕ) : Type 0 where
-  pub read : set_read_from bytes ≡ Ok s
-  pub is_scale : IsScale s.tasks scale
-  pub within : scale ≤ 2 ^ 94
-
--- the plan of a set that fits, with this scale
-abbrev pub plan_of : SetContents → ℕ → PlanContents
-plan_of s scale = record { set = s; tree = tree_of scale s }
-
--- whether some task is first released late
-abbrev pub some_late : List Task → Bool
-some_late tasks = list_any (λ t. not (nat_eq t.offset 0)) tasks
-
--- the version of a trace text: the second where it was asked for, or some offset isn't 0
-abbrev pub version_of : Bool → List Task → Version
-version_of met tasks = if met || some_late tasks then Two else One
-
--- the trace text of the schedule of a plan, each processor's rows merged
-abbrev pub schedule_text : Bool → PlanContents → List ℕ
-schedule_text met p =
-    trace_text (version_of met p.set.tasks) p.set p.tree.scale (merged_lanes (lanes_of p.tree.processors (schedule_of p)))
-
--- the text of a set that fits, with this scale
-abbrev pub text_of : SetText → SetContents → ℕ → List ℕ
-text_of rates s scale = rate_text scale s
-text_of server_tree s scale = tree_text (plan_of s scale)
-text_of (schedule_rows met) s scale = schedule_text met (plan_of s scale)
-
--- how many rows the schedule of a plan has, one for each processor and round
-abbrev pub rows_of : PlanContents → ℕ
-rows_of p = rounds_of p * p.tree.processors
-
--- a set that fits has this text: a schedule that is told has at most 2,097,152 rows
-abbrev pub HasRoom : SetText → SetContents → ℕ → Type 0
-HasRoom rates s scale = Unit {0}
-HasRoom server_tree s scale = Unit {0}
-HasRoom (schedule_rows met) s scale = rows_of (plan_of s scale) ≤ row_limit
-
--- this text is written for these bytes, which are a set that fits; the status is always `Done`
-abbrev pub WritesSet : SetText → List ℕ → Status → List ℕ → Type 0
-WritesSet what bytes status text =
-    (status ≡ Done) × ((s : SetContents) × (scale : ℕ) × ReadsSet bytes s scale × Fits scale s × HasRoom what s scale
-    × (text ≡ text_of what s scale))
 
 -- this text is written for these bytes, and the command ends with this status
 abbrev pub Writes : Output → List ℕ → Status → List ℕ → Type 0
 Writes (of_set what) bytes status text = WritesSet what bytes status text
 Writes of_trace bytes status text = WritesVerdict bytes status text
+Writes of_tree bytes status text = WritesFollow bytes status text
+Writes of_batch bytes status text = WritesBatch bytes status text
+Writes of_jobs bytes status text = WritesResults bytes status text
 Writes (of_drill number) bytes status text = WritesDrill number status text
 
--- the bytes call for this status of a command that tells of them: that of `check` goes by whether the rows are a valid schedule
+-- the bytes call for this status of a command that tells of them: that of `check` goes by whether the rows are a valid schedule,
+-- that of `batch` is `Done` for all bytes
 abbrev pub CallsFor : Output → List ℕ → Status → Type 0
 CallsFor of_trace bytes status = Judges bytes status
+CallsFor of_batch bytes status = status ≡ Done
 CallsFor output bytes status = (text : List ℕ) × Writes output bytes status text
-
--- what is so of the text of a set that fits: its tree is a reduction tree of it, its schedule is valid
-abbrev pub IsSound : SetText → SetContents → ℕ → Type 0
-IsSound rates s scale = Unit {0}
-IsSound server_tree s scale = IsTreeOf s (tree_of scale s)
-IsSound (schedule_rows met) s scale = IsValid s scale (s.horizon * scale) (s.horizon * scale) (schedule_of (plan_of s scale))
-
--- these bytes are refused where a set that fits is wanted
-abbrev pub RefusesSet : List ℕ → Refusal → Type 0
-RefusesSet bytes (BadSet refusal) = set_read_from bytes ≡ Err refusal
-RefusesSet bytes (ScaleTooLarge task) = (s : SetContents) × (set_read_from bytes ≡ Ok s) × PassesAt (2 ^ 94) s.tasks task
-RefusesSet bytes (Overload total room) =
-    (s : SetContents) × (scale : ℕ) × ReadsSet bytes s scale × (room < total) × (total ≡ total_of scale s.tasks) × (room ≡ room_of scale s)
-RefusesSet bytes _ = ⊥
-
--- a set that fits whose schedule has too many rows; `rows` is the least multiple of the processors above the limit
-abbrev pub HasTooManyRows : List ℕ → ℕ → Type 0
-HasTooManyRows bytes rows =
-    (s : SetContents) × (scale : ℕ) × ReadsSet bytes s scale × Fits scale s × (row_limit < rows_of (plan_of s scale))
-    × (rows ≡ (row_limit / (plan_of s scale).tree.processors + 1) * (plan_of s scale).tree.processors)
-
--- a set of these bytes fits, and doesn't have this text for its many rows
-abbrev pub HasNoRoom : SetText → List ℕ → ℕ → Type 0
-HasNoRoom rates bytes rows = ⊥
-HasNoRoom server_tree bytes rows = ⊥
-HasNoRoom (schedule_rows met) bytes rows = HasTooManyRows bytes rows
-
--- these bytes are refused where this text of a set is wanted
-abbrev pub RefusesText : SetText → List ℕ → Refusal → Type 0
-RefusesText what bytes (TooLong rows) = HasNoRoom what bytes rows
-RefusesText what bytes refusal = RefusesSet bytes refusal
 
 -- these bytes are refused for this reason
 abbrev pub Refuses : Output → List ℕ → Refusal → Type 0
 Refuses (of_set what) bytes refusal = RefusesText what bytes refusal
 Refuses of_trace bytes refusal = RefusesTrace bytes refusal
+Refuses of_tree bytes refusal = RefusesFollow bytes refusal
+Refuses of_batch bytes refusal = ⊥
+Refuses of_jobs bytes refusal = RefusesJobs bytes refusal
 Refuses (of_drill number) bytes refusal = ⊥

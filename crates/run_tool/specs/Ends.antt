@@ -5,12 +5,13 @@ use Rattle.std.specs.Io.KnownBytes.{Appends, Keeps}
 use Rattle.sched_edges.specs.Causes.{Rose}
 use Rattle.sched_edges.specs.declared.streams.Source.{Ghosts as SourceTells}
 use Rattle.sched_edges.specs.declared.streams.Sink.{Ghosts as SinkTells}
-use Rattle.sched_edges.specs.Streams.{GaveAll, GaveCount, TookPart}
+use Rattle.sched_edges.specs.Streams.{GaveAll, GaveAtMost, GaveCount, TookPart}
 use Rattle.run_tool.specs.declared.command.Command.{Command}
 use Rattle.run_tool.specs.declared.refusal.Refusal.{Refusal}
 use Rattle.run_tool.specs.declared.refusal.Refusal.TheVariants as why
 use Rattle.run_tool.specs.declared.status.Status.{Status}
 use Rattle.run_tool.specs.declared.status.Status.TheVariants.{Done, Invalid, Usage, NoMemory, BadInput, Overload, ScaleTooLarge, TooLong, InputTooLong}
+use Rattle.run_tool.specs.declared.status.Status.TheVariants.{BadTree}
 use Rattle.sched_base.specs.Sets.{SetContents}
 use Rattle.sched_base.specs.Scale.{Fits}
 use Rattle.run_tool.specs.Drill.{WritesDrill}
@@ -73,7 +74,8 @@ pub record IsTold (limit : ℕ) (Writes : List ℕ → Status → List ℕ → T
 -- why a text wasn't written, or not all of it, and what `out` took
 abbrev pub StopsAs : ℕ → (List ℕ → Status → List ℕ → Type 0) → (List ℕ → Refusal → Type 0) → Streams → Streams → Refusal → Type 0
 StopsAs limit Writes Refuses old new why.Usage = ⊥
-StopsAs limit Writes Refuses old new why.ReadFault = Rose old.read_faults new.read_faults × Keeps old.out new.out
+StopsAs limit Writes Refuses old new why.ReadFault =
+    Rose old.read_faults new.read_faults × GaveAtMost old.left new.left limit × Keeps old.out new.out
 StopsAs limit Writes Refuses old new (why.InputTooLong count) = (count ≡ limit + 1) × GaveCount old.left new.left count × Keeps old.out new.out
 StopsAs limit Writes Refuses old new why.NoMemory = Keeps old.out new.out
 StopsAs limit Writes Refuses old new why.WriteFault =
@@ -137,6 +139,7 @@ IsAnswer output bytes BadInput = Refused output bytes BadInput
 IsAnswer output bytes Overload = Refused output bytes Overload
 IsAnswer output bytes ScaleTooLarge = Refused output bytes ScaleTooLarge
 IsAnswer output bytes TooLong = Refused output bytes TooLong
+IsAnswer output bytes BadTree = Refused output bytes BadTree
 IsAnswer output bytes _ = ⊥
 
 -- where the source tells its bytes and nothing fails, their answer is given, or memory was refused

@@ -1,5 +1,5 @@
 -- What `exec` writes, and why it stops: with what the gates and the jobs did.
-use Rattle.std.specs.Prelude.{ℕ, ◌≡◌, ◌⊎◌, ◌≤◌, Bool, true, false, List, Option, Some, None}
+use Rattle.std.specs.Prelude.{ℕ, ◌≡◌, ◌⊎◌, ◌≤◌, Bool, true, false, List, take, Option, Some, None}
 use Rattle.std.specs.Io.KnownBytes.{Appends, Keeps}
 use Rattle.sched_base.specs.declared.rows.Leaf.{Leaf}
 use Rattle.sched_base.specs.declared.rows.Leaf.TheVariants as leaf
@@ -7,11 +7,14 @@ use Rattle.sched_base.specs.declared.sets.Task.{Task}
 use Rattle.sched_base.specs.Sets.{SetContents, task_at}
 use Rattle.sched_base.specs.Scale.{IsScale, Fits}
 use Rattle.sched_edges.specs.Causes.{Rose}
-use Rattle.sched_edges.specs.Streams.{TookPart}
+use Rattle.sched_edges.specs.Streams.{GaveAll, TookPart}
+use Rattle.job_vm.specs.Programs.{JobTextHeld}
+use Rattle.job_vm.specs.Loading.{loaded}
+use Rattle.run_tool.specs.JobPrograms.{ReadsJobs, IsJobsToRun, result_text, RefusesJobs}
 use Rattle.run_tool.specs.declared.command.Command.{Command}
-use Rattle.run_tool.specs.declared.command.Command.TheVariants.{Read, Execute}
+use Rattle.run_tool.specs.declared.command.Command.TheVariants.{Execute}
 use Rattle.run_tool.specs.declared.command.Execution.{Execution}
-use Rattle.run_tool.specs.declared.command.Execution.TheVariants.{Exec, ExecMet, Drill}
+use Rattle.run_tool.specs.declared.command.Execution.TheVariants.{Exec, ExecMet, Drill, Jobs}
 use Rattle.run_tool.specs.declared.refusal.Refusal.{Refusal}
 use Rattle.run_tool.specs.declared.refusal.Refusal.TheVariants as why
 use Rattle.run_tool.specs.declared.status.Status.{Status}
@@ -22,7 +25,7 @@ use Rattle.run_tool.specs.Drill.{drilled, drill_plan, IsDrill, drill_text}
 use Rattle.run_tool.specs.Ends.{Streams, ErrorStream, IsUnread, IsQuiet, Tells, IsTold, StopsAs, Ends}
 use Rattle.run_tree.specs.Plans.{PlanContents}
 use Rattle.run_tool.specs.Input.{IsRun, IsRefusedSet, IsTooLongSet}
-use Rattle.run_tool.specs.Executions.{Crew, RanAll, GateStopped, JobStopped}
+use Rattle.run_tool.specs.Executions.{Crew, RanAll, GateStopped, JobStopped, NothingRose}
 
 -- the name of the task that a leaf runs, if it runs one
 abbrev pub name_at : List Task → Leaf → Option (List ℕ)
@@ -99,16 +102,54 @@ StopsAtDrill number out out' faults faults' old new why.WriteFault =
     (scale : ℕ) × IsDrill number scale × TookPart out out' (drill_text number scale) × Rose faults faults' × RanAll (drill_plan number scale) old new
 StopsAtDrill number out out' faults faults' old new refusal = FailsDrill number old new refusal × Keeps out out'
 
+-- ---- `jobs`
+
+-- the gates and the jobs, once the programs of these tasks are loaded
+abbrev pub loaded_crew : JobTextHeld → ℕ → List Task → Crew → Crew
+loaded_crew text scale tasks c = record c { jobs = loaded scale text.programs tasks c.jobs }
+
+-- the programs of the first tasks, of none or of all, were loaded, and else nothing was done: no gate was called, and no job worked
+abbrev pub HasLoaded : JobTextHeld → SetContents → Crew → Crew → Type 0
+HasLoaded text s old new = (scale n : ℕ) × IsRun s scale × (new ≡ loaded_crew text scale (take n s.tasks) old)
+
+-- what is told of these bytes is written once the gates and the jobs, with their programs, have run the whole schedule of their set
+abbrev pub WritesJobsRun : Crew → Crew → List ℕ → Status → List ℕ → Type 0
+WritesJobsRun old new bytes status result =
+    (status ≡ Done) × ((text : JobTextHeld) × (s : SetContents) × (scale : ℕ) × IsJobsToRun bytes text s scale
+    × (result ≡ result_text text (plan_of s scale) old.jobs) × RanAll (plan_of s scale) (loaded_crew text scale s.tasks old) new)
+
+-- why nothing is written for these bytes: a gate or a job failed, or they are refused
+abbrev pub RefusesJobsRun : Crew → Crew → List ℕ → Refusal → Type 0
+RefusesJobsRun old new bytes (why.GateFault row name) =
+    (text : JobTextHeld) × (s : SetContents) × (scale : ℕ) × IsJobsToRun bytes text s scale
+    × StopsInRun (plan_of s scale) (loaded_crew text scale s.tasks old) new (why.GateFault row name)
+RefusesJobsRun old new bytes (why.JobFault row name) =
+    (text : JobTextHeld) × (s : SetContents) × (scale : ℕ) × IsJobsToRun bytes text s scale
+    × StopsInRun (plan_of s scale) (loaded_crew text scale s.tasks old) new (why.JobFault row name)
+RefusesJobsRun old new bytes refusal = RefusesJobs bytes refusal
+
+-- where memory was refused, nothing was begun, or some of the programs were loaded
+abbrev pub MayHaveLoaded : Streams → Streams → Crew → Crew → Refusal → Type 0
+MayHaveLoaded old new before now why.NoMemory =
+    (now ≡ before) ⊎ ((bytes : List ℕ) × (text : JobTextHeld) × (s : SetContents) × GaveAll old.left new.left set_limit bytes × ReadsJobs bytes text s
+    × HasLoaded text s before now)
+MayHaveLoaded old new before now _ = Unit {0}
+
+-- ---- all executions
+
 -- an execution was done: `out` took its whole text, and the gates and the jobs ran the schedule. A drill read nothing
 abbrev pub ToldRun : Execution → Streams → Streams → Crew → Crew → Type 0
 ToldRun (Exec window) old new before now = IsTold set_limit (WritesRun false before now) Done old new
 ToldRun ExecMet old new before now = IsTold set_limit (WritesRun true before now) Done old new
+ToldRun Jobs old new before now = IsTold set_limit (WritesJobsRun before now) Done old new
 ToldRun (Drill number) old new before now = IsUnread old new × RanDrill number old.out new.out before now
 
 -- why an execution stopped, what `out` took, and what the gates and the jobs did. A drill read nothing
 abbrev pub StopsRun : Execution → Streams → Streams → Crew → Crew → Refusal → Type 0
 StopsRun (Exec window) old new before now refusal = StopsAs set_limit (WritesRun false before now) (RefusesRun false before now) old new refusal
 StopsRun ExecMet old new before now refusal = StopsAs set_limit (WritesRun true before now) (RefusesRun true before now) old new refusal
+StopsRun Jobs old new before now refusal =
+    StopsAs set_limit (WritesJobsRun before now) (RefusesJobsRun before now) old new refusal × MayHaveLoaded old new before now refusal
 StopsRun (Drill number) old new before now refusal =
     IsUnread old new × StopsAtDrill number old.out new.out old.out_faults new.out_faults before now refusal
 
@@ -134,6 +175,11 @@ abbrev pub EndsWith : Command → Streams → Streams → ErrorStream → ErrorS
 EndsWith (Execute e) old new err err' before now status = EndsRun e old new err err' before now status
 EndsWith c old new err err' before now status = Ends (output_of c) old new err err' status
 
+-- no gate and no job failed, where the command calls any
+abbrev pub NoneFailed : Option Command → Crew → Crew → Type 0
+NoneFailed (Some (Execute e)) old new = NothingRose old new
+NoneFailed asked old new = Unit {0}
+
 -- whether a gate or a job may have been called: by an execution that was done, that failed on the way, or whose text wasn't taken
 abbrev pub may_have_called : Status → Bool
 may_have_called Done = true
@@ -142,12 +188,14 @@ may_have_called GateFault = true
 may_have_called JobFault = true
 may_have_called status = false
 
--- whether the command is a drill
-abbrev pub is_drill : Option Command → Bool
-is_drill (Some (Execute (Drill number))) = true
-is_drill _ = false
+-- whether memory may be refused once a gate or a job was touched: a drill takes memory for the trace of its rows once they were run,
+-- and `jobs` loads one program after the other
+abbrev pub takes_memory_late : Option Command → Bool
+takes_memory_late (Some (Execute (Drill number))) = true
+takes_memory_late (Some (Execute Jobs)) = true
+takes_memory_late _ = false
 
--- the same by the command: a drill takes memory for the trace of its rows once they were run
+-- the same by the command
 abbrev pub may_have_run : Option Command → Status → Bool
-may_have_run asked NoMemory = is_drill asked
+may_have_run asked NoMemory = takes_memory_late asked
 may_have_run asked status = may_have_called status

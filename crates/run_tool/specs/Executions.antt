@@ -11,6 +11,7 @@ use Rattle.sched_edges.specs.declared.gates.Gate.{Ghosts as GateTells}
 use Rattle.sched_edges.specs.declared.jobs.Job.{Ghosts as JobTells}
 use Rattle.sched_edges.specs.Gates.{grown}
 use Rattle.sched_edges.specs.Jobs.{JobPlaces}
+pub use Rattle.job_vm.specs.Seen.{JobSeen, jobs_of}
 use Rattle.run_tree.specs.Plans.{PlanContents, stop_of}
 use Rattle.exec_book.specs.PlanRows.{plan_rows}
 use Rattle.exec_workers.specs.declared.kits.Kit.{Kit}
@@ -21,12 +22,6 @@ pub record GateSeen : Type 0 where
   pub ran : Option (List Row)
   pub faults : ℕ
 
--- what contracts see of a job: whose it is, the ticks that it has worked, and how often it has failed
-pub record JobSeen : Type 0 where
-  pub id : ℕ
-  pub used : ℕ
-  pub faults : ℕ
-
 -- the gates in their kits and the jobs in their places, at one moment
 pub record Crew : Type 0 where
   pub gates : List (Option GateSeen)
@@ -35,15 +30,12 @@ pub record Crew : Type 0 where
 abbrev pub gates_of : {G : Type 0} → (G → Option (List Row)) → (G → ℕ) → List (Kit G) → List (Option GateSeen)
 gates_of ran faults kits = map (λ kit. option_map (λ gate. record { ran = ran gate; faults = faults gate }) kit.gate) kits
 
-abbrev pub jobs_of : {J : Type 0} → (J → ℕ) → (J → ℕ) → (J → ℕ) → List (Option J) → List (Option JobSeen)
-jobs_of id used faults places = map (λ place. option_map (λ job. record { id = id job; used = used job; faults = faults job }) place) places
-
 abbrev pub crew : List (Option GateSeen) → List (Option JobSeen) → Crew
 crew gates jobs = record { gates = gates; jobs = jobs }
 
 -- what the gates and the jobs tell
 abbrev pub crew_of : {G J A : Type 0} → GateTells G → JobTells J → Vec (Kit G) A → JobPlaces J → Crew
-crew_of gate job kits jobs = crew (gates_of gate.ran gate.faults kits.items) (jobs_of job.id job.used job.faults jobs.places)
+crew_of gate job kits jobs = crew (gates_of gate.ran gate.faults kits.items) (jobs_of job.id job.used job.faults job.made jobs.places)
 
 -- place i holds this
 abbrev pub Holds : {T : Type 0} → List (Option T) → ℕ → T → Type 0
@@ -62,20 +54,21 @@ pub record AreBack (old new : Crew) : Type 0 where
   pub jobs : (i : ℕ) (j : JobSeen) → Holds old.jobs i j → (k : JobSeen) × Holds new.jobs i k × (k.id ≡ j.id) × (j.faults ≤ k.faults)
 
 -- each gate ran all rows of its processor in their order, which are a valid schedule, and each job has worked the ticks of its
--- task's rows. Nothing failed
+-- task's rows, with the program that it had. Nothing failed
 pub record RanAll (p : PlanContents) (old new : Crew) : Type 0 where
   pub gates : (q : ℕ) (g : GateSeen) → Holds old.gates q g → Holds new.gates q (record { ran = grown g.ran (lane_of (plan_rows p) q); faults = g.faults })
   pub jobs : (i : ℕ) (j : JobSeen) → Holds old.jobs i j
-      → Holds new.jobs i (record { id = j.id; used = j.used + ticks_in i (all_rows (plan_rows p)); faults = j.faults })
+      → Holds new.jobs i (record j { used = j.used + ticks_in i (all_rows (plan_rows p)) })
   pub valid : IsValid p.set p.tree.scale (stop_of p) (stop_of p) (all_rows (plan_rows p))
 
 -- each gate ran the first rows of its processor, as many as `ran` says. As many of them as `posted` says are posted, all but one
--- at most. Each job has worked the ticks of its task's posted rows, which are the first of the task
+-- at most. Each job has worked the ticks of its task's posted rows, which are the first of the task, with the program that it had
 pub record RanPart (p : PlanContents) (old new : Crew) (posted ran : List ℕ) : Type 0 where
   pub beside : (q : ℕ) → (slice_index posted q ≤ slice_index ran q) × (slice_index ran q ≤ slice_index posted q + 1)
   pub gates : (q : ℕ) (g : GateSeen) → Holds old.gates q g
       → (h : GateSeen) × Holds new.gates q h × (h.ran ≡ grown g.ran (take (slice_index ran q) (lane_of (plan_rows p) q)))
-  pub jobs : (i : ℕ) (j : JobSeen) → Holds old.jobs i j → (k : JobSeen) × Holds new.jobs i k × (k.used ≡ j.used + ticks_of i (plan_rows p) posted)
+  pub jobs : (i : ℕ) (j : JobSeen) → Holds old.jobs i j
+      → (k : JobSeen) × Holds new.jobs i k × (k.used ≡ j.used + ticks_of i (plan_rows p) posted) × (k.made ≡ j.made)
   pub front : IsFrontAt p posted
 
 -- the gate of processor q failed

@@ -5,10 +5,18 @@ use Rattle.task_reader.specs.declared.refusals.ReadSet.{ReadSet}
 use Rattle.task_reader.specs.declared.refusals.ReadSet.TheVariants as set
 use Rattle.trace_check.specs.declared.faults.TraceFault.{TraceFault}
 use Rattle.trace_check.specs.declared.faults.TraceFault.TheVariants as trace
+use Rattle.tree_reader.specs.declared.faults.TreeFault.{TreeFault}
+use Rattle.tree_reader.specs.declared.faults.TreeFault.TheVariants as tree
+use Rattle.tree_check.specs.declared.faults.TreeRefused.{TreeRefused}
+use Rattle.tree_check.specs.declared.faults.TreeRefused.TheVariants as refused
 use Rattle.run_compile.specs.declared.faults.CompileFault.{CompileFault}
 use Rattle.run_compile.specs.declared.faults.CompileFault.TheVariants as compile
 use Rattle.event_core.specs.declared.counts.CountFault.{CountFault}
 use Rattle.event_core.specs.declared.counts.CountFault.TheVariants as count
+use Rattle.wrap_sched.specs.declared.counts.WrapFault.{WrapFault}
+use Rattle.wrap_sched.specs.declared.counts.WrapFault.TheVariants as wrap
+use Rattle.job_vm.specs.declared.faults.JobTextFault.{JobTextFault}
+use Rattle.job_vm.specs.declared.faults.JobTextFault.TheVariants as job_text
 use Rattle.run_tool.specs.declared.refusal.Refusal.{Refusal}
 use Rattle.run_tool.specs.declared.refusal.Refusal.TheVariants as why
 
@@ -28,6 +36,21 @@ abbrev pub of_read_trace : TraceFault → Refusal
 of_read_trace (trace.BadLine line) = why.BadLine line
 of_read_trace trace.NoMemory = why.NoMemory
 
+-- of reading a tree text
+abbrev pub of_read_tree : TreeFault → Refusal
+of_read_tree (tree.BadLine line) = why.BadLine line
+of_read_tree tree.NoMemory = why.NoMemory
+
+-- of judging a tree that was read
+abbrev pub of_check_tree : TreeRefused → Refusal
+of_check_tree (refused.Fault line kind) = why.BadTree line kind
+of_check_tree refused.NoMemory = why.NoMemory
+
+-- of reading a job text
+abbrev pub of_read_jobs : JobTextFault → Refusal
+of_read_jobs (job_text.BadProgram line) = why.BadProgram line
+of_read_jobs job_text.NoMemory = why.NoMemory
+
 -- of compiling a set
 abbrev pub of_compile : CompileFault → Refusal
 of_compile (compile.ScaleTooLarge at) = why.ScaleTooLarge at
@@ -38,3 +61,8 @@ of_compile compile.NoMemory = why.NoMemory
 abbrev pub of_count : CountFault → Refusal
 of_count (count.TooLong rows) = why.TooLong rows
 of_count count.NoMemory = why.NoMemory
+
+-- of counting the rounds of a wrapped schedule
+abbrev pub of_wrap : WrapFault → Refusal
+of_wrap (wrap.TooLong rows) = why.TooLong rows
+of_wrap wrap.NoMemory = why.NoMemory

@@ -5,7 +5,7 @@ use Rattle.std.specs.Io.KnownBytes.{Appends, Keeps}
 use Rattle.sched_base.specs.Sets.{SetContents}
 use Rattle.sched_base.specs.Scale.{IsScale, PassesAt, total_of, room_of, Fits}
 use Rattle.sched_edges.specs.Causes.{Rose}
-use Rattle.sched_edges.specs.Streams.{GaveAll, GaveCount, TookPart}
+use Rattle.sched_edges.specs.Streams.{GaveAll, GaveAtMost, GaveCount, TookPart}
 use Rattle.task_reader.specs.Reading.{set_read_from}
 use Rattle.trace_check.specs.Traces.{Trace}
 use Rattle.trace_check.specs.Reading.{reading}
@@ -13,7 +13,7 @@ use Rattle.run_tool.specs.declared.refusal.Refusal.{Refusal}
 use Rattle.run_tool.specs.declared.refusal.Refusal.TheVariants.{ReadFault, WriteFault, NoMemory, BadSet, BadLine, Overload, ScaleTooLarge, TooLong}
 use Rattle.run_tool.specs.declared.refusal.Refusal.TheVariants.{InputTooLong}
 use Rattle.sched_base.specs.Tables.{row_limit}
-use Rattle.run_tool.specs.Commands.{SetText, rates, server_tree, schedule_rows, text_of, plan_of, rows_of, HasRoom}
+use Rattle.run_tool.specs.Commands.{SetText, rates, server_tree, schedule_rows, wrapped_rows, text_of, plan_of, rows_of, wrapped_rows_of, HasRoom}
 
 -- the source gave all its bytes, at most the limit, and they are this set
 pub record GaveSet (left left' : Option (List ℕ)) (limit : ℕ) (s : SetContents) : Type 0 where
@@ -21,7 +21,7 @@ pub record GaveSet (left left' : Option (List ℕ)) (limit : ℕ) (s : SetConten
 
 -- why no set was read
 abbrev pub GaveNoSet : Option (List ℕ) → Option (List ℕ) → ℕ → ℕ → ℕ → Refusal → Type 0
-GaveNoSet left left' faults faults' limit ReadFault = Rose faults faults'
+GaveNoSet left left' faults faults' limit ReadFault = Rose faults faults' × GaveAtMost left left' limit
 GaveNoSet left left' faults faults' limit NoMemory = Unit {0}
 GaveNoSet left left' faults faults' limit (InputTooLong count) = (count ≡ limit + 1) × GaveCount left left' count
 GaveNoSet left left' faults faults' limit (BadSet refusal) = (bytes : List ℕ) × GaveAll left left' limit bytes × (set_read_from bytes ≡ Err refusal)
@@ -33,7 +33,7 @@ pub record GaveTrace (left left' : Option (List ℕ)) (limit : ℕ) (t : Trace) 
 
 -- why no trace was read
 abbrev pub GaveNoTrace : Option (List ℕ) → Option (List ℕ) → ℕ → ℕ → ℕ → Refusal → Type 0
-GaveNoTrace left left' faults faults' limit ReadFault = Rose faults faults'
+GaveNoTrace left left' faults faults' limit ReadFault = Rose faults faults' × GaveAtMost left left' limit
 GaveNoTrace left left' faults faults' limit NoMemory = Unit {0}
 GaveNoTrace left left' faults faults' limit (InputTooLong count) = (count ≡ limit + 1) × GaveCount left left' count
 GaveNoTrace left left' faults faults' limit (BadLine line) = (bytes : List ℕ) × GaveAll left left' limit bytes × (reading bytes ≡ Err line)
@@ -59,11 +59,17 @@ IsTooLongPlan s rows =
     (scale : ℕ) × IsRun s scale × (row_limit < rows_of (plan_of s scale))
     × (rows ≡ (row_limit / (plan_of s scale).tree.processors + 1) * (plan_of s scale).tree.processors)
 
+-- the same of its wrapped schedule
+abbrev pub IsTooLongWrap : SetContents → ℕ → Type 0
+IsTooLongWrap s rows =
+    (scale : ℕ) × IsRun s scale × (row_limit < wrapped_rows_of s scale) × (rows ≡ (row_limit / s.processors + 1) * s.processors)
+
 -- the set doesn't have this text for its many rows
 abbrev pub IsTooLongSet : SetText → SetContents → ℕ → Type 0
 IsTooLongSet rates s rows = ⊥
 IsTooLongSet server_tree s rows = ⊥
 IsTooLongSet (schedule_rows met) s rows = IsTooLongPlan s rows
+IsTooLongSet wrapped_rows s rows = IsTooLongWrap s rows
 
 -- why a set's text wasn't written, or not all of it
 abbrev pub StopsAtSet : SetText → Option (List ℕ) → Option (List ℕ) → ℕ → ℕ → SetContents → Refusal → Type 0

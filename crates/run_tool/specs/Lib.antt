@@ -6,7 +6,12 @@ pub mod RateText
 pub mod Faults
 pub mod Checks
 pub mod Drill
+pub mod Batch
+pub mod Follow
+pub mod SetTexts
+pub mod JobPrograms
 pub mod Commands
+pub mod Followed
 pub mod Input
 pub mod Ends
 pub mod Refuse
@@ -14,3 +19,4 @@ pub mod Closing
 pub mod Executions
 pub mod Ready
 pub mod Executed
+pub mod JobInput

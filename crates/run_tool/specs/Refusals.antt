@@ -7,9 +7,11 @@ use Rattle.task_reader.specs.declared.refusals.Place.TheVariants as place
 use Rattle.task_reader.specs.declared.refusals.ReadSet.{ReadSet}
 use Rattle.task_reader.specs.declared.refusals.ReadSet.TheVariants as set
 use Rattle.task_reader.specs.Keys.{key_text}
+use Rattle.tree_check.specs.declared.faults.TreeKind.{TreeKind}
+use Rattle.tree_check.specs.declared.faults.TreeKind.TheVariants.{Total, Unplaced, Member, Rate, Pair, Unfinished}
 use Rattle.run_tool.specs.declared.refusal.Refusal.{Refusal}
 use Rattle.run_tool.specs.declared.refusal.Refusal.TheVariants.{Usage, ReadFault, WriteFault, NoMemory, BadSet, BadLine, Overload, ScaleTooLarge}
-use Rattle.run_tool.specs.declared.refusal.Refusal.TheVariants.{TooLong, GateFault, JobFault, InputTooLong}
+use Rattle.run_tool.specs.declared.refusal.Refusal.TheVariants.{TooLong, GateFault, JobFault, InputTooLong, BadProgram, BadTree}
 use Rattle.run_tool.specs.declared.status.Status.{Status}
 use Rattle.run_tool.specs.declared.status.Status.TheVariants as status
 use Rattle.run_tool.specs.Status.{code_of}
@@ -27,12 +29,14 @@ status_of WriteFault = status.WriteFault
 status_of NoMemory = status.NoMemory
 status_of (BadSet refusal) = set_status refusal
 status_of (BadLine line) = status.BadInput
+status_of (BadProgram line) = status.BadInput
 status_of (Overload total room) = status.Overload
 status_of (ScaleTooLarge task) = status.ScaleTooLarge
 status_of (TooLong rows) = status.TooLong
 status_of (GateFault row name) = status.GateFault
 status_of (JobFault row name) = status.JobFault
 status_of (InputTooLong count) = status.InputTooLong
+status_of (BadTree line kind) = status.BadTree
 
 -- a byte of an unknown key as it is printed: `?` for one that isn't from 33 to 126
 abbrev pub printed_byte : ℕ → ℕ
@@ -69,6 +73,15 @@ abbrev pub printed_name : Option (List ℕ) → List ℕ
 printed_name (Some name) = name
 printed_name None = 45 ∷ []
 
+-- what is wrong at a line of a tree text, as it is printed
+abbrev pub tree_kind_text : TreeKind → List ℕ
+tree_kind_text Total = codes "total"
+tree_kind_text Unplaced = codes "unplaced"
+tree_kind_text Member = codes "member"
+tree_kind_text Rate = codes "rate"
+tree_kind_text Pair = codes "pair"
+tree_kind_text Unfinished = codes "unfinished"
+
 -- why a command wasn't done
 abbrev pub refusal_words : Refusal → List (List ℕ)
 refusal_words Usage = codes "Usage" ∷ []
@@ -77,6 +90,7 @@ refusal_words WriteFault = codes "WriteFault" ∷ []
 refusal_words NoMemory = codes "NoMemory" ∷ []
 refusal_words (BadSet refusal) = set_words refusal
 refusal_words (BadLine line) = codes "BadLine" ∷ decimal line ∷ []
+refusal_words (BadProgram line) = codes "BadProgram" ∷ decimal line ∷ []
 refusal_words (Overload total room) = codes "Overload" ∷ codes "total" ∷ decimal total ∷ codes "room" ∷ decimal room ∷ []
 refusal_words (ScaleTooLarge task) = codes "ScaleTooLarge" ∷ codes "task" ∷ decimal task ∷ []
 refusal_words (TooLong rows) = codes "TooLong" ∷ codes "rows" ∷ decimal rows ∷ []
@@ -87,6 +101,7 @@ refusal_words (JobFault row name) =
     codes "JobFault" ∷ codes "task" ∷ printed_name name ∷ codes "processor" ∷ decimal row.processor ∷ codes "row" ∷ decimal row.start
     ∷ decimal row.end ∷ []
 refusal_words (InputTooLong count) = codes "InputTooLong" ∷ decimal count ∷ []
+refusal_words (BadTree line kind) = codes "BadTree" ∷ codes "line" ∷ decimal line ∷ tree_kind_text kind ∷ []
 
 -- the line of a refusal: `refused`, the status, and why
 unfoldable pub refusal_line : Refusal → List ℕ
@@ -101,11 +116,12 @@ place_text (place.Task i) = 32 ∷ (codes "task" ++ (32 ∷ decimal i))
 abbrev pub key_start : Place → List ℕ
 key_start p = ((codes "refused" ++ (32 ∷ (decimal (code_of status.BadInput) ++ (32 ∷ codes "UnknownKey")))) ++ place_text p) ++ 32 ∷ []
 
--- whether the line is short: any but that of an unknown key, whose text may be long
+-- whether the line of bytes that are no set is short: any but that of an unknown key, whose text may be long
 abbrev pub IsShortSet : ReadSet → Type 0
 IsShortSet (set.UnknownKey p key) = ⊥
 IsShortSet _ = Unit {0}
 
-abbrev pub IsShort : Refusal → Type 0
-IsShort (BadSet refusal) = IsShortSet refusal
-IsShort _ = Unit {0}
+-- whether the bytes were refused for another reason than that they are no set
+abbrev pub IsNoBadSet : Refusal → Type 0
+IsNoBadSet (BadSet refusal) = ⊥
+IsNoBadSet _ = Unit {0}

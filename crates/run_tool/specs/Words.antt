@@ -5,11 +5,11 @@ use Rattle.std.specs.Prelude.{Some, None, option_map, option_and_then, codes}
 use Rattle.std.specs.Str.{bytes_eq}
 use Rattle.trace_text.specs.Words.{number_of}
 use Rattle.run_tool.specs.declared.command.Command.{Command}
-use Rattle.run_tool.specs.declared.command.Command.TheVariants.{Read, Execute}
+use Rattle.run_tool.specs.declared.command.Command.TheVariants.{Read, Batch, Execute}
 use Rattle.run_tool.specs.declared.command.Reading.{Reading}
-use Rattle.run_tool.specs.declared.command.Reading.TheVariants.{Rate, Tree, Trace, TraceMet, Check}
+use Rattle.run_tool.specs.declared.command.Reading.TheVariants.{Rate, Tree, Trace, TraceMet, TraceWrap, Check, Follow}
 use Rattle.run_tool.specs.declared.command.Execution.{Execution}
-use Rattle.run_tool.specs.declared.command.Execution.TheVariants.{Exec, ExecMet, Drill}
+use Rattle.run_tool.specs.declared.command.Execution.TheVariants.{Exec, ExecMet, Drill, Jobs}
 
 -- ---- commands that read
 
@@ -20,18 +20,27 @@ reading_named word =
     else if bytes_eq word (codes "tree") then Some Tree
     else if bytes_eq word (codes "trace") then Some Trace
     else if bytes_eq word (codes "check") then Some Check
+    else if bytes_eq word (codes "follow") then Some Follow
     else None
 
 -- the command of this name with this option, if there is one
 abbrev pub reading_with : List ℕ → List ℕ → Option Reading
 reading_with word option =
     if bytes_eq word (codes "trace") && bytes_eq option (codes "--met") then Some TraceMet
+    else if bytes_eq word (codes "trace") && bytes_eq option (codes "--by=wrap") then Some TraceWrap
+    else None
+
+-- the command of this name with this option and its value, if there is one
+abbrev pub reading_with_value : List ℕ → List ℕ → List ℕ → Option Reading
+reading_with_value word option value =
+    if bytes_eq word (codes "trace") && (bytes_eq option (codes "--by") && bytes_eq value (codes "wrap")) then Some TraceWrap
     else None
 
 -- the command that reads that these words are, if they are one
 abbrev pub reading_of : List (List ℕ) → Option Reading
 reading_of (word ∷ []) = reading_named word
 reading_of (word ∷ option ∷ []) = reading_with word option
+reading_of (word ∷ option ∷ value ∷ []) = reading_with_value word option value
 reading_of _ = None
 
 -- ---- commands that execute
@@ -72,6 +81,7 @@ exec_by option = if bytes_eq option (codes "--met") then Some ExecMet else optio
 abbrev pub execution_named : List ℕ → Option Execution
 execution_named word =
     if bytes_eq word (codes "exec") then Some (Exec 32)
+    else if bytes_eq word (codes "jobs") then Some Jobs
     else None
 
 -- the command of this name with this option or value, if there is one
@@ -104,8 +114,25 @@ HasWindow _ = Unit {0}
 -- whether the words ask for an execution, by the first of them
 abbrev pub asks_to_execute : List (List ℕ) → Bool
 asks_to_execute [] = false
-asks_to_execute (word ∷ words) = bytes_eq word (codes "exec") || bytes_eq word (codes "drill")
+asks_to_execute (word ∷ words) = bytes_eq word (codes "exec") || (bytes_eq word (codes "drill") || bytes_eq word (codes "jobs"))
+
+-- whether the words ask for many sets, by the first of them
+abbrev pub asks_for_batch : List (List ℕ) → Bool
+asks_for_batch [] = false
+asks_for_batch (word ∷ words) = bytes_eq word (codes "batch")
+
+-- whether the words ask for what takes threads: an execution, or many sets
+abbrev pub asks_for_threads : List (List ℕ) → Bool
+asks_for_threads words = asks_to_execute words || asks_for_batch words
+
+-- `batch`, which stands alone
+abbrev pub batch_of : List (List ℕ) → Option Command
+batch_of (word ∷ []) = if bytes_eq word (codes "batch") then Some Batch else None
+batch_of _ = None
 
 -- the command that these words are, if they are one
 abbrev pub command_of : List (List ℕ) → Option Command
-command_of words = if asks_to_execute words then option_map Execute (execution_of words) else option_map Read (reading_of words)
+command_of words =
+    if asks_to_execute words then option_map Execute (execution_of words)
+    else if asks_for_batch words then batch_of words
+    else option_map Read (reading_of words)

@@ -5,6 +5,8 @@
 pub enum Command {
     /// A command that reads, and tells of what it read: it has no threads, calls no gate and no job, and returns.
     Read(Reading),
+    /// `batch`: read many task sets, and tell of each whether it fits. It has threads, calls no gate and no job, and returns.
+    Batch,
     /// A command that has gates and jobs run a schedule.
     Execute(Execution),
 }
@@ -20,8 +22,12 @@ pub enum Reading {
     Trace,
     /// `trace --met`: the same, and when each period was done.
     TraceMet,
+    /// `trace --by wrap`: read a task set, and tell its wrapped schedule.
+    TraceWrap,
     /// `check`: read a trace text, and tell whether its rows are a valid schedule of its set.
     Check,
+    /// `follow`: read a tree text, and tell the schedule of its tree.
+    Follow,
 }
 
 /// A command that executes.
@@ -33,4 +39,6 @@ pub enum Execution {
     ExecMet,
     /// `drill N`: draw a task set from the number, run its schedule, and tell what is counted of it.
     Drill { number: u64 },
+    /// `jobs`: read programs and a task set, load each task's job with its program, run the schedule, and tell the jobs' states.
+    Jobs,
 }

@@ -2,9 +2,10 @@
 ghost use Rattle.std.specs.Prelude.{◌≡◌, ℕ, false, List, map, string_bytes, codes, Some, None, IfOk, option_map};
 ghost use Rattle.clap.specs.Words.{app_of, rule_of, subcommand_of, subcommand_rows_of, first_of, found_of, one_of, rows_of};
 ghost use Rattle.run_tool.specs.Words.{command_of, exec_with, drill_with};
-ghost use Rattle.run_tool.specs.CommandLine.{met, window, number, parser, Spells};
+ghost use Rattle.run_tool.specs.CommandLine.{met, by, window, number, parser, Spells};
 ghost use Rattle.run_tool.specs.declared.command.Command.{Command};
-ghost use Rattle.run_tool.specs.declared.command.Command.TheVariants.{Execute};
+ghost use Rattle.run_tool.specs.declared.command.Command.TheVariants.{Read, Execute};
+ghost use Rattle.run_tool.specs.declared.command.Reading.TheVariants.{Trace, TraceMet, TraceWrap};
 ghost use Rattle.run_tool.specs.declared.command.Execution.TheVariants.{Exec, ExecMet};
 
 use crate::command::{Command, Execution, Reading};
@@ -30,7 +31,9 @@ pub(crate) fn read_line(alloc: Global, words: &[String]) -> Result<Option<Comman
 fn parser<'a>(alloc: Global) -> Result<clap::Command<'a>, AllocError>
     ensures { IfOk result (λ p. app_of p ≡ parser) }
 {
-    let trace = clap::Command::new(alloc, "trace").arg(met(alloc))?;
+    let trace = clap::Command::new(alloc, "trace")
+        .arg(met(alloc))?
+        .arg(by(alloc))?;
     let exec = clap::Command::new(alloc, "exec")
         .arg(met(alloc))?
         .arg(window(alloc))?;
@@ -44,8 +47,11 @@ fn parser<'a>(alloc: Global) -> Result<clap::Command<'a>, AllocError>
         .subcommand(clap::Command::new(alloc, "tree"))?
         .subcommand(trace)?
         .subcommand(clap::Command::new(alloc, "check"))?
+        .subcommand(clap::Command::new(alloc, "follow"))?
+        .subcommand(clap::Command::new(alloc, "batch"))?
         .subcommand(exec)?
-        .subcommand(drill)
+        .subcommand(drill)?
+        .subcommand(clap::Command::new(alloc, "jobs"))
 }
 
 // The option `--met`.
@@ -56,6 +62,14 @@ fn met<'a>(alloc: Global) -> Arg<'a>
     Arg::new(alloc, "met")
         .long("met")
         .action(ArgAction::SetTrue)
+}
+
+// The option `--by`, with a value.
+fn by<'a>(alloc: Global) -> Arg<'a>
+    ensures rule { rule_of result ≡ by }
+    ensures local { result.global ≡ false }
+{
+    Arg::new(alloc, "by").long("by").action(ArgAction::Set)
 }
 
 // The option `--window`, with a value.
@@ -85,12 +99,49 @@ fn command_in(matches: &ArgMatches<'_>) -> Option<Command>
     match name {
         "rate" => Some(Command::Read(Reading::Rate)),
         "tree" => Some(Command::Read(Reading::Tree)),
-        "trace" if options.get_flag("met") => Some(Command::Read(Reading::TraceMet)),
-        "trace" => Some(Command::Read(Reading::Trace)),
+        "trace" => read(trace_in(options)),
         "check" => Some(Command::Read(Reading::Check)),
+        "follow" => Some(Command::Read(Reading::Follow)),
+        "batch" => Some(Command::Batch),
         "exec" => executed(exec_in(options)),
         "drill" => executed(drill_in(options)),
+        "jobs" => Some(Command::Execute(Execution::Jobs)),
         _ => None,
+    }
+}
+
+// The command of a reading.
+fn read(reading: Option<Reading>) -> Option<Command>
+    ensures { result ≡ option_map Read reading }
+{
+    reading.map(Command::Read)
+}
+
+// `trace` with its options.
+fn trace_in(options: &ArgMatches<'_>) -> Option<Reading>
+    ensures met { one_of (codes "met") (rows_of (found_of options.now)) ≡ Some (codes "true") → result ≡ Some TraceMet }
+    ensures plain { one_of (codes "met") (rows_of (found_of options.now)) ≡ Some (codes "false")
+        → first_of (codes "by") (rows_of (found_of options.now)) ≡ None → result ≡ Some Trace }
+    ensures wrap { one_of (codes "met") (rows_of (found_of options.now)) ≡ Some (codes "false")
+        → first_of (codes "by") (rows_of (found_of options.now)) ≡ Some (codes "wrap") → result ≡ Some TraceWrap }
+{
+    if options.get_flag("met") {
+        return Some(Reading::TraceMet);
+    }
+    match options.get_str("by") {
+        Some(value) => by_with(value),
+        None => Some(Reading::Trace),
+    }
+}
+
+// `trace` by what a word names.
+fn by_with(word: &str) -> Option<Reading>
+    ensures { word.now ≡ codes "wrap" → result ≡ Some TraceWrap }
+{
+    if word == "wrap" {
+        Some(Reading::TraceWrap)
+    } else {
+        None
     }
 }
 

@@ -28,8 +28,7 @@ use std::alloc::Global;
 use std::sync::Wait;
 use std::thread::Threads;
 use task_gen::{drill_law, make, words_of};
-use trace_check::ReadTrace;
-use trace_laws::merged_law;
+use trace_check::{ReadTrace, merged_law};
 
 /// Draws a task set from a number, has the gates and the jobs run its schedule, judges the trace of its rows, and writes what is
 /// counted of it. A lane may run up to 32 rounds ahead of the others. Nothing is read.

@@ -1,16 +1,21 @@
 //! Which refusal a fault of a call below is.
 ghost use Rattle.std.specs.Prelude.{◌≡◌};
-ghost use Rattle.run_tool.specs.Faults.{of_take, of_read_set, of_read_trace, of_compile, of_count};
+ghost use Rattle.run_tool.specs.Faults.{of_take, of_read_set, of_read_trace, of_read_tree, of_check_tree, of_read_jobs, of_compile};
+ghost use Rattle.run_tool.specs.Faults.{of_count, of_wrap};
 ghost use Rattle.run_tool.specs.declared.refusal.Refusal.TheVariants as why;
 
 use crate::refusal::Refusal;
 use event_core::CountFault;
+use job_vm::JobTextFault;
 use rate_scale::ScaleTooLarge;
 use run_compile::CompileFault;
 use sched_base::NoMemory;
 use sched_edges::{Failed, TakeFault};
 use task_reader::ReadSet;
 use trace_check::TraceFault;
+use tree_check::TreeRefused;
+use tree_reader::TreeFault;
+use wrap_sched::WrapFault;
 
 impl From<NoMemory> for Refusal {
     ghost from_gives = { λ _ refusal. refusal ≡ why.NoMemory };
@@ -63,6 +68,39 @@ impl From<TraceFault> for Refusal {
     }
 }
 
+impl From<TreeFault> for Refusal {
+    ghost from_gives = { λ fault refusal. refusal ≡ of_read_tree fault };
+
+    fn from(fault: TreeFault) -> Self {
+        match fault {
+            TreeFault::BadLine { line } => Refusal::BadLine { line },
+            TreeFault::NoMemory => Refusal::NoMemory,
+        }
+    }
+}
+
+impl From<TreeRefused> for Refusal {
+    ghost from_gives = { λ fault refusal. refusal ≡ of_check_tree fault };
+
+    fn from(fault: TreeRefused) -> Self {
+        match fault {
+            TreeRefused::Fault { line, kind } => Refusal::BadTree { line, kind },
+            TreeRefused::NoMemory => Refusal::NoMemory,
+        }
+    }
+}
+
+impl From<JobTextFault> for Refusal {
+    ghost from_gives = { λ fault refusal. refusal ≡ of_read_jobs fault };
+
+    fn from(fault: JobTextFault) -> Self {
+        match fault {
+            JobTextFault::BadProgram { line } => Refusal::BadProgram { line },
+            JobTextFault::NoMemory => Refusal::NoMemory,
+        }
+    }
+}
+
 impl From<ScaleTooLarge> for Refusal {
     ghost from_gives = { λ fault refusal. refusal ≡ why.ScaleTooLarge fault.at };
 
@@ -90,6 +128,17 @@ impl From<CountFault> for Refusal {
         match fault {
             CountFault::TooLong { rows } => Refusal::TooLong { rows },
             CountFault::NoMemory => Refusal::NoMemory,
+        }
+    }
+}
+
+impl From<WrapFault> for Refusal {
+    ghost from_gives = { λ fault refusal. refusal ≡ of_wrap fault };
+
+    fn from(fault: WrapFault) -> Self {
+        match fault {
+            WrapFault::TooLong { rows } => Refusal::TooLong { rows },
+            WrapFault::NoMemory => Refusal::NoMemory,
         }
     }
 }

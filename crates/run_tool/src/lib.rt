@@ -1,6 +1,7 @@
 //! The commands, from the words and the bytes given to the status and the bytes written.
 #![tactic(auto)]
 
+mod batch;
 mod check;
 mod closing;
 mod command;
@@ -8,7 +9,9 @@ mod command_line;
 mod drill;
 mod exec;
 mod faults;
+mod follow;
 mod input;
+mod jobs;
 mod plan;
 mod rate;
 mod rate_text;
@@ -22,12 +25,13 @@ mod top;
 mod trace;
 mod tree;
 mod words;
+mod wrap;
 
 pub use closing::close_run;
 pub use command::{Command, Execution, Reading};
 pub use rate_text::write_rate;
 pub use refusal::Refusal;
 pub use running::run;
-pub use sound::sound_law;
+pub use sound::{follow_law, sound_law};
 pub use status::Status;
 pub use top::run_still;

@@ -5,6 +5,7 @@ ghost use Rattle.run_tool.specs.Refusals.{status_of};
 use crate::status::Status;
 use sched_base::{Name, Row};
 use task_reader::ReadSet;
+use tree_check::TreeKind;
 
 /// Why a command wasn't done.
 #[derive(Drop)]
@@ -19,8 +20,10 @@ pub enum Refusal {
     NoMemory,
     /// The bytes are no task set, for this reason.
     BadSet(ReadSet),
-    /// The bytes are no trace text: this line is the first at fault, counted from 1.
+    /// The bytes are no trace text, or no tree text: this line is the first at fault, counted from 1.
     BadLine { line: u64 },
+    /// The bytes hold no lawful programs for the tasks: this line is the first at fault, counted from 1.
+    BadProgram { line: u64 },
     /// The tasks ask for `total` ticks in each unit, and there are `room`.
     Overload { total: u128, room: u128 },
     /// This task's period brings the scale past 2^94.
@@ -33,6 +36,8 @@ pub enum Refusal {
     JobFault { row: Row, name: Option<Name> },
     /// The source gave that many bytes, one more than the command reads.
     InputTooLong { count: u64 },
+    /// The tree text is that of no reduction tree of its set: this line is the first at fault, counted from 1, and this is why.
+    BadTree { line: u64, kind: TreeKind },
 }
 
 impl Refusal {
@@ -48,12 +53,14 @@ impl Refusal {
             Refusal::BadSet(ReadSet::NoMemory) => Status::NoMemory,
             Refusal::BadSet(_) => Status::BadInput,
             Refusal::BadLine { .. } => Status::BadInput,
+            Refusal::BadProgram { .. } => Status::BadInput,
             Refusal::Overload { .. } => Status::Overload,
             Refusal::ScaleTooLarge { .. } => Status::ScaleTooLarge,
             Refusal::TooLong { .. } => Status::TooLong,
             Refusal::GateFault { .. } => Status::GateFault,
             Refusal::JobFault { .. } => Status::JobFault,
             Refusal::InputTooLong { .. } => Status::InputTooLong,
+            Refusal::BadTree { .. } => Status::BadTree,
         }
     }
 }

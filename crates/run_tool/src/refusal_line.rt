@@ -5,12 +5,12 @@ ghost use Rattle.sched_edges.specs.Causes.{HasCause};
 ghost use Rattle.sched_edges.specs.Lines.{line_of};
 ghost use Rattle.sched_edges.specs.Streams.{Wrote};
 ghost use Rattle.task_reader.specs.Keys.{key_text};
-ghost use Rattle.run_tool.specs.Refusals.{place_and, place_text, key_start, refusal_line, printed_byte, printed_name, IsShort, IsShortSet};
+ghost use Rattle.run_tool.specs.Refusals.{place_and, place_text, key_start, refusal_line, printed_byte, printed_name, tree_kind_text, IsNoBadSet, IsShortSet};
 ghost use Rattle.run_tool.specs.Status.{code_of};
 ghost use Rattle.run_tool.specs.Ends.{error_of};
 ghost use Rattle.run_tool.specs.Refuse.{IsRefused};
 ghost use Rattle.run_tool.specs.declared.status.Status.TheVariants.{BadInput};
-ghost use Rattle.run_tool.specs.declared.refusal.Refusal.TheVariants.{BadSet, Overload, ScaleTooLarge, TooLong, GateFault, JobFault};
+ghost use Rattle.run_tool.specs.declared.refusal.Refusal.TheVariants.{BadSet, Overload, ScaleTooLarge, TooLong, GateFault, JobFault, BadTree};
 ghost use Rattle.task_reader.specs.declared.refusals.ReadSet.TheVariants.{UnknownKey};
 
 use crate::refusal::Refusal;
@@ -18,6 +18,7 @@ use crate::status::Status;
 use sched_base::{Name, Row};
 use sched_edges::{Failed, Line, Sink, write_all};
 use task_reader::{Key, Place, ReadSet};
+use tree_check::TreeKind;
 
 /// The most bytes of an unknown key that are written at once.
 const PIECE: usize = 128;
@@ -37,17 +38,26 @@ pub(crate) fn write_refusal<W: Sink>(refusal: &Refusal, out: &mut W) -> Result<(
     ensures cause { HasCause (W.faults out.old) (W.faults out.new) result }
 {
     match refusal {
-        Refusal::BadSet(ReadSet::UnknownKey { place, key }) => {
-            write_key_line(*place, key.as_slice(), out)
-        }
+        Refusal::BadSet(refusal) => write_set_refusal(refusal, out),
         _ => write_all(out, line_of(refusal).as_slice()),
     }
 }
 
-// The line of a refusal that is short.
+/// The same for bytes that are no set.
+pub(crate) fn write_set_refusal<W: Sink>(refusal: &ReadSet, out: &mut W) -> Result<(), Failed>
+    ensures wrote { Wrote (W.taken out.old) (W.taken out.new) (refusal_line (BadSet refusal.now)) result }
+    ensures cause { HasCause (W.faults out.old) (W.faults out.new) result }
+{
+    match refusal {
+        ReadSet::UnknownKey { place, key } => write_key_line(*place, key.as_slice(), out),
+        _ => write_all(out, set_line(refusal).as_slice()),
+    }
+}
+
+// The line of a refusal for another reason than that the bytes are no set.
 #[tactic(auto, unfolding(crate::specs::Refusals::refusal_line))]
 fn line_of(refusal: &Refusal) -> Line
-    requires { IsShort refusal.now }
+    requires { IsNoBadSet refusal.now }
     ensures { result ≡ refusal_line refusal.now }
 {
     match refusal {
@@ -55,9 +65,12 @@ fn line_of(refusal: &Refusal) -> Line
         Refusal::ReadFault => plain_line(Status::ReadFault, b"ReadFault"),
         Refusal::WriteFault => plain_line(Status::WriteFault, b"WriteFault"),
         Refusal::NoMemory => plain_line(Status::NoMemory, b"NoMemory"),
-        Refusal::BadSet(refusal) => set_line(refusal),
+        Refusal::BadSet(_) => unreachable!(),
         Refusal::BadLine { line } => {
             number_line(Status::BadInput, b"BadLine", u128::from(*line))
+        }
+        Refusal::BadProgram { line } => {
+            number_line(Status::BadInput, b"BadProgram", u128::from(*line))
         }
         Refusal::Overload { total, room } => overload_line(*total, *room),
         Refusal::ScaleTooLarge { task } => scale_line(*task),
@@ -67,6 +80,7 @@ fn line_of(refusal: &Refusal) -> Line
         Refusal::InputTooLong { count } => {
             number_line(Status::InputTooLong, b"InputTooLong", u128::from(*count))
         }
+        Refusal::BadTree { line, kind } => tree_line(*line, *kind),
     }
 }
 
@@ -250,6 +264,34 @@ fn scale_line(task: u32) -> Line
     add_number(&mut line, b"task", u128::from(task));
     line.end();
     line
+}
+
+// The line of a tree text that isn't that of a reduction tree.
+#[tactic(auto, unfolding(crate::specs::Refusals::refusal_line, sched_edges::specs::Lines::line_of))]
+fn tree_line(number: u64, kind: TreeKind) -> Line
+    ensures { result ≡ refusal_line (BadTree number kind) }
+{
+    let mut line = begin(Status::BadTree, b"BadTree");
+    add_number(&mut line, b"line", u128::from(number));
+    line.space();
+    line.text(tree_kind_text(kind));
+    line.end();
+    line
+}
+
+// What is wrong with a tree text, as it is printed.
+fn tree_kind_text(kind: TreeKind) -> &'static [u8]
+    ensures text { result.now ≡ tree_kind_text kind }
+    ensures short { length result.now ≤ 16 }
+{
+    match kind {
+        TreeKind::Total => b"total",
+        TreeKind::Unplaced => b"unplaced",
+        TreeKind::Member => b"member",
+        TreeKind::Rate => b"rate",
+        TreeKind::Pair => b"pair",
+        TreeKind::Unfinished => b"unfinished",
+    }
 }
 
 // The line of a gate that failed.

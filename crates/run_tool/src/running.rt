@@ -3,23 +3,26 @@ ghost use Rattle.std.specs.Prelude.{◌≡◌, ◌≢◌, ◌↔◌, false, map,
 ghost use Rattle.run_tool.specs.Words.{command_of, asks_to_execute, HasWindow};
 ghost use Rattle.run_tool.specs.Commands.{SetText, of_trace, output_of};
 ghost use Rattle.run_tool.specs.Refusals.{status_of};
+ghost use Rattle.run_tool.specs.Follow.{FollowsTrees};
 ghost use Rattle.run_tool.specs.Ends.{streams_of, error_of, IsDone, IsUsage, IsAnswered, TellsTruth};
-ghost use Rattle.run_tool.specs.Executions.{crew_of, IsReady, AreBack, NothingRose};
-ghost use Rattle.run_tool.specs.Executed.{ToldRun, StopsRun, EndsWith, may_have_run};
+ghost use Rattle.run_tool.specs.Executions.{crew_of, IsReady, AreBack};
+ghost use Rattle.run_tool.specs.Executed.{ToldRun, StopsRun, EndsWith, NoneFailed, may_have_run};
 ghost use Rattle.run_tool.specs.declared.command.Command.{Command};
 ghost use Rattle.run_tool.specs.declared.command.Command.TheVariants.{Read, Execute};
 ghost use Rattle.run_tool.specs.declared.command.Reading.TheVariants.{Check};
 ghost use Rattle.run_tool.specs.declared.status.Status.TheVariants.{Done, Invalid};
 
+use crate::batch::run_batch;
 use crate::command::Execution;
 use crate::drill::drill;
 use crate::exec::exec;
+use crate::jobs::run_jobs;
 use crate::refusal::Refusal;
 use crate::refusal_line::refuse;
-use crate::sound::sound_law;
+use crate::sound::{follow_law, sound_law};
 use crate::status::Status;
 use crate::top::run_still;
-use crate::words::{USUAL_WINDOW, asks_to_execute, execution_of};
+use crate::words::{USUAL_WINDOW, asks_for_batch, asks_to_execute, execution_of};
 use exec_workers::Kit;
 use sched_edges::{BoxedJob, Gate, Job, Jobs, Sink, Source};
 use std::alloc::Global;
@@ -33,7 +36,8 @@ use std::thread::Threads;
 /// rows once they were run, and all its memory before the first byte goes to `out`.
 ///
 /// The clauses speak of bytes, rows and ticks where a stream, a gate or a job tells them. Want of memory alone has no cause.
-/// An execution takes a lock, so its clauses hold if it returns. All else is done by `run_still`, which returns.
+/// An execution takes a lock, so its clauses hold if it returns. `batch` takes threads and no lock; all else is done by `run_still`,
+/// which returns.
 pub fn run<R: Source, W: Sink, E: Sink, G: Gate + Send, X: Threads + Wait + Sync>(
     rt: &X,
     alloc: Global,
@@ -63,6 +67,9 @@ pub fn run<R: Source, W: Sink, E: Sink, G: Gate + Send, X: Threads + Wait + Sync
     // What is told of a set is sound: a tree is a reduction tree of it, and a schedule is valid.
     ensures sound { (what : SetText) → TellsTruth what }
 
+    // The tree that is followed is a reduction tree of its text's set, and its schedule is valid.
+    ensures followed { FollowsTrees }
+
     // Each status comes only for its reason, and `err` took its line. Where a schedule was run, its text comes after each gate ran
     // the rows of its processor and each job worked the ticks of its task; where a gate or a job failed, this is the one named, and
     // the others ran first rows.
@@ -75,8 +82,8 @@ pub fn run<R: Source, W: Sink, E: Sink, G: Gate + Send, X: Threads + Wait + Sync
         (c : Command) → command_of (map string_bytes words.now) ≡ Some c →
         EndsWith c old new told tells before now result }
 
-    // No gate and no job is called but by an execution, and by none that is refused before. A drill may have run all rows where
-    // memory was refused.
+    // No gate and no job is called but by an execution, and by none that is refused before. Where memory was refused, a drill may
+    // have run all rows, and `jobs` may have loaded programs.
     ensures still { asks_to_execute (map string_bytes words.now) ≡ false →
         (kits.new.items ≡ kits.old.items) × (jobs.new.places ≡ jobs.old.places) }
     ensures uncalled { may_have_run (command_of (map string_bytes words.now)) result ≡ false →
@@ -86,16 +93,20 @@ pub fn run<R: Source, W: Sink, E: Sink, G: Gate + Send, X: Threads + Wait + Sync
     ensures back { AreBack (crew_of G.Gate ⟦<BoxedJob as Job>⟧ kits.old jobs.old)
         (crew_of G.Gate ⟦<BoxedJob as Job>⟧ kits.new jobs.new) }
 
-    // Where nothing fails, the answer for the bytes is given.
-    ensures answered { NothingRose (crew_of G.Gate ⟦<BoxedJob as Job>⟧ kits.old jobs.old)
+    // Where nothing fails that the command calls, the answer for the bytes is given.
+    ensures answered { NoneFailed (command_of (map string_bytes words.now)) (crew_of G.Gate ⟦<BoxedJob as Job>⟧ kits.old jobs.old)
         (crew_of G.Gate ⟦<BoxedJob as Job>⟧ kits.new jobs.new)
         → IsAnswered (command_of (map string_bytes words.now)) (R.left source.old)
         (streams_of R.Source W.Sink source.old out.old) (streams_of R.Source W.Sink source.new out.new) result }
 {
+    sound_law();
+    follow_law();
+    if asks_for_batch(words) {
+        return run_batch(rt, alloc, words, source, out, err);
+    }
     if !asks_to_execute(words) {
         return run_still(alloc, words, source, out, err);
     }
-    sound_law();
     match execution_of(alloc, words) {
         Err(_) => refuse(&Refusal::NoMemory, err),
         Ok(None) => refuse(&Refusal::Usage, err),
@@ -135,5 +146,6 @@ fn perform<R: Source, W: Sink, G: Gate + Send, X: Threads + Wait + Sync>(
         Execution::Exec { window } => exec(rt, alloc, source, window, false, out, kits, jobs),
         Execution::ExecMet => exec(rt, alloc, source, USUAL_WINDOW, true, out, kits, jobs),
         Execution::Drill { number } => drill(rt, alloc, number, out, kits, jobs),
+        Execution::Jobs => run_jobs(rt, alloc, source, out, kits, jobs),
     }
 }

@@ -31,6 +31,8 @@ pub enum Status {
     JobFault,
     /// The source gave more bytes than the command reads.
     InputTooLong,
+    /// The tree text is that of no reduction tree of its set.
+    BadTree,
 }
 
 impl Status {
@@ -52,6 +54,7 @@ impl Status {
             Status::GateFault => 10,
             Status::JobFault => 11,
             Status::InputTooLong => 12,
+            Status::BadTree => 16,
         }
     }
 }

@@ -1,6 +1,7 @@
-//! The top call for all commands but executions.
+//! The top call for all commands but executions and `batch`.
 ghost use Rattle.std.specs.Prelude.{◌≡◌, ◌≢◌, ◌↔◌, false, map, string_bytes, None, Some, IfOk, IfErr};
-ghost use Rattle.run_tool.specs.Words.{command_of, asks_to_execute};
+ghost use Rattle.run_tool.specs.Words.{command_of, asks_for_threads};
+ghost use Rattle.run_tool.specs.Follow.{FollowsTrees};
 ghost use Rattle.run_tool.specs.Ends.{streams_of, error_of, IsDone, IsUsage, Stops, Ends, IsAnswered, TellsTruth};
 ghost use Rattle.run_tool.specs.Commands.{SetText, of_trace, output_of};
 ghost use Rattle.run_tool.specs.declared.command.Command.{Command};
@@ -10,14 +11,16 @@ ghost use Rattle.run_tool.specs.declared.status.Status.TheVariants.{Done, Invali
 
 use crate::check::check;
 use crate::command::Reading;
+use crate::follow::follow;
 use crate::rate::rate;
 use crate::refusal::Refusal;
 use crate::refusal_line::refuse;
-use crate::sound::sound_law;
+use crate::sound::{follow_law, sound_law};
 use crate::status::Status;
 use crate::trace::trace;
 use crate::tree::tree;
 use crate::words::reading_of;
+use crate::wrap::trace_by_wrapping;
 use sched_edges::{Sink, Source};
 use std::alloc::Global;
 
@@ -32,7 +35,7 @@ pub fn run_still<R: Source, W: Sink, E: Sink>(
     out: &mut W,
     err: &mut E,
 ) -> Status
-    requires still { asks_to_execute (map string_bytes words.now) ≡ false }
+    requires still { asks_for_threads (map string_bytes words.now) ≡ false }
 
     // Usage comes exactly where the words are no command line, want of memory aside. All else is left as it was.
     ensures usage { result ≢ Status.NoMemory → ((result ≡ Status.Usage) ↔ (command_of (map string_bytes words.now) ≡ None)) }
@@ -51,6 +54,9 @@ pub fn run_still<R: Source, W: Sink, E: Sink>(
     // What is told of a set is sound: a tree is a reduction tree of it, and a schedule is valid.
     ensures sound { (what : SetText) → TellsTruth what }
 
+    // The tree that is followed is a reduction tree of its text's set, and its schedule is valid.
+    ensures followed { FollowsTrees }
+
     // Each status comes only for its reason, and `err` took its line.
     ensures ends { (c : Command) → command_of (map string_bytes words.now) ≡ Some c → Ends (output_of c)
         (streams_of R.Source W.Sink source.old out.old) (streams_of R.Source W.Sink source.new out.new)
@@ -61,6 +67,7 @@ pub fn run_still<R: Source, W: Sink, E: Sink>(
         (streams_of R.Source W.Sink source.old out.old) (streams_of R.Source W.Sink source.new out.new) result }
 {
     sound_law();
+    follow_law();
     match reading_of(alloc, words) {
         Err(_) => refuse(&Refusal::NoMemory, err),
         Ok(None) => refuse(&Refusal::Usage, err),
@@ -89,5 +96,7 @@ fn read<R: Source, W: Sink>(
         Reading::Trace => trace(alloc, source, false, out).map(|()| Status::Done),
         Reading::TraceMet => trace(alloc, source, true, out).map(|()| Status::Done),
         Reading::Check => check(alloc, source, out),
+        Reading::TraceWrap => trace_by_wrapping(alloc, source, out).map(|()| Status::Done),
+        Reading::Follow => follow(alloc, source, out).map(|()| Status::Done),
     }
 }

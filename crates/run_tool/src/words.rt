@@ -1,11 +1,11 @@
 //! Command lines.
-ghost use Rattle.std.specs.Prelude.{◌≡◌, ◌↔◌, true, false, map, string_bytes, Some, IfOk, IfSome, IsTrue, option_map};
-ghost use Rattle.run_tool.specs.declared.command.Command.TheVariants.{Read, Execute};
+ghost use Rattle.std.specs.Prelude.{◌≡◌, ◌↔◌, true, false, map, string_bytes, Some, None, IfOk, IfSome, IsTrue, option_map};
+ghost use Rattle.run_tool.specs.declared.command.Command.TheVariants.{Read, Batch, Execute};
 ghost use Rattle.run_tool.specs.declared.command.Execution.TheVariants.{Exec, Drill};
 ghost use Rattle.run_tool.specs.Words.{window_of, exec_with, exec_by, drill_of, drill_with, HasWindow};
-ghost use Rattle.run_tool.specs.Words.{reading_of, reading_named, reading_with};
+ghost use Rattle.run_tool.specs.Words.{reading_of, reading_named, reading_with, reading_with_value};
 ghost use Rattle.run_tool.specs.Words.{execution_of, execution_named, execution_with, execution_with_value};
-ghost use Rattle.run_tool.specs.Words.{asks_to_execute, command_of};
+ghost use Rattle.run_tool.specs.Words.{asks_to_execute, asks_for_batch, asks_for_threads, command_of};
 
 use crate::command::{Command, Execution, Reading};
 use crate::command_line::read_line;
@@ -23,19 +23,34 @@ const WINDOW_LIMIT: u128 = 1024;
 const DRILL_LIMIT: u128 = 18_446_744_073_709_551_615;
 
 /// The command that reads that these words are, the words after the program's name; none where they are no command line. The
-/// words don't ask for an execution.
+/// words don't ask for what takes threads.
 ///
 /// The words are read by `clap`, which knows further spellings. So the command that was read is spelled again by the table of
 /// lines, and words that aren't this spelling are no command line.
 pub(crate) fn reading_of(alloc: Global, words: &[String]) -> Result<Option<Reading>, NoMemory>
-    requires still { asks_to_execute (map string_bytes words.now) ≡ false }
+    requires still { asks_for_threads (map string_bytes words.now) ≡ false }
     ensures { IfOk result (λ reading. option_map Read reading ≡ command_of (map string_bytes words.now)) }
 {
     match read_line(alloc, words)? {
         Some(Command::Read(reading)) if is_reading(reading, words) => Ok(Some(reading)),
         Some(Command::Read(_)) => Ok(None),
+        Some(Command::Batch) => Ok(None),
         Some(Command::Execute(_)) => Ok(None),
         None => Ok(None),
+    }
+}
+
+/// The same for `batch`, where the words ask for many sets: whether they are its line.
+pub(crate) fn is_batch(alloc: Global, words: &[String]) -> Result<bool, NoMemory>
+    requires batch { asks_for_batch (map string_bytes words.now) ≡ true }
+    ensures line { IfOk result (λ is. is ≡ true → command_of (map string_bytes words.now) ≡ Some Batch) }
+    ensures none { IfOk result (λ is. is ≡ false → command_of (map string_bytes words.now) ≡ None) }
+{
+    match read_line(alloc, words)? {
+        Some(Command::Batch) => Ok(words.len() == 1),
+        Some(Command::Read(_)) => Ok(false),
+        Some(Command::Execute(_)) => Ok(false),
+        None => Ok(false),
     }
 }
 
@@ -49,6 +64,7 @@ pub(crate) fn execution_of(alloc: Global, words: &[String]) -> Result<Option<Exe
         Some(Command::Execute(execution)) if is_execution(execution, words) => Ok(Some(execution)),
         Some(Command::Execute(_)) => Ok(None),
         Some(Command::Read(_)) => Ok(None),
+        Some(Command::Batch) => Ok(None),
         None => Ok(None),
     }
 }
@@ -62,6 +78,13 @@ fn is_reading(reading: Reading, words: &[String]) -> bool
         is_reading_named(reading, words[0].as_str())
     } else if count == 2 {
         is_reading_with(reading, words[0].as_str(), words[1].as_str())
+    } else if count == 3 {
+        is_reading_with_value(
+            reading,
+            words[0].as_str(),
+            words[1].as_str(),
+            words[2].as_str(),
+        )
     } else {
         false
     }
@@ -76,7 +99,8 @@ fn is_reading_named(reading: Reading, word: &str) -> bool
         Reading::Tree => word == "tree",
         Reading::Trace => word == "trace",
         Reading::Check => word == "check",
-        Reading::TraceMet => false,
+        Reading::Follow => word == "follow",
+        Reading::TraceMet | Reading::TraceWrap => false,
     }
 }
 
@@ -86,6 +110,17 @@ fn is_reading_with(reading: Reading, word: &str, option: &str) -> bool
 {
     match reading {
         Reading::TraceMet => word == "trace" && option == "--met",
+        Reading::TraceWrap => word == "trace" && option == "--by=wrap",
+        _ => false,
+    }
+}
+
+// Whether this word with this option and its value is the line of this command.
+fn is_reading_with_value(reading: Reading, word: &str, option: &str, value: &str) -> bool
+    ensures { IsTrue result ↔ (reading_with_value word.now option.now value.now ≡ Some reading) }
+{
+    match reading {
+        Reading::TraceWrap => word == "trace" && option == "--by" && value == "wrap",
         _ => false,
     }
 }
@@ -117,6 +152,7 @@ fn is_execution_named(execution: Execution, word: &str) -> bool
 {
     match execution {
         Execution::Exec { window } => word == "exec" && window == USUAL_WINDOW,
+        Execution::Jobs => word == "jobs",
         Execution::ExecMet | Execution::Drill { .. } => false,
     }
 }
@@ -131,6 +167,7 @@ fn is_execution_with(execution: Execution, word: &str, option: &str) -> bool
         Execution::Drill { number } => {
             word == "drill" && drill_of(option.as_bytes()) == Some(number)
         }
+        Execution::Jobs => false,
     }
 }
 
@@ -197,7 +234,19 @@ pub(crate) fn asks_to_execute(words: &[String]) -> bool
     ensures { result ≡ asks_to_execute (map string_bytes words.now) }
 {
     match words.first() {
-        Some(word) => word.as_str() == "exec" || word.as_str() == "drill",
+        Some(word) => {
+            word.as_str() == "exec" || word.as_str() == "drill" || word.as_str() == "jobs"
+        }
+        None => false,
+    }
+}
+
+/// Whether the words ask for many sets, by the first of them.
+pub(crate) fn asks_for_batch(words: &[String]) -> bool
+    ensures { result ≡ asks_for_batch (map string_bytes words.now) }
+{
+    match words.first() {
+        Some(word) => word.as_str() == "batch",
         None => false,
     }
 }

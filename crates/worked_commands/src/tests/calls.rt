@@ -5,9 +5,10 @@ ghost use Rattle.run_tool.specs.Executions.{gates_of, jobs_of};
 ghost use Rattle.run_tool.specs.Ready.{AreFirstGates, AreFirstJobs};
 
 use exec_workers::Kit;
+use job_vm::VmJob;
 use run_tool::{Status, run};
 use sched_base::{NoMemory, Row};
-use sched_edges::{CountJob, FailJob, Job, JobList, Jobs, ListGate, MemSink, MemSource, read_all};
+use sched_edges::{FailJob, Job, JobList, Jobs, ListGate, MemSink, MemSource, read_all};
 use std::alloc::{AllocError, Global};
 use std::process::Abort;
 use std::sync::Wait;
@@ -94,7 +95,7 @@ pub(super) fn call<X: Abort + Threads + Wait + Sync>(
     for id in 0..JOBS {
         match failing(outside, id) {
             Some(call) => jobs.add(Box::new(alloc, FailJob::new(alloc, id, &[call])?)?),
-            None => jobs.add(Box::new(alloc, CountJob::new(id))?),
+            None => jobs.add(Box::new(alloc, VmJob::new(alloc, id))?),
         }
     }
     let status = run(

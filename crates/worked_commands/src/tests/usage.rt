@@ -11,7 +11,7 @@ use std::test::Fail;
 use std::thread::Threads;
 
 /// Makes sure that the words are refused: nothing is read, nothing is written to `out`, and no gate and no job is called.
-fn assert_refused<X: Abort + Threads + Wait + Sync>(
+pub(super) fn assert_refused<X: Abort + Threads + Wait + Sync>(
     rt: &X,
     alloc: Global,
     words: &[&str],

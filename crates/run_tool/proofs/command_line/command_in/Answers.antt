@@ -1,8 +1,7 @@
-use Rattle.std.proofs.Common.{◌≡◌, true, false, Option, Some, None, List, ℕ, inl, inr, codes, sym, ap, option_map, ◌∙◌}
+use Rattle.std.proofs.Common.{◌≡◌, Option, Some, None, List, ℕ, codes, sym, ap, option_map, ◌∙◌}
 use Rattle.clap.specs.Words.{found_of, rows_of}
-use Rattle.clap.proofs.WalkLemmas.{one_text-rows}
-use Rattle.run_tool.specs.declared.command.Command.TheVariants.{Execute}
-use Rattle.run_tool.proofs.CommandLineLemmas.{names, name_of, called_as, trace_used, exec_used, exec_told, drill_used}
+use Rattle.run_tool.specs.declared.command.Command.TheVariants.{Read, Execute}
+use Rattle.run_tool.proofs.CommandLineLemmas.{names, name_of, called_as, trace_used, trace_told, exec_used, exec_told, drill_used}
 use Rattle.run_tool.proofs.command_line.command_in.Goals as goal
 
 pub returns-in_err-name : goal.returns-in_err-name
@@ -28,31 +27,27 @@ returns-in-trace c = λ used words spells e.
     c.in_ok-name.ensures.name ∙ names c.args.matches.now used words spells e in
     let name = called_as used (codes "trace") (sym c.in-trace.is ∙ cc) in
     let rows = rows_of (found_of c.in_ok-name.options.now) in
-    elim (trace_used used words rows spells name (c.in_ok-name.ensures.rows ∙ ap (option_map (λ p. p.1)) e)) [
-      | inl unmet ↦
-          let unset = c.get_flag.ensures.other (one_text-rows (found_of c.in_ok-name.options.now) (codes "met") ∙ unmet.1) in
-          absurd (let bad : true ≡ false = sym c.if-get_flag.true ∙ unset in cc)
-      | inr met ↦ ap Some (sym met.0)
-    ]
-
-pub returns-in-trace-2 : goal.returns-in-trace-2
-returns-in-trace-2 c = λ used words spells e.
-    let h : ◌≡◌ {A = Option (List ℕ)} (Some c.in_ok-name.name.now) (Some (name_of used)) =
-    c.in_ok-name.ensures.name ∙ names c.args.matches.now used words spells e in
-    let name = called_as used (codes "trace") (sym c.in-trace.is ∙ cc) in
-    let rows = rows_of (found_of c.in_ok-name.options.now) in
-    elim (trace_used used words rows spells name (c.in_ok-name.ensures.rows ∙ ap (option_map (λ p. p.1)) e)) [
-      | inl unmet ↦ ap Some (sym unmet.0)
-      | inr met ↦
-          let set = c.get_flag.ensures.value (one_text-rows (found_of c.in_ok-name.options.now) (codes "met") ∙ met.1) in
-          absurd (let bad : true ≡ false = sym set ∙ c.if-get_flag.false in cc)
-    ]
+    let (x, is, tells) = trace_used used words rows spells name (c.in_ok-name.ensures.rows ∙ ap (option_map (λ p. p.1)) e) in
+    let read = trace_told x rows c.trace_in.result tells c.trace_in.ensures.met c.trace_in.ensures.plain c.trace_in.ensures.wrap in
+    c.read.ensures ∙ ap (option_map Read) read ∙ ap Some (sym is)
 
 pub returns-in-check : goal.returns-in-check
 returns-in-check c = λ used words spells e.
     let h : ◌≡◌ {A = Option (List ℕ)} (Some c.in_ok-name.name.now) (Some (name_of used)) =
     c.in_ok-name.ensures.name ∙ names c.args.matches.now used words spells e in
     ap Some (sym (called_as used (codes "check") (sym c.in-check.is ∙ cc)))
+
+pub returns-in-follow : goal.returns-in-follow
+returns-in-follow c = λ used words spells e.
+    let h : ◌≡◌ {A = Option (List ℕ)} (Some c.in_ok-name.name.now) (Some (name_of used)) =
+    c.in_ok-name.ensures.name ∙ names c.args.matches.now used words spells e in
+    ap Some (sym (called_as used (codes "follow") (sym c.in-follow.is ∙ cc)))
+
+pub returns-in-batch : goal.returns-in-batch
+returns-in-batch c = λ used words spells e.
+    let h : ◌≡◌ {A = Option (List ℕ)} (Some c.in_ok-name.name.now) (Some (name_of used)) =
+    c.in_ok-name.ensures.name ∙ names c.args.matches.now used words spells e in
+    ap Some (sym (called_as used (codes "batch") (sym c.in-batch.is ∙ cc)))
 
 pub returns-in-exec : goal.returns-in-exec
 returns-in-exec c = λ used words spells e.
@@ -72,3 +67,9 @@ returns-in-drill c = λ used words spells e.
     let rows = rows_of (found_of c.in_ok-name.options.now) in
     let (value, given, is) = drill_used used words rows spells name (c.in_ok-name.ensures.rows ∙ ap (option_map (λ p. p.1)) e) in
     c.executed-in-drill.ensures ∙ ap (option_map Execute) (c.drill_in.ensures value given) ∙ is
+
+pub returns-in-jobs : goal.returns-in-jobs
+returns-in-jobs c = λ used words spells e.
+    let h : ◌≡◌ {A = Option (List ℕ)} (Some c.in_ok-name.name.now) (Some (name_of used)) =
+    c.in_ok-name.ensures.name ∙ names c.args.matches.now used words spells e in
+    ap Some (sym (called_as used (codes "jobs") (sym c.in-jobs.is ∙ cc)))

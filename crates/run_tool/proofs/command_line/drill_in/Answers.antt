@@ -1,5 +1,5 @@
 use Rattle.std.proofs.Common.{◌≡◌, ℕ, List, codes, Option, Some, None, option_map, ◌∙◌, sym, ap}
-use Rattle.clap.specs.Words.{first_of, found_of}
+use Rattle.clap.specs.Words.{found_of}
 use Rattle.clap.proofs.WalkLemmas.{first_value-rows}
 use Rattle.run_tool.specs.Words.{drill_with}
 use Rattle.run_tool.proofs.command_line.drill_in.Goals as goal

@@ -2,15 +2,18 @@ use Rattle.std.proofs.Common.{◌≡◌, ◌||◌, true, codes, ap, ap₂, ◌�
 use Rattle.std.proofs.lemmas.Result.{IfOk-weaker}
 use Rattle.clap.specs.Words.{App, app_of, new_app, with_rule, with_subcommand}
 use Rattle.clap.specs.Simple.{app_of_fields, on_top}
-use Rattle.run_tool.specs.CommandLine.{met, window, number, program, with_rate, with_tree, with_trace, with_check, with_exec}
+use Rattle.run_tool.specs.CommandLine.{met, by, window, number, program}
+use Rattle.run_tool.specs.CommandLine.{with_rate, with_tree, with_trace, with_check, with_follow, with_batch, with_exec, with_drill}
 use Rattle.run_tool.proofs.command_line.parser.Goals as goal
 
 pub returns : goal.returns
 returns c =
-    let trace_is : app_of c.in_ok-trace.trace ≡ with_rule (new_app (codes "trace")) met =
-    c.in_ok-trace.ensures.shape c.met.ensures.local ∙ ap₂ with_rule c.new.ensures.app c.met.ensures.rule in
-    let half_is : app_of c.in_ok-arg.field-0 ≡ with_rule (new_app (codes "exec")) met =
-    c.in_ok-arg.ensures.shape c.met-2.ensures.local ∙ ap₂ with_rule c.new-2.ensures.app c.met-2.ensures.rule in
+    let met_is : app_of c.in_ok-arg.field-0 ≡ with_rule (new_app (codes "trace")) met =
+    c.in_ok-arg.ensures.shape c.met.ensures.local ∙ ap₂ with_rule c.new.ensures.app c.met.ensures.rule in
+    let trace_is : app_of c.in_ok-trace.trace ≡ with_rule (with_rule (new_app (codes "trace")) met) by =
+    c.in_ok-trace.ensures.shape c.by.ensures.local ∙ ap₂ with_rule met_is c.by.ensures.rule in
+    let half_is : app_of c.in_ok-arg-2.field-0 ≡ with_rule (new_app (codes "exec")) met =
+    c.in_ok-arg-2.ensures.shape c.met-2.ensures.local ∙ ap₂ with_rule c.new-2.ensures.app c.met-2.ensures.rule in
     let exec_is : app_of c.in_ok-exec.exec ≡ with_rule (with_rule (new_app (codes "exec")) met) window =
     c.in_ok-exec.ensures.shape c.window.ensures.local ∙ ap₂ with_rule half_is c.window.ensures.rule in
     let drill_is : app_of c.in_ok-drill.drill ≡ with_rule (new_app (codes "drill")) number =
@@ -29,15 +32,22 @@ returns c =
     c.in_ok-subcommand.ensures.shape c.new-5.ensures.local ∙ ap₂ with_subcommand program_is (ap (λ (a : App). a.top) c.new-5.ensures.app) in
     let tree_is : app_of c.in_ok-subcommand-2.field-0 ≡ with_tree =
     c.in_ok-subcommand-2.ensures.shape c.new-6.ensures.local ∙ ap₂ with_subcommand rate_is (ap (λ (a : App). a.top) c.new-6.ensures.app) in
-    let trace_local = c.in_ok-trace.ensures.globals ∙ ap₂ (λ a b. a || b) c.new.ensures.local c.met.ensures.local in
+    let met_local = c.in_ok-arg.ensures.globals ∙ ap₂ (λ a b. a || b) c.new.ensures.local c.met.ensures.local in
+    let trace_local = c.in_ok-trace.ensures.globals ∙ ap₂ (λ a b. a || b) met_local c.by.ensures.local in
     let traced_is : app_of c.in_ok-subcommand-3.field-0 ≡ with_trace =
     c.in_ok-subcommand-3.ensures.shape trace_local ∙ ap₂ with_subcommand tree_is (ap (λ (a : App). a.top) trace_is) in
     let checked_is : app_of c.in_ok-subcommand-4.field-0 ≡ with_check =
     c.in_ok-subcommand-4.ensures.shape c.new-7.ensures.local ∙ ap₂ with_subcommand traced_is (ap (λ (a : App). a.top) c.new-7.ensures.app) in
-    let half_local = c.in_ok-arg.ensures.globals ∙ ap₂ (λ a b. a || b) c.new-2.ensures.local c.met-2.ensures.local in
+    let followed_is : app_of c.in_ok-subcommand-5.field-0 ≡ with_follow =
+    c.in_ok-subcommand-5.ensures.shape c.new-8.ensures.local ∙ ap₂ with_subcommand checked_is (ap (λ (a : App). a.top) c.new-8.ensures.app) in
+    let batched_is : app_of c.in_ok-subcommand-6.field-0 ≡ with_batch =
+    c.in_ok-subcommand-6.ensures.shape c.new-9.ensures.local ∙ ap₂ with_subcommand followed_is (ap (λ (a : App). a.top) c.new-9.ensures.app) in
+    let half_local = c.in_ok-arg-2.ensures.globals ∙ ap₂ (λ a b. a || b) c.new-2.ensures.local c.met-2.ensures.local in
     let exec_local = c.in_ok-exec.ensures.globals ∙ ap₂ (λ a b. a || b) half_local c.window.ensures.local in
-    let executed_is : app_of c.in_ok-subcommand-5.field-0 ≡ with_exec =
-    c.in_ok-subcommand-5.ensures.shape exec_local ∙ ap₂ with_subcommand checked_is (ap (λ (a : App). a.top) exec_is) in
+    let executed_is : app_of c.in_ok-subcommand-7.field-0 ≡ with_exec =
+    c.in_ok-subcommand-7.ensures.shape exec_local ∙ ap₂ with_subcommand batched_is (ap (λ (a : App). a.top) exec_is) in
     let drill_local = c.in_ok-drill.ensures.globals ∙ ap₂ (λ a b. a || b) c.new-3.ensures.local c.number.ensures.local in
-    IfOk-weaker c.subcommand-6.result _ _ (λ p h. h.shape drill_local ∙ ap₂ with_subcommand executed_is (ap (λ (a : App). a.top) drill_is))
-    c.subcommand-6.ensures
+    let drilled_is : app_of c.in_ok-subcommand-8.field-0 ≡ with_drill =
+    c.in_ok-subcommand-8.ensures.shape drill_local ∙ ap₂ with_subcommand executed_is (ap (λ (a : App). a.top) drill_is) in
+    IfOk-weaker c.subcommand-9.result _ _
+    (λ p h. h.shape c.new-10.ensures.local ∙ ap₂ with_subcommand drilled_is (ap (λ (a : App). a.top) c.new-10.ensures.app)) c.subcommand-9.ensures

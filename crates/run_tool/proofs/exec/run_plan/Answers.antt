@@ -7,14 +7,14 @@ use Rattle.run_tool.proofs.exec.run_plan.Goals as goal
 
 pub execute-requires-clause-kits : goal.execute-requires-clause-kits
 execute-requires-clause-kits g c κs within =
-    kits_filled _ _ _ _ _ _ _ c.requires.ready c.args.plan.now.tree.processors c.scale-lawful.ensures.lawful.sized.few_processors
+    kits_filled _ _ _ _ _ _ _ _ c.requires.ready c.args.plan.now.tree.processors c.scale-lawful.ensures.lawful.sized.few_processors
 
 pub execute-requires-clause-empty : goal.execute-requires-clause-empty
 execute-requires-clause-empty g c κs within =
-    kit_empty _ _ _ _ _ _ _ c.requires.ready c.args.plan.now.tree.processors c.scale-lawful.ensures.lawful.sized.few_processors
+    kit_empty _ _ _ _ _ _ _ _ c.requires.ready c.args.plan.now.tree.processors c.scale-lawful.ensures.lawful.sized.few_processors
 
 pub execute-requires-clause-jobs : goal.execute-requires-clause-jobs
-execute-requires-clause-jobs g c κs within = jobs_fresh _ _ _ _ _ _ _ c.requires.ready _ c.scale-lawful.ensures.lawful.lawful.few_tasks
+execute-requires-clause-jobs g c κs within = jobs_fresh _ _ _ _ _ _ _ _ c.requires.ready _ c.scale-lawful.ensures.lawful.lawful.few_tasks
 
 pub name_at-requires : goal.name_at-requires
 name_at-requires g c = subst (λ (s : SetContents). NamesOneOf s.tasks c.in-Err-Gate.row.leaf) (sym c.set.ensures.value)

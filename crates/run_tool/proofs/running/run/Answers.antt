@@ -1,10 +1,17 @@
-use Rattle.std.proofs.Common.{◌≡◌, ◌∙◌, Some, true, refl, map, string_bytes, sym, rules}
-use Rattle.run_tool.specs.Words.{command_of, asks_to_execute}
+use Rattle.std.proofs.Common.{◌≡◌, ◌∙◌, ℕ, List, Some, true, refl, map, string_bytes, sym, rules}
+use Rattle.run_tool.specs.Words.{command_of, asks_to_execute, asks_for_batch}
 use Rattle.run_tool.specs.declared.command.Command.TheVariants.{Execute}
 use Rattle.run_tool.proofs.AnswerLemmas.{done_answered, stops_answered, unread_answered}
 use Rattle.run_tool.proofs.CommandLineLemmas.{some_is}
-use Rattle.run_tool.proofs.RunLemmas.{done_is, stop_is, ends_still, ends_unread, ends_done, ends_stopped, unread_same, uncalled_by}
+use Rattle.run_tool.proofs.WordLemmas.{batch_runs_none}
+use Rattle.run_tool.proofs.RunLemmas.{done_is, stop_is, none_failed, ends_still, ends_unread, ends_done, ends_stopped, unread_same, uncalled_by}
 use Rattle.run_tool.proofs.running.run.Goals as goal
+
+pub returns-then-asks_for_batch-clause-ends : goal.returns-then-asks_for_batch-clause-ends
+returns-then-asks_for_batch-clause-ends g c k e =
+    let words : List (List ℕ) = map string_bytes c.args.words.now in
+    let batch : asks_for_batch words ≡ true = search rules in
+    ends_still words k _ _ _ _ _ _ _ (batch_runs_none words batch) e (c.run_batch.ensures.ends k e)
 
 pub returns-then-not-asks_to_execute-clause-ends : goal.returns-then-not-asks_to_execute-clause-ends
 returns-then-not-asks_to_execute-clause-ends g c k e =
@@ -24,7 +31,8 @@ pub returns-in-Err-perform-clause-answered : goal.returns-in-Err-perform-clause-
 returns-in-Err-perform-clause-answered g c =
     let asked : Some (Execute c.in-Ok-Some.execution) ≡ command_of (map string_bytes c.args.words.now) = search rules in
     λ quiet.
-    let stops = stop_is c.in-Ok-Some.execution _ _ _ _ c.in-Err-perform.refusal quiet c.in-Err-perform.ensures.stops in
+    let none = none_failed _ c.in-Ok-Some.execution _ _ asked quiet in
+    let stops = stop_is c.in-Ok-Some.execution _ _ _ _ c.in-Err-perform.refusal none c.in-Err-perform.ensures.stops in
     stops_answered _ (Execute c.in-Ok-Some.execution) _ _ _ _ c.in-Err-perform.refusal _ asked stops c.refuse-in-Err-perform.ensures
 
 pub returns-in-Err-perform-clause-ends : goal.returns-in-Err-perform-clause-ends

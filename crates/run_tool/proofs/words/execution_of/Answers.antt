@@ -1,7 +1,7 @@
-use Rattle.std.proofs.Common.{◌≡◌, ◌∙◌, sym, ap, subst, Option, Some, None, true, false, map, string_bytes, IsTrue, rules, tests}
+use Rattle.std.proofs.Common.{◌≡◌, ◌∙◌, sym, ap, subst, Option, Some, None, false, map, string_bytes, IsTrue, rules, tests}
 use Rattle.run_tool.specs.declared.command.Command.{Command}
-use Rattle.run_tool.specs.declared.command.Command.TheVariants.{Read, Execute}
-use Rattle.run_tool.proofs.CommandLineLemmas.{no_line, some_is, execution_spelled_by, not_reading, has_window}
+use Rattle.run_tool.specs.declared.command.Command.TheVariants.{Read, Batch, Execute}
+use Rattle.run_tool.proofs.CommandLineLemmas.{no_line, some_is, execution_spelled_by, only_executing, has_window}
 use Rattle.run_tool.proofs.words.execution_of.Goals as goal
 
 pub returns-in-Some-Execute-clause-window : goal.returns-in-Some-Execute-clause-window
@@ -23,8 +23,14 @@ pub returns-in-Some-Read-clause-line : goal.returns-in-Some-Read-clause-line
 returns-in-Some-Read-clause-line c = no_line (map string_bytes c.args.words.now) (λ used line.
     let read : Some (Read c.in-Some-Read.field-0-0) ≡ Some used =
     ap Some (sym c.in-Some-Read.field-0-is) ∙ sym c.in-Some-Read.is ∙ c.in_ok-execution.ensures used line in
-    let same = some_is (Read c.in-Some-Read.field-0-0) used read in
-    not_reading (map string_bytes c.args.words.now) c.in-Some-Read.field-0-0 c.requires.executes (line ∙ ap Some (sym same)))
+    let (x, is) = only_executing (map string_bytes c.args.words.now) used c.requires.executes line in
+    let bad : Execute x ≡ Read c.in-Some-Read.field-0-0 = is ∙ sym (some_is (Read c.in-Some-Read.field-0-0) used read) in cc)
+
+pub returns-in-Some-Batch-clause-line : goal.returns-in-Some-Batch-clause-line
+returns-in-Some-Batch-clause-line c = no_line (map string_bytes c.args.words.now) (λ used line.
+    let read : Some Batch ≡ Some used = ap Some (sym c.in-Some-Batch.field-0-is) ∙ sym c.in-Some-Batch.is ∙ c.in_ok-execution.ensures used line in
+    let (x, is) = only_executing (map string_bytes c.args.words.now) used c.requires.executes line in
+    let bad : Execute x ≡ Batch = is ∙ sym (some_is Batch used read) in cc)
 
 pub returns-in-None-clause-line : goal.returns-in-None-clause-line
 returns-in-None-clause-line c = no_line (map string_bytes c.args.words.now) (λ used line.

@@ -1,7 +1,7 @@
 use Rattle.std.proofs.Common.{◌≡◌, ◌∙◌, sym, ap, subst, Option, Some, None, false, map, string_bytes, IsTrue, rules, tests}
 use Rattle.run_tool.specs.declared.command.Command.{Command}
-use Rattle.run_tool.specs.declared.command.Command.TheVariants.{Read, Execute}
-use Rattle.run_tool.proofs.CommandLineLemmas.{no_line, some_is, reading_spelled_by, not_executing}
+use Rattle.run_tool.specs.declared.command.Command.TheVariants.{Read, Batch, Execute}
+use Rattle.run_tool.proofs.CommandLineLemmas.{no_line, some_is, reading_spelled_by, only_reading}
 use Rattle.run_tool.proofs.words.reading_of.Goals as goal
 
 pub returns-in-Some-Read-2 : goal.returns-in-Some-Read-2
@@ -14,12 +14,18 @@ returns-in-Some-Read-2 c = no_line (map string_bytes c.args.words.now) (λ used 
     let yes : IsTrue false = subst IsTrue c.if-is_reading.false (c.is_reading.ensures.1 spelled) in
     search (rules, tests))
 
+pub returns-in-Some-Batch : goal.returns-in-Some-Batch
+returns-in-Some-Batch c = no_line (map string_bytes c.args.words.now) (λ used line.
+    let read : Some Batch ≡ Some used = ap Some (sym c.in-Some-Batch.field-0-is) ∙ sym c.in-Some-Batch.is ∙ c.in_ok-reading.ensures used line in
+    let (x, is) = only_reading (map string_bytes c.args.words.now) used c.requires.still line in
+    let bad : Read x ≡ Batch = is ∙ sym (some_is Batch used read) in cc)
+
 pub returns-in-Some-Execute : goal.returns-in-Some-Execute
 returns-in-Some-Execute c = no_line (map string_bytes c.args.words.now) (λ used line.
     let read : Some (Execute c.in-Some-Execute.field-0-0) ≡ Some used =
     ap Some (sym c.in-Some-Execute.field-0-is) ∙ sym c.in-Some-Execute.is ∙ c.in_ok-reading.ensures used line in
-    let same = some_is (Execute c.in-Some-Execute.field-0-0) used read in
-    not_executing (map string_bytes c.args.words.now) c.in-Some-Execute.field-0-0 c.requires.still (line ∙ ap Some (sym same)))
+    let (x, is) = only_reading (map string_bytes c.args.words.now) used c.requires.still line in
+    let bad : Read x ≡ Execute c.in-Some-Execute.field-0-0 = is ∙ sym (some_is (Execute c.in-Some-Execute.field-0-0) used read) in cc)
 
 pub returns-in-None : goal.returns-in-None
 returns-in-None c = no_line (map string_bytes c.args.words.now) (λ used line.

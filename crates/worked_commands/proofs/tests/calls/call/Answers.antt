@@ -9,7 +9,7 @@ use Rattle.worked_commands.proofs.tests.calls.call.Goals as goal
 pub loop-id-init : goal.loop-id-init
 loop-id-init g c = record {
   room = let room = c.in_ok-jobs.ensures.room in omega (arith, room);
-  first = no_jobs _ _ _ _ c.in_ok-jobs.ensures.none;
+  first = no_jobs _ _ _ _ _ c.in_ok-jobs.ensures.none;
 }
 
 pub loop-id-preserved : goal.loop-id-preserved
@@ -18,7 +18,7 @@ loop-id-preserved g c =
     elim c.match-failing.branch [
       | in-Some+in_ok-new-in-Some+in_ok-new-in-Some-2 w ↦ rw w.jobs-is (record {
         room = let room = w.add.ensures.room in let before = inv.room in omega (arith, room, before);
-        first = more_jobs _ _ _ c.loop-id.id _ _ _ inv.first w.add.ensures.places
+        first = more_jobs _ _ _ _ c.loop-id.id _ _ _ inv.first w.add.ensures.places
             (read_made own-1 (own-1.entry at-1-1) at-1-1 refl ℕ (λ e x. e.1.id x) _ _ _ w.into_dyn_box.ensures.1
             ∙ ap (λ j. j.id) w.in_ok-new-in-Some-2.ensures.ok ∙ w.in_ok-new-in-Some.ensures.id)
             (read_made own-1 (own-1.entry at-1-1) at-1-1 refl ℕ (λ e x. e.1.used x) _ _ _ w.into_dyn_box.ensures.1
@@ -26,7 +26,7 @@ loop-id-preserved g c =
       })
       | in-None+in_ok-new-in-None w ↦ rw w.jobs-is (record {
         room = let room = w.add-in-None.ensures.room in let before = inv.room in omega (arith, room, before);
-        first = more_jobs _ _ _ c.loop-id.id _ _ _ inv.first w.add-in-None.ensures.places
+        first = more_jobs _ _ _ _ c.loop-id.id _ _ _ inv.first w.add-in-None.ensures.places
             (read_made own-1 (own-1.entry at-1-2) at-1-2 refl ℕ (λ e x. e.1.id x) _ _ _ w.into_dyn_box-in_ok-new-in-None.ensures.1
             ∙ ap (λ j. j.id) (w.in_ok-new-in-None.ensures.ok ∙ w.new-in-None.ensures))
             (read_made own-1 (own-1.entry at-1-2) at-1-2 refl ℕ (λ e x. e.1.used x) _ _ _ w.into_dyn_box-in_ok-new-in-None.ensures.1

@@ -8,5 +8,5 @@ abbrev pub invariant-loop-id : goal.invariant-loop-id
 invariant-loop-id g l = record {
   room : l.jobs.room + l.id ≡ 256;
   first : AreFirstJobs l.id (jobs_of (λ j. (own-1.entry j.vtable).1.id j.value) (λ j. (own-1.entry j.vtable).1.used j.value)
-      (λ j. (own-1.entry j.vtable).1.faults j.value) l.jobs.places);
+      (λ j. (own-1.entry j.vtable).1.faults j.value) (λ j. (own-1.entry j.vtable).1.made j.value) l.jobs.places);
 }

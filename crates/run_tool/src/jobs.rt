@@ -1,0 +1,94 @@
+//! The command `jobs`.
+ghost use Rattle.std.specs.Prelude.{◌≡◌, false, OnOk, IfErr, IfOk};
+ghost use Rattle.run_tool.specs.Refusals.{status_of};
+ghost use Rattle.run_tool.specs.Ends.{streams_of};
+ghost use Rattle.run_tool.specs.Executions.{crew_of, IsReady, AreBack};
+ghost use Rattle.run_tool.specs.Executed.{ToldRun, StopsRun, may_have_run};
+ghost use Rattle.run_tool.specs.JobInput.{GaveJobs, GaveNoJobs, RanJobs, StopsAtJobs};
+ghost use Rattle.run_tool.specs.declared.command.Command.TheVariants.{Execute};
+ghost use Rattle.run_tool.specs.declared.command.Execution.TheVariants.{Jobs};
+
+use crate::exec::run_plan;
+use crate::input::SET_LIMIT;
+use crate::plan::plan_of;
+use crate::refusal::Refusal;
+use crate::words::USUAL_WINDOW;
+use event_core::count_rounds;
+use exec_workers::Kit;
+use job_vm::{JobText, first_stray, load_programs, read_jobs, write_jobs};
+use sched_base::TaskSet;
+use sched_edges::{BoxedJob, Gate, Job, Jobs, Sink, Source, read_all};
+use std::alloc::Global;
+use std::sync::Wait;
+use std::thread::Threads;
+use task_reader::read_set;
+
+/// Reads a job text, loads each task's program into its job, has the gates and the jobs run the schedule of the set, and writes
+/// what the programs computed. A lane may run up to 32 rounds ahead of the others.
+pub(crate) fn run_jobs<R: Source, W: Sink, G: Gate + Send, X: Threads + Wait + Sync>(
+    rt: &X,
+    alloc: Global,
+    source: &mut R,
+    out: &mut W,
+    kits: &mut Vec<Kit<G>>,
+    jobs: &mut Jobs,
+) -> Result<(), Refusal>
+    requires ready { IsReady (crew_of G.Gate ⟦<BoxedJob as Job>⟧ kits.old jobs.old) }
+    ensures done { OnOk result (ToldRun Jobs (streams_of R.Source W.Sink source.old out.old)
+        (streams_of R.Source W.Sink source.new out.new) (crew_of G.Gate ⟦<BoxedJob as Job>⟧ kits.old jobs.old)
+        (crew_of G.Gate ⟦<BoxedJob as Job>⟧ kits.new jobs.new)) }
+    ensures stops { IfErr result (StopsRun Jobs (streams_of R.Source W.Sink source.old out.old)
+        (streams_of R.Source W.Sink source.new out.new) (crew_of G.Gate ⟦<BoxedJob as Job>⟧ kits.old jobs.old)
+        (crew_of G.Gate ⟦<BoxedJob as Job>⟧ kits.new jobs.new)) }
+    ensures uncalled { IfErr result (λ refusal. may_have_run (Some (Execute Jobs)) (status_of refusal) ≡ false →
+        (kits.new.items ≡ kits.old.items) × (jobs.new.places ≡ jobs.old.places)) }
+    ensures back { AreBack (crew_of G.Gate ⟦<BoxedJob as Job>⟧ kits.old jobs.old)
+        (crew_of G.Gate ⟦<BoxedJob as Job>⟧ kits.new jobs.new) }
+{
+    let (text, set) = read_job_input(alloc, source)?;
+    run_programs(rt, alloc, &text, set, out, kits, jobs)
+}
+
+// Reads the source to its end, as a job text with its set.
+fn read_job_input<R: Source>(alloc: Global, source: &mut R) -> Result<(JobText, TaskSet), Refusal>
+    ensures read { IfOk result (λ read. GaveJobs (R.left source.old) (R.left source.new) SET_LIMIT read.0 read.1) }
+    ensures refusal { IfErr result (GaveNoJobs (R.left source.old) (R.left source.new)
+        (R.faults source.old) (R.faults source.new) SET_LIMIT) }
+{
+    let bytes = read_all(alloc, source, SET_LIMIT)?;
+    let text = read_jobs(alloc, bytes.as_slice())?;
+    let set = read_set(alloc, &bytes.as_slice()[text.set_start()..])?;
+    match first_stray(&text, &set) {
+        Some(line) => Err(Refusal::BadProgram { line }),
+        None => Ok((text, set)),
+    }
+}
+
+// Runs the schedule of a set with the programs of a text, where it fits, and writes what they computed.
+fn run_programs<W: Sink, G: Gate + Send, X: Threads + Wait + Sync>(
+    rt: &X,
+    alloc: Global,
+    text: &JobText,
+    set: TaskSet,
+    out: &mut W,
+    kits: &mut Vec<Kit<G>>,
+    jobs: &mut Jobs,
+) -> Result<(), Refusal>
+    requires ready { IsReady (crew_of G.Gate ⟦<BoxedJob as Job>⟧ kits.old jobs.old) }
+    ensures done { OnOk result (RanJobs text.now (W.taken out.old) (W.taken out.new)
+        (crew_of G.Gate ⟦<BoxedJob as Job>⟧ kits.old jobs.old) (crew_of G.Gate ⟦<BoxedJob as Job>⟧ kits.new jobs.new)
+        set) }
+    ensures stops { IfErr result (StopsAtJobs text.now (W.taken out.old) (W.taken out.new) (W.faults out.old)
+        (W.faults out.new) (crew_of G.Gate ⟦<BoxedJob as Job>⟧ kits.old jobs.old)
+        (crew_of G.Gate ⟦<BoxedJob as Job>⟧ kits.new jobs.new) set) }
+    ensures uncalled { IfErr result (λ refusal. may_have_run (Some (Execute Jobs)) (status_of refusal) ≡ false →
+        (kits.new.items ≡ kits.old.items) × (jobs.new.places ≡ jobs.old.places)) }
+    ensures back { AreBack (crew_of G.Gate ⟦<BoxedJob as Job>⟧ kits.old jobs.old)
+        (crew_of G.Gate ⟦<BoxedJob as Job>⟧ kits.new jobs.new) }
+{
+    let plan = plan_of(alloc, set)?;
+    let rounds = count_rounds(alloc, &plan)?;
+    load_programs(text, plan.set(), plan.scale(), jobs)?;
+    run_plan(rt, alloc, &plan, rounds, USUAL_WINDOW, kits, jobs)?;
+    Ok(write_jobs(out, plan.set(), plan.scale(), jobs)?)
+}
