@@ -6,18 +6,18 @@ import sys
 import sets
 
 
-def fits(program, name, horizon):
+def fits(program, name, horizon, words):
     source = sets.text(name, horizon).encode()
-    return subprocess.run([program, "trace"], input=source, stdout=subprocess.DEVNULL, stderr=subprocess.DEVNULL).returncode == 0
+    return subprocess.run([program] + words, input=source, stdout=subprocess.DEVNULL, stderr=subprocess.DEVNULL).returncode == 0
 
 
-def greatest(program, name):
+def greatest(program, name, words=["trace"]):
     low, high = 1, 2
-    while high < 2 ** 32 and fits(program, name, high):
+    while high < 2 ** 32 and fits(program, name, high, words):
         low, high = high, high * 2
     while high - low > max(1, low // 1000):
         middle = (low + high) // 2
-        if fits(program, name, middle):
+        if fits(program, name, middle, words):
             low = middle
         else:
             high = middle

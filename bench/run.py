@@ -13,41 +13,53 @@ import sets
 
 TIMES = int(os.environ.get("RUNS", "5"))
 
+# The command that is timed: another one may be asked for, as `COMMAND="trace --by wrap"`.
+WORDS = os.environ.get("COMMAND", "trace").split()
 
-def once(program, source):
-    """Seconds of processor time, peak memory in MB, and what was written."""
+
+def once(program, words, source):
+    """Seconds of processor time, and what was written."""
     with tempfile.TemporaryFile() as out:
         source.seek(0)
-        child = subprocess.Popen([program, "trace"], stdin=source, stdout=out, stderr=subprocess.PIPE)
+        child = subprocess.Popen([program] + words, stdin=source, stdout=out, stderr=subprocess.PIPE)
         _, status, used = os.wait4(child.pid, 0)
         child.returncode = os.waitstatus_to_exitcode(status)
         if child.returncode != 0:
             sys.exit("%s ended with status %d" % (program, child.returncode))
         out.seek(0)
-        return used.ru_utime + used.ru_stime, used.ru_maxrss / 1024, out.read()
+        return used.ru_utime + used.ru_stime, out.read()
 
 
-def least(program, source):
-    runs = [once(program, source) for _ in range(TIMES)]
-    return min(run[0] for run in runs), max(run[1] for run in runs), runs[0][2]
+def least(program, words, source):
+    runs = [once(program, words, source) for _ in range(TIMES)]
+    return min(run[0] for run in runs), runs[0][1]
+
+
+def peak(program, words, source):
+    """The peak of memory in MB. It is asked of `time`, since a child of a large process begins with that one's peak."""
+    source.seek(0)
+    words = ["/usr/bin/time", "-f", "%M", program] + words
+    said = subprocess.run(words, stdin=source, stdout=subprocess.DEVNULL, stderr=subprocess.PIPE, text=True).stderr
+    return int(said.split()[-1]) / 1024
 
 
 def instructions(program, source):
     """Millions of instructions of one run."""
     source.seek(0)
-    words = ["valgrind", "--tool=callgrind", "--callgrind-out-file=/dev/null", program, "trace"]
+    words = ["valgrind", "--tool=callgrind", "--callgrind-out-file=/dev/null", program] + WORDS
     said = subprocess.run(words, stdin=source, stdout=subprocess.DEVNULL, stderr=subprocess.PIPE, text=True).stderr
     return int(said.rsplit("Collected :", 1)[1].split()[0]) / 1e6
 
 
 def measure(name, program, plain):
-    horizon = fit.greatest(plain or program, name)
+    horizon = fit.greatest(plain or program, name, ["trace"] if plain else WORDS)
     with tempfile.TemporaryFile() as source:
         source.write(sets.text(name, horizon).encode())
-        took, peak, text = least(program, source)
+        took, text = least(program, WORDS, source)
+        most = peak(program, WORDS, source)
         theirs, ratio = "", ""
         if plain:
-            least_plain, _, other = least(plain, source)
+            least_plain, other = least(plain, ["trace"], source)
             if other != text:
                 sys.exit("%s: the two texts differ" % name)
             theirs, ratio = "%.0f" % (least_plain * 1000), "%.2f" % (took / least_plain)
@@ -56,7 +68,7 @@ def measure(name, program, plain):
     rows = int(text[-20:].split()[-1])
     print(
         "| %s | %d | %d | %d | %d | %s | %.0f | %s | %.0f | %.0f | %s |"
-        % (name, spec["processors"], spec["count"], horizon, rows, theirs, took * 1000, ratio, rows / took / 1000, peak, count),
+        % (name, spec["processors"], spec["count"], horizon, rows, theirs, took * 1000, ratio, rows / took / 1000, most, count),
         flush=True,
     )
 
