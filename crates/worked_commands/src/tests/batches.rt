@@ -5,6 +5,7 @@ use super::lanes::assert_idle;
 use super::texts::{OVERLOAD, THREE_TASKS};
 use super::usage::assert_refused;
 use run_tool::Status;
+use std::alloc::{AllocError, Global};
 use std::test::Fail;
 
 #[test]
@@ -116,16 +117,25 @@ fn a_batch_that_stops(rt: HostRuntime) -> Result<(), Fail> {
     Ok(())
 }
 
+/// As many line feeds.
+fn feeds(alloc: Global, count: u32) -> Result<Vec<u8>, AllocError> {
+    let mut bytes = Vec::new(alloc);
+    for _ in 0..count {
+        bytes.push(b'\n')?;
+    }
+    Ok(bytes)
+}
+
 /// A source that gives one byte too many has done so, though it would fail at the next call.
 #[test]
 fn a_byte_too_many_comes_before_a_fault(rt: HostRuntime) -> Result<(), Fail> {
-    let bytes = vec![in rt.alloc(); b'\n'; 1_048_577]?;
+    let bytes = feeds(rt.alloc(), 1_048_577)?;
     let outside = Outside {
         source: &[18],
         ..SURE
     };
-    for words in [["batch"], ["rate"]] {
-        let left = call(&rt, rt.alloc(), &words, &bytes, &outside)?;
+    for word in ["batch", "rate"] {
+        let left = call(&rt, rt.alloc(), &[word], &bytes, &outside)?;
         assert_told(
             &rt,
             &left,

@@ -46,5 +46,5 @@ told_by-requires g c = λ i within.
     let past = c.loop-id-test.false in
     let (j, at, own, unused) = c.loop-id.invariant.first.unused i (omega (arith, within, past)) in
     let (k, there, same, count) = c.run-status.ensures.back.jobs i j at in
-    let (job, in_place, shown) = job_in_place _ _ _ _ i k there in
+    let (job, in_place, shown) = job_in_place _ _ _ _ _ i k there in
     (job, in_place)
