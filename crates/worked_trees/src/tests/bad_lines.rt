@@ -98,7 +98,7 @@ fn a_text_that_ends_early_is_at_fault_behind_its_last_line(rt: HostRuntime) -> R
             );
             cut.push_str(next)?;
             cut.push_str("\n")?;
-            line += 1;
+            line = line.saturating_add(1);
         }
         assert_eq!(rt; line, lines + 1);
     }
