@@ -1,5 +1,5 @@
 //! What is left, the windows and who runs at the start of worked sets.
-ghost use Rattle.std.specs.Prelude.{◌≡◌, ◌<◌, length};
+ghost use Rattle.std.specs.Prelude.{◌≡◌, ◌<◌, ◌≤◌, ◌^◌, length};
 ghost use Rattle.release_calendar.specs.Calendars.{BelongsTo};
 
 use release_calendar::Calendar;
