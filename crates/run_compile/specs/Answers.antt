@@ -20,3 +20,8 @@ abbrev pub IsRefused : SetContents → CompileFault → Type 0
 IsRefused s (fault.ScaleTooLarge at) = PassesAt (2 ^ 94) s.tasks at
 IsRefused s (fault.Overload total room) = IsOverload s total room
 IsRefused s fault.NoMemory = (scale : ℕ) × HasScale s scale × Fits scale s
+
+-- the numbers of an overload are below 2 ^ 127
+abbrev pub IsSmall : CompileFault → Type 0
+IsSmall (fault.Overload total room) = (total < 2 ^ 127) × (room < 2 ^ 127)
+IsSmall _ = Unit {0}

@@ -2,7 +2,7 @@
 ghost use Rattle.std.specs.Prelude.{ℕ, ◌≡◌, ◌≤◌, ◌+◌, ◌-◌, ◌^◌, ◌⊎◌, map, IfOk, IfErr};
 ghost use Rattle.sched_base.specs.Scale.{IsScale, Fits, rate_of};
 ghost use Rattle.run_tree.specs.Compiled.{tree_of};
-ghost use Rattle.run_compile.specs.Answers.{HasScale, IsRefused};
+ghost use Rattle.run_compile.specs.Answers.{HasScale, IsRefused, IsSmall};
 ghost use Rattle.sched_laws.specs.LevelCounts.{duals_of};
 
 use crate::faults::CompileFault;
@@ -20,6 +20,7 @@ pub fn compile(alloc: Global, set: TaskSet) -> Result<Plan, CompileFault>
     ensures fits { IfOk result (λ plan. Fits plan.tree.scale set) }
     ensures tree { IfOk result (λ plan. plan.tree ≡ tree_of plan.tree.scale set) }
     ensures refused { IfErr result (λ fault. IsRefused set fault) }
+    ensures small { IfErr result IsSmall }
 {
     let scale = scale_of(&set)?;
     if !fits(&set, scale) {

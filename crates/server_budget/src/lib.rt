@@ -21,11 +21,13 @@ pub struct Budgets {
 }
 
 impl Model for Budgets {
-    ghost use Rattle.std.specs.Prelude.{List, ℕ};
+    ghost use Rattle.std.specs.Prelude.{List, ℕ, ◌≤◌, ◌^◌, slice_index};
 
     ghost Value = { List ℕ };
 
     ghost view = { λ b. b.remains.items };
+
+    ghost invariant = { λ b. (x : ℕ) → slice_index b.remains.items x ≤ 2 ^ 127 };
 }
 
 impl Budgets {
@@ -74,14 +76,16 @@ impl Budgets {
     /// What is left at node n, in ticks.
     pub fn remain(&self, n: NodeId) -> u128
         requires { n.0 < length self.now }
-        ensures { result ≡ slice_index self.now n.0 }
+        ensures value { result ≡ slice_index self.now n.0 }
+        ensures fits { result ≤ 2 ^ 127 }
     {
         self.remains[n.0 as usize]
     }
 
     /// What is left at each node, in ticks.
     pub fn remains(&self) -> &[u128]
-        ensures { result.now ≡ self.now }
+        ensures values { result.now ≡ self.now }
+        ensures fit { (x : ℕ) → slice_index self.now x ≤ 2 ^ 127 }
     {
         self.remains.as_slice()
     }
