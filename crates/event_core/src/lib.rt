@@ -23,3 +23,4 @@ mod walks;
 pub use cores::Core;
 pub use counts::{CountFault, count_rounds};
 pub use laws::rounds_law;
+pub use rows::leaf_shown_for;

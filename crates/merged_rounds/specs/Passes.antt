@@ -1,12 +1,18 @@
 -- The merged rows of a plan's schedule.
-use Rattle.std.specs.Prelude.{◌≡◌, ◌≤◌, List, length, map}
+use Rattle.std.specs.Prelude.{ℕ, ◌≡◌, ◌≤◌, true, List, length, map, Option, None, Some, slice_index_or}
 use Rattle.std.specs.List.{AllByRecursion}
+use Rattle.sched_base.specs.declared.rows.Leaf.{Leaf}
+use Rattle.sched_base.specs.declared.rows.NodeId.{NodeId}
 use Rattle.sched_base.specs.declared.rows.Row.{Row}
 use Rattle.sched_base.specs.Lanes.{lanes_of}
 use Rattle.sched_base.specs.Tables.{all_rows, row_limit}
+use Rattle.run_tree.specs.Tree.{leaf}
+use Rattle.run_tree.specs.Schedule.{shown}
 use Rattle.run_tree.specs.Plans.{PlanContents, schedule_of}
+use Rattle.event_core.specs.Rounds.{rows_of_round}
 use Rattle.trace_lines.specs.Conditions.{RunForward}
 use Rattle.trace_lines.specs.Merging.{merged}
+use Rattle.merged_rows.specs.Columns.{ends_showing}
 use Rattle.merged_rows.specs.Sums.{NamesAmong, TicksFit}
 
 -- these are the rows of a plan's schedule, each processor's merged
@@ -20,3 +26,24 @@ pub record AreLawful (p : PlanContents) (lanes : List (List Row)) : Type 0 where
   pub forward : AllByRecursion RunForward lanes
   pub few : length (all_rows lanes) ≤ row_limit
   pub fit : TicksFit (all_rows lanes)
+
+-- what node n shows in a round that begins at a tick, where it runs on a processor
+abbrev pub shown_for : PlanContents → ℕ → ℕ → Leaf
+shown_for p n start = shown p.set.tasks p.tree.scale start (leaf p.tree n)
+
+-- what a row of the round from `start` up to `end` shows; `none` stands for one that isn't there
+abbrev pub leaf_at : PlanContents → ℕ → ℕ → ℕ → Row → Leaf
+leaf_at p start end q none = (slice_index_or (rows_of_round p start end) q none).leaf
+
+-- Of processor q it is told what its row of the round from `start` up to `end` shows, or nothing where the node that is kept of it
+-- runs there again; and a node is kept then only where it shows the same from `start` on.
+pub record IsLooked (p : PlanContents) (start end q : ℕ) (before after : Option NodeId) (told : Option Leaf) : Type 0 where
+  pub again : told ≡ None → (n : NodeId) × (before ≡ Some n) × (after ≡ Some n) × ((none : Row) → leaf_at p start end q none ≡ shown_for p n.0 start)
+  pub other : (leaf : Leaf) (none : Row) → told ≡ Some leaf → leaf_at p start end q none ≡ leaf
+  pub stays : (leaf : Leaf) (n : NodeId) (t : ℕ) → told ≡ Some leaf → after ≡ Some n → start ≤ t → shown_for p n.0 t ≡ leaf
+
+-- Where a node is kept of a processor, it shows from this tick on what the last of these rows shows.
+pub record IsKept (p : PlanContents) (tick : ℕ) (rows : List Row) (node : Option NodeId) : Type 0 where
+  pub leaf : Leaf
+  pub stays : (n : NodeId) (t : ℕ) → node ≡ Some n → tick ≤ t → shown_for p n.0 t ≡ leaf
+  pub last : (n : NodeId) → node ≡ Some n → ends_showing rows leaf ≡ true

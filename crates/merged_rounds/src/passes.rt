@@ -1,15 +1,16 @@
 //! One pass over the rounds of a plan.
-ghost use Rattle.std.specs.Prelude.{◌≡◌, ◌≤◌, ◌*◌, [], length, replicate, IfOk, IfErr, vec_len};
+ghost use Rattle.std.specs.Prelude.{◌≡◌, ◌≤◌, ◌*◌, [], length, replicate, IfOk, IfErr, None, vec_len};
 ghost use Rattle.sched_base.specs.Tables.{row_limit};
 ghost use Rattle.run_tree.specs.Plans.{rounds_of};
 ghost use Rattle.event_core.specs.Cores.{IsCoreOf};
 ghost use Rattle.event_core.specs.Counts.{IsCountFault};
 ghost use Rattle.merged_rounds.specs.Passes.{AreMergedOf, AreLawful};
 
+use crate::looks::look_each;
 use event_core::{Core, CountFault};
 use merged_rows::MergedRows;
 use run_tree::Plan;
-use sched_base::{Leaf, NoMemory, Row};
+use sched_base::{Leaf, NoMemory, NodeId};
 use std::alloc::Global;
 
 /// The rows that a schedule may have.
@@ -24,35 +25,39 @@ pub fn merged_of(alloc: Global, plan: &Plan) -> Result<MergedRows, CountFault>
     ensures few { IfOk result (λ _. rounds_of plan.now * plan.now.tree.processors ≤ row_limit) }
     ensures fault { IfErr result (λ fault. IsCountFault plan.now fault) }
 {
-    let mut rows = blank_rows(alloc, plan)?;
+    let mut kept = no_nodes(alloc, plan)?;
+    let mut told = no_leaves(alloc, plan)?;
     let mut core = Core::new(alloc, plan)?;
     let none = MergedRows::new(alloc, plan.tree().processors())?;
-    merge_rounds(plan, &mut core, &mut rows, none)
+    merge_rounds(plan, &mut core, &mut kept, &mut told, none)
 }
 
-// Rows to be overwritten.
-fn blank_rows(alloc: Global, plan: &Plan) -> Result<Vec<Row>, NoMemory>
+// Of no processor a node.
+fn no_nodes(alloc: Global, plan: &Plan) -> Result<Vec<Option<NodeId>>, NoMemory>
+    ensures { IfOk result (λ v. v.items ≡ replicate plan.now.tree.processors None) }
+{
+    Ok(vec![in alloc; None; plan.tree().processors() as usize]?)
+}
+
+// Room for what is told of the processors.
+fn no_leaves(alloc: Global, plan: &Plan) -> Result<Vec<Option<Leaf>>, NoMemory>
     ensures { IfOk result (λ v. vec_len v ≡ plan.now.tree.processors) }
 {
-    let blank = Row {
-        processor: 0,
-        leaf: Leaf::Empty,
-        start: 0,
-        end: 0,
-    };
-    Ok(vec![in alloc; blank; plan.tree().processors() as usize]?)
+    Ok(vec![in alloc; None; plan.tree().processors() as usize]?)
 }
 
-// Merges all rounds of the plan; `rows` is room for those of one round.
+// Merges all rounds of the plan. Of each processor a node is kept that shows what it did last; `told` is overwritten.
 fn merge_rounds(
     plan: &Plan,
     core: &mut Core,
-    rows: &mut [Row],
+    kept: &mut [Option<NodeId>],
+    told: &mut [Option<Leaf>],
     none: MergedRows,
 ) -> Result<MergedRows, CountFault>
     requires belongs { IsCoreOf plan.now core.old }
     requires first { core.old.tick ≡ 0 }
-    requires rows { length rows.old ≡ plan.now.tree.processors }
+    requires kept { kept.old ≡ replicate plan.now.tree.processors None }
+    requires told { length told.old ≡ plan.now.tree.processors }
     requires none { none.lanes ≡ replicate plan.now.tree.processors [] }
     requires start { none.end ≡ 0 }
     ensures rows { IfOk result (λ merged. AreMergedOf plan.now merged.lanes) }
@@ -69,8 +74,11 @@ fn merge_rounds(
         if next_rows > ROW_LIMIT {
             return Err(CountFault::TooLong { rows: next_rows });
         }
-        core.advance(plan, rows);
-        merged = merged.with_round(rows)?;
+        let start = core.now();
+        core.go(plan);
+        look_each(plan, core, start, kept, told);
+        let to = core.now();
+        merged = merged.with_round(to, told)?;
         count += 1;
     }
     Ok(merged)

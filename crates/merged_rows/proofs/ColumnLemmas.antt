@@ -1,5 +1,5 @@
 -- Rows by where they begin: one row more, one round more.
-use Rattle.std.proofs.Common.{◌≡◌, ℕ, zero, suc, ◌+◌, ◌-◌, ◌<◌, inl, inr, Bool, true, false, List, [], ◌∷◌, ◌++◌, ◌&&◌, Some, None, length, map, take, drop, set, get_or, replicate, eqb, eq-eqb, refl, sym, ap, ◌∙◌, arith, add-one}
+use Rattle.std.proofs.Common.{◌≡◌, ℕ, zero, suc, ◌+◌, ◌-◌, ◌<◌, inl, inr, Bool, true, false, List, [], ◌∷◌, ◌++◌, ◌&&◌, Some, None, length, map, take, drop, set, get_or, replicate, Option, eqb, eq-eqb, refl, sym, ap, ◌∙◌, arith, add-one}
 use Rattle.std.specs.Prelude.{slice_get}
 use Rattle.std.proofs.lemmas.Bool.{cases_Bool, cond-true, cond-false}
 use Rattle.std.proofs.lemmas.List.{take_at}
@@ -9,7 +9,7 @@ use Rattle.sched_base.specs.declared.rows.Row.{Row}
 use Rattle.sched_base.specs.Tables.{IsRound, end_after, lane_of, with_round}
 use Rattle.trace_lines.specs.Merging.{shown, lengthened, merge_onto, merged}
 use Rattle.trace_lines.proofs.MergeLemmas.{goes_on}
-use Rattle.merged_rows.specs.Columns.{Begun, begun_of, rows_up_to, lanes_up_to, shows_last, showing, showing_each}
+use Rattle.merged_rows.specs.Columns.{Begun, begun_of, rows_up_to, lanes_up_to, shows_last, showing, showing_each, going_on, going_on_each, ends_showing, AreTold}
 use Rattle.merged_rows.proofs.PushLemmas.{merged_with, merged_round, round_push}
 
 -- ---- one lane
@@ -186,6 +186,68 @@ showing_next (l ∷ lanes) start (s ∷ rows) (suc p) lane r a b =
 pub showing_more : (lanes : List (List Begun)) (start : ℕ) (rows : List Row) (p : ℕ) (lane : List Begun) (r : Row) → p < length lanes → p < length rows
     → set (showing_each lanes start (take p rows)) p (showing (get_or lanes p lane) start (get_or rows p r).leaf) ≡ showing_each lanes start (take (p + 1) rows)
 showing_more lanes start rows p lane r a b = rw add-one (showing_next lanes start rows p lane r a b)
+
+pub going_none : (lanes : List (List Begun)) (start : ℕ) → going_on_each lanes start [] ≡ lanes
+going_none [] start = refl
+going_none (lane ∷ lanes) start = refl
+
+pub length-going_on_each : (lanes : List (List Begun)) (start : ℕ) (told : List (Option Leaf)) → length (going_on_each lanes start told) ≡ length lanes
+length-going_on_each [] start told = refl
+length-going_on_each (lane ∷ lanes) start [] = refl
+length-going_on_each (lane ∷ lanes) start (o ∷ told) = ap suc (length-going_on_each lanes start told)
+
+-- lanes from p on are as before
+pub get_or-going : (lanes : List (List Begun)) (start : ℕ) (told : List (Option Leaf)) (p : ℕ) (lane : List Begun) → p < length lanes
+    → get_or (going_on_each lanes start (take p told)) p lane ≡ get_or lanes p lane
+get_or-going [] start told p lane within = absurd (omega (arith, within))
+get_or-going (l ∷ lanes) start told zero lane within = refl
+get_or-going (l ∷ lanes) start [] (suc p) lane within = refl
+get_or-going (l ∷ lanes) start (o ∷ told) (suc p) lane within = get_or-going lanes start told p lane (omega (arith, within))
+
+going_next : (lanes : List (List Begun)) (start : ℕ) (told : List (Option Leaf)) (p : ℕ) (lane : List Begun) (o : Option Leaf) → p < length lanes → p < length told
+    → set (going_on_each lanes start (take p told)) p (going_on (get_or lanes p lane) start (get_or told p o)) ≡ going_on_each lanes start (take (suc p) told)
+going_next [] start told p lane o a b = absurd (omega (arith, a))
+going_next (l ∷ lanes) start [] p lane o a b = absurd (omega (arith, b))
+going_next (l ∷ lanes) start (x ∷ told) zero lane o a b = ap (λ ls. going_on l start x ∷ ls) (sym (going_none lanes start))
+going_next (l ∷ lanes) start (x ∷ told) (suc p) lane o a b =
+    ap (λ ls. going_on l start x ∷ ls) (going_next lanes start told p lane o (omega (arith, a)) (omega (arith, b)))
+
+-- a step of the loop
+pub going_more : (lanes : List (List Begun)) (start : ℕ) (told : List (Option Leaf)) (p : ℕ) (lane : List Begun) (o : Option Leaf) → p < length lanes → p < length told
+    → set (going_on_each lanes start (take p told)) p (going_on (get_or lanes p lane) start (get_or told p o)) ≡ going_on_each lanes start (take (p + 1) told)
+going_more lanes start told p lane o a b = rw add-one (going_next lanes start told p lane o a b)
+
+-- ---- what is told
+
+ends_as : (p end : ℕ) (lane : List Begun) (leaf : Leaf) → ends_showing (rows_up_to p end lane) leaf ≡ shows_last lane leaf
+ends_as p end [] leaf = refl
+ends_as p end (b ∷ []) leaf = refl
+ends_as p end (b ∷ (c ∷ [])) leaf = refl
+ends_as p end (b ∷ (c ∷ (d ∷ lane))) leaf = ends_as p end (c ∷ (d ∷ lane)) leaf
+
+one_told : (p start : ℕ) (lane : List Begun) (o : Option Leaf) (leaf : Leaf) → ((l : Leaf) → o ≡ Some l → l ≡ leaf) → (o ≡ None → ends_showing (rows_up_to p start lane) leaf ≡ true)
+    → going_on lane start o ≡ showing lane start leaf
+one_told p start lane None leaf some none =
+    sym (cond-true (shows_last lane leaf) lane (lane ++ new_row start leaf ∷ []) (sym (ends_as p start lane leaf) ∙ none refl))
+one_told p start lane (Some l) leaf some none = ap (showing lane start) (some l refl)
+
+later_told : (first : List Row) (lanes : List (List Row)) (o : Option Leaf) (told : List (Option Leaf)) (r : Row) (rows : List Row) → AreTold (first ∷ lanes) (o ∷ told) (r ∷ rows) → AreTold lanes told rows
+later_told first lanes o told r rows h = record {
+  long = (let long = h.long in omega (arith, long));
+  some = λ p s leaf at is. h.some (suc p) s leaf at is;
+  none = λ p s at is. h.none (suc p) s at is;
+}
+
+-- each processor goes on as its row does
+pub told_is : (a start : ℕ) (lanes : List (List Begun)) (told : List (Option Leaf)) (rows : List Row) → AreTold (lanes_up_to a start lanes) told rows
+    → going_on_each lanes start told ≡ showing_each lanes start rows
+told_is a start [] told rows h = refl
+told_is a start (lane ∷ lanes) [] [] h = refl
+told_is a start (lane ∷ lanes) [] (r ∷ rows) h = absurd (let long = h.long in omega (arith, long))
+told_is a start (lane ∷ lanes) (o ∷ told) [] h = absurd (let long = h.long in omega (arith, long))
+told_is a start (lane ∷ lanes) (o ∷ told) (r ∷ rows) h =
+    ap (λ x. x ∷ going_on_each lanes start told) (one_told a start lane o r.leaf (λ leaf is. h.some 0 r leaf refl is) (λ is. h.none 0 r refl is))
+    ∙ ap (λ xs. showing lane start r.leaf ∷ xs) (told_is (a + 1) start lanes told rows (later_told (rows_up_to a start lane) (lanes_up_to (a + 1) start lanes) o told r rows h))
 
 -- processors with no row
 pub none_up_to : (a end n : ℕ) → lanes_up_to a end (replicate n []) ≡ replicate n []

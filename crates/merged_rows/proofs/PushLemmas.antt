@@ -1,10 +1,13 @@
 -- Rows merged as they come, one by one.
-use Rattle.std.proofs.Common.{◌≡◌, inl, inr, true, false, List, [], ◌∷◌, ◌++◌, ◌&&◌, map, eqb, sym, refl, ap, ◌∙◌}
+use Rattle.std.proofs.Common.{◌≡◌, ◌<◌, ℕ, zero, suc, inl, inr, true, false, List, [], ◌∷◌, ◌++◌, ◌&&◌, None, Some, length, map, eqb, eq-eqb, sym, refl, ap, ◌∙◌, arith}
+use Rattle.std.specs.Prelude.{slice_get}
 use Rattle.std.proofs.lemmas.Bool.{cases_Bool, and_parts, cond-true, cond-false, eqb-true}
 use Rattle.sched_base.specs.declared.rows.Row.{Row}
-use Rattle.sched_base.specs.Tables.{all_rows, with_round}
+use Rattle.sched_base.specs.declared.rows.Leaf.{Leaf}
+use Rattle.sched_base.specs.Tables.{all_rows, lane_of, with_round}
 use Rattle.trace_lines.specs.Merging.{shown, lengthened, merge_onto, merged, merged_lanes}
 use Rattle.trace_lines.proofs.MergeLemmas.{goes_on}
+use Rattle.merged_rows.specs.Columns.{ends_showing}
 
 -- merged rows with one more row after them: where it goes on with the last of them, that one gets longer
 abbrev pub merged_with : List Row → Row → List Row
@@ -69,3 +72,37 @@ round_push (lane ∷ lanes) (r ∷ rows) =
 pub all_merged : (lanes : List (List Row)) → all_rows (map merged lanes) ≡ merged_lanes lanes
 all_merged [] = refl
 all_merged (lane ∷ lanes) = ap (λ rows. merged lane ++ rows) (all_merged lanes)
+
+-- ---- what is shown last
+
+longer : (q : Row) (rows : List Row) (leaf : Leaf) → 0 < length rows → ends_showing (q ∷ rows) leaf ≡ ends_showing rows leaf
+longer q [] leaf some = absurd (omega (arith, some))
+longer q (r ∷ rows) leaf some = refl
+
+some_with : (rows : List Row) (r : Row) → 0 < length (merged_with rows r)
+some_with [] r = omega arith
+some_with (q ∷ []) r = elim (cases_Bool (goes_on q r)) [
+  | inl on ↦ (let e : length (merge_onto q (r ∷ [])) ≡ 1 = ap length (onto_on q r [] on) in omega (arith, e))
+  | inr off ↦ (let e : length (merge_onto q (r ∷ [])) ≡ 2 = ap length (onto_off q r [] off) in omega (arith, e))
+]
+some_with (q ∷ (next ∷ rows)) r = omega arith
+
+-- merged with one row more, rows end with what that one shows
+with_ends : (rows : List Row) (r : Row) → ends_showing (merged_with rows r) r.leaf ≡ true
+with_ends [] r = eq-eqb (shown r.leaf) (shown r.leaf) refl
+with_ends (q ∷ []) r = elim (cases_Bool (goes_on q r)) [
+  | inl on ↦ ap (λ rs. ends_showing rs r.leaf) (onto_on q r [] on) ∙ (and_parts (eqb q.end r.start) (eqb (shown q.leaf) (shown r.leaf)) on).1
+  | inr off ↦ ap (λ rs. ends_showing rs r.leaf) (onto_off q r [] off) ∙ eq-eqb (shown r.leaf) (shown r.leaf) refl
+]
+with_ends (q ∷ (next ∷ rows)) r = longer q (merged_with (next ∷ rows) r) r.leaf (some_with (next ∷ rows) r) ∙ with_ends (next ∷ rows) r
+
+-- so does each lane with a round more
+pub round_ends : (lanes : List (List Row)) (rows : List Row) (p : ℕ) (r : Row) → p < length lanes → slice_get rows p ≡ Some r
+    → ends_showing (lane_of (map merged (with_round lanes rows)) p) r.leaf ≡ true
+round_ends [] rows p r within at = absurd (omega (arith, within))
+round_ends (lane ∷ lanes) [] p r within at = absurd (let e : None ≡ Some r = at in cc)
+round_ends (lane ∷ lanes) (s ∷ rows) zero r within at =
+    let e : Some s ≡ Some r = at in
+    let e' : s ≡ r = cc in
+    ap (λ rs. ends_showing rs r.leaf) (merged_push lane s) ∙ ap (λ x. ends_showing (merged_with (merged lane) x) r.leaf) e' ∙ with_ends (merged lane) r
+round_ends (lane ∷ lanes) (s ∷ rows) (suc p) r within at = round_ends lanes rows p r (omega (arith, within)) at

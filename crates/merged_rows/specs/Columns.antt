@@ -1,7 +1,9 @@
 -- Merged rows by where they begin and what they show.
-use Rattle.std.specs.Prelude.{ℕ, ◌+◌, ◌==◌, Bool, false, if◌then◌else◌, List, [], ◌∷◌, ◌++◌}
+use Rattle.std.specs.Prelude.{ℕ, ◌≡◌, ◌+◌, ◌==◌, Bool, true, false, if◌then◌else◌, List, [], ◌∷◌, ◌++◌, length, Option, None, Some}
+use Rattle.std.specs.Prelude.{slice_get, slice_index_or}
 use Rattle.sched_base.specs.declared.rows.Leaf.{Leaf}
 use Rattle.sched_base.specs.declared.rows.Row.{Row}
+use Rattle.sched_base.specs.Tables.{lane_of}
 use Rattle.trace_lines.specs.Merging.{shown}
 
 -- what is seen of merged rows: those of each processor, and the tick up to which they go
@@ -46,3 +48,26 @@ abbrev pub showing_each : List (List Begun) → ℕ → List Row → List (List 
 showing_each [] start rows = []
 showing_each (lane ∷ lanes) start [] = lane ∷ lanes
 showing_each (lane ∷ lanes) start (r ∷ rows) = showing lane start r.leaf ∷ showing_each lanes start rows
+
+-- the processor shows this leaf from here on, where one is told; else its last row goes on
+abbrev pub going_on : List Begun → ℕ → Option Leaf → List Begun
+going_on lane start None = lane
+going_on lane start (Some leaf) = showing lane start leaf
+
+-- so does each processor
+abbrev pub going_on_each : List (List Begun) → ℕ → List (Option Leaf) → List (List Begun)
+going_on_each [] start told = []
+going_on_each (lane ∷ lanes) start [] = lane ∷ lanes
+going_on_each (lane ∷ lanes) start (o ∷ told) = going_on lane start o ∷ going_on_each lanes start told
+
+-- whether the last of these rows shows what this leaf does
+abbrev pub ends_showing : List Row → Leaf → Bool
+ends_showing [] leaf = false
+ends_showing (r ∷ []) leaf = shown r.leaf == shown leaf
+ends_showing (r ∷ (next ∷ later)) leaf = ends_showing (next ∷ later) leaf
+
+-- Of each processor it is told what its row of a round shows, or nothing where its last row before shows the same.
+pub record AreTold (lanes : List (List Row)) (told : List (Option Leaf)) (rows : List Row) : Type 0 where
+  pub long : length rows ≡ length told
+  pub some : (p : ℕ) (r : Row) (leaf : Leaf) → slice_get rows p ≡ Some r → slice_index_or told p None ≡ Some leaf → leaf ≡ r.leaf
+  pub none : (p : ℕ) (r : Row) → slice_get rows p ≡ Some r → slice_index_or told p None ≡ None → ends_showing (lane_of lanes p) r.leaf ≡ true

@@ -1,7 +1,7 @@
 //! The merged rows of one processor, as two columns.
 ghost use Rattle.std.specs.Prelude.{◌≡◌, ◌<◌, ◌==◌, [], ◌∷◌, ◌++◌, length, OnOk, OnErr, Some, slice_get};
 ghost use Rattle.trace_lines.specs.Merging.{shown};
-ghost use Rattle.merged_rows.specs.Columns.{Begun, shows_last, showing};
+ghost use Rattle.merged_rows.specs.Columns.{Begun, going_on, shows_last, showing};
 
 use sched_base::{Leaf, NoMemory};
 use std::alloc::Global;
@@ -44,6 +44,16 @@ impl MergedLane {
             return Ok(());
         }
         self.begin(start, leaf)
+    }
+
+    /// The same, where a leaf is told; else the last row goes on.
+    pub(crate) fn go_on(&mut self, start: u128, told: Option<Leaf>) -> Result<(), NoMemory>
+        ensures shown { OnOk result (self.new ≡ going_on self.old start told) }
+    {
+        match told {
+            None => Ok(()),
+            Some(leaf) => self.show(start, leaf),
+        }
     }
 
     // Whether the last row shows what this leaf does.

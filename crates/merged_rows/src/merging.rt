@@ -3,10 +3,10 @@ ghost use Rattle.std.specs.Prelude.{◌≡◌, ◌<◌, [], List, Some, length, 
 ghost use Rattle.sched_base.specs.declared.rows.Row.{Row as declared_row};
 ghost use Rattle.sched_base.specs.Tables.{IsRound, RowAt, end_after, lane_of, with_round};
 ghost use Rattle.trace_lines.specs.Merging.{merged};
-ghost use Rattle.merged_rows.specs.Columns.{rows_up_to, showing_each};
+ghost use Rattle.merged_rows.specs.Columns.{rows_up_to, showing_each, going_on_each, AreTold};
 
 use crate::lanes::MergedLane;
-use sched_base::{NoMemory, Row};
+use sched_base::{Leaf, NoMemory, Row};
 use std::alloc::Global;
 use std::marker::Model;
 
@@ -43,8 +43,23 @@ impl MergedRows {
         Ok(MergedRows { lanes, end: 0 })
     }
 
-    /// With the next round, one row for each processor in order. Memory is taken for a processor that shows something else than before.
-    pub fn with_round(mut self, rows: &[Row]) -> Result<MergedRows, NoMemory>
+    /// With the next round, up to tick `end`. Of each processor in order it is told what it shows there, or nothing where its last
+    /// row before shows the same. Memory is taken for a processor that shows something else than before.
+    pub fn with_round(mut self, end: u128, told: &[Option<Leaf>]) -> Result<MergedRows, NoMemory>
+        requires whole { length told.now ≡ length self.lanes }
+        ensures merged { IfOk result (λ m. (lanes : List (List declared_row)) (rows : List declared_row) → self.lanes ≡ map merged lanes
+            → IsRound self.end rows → end_after self.end rows ≡ end → AreTold self.lanes told.now rows
+            → m.lanes ≡ map merged (with_round lanes rows)) }
+        ensures end { IfOk result (λ m. m.end ≡ end) }
+        ensures processors { IfOk result (λ m. length m.lanes ≡ length self.lanes) }
+    {
+        show_told(self.lanes.as_mut_slice(), self.end, told)?;
+        self.end = end;
+        Ok(self)
+    }
+
+    /// With the next round, where its rows are at hand: one for each processor in order. Memory is taken as `with_round` takes it.
+    pub fn with_rows(mut self, rows: &[Row]) -> Result<MergedRows, NoMemory>
         requires whole { length rows.now ≡ length self.lanes }
         requires round { IsRound self.end rows.now }
         ensures merged { IfOk result (λ m. (lanes : List (List declared_row)) → self.lanes ≡ map merged lanes
@@ -80,6 +95,17 @@ impl MergedRows {
     {
         row_of(&self.lanes[p as usize], self.end, p, i)
     }
+}
+
+// Each processor shows what is told of it, from tick `start` on, and else goes on.
+fn show_told(lanes: &mut [MergedLane], start: u128, told: &[Option<Leaf>]) -> Result<(), NoMemory>
+    requires whole { length told.now ≡ length lanes.old }
+    ensures shown { OnOk result (lanes.new ≡ going_on_each lanes.old start told.now) }
+{
+    for p in 0..told.len() {
+        lanes[p].go_on(start, told[p])?;
+    }
+    Ok(())
 }
 
 // Each processor shows what its row of the round does, from tick `start` on.

@@ -25,9 +25,9 @@ fn row(processor: u32, start: u128, end: u128, leaf: Leaf) -> Row
 #[test]
 fn three_tasks(rt: HostRuntime) -> Result<(), NoMemory> {
     let rows = MergedRows::new(rt.alloc(), 2)?;
-    let rows = rows.with_round(&[row(0, 0, 3, B), row(1, 0, 3, C)])?;
-    let rows = rows.with_round(&[row(0, 3, 6, A), row(1, 3, 6, C)])?;
-    let rows = rows.with_round(&[row(0, 6, 9, A), row(1, 6, 9, B)])?;
+    let rows = rows.with_round(3, &[Some(B), Some(C)])?;
+    let rows = rows.with_round(6, &[Some(A), Some(C)])?;
+    let rows = rows.with_round(9, &[None, Some(B)])?;
     assert_eq!(rt; rows.processors(), 2);
     assert_eq!(rt; rows.count(0), 2);
     assert_eq!(rt; rows.row(0, 0), row(0, 0, 3, B));

@@ -1,10 +1,13 @@
-use Rattle.std.proofs.Common.{[], List, ap, arith, length, map, subst, sym, ℕ, ◌*◌, ◌+◌, ◌/◌, ◌<◌, ◌∙◌, ◌≡◌}
+use Rattle.std.proofs.Common.{[], List, None, Option, Some, get_or, slice_get, ap, arith, length, map, subst, sym, ℕ, ◌*◌, ◌+◌, ◌/◌, ◌<◌, ◌∙◌, ◌≡◌}
+use Rattle.sched_base.specs.declared.rows.Leaf.TheVariants.{Empty}
+use Rattle.sched_base.specs.declared.rows.NodeId.{NodeId}
 use Rattle.sched_base.specs.declared.rows.Row.{Row}
 use Rattle.sched_base.specs.Lanes.{lanes_of}
-use Rattle.sched_base.specs.Tables.{IsRound, IsTable, end_after, end_of, row_limit, rounds_of as rounds_in, with_round}
+use Rattle.sched_base.specs.Tables.{IsRound, IsTable, end_after, end_of, lane_of, row_limit, rounds_of as rounds_in, with_round}
 use Rattle.sched_base.proofs.ScheduleLanes.{lanes_of-none, length-lanes_of}
 use Rattle.sched_base.proofs.TableLemmas.{IsTable-none, IsTable-with_round}
-use Rattle.std.proofs.lemmas.List.{length-map}
+use Rattle.std.proofs.lemmas.List.{get_or-replicate, length-map}
+use Rattle.std.proofs.lemmas.Option.{slice_get_within}
 use Rattle.run_tree.specs.Tree.{Tree}
 use Rattle.run_tree.specs.Plans.{rounds_of, stop_of}
 use Rattle.sched_laws.proofs.WholeRounds.{length-round, round_get}
@@ -13,6 +16,10 @@ use Rattle.event_core.specs.Rounds.{rounds_before, rows_before, rows_of_round}
 use Rattle.event_core.proofs.NextCores.{event_before_end}
 use Rattle.event_core.proofs.RoundsInOrder.{next_rounds, no_rounds, no_rows, too_long}
 use Rattle.round_table.proofs.PlanRounds.{is_round, next_count, next_end, next_lanes, no_end, no_round}
+use Rattle.merged_rows.specs.Columns.{ends_showing}
+use Rattle.merged_rows.proofs.PushLemmas.{round_ends}
+use Rattle.merged_rounds.specs.Passes.{IsLooked}
+use Rattle.merged_rounds.proofs.LookLemmas.{are_told, kept_on}
 use Rattle.merged_rounds.proofs.ScheduleLemmas.{end_of_all, lawful_rows, merged_none}
 use Rattle.merged_rounds.proofs.passes.merge_rounds.Goals as goal
 
@@ -33,6 +40,13 @@ rounds-init c =
       tick = c.requires.start ∙ sym start;
       table = subst IsTable (sym (lanes ∙ lanes_of-none m)) (IsTable-none m);
       end = ap end_of lanes ∙ no_end p h ∙ sym start;
+      kept = λ q l.
+          let nobody : get_or c.args.kept.now q None ≡ None = ap (λ (ns : List (Option NodeId)). get_or ns q None) c.requires.kept ∙ get_or-replicate m q None None l in
+          record {
+            leaf = Empty;
+            stays = λ n t e le. absurd (let e' : None ≡ Some n = sym nobody ∙ e in cc);
+            last = λ n e. absurd (let e' : None ≡ Some n = sym nobody ∙ e in cc);
+          };
       rounds = ap rounds_in lanes ∙ no_round p h ∙ sym no_rounds_yet;
     }
 
@@ -47,19 +61,14 @@ returns-then-next_rows-gt-ROW_LIMIT-clause-fault c =
     subst TooLong (c.from-processors.ensures ∙ c.processors.ensures.value ∙ ap (λ (t : Tree). t.processors) c.tree.ensures.value)
     (too_long p c.rounds.core.tick c.rounds.count c.from-processors.result (event_before_end p c.rounds.core c.rounds.invariant.belongs early) early c.rounds.invariant.count c.rounds.invariant.few c.if-next_rows-gt-ROW_LIMIT.true)
 
-pub with_round-requires-clause-whole : goal.with_round-requires-clause-whole
-with_round-requires-clause-whole c =
+pub with_round-requires : goal.with_round-requires
+with_round-requires c =
     let p = c.args.plan.now in
     let start = c.rounds.core.tick in
     let m = p.tree.processors in
-    ap length c.advance.ensures.rows ∙ length-round p.set.tasks p.tree start c.advance.new.self.tick
-    ∙ sym (ap length c.rounds.invariant.lanes ∙ length-map (lanes_of m (rows_before p start)) merged ∙ length-lanes_of m (rows_before p start))
-
-pub with_round-requires-clause-round : goal.with_round-requires-clause-round
-with_round-requires-clause-round c =
-    let p = c.args.plan.now in
-    let whole = is_round p c.rounds_end-end.ensures.lawful c.rounds.core.tick c.advance.new.self.tick c.advance.ensures.round in
-    subst (λ (n : ℕ). IsRound n c.advance.new.rows) (sym c.rounds.invariant.tick) (subst (λ (rows : List Row). IsRound c.rounds.core.tick rows) (sym c.advance.ensures.rows) whole)
+    let lanes : length c.rounds.merged.lanes ≡ m = ap length c.rounds.invariant.lanes ∙ length-map (lanes_of m (rows_before p start)) merged ∙ length-lanes_of m (rows_before p start) in
+    let told = c.requires.told in
+    record { whole = omega (arith, lanes, told) }
 
 pub rounds-preserved : goal.rounds-preserved
 rounds-preserved c =
@@ -67,8 +76,8 @@ rounds-preserved c =
     let h = c.rounds_end-end.ensures.lawful in
     let m = p.tree.processors in
     let start = c.rounds.core.tick in
-    let end = c.advance.new.self.tick in
-    let round = c.advance.ensures.round in
+    let end = c.go.new.self.tick in
+    let round = c.go.ensures.round in
     let rows = rows_of_round p start end in
     let raw = lanes_of m (rows_before p start) in
     let long : length raw ≡ m = length-lanes_of m (rows_before p start) in
@@ -77,16 +86,26 @@ rounds-preserved c =
     let next = next_lanes p h start end round in
     let counted = next_rounds p start end round in
     let count = c.rounds.invariant.count in
+    let looked : (q : ℕ) → q < m → IsLooked p start end q (get_or c.rounds.kept q None) (get_or c.look_each.new.kept q None) (get_or c.look_each.new.told q None) =
+    (λ q l. subst (λ (n : ℕ). IsLooked p n end q (get_or c.rounds.kept q None) (get_or c.look_each.new.kept q None) (get_or c.look_each.new.told q None)) c.now-start.ensures (c.look_each.ensures q l)) in
+    let told_long : length c.look_each.new.told ≡ m = (let a = c.requires.told in omega (arith, a)) in
+    let told = are_told p start end c.rounds.merged.lanes c.rounds.kept c.look_each.new.kept c.look_each.new.told c.rounds.invariant.kept looked told_long in
+    let now : IsRound c.rounds.merged.end rows = subst (λ (n : ℕ). IsRound n rows) (sym c.rounds.invariant.tick) (is_round p h start end round) in
+    let to : end_after c.rounds.merged.end rows ≡ c.now-to.result =
+    end_of_all rows c.rounds.merged.end end (omega (arith, whole, long, some)) (λ k row at. ap (λ (x : Row). x.end) (round_get p.set.tasks p.tree start end k row at)) ∙ sym c.now-to.ensures in
+    let lanes = c.in_ok-merged.ensures.merged raw rows c.rounds.invariant.lanes now to told in
     let is_now : IsRound (end_of raw) rows = subst (λ (n : ℕ). IsRound n rows) (sym c.rounds.invariant.end) (is_round p h start end round) in
     record {
-      belongs = c.advance.ensures.belongs;
+      belongs = c.go.ensures.belongs;
       count = omega (arith, counted, count);
       few = c.if-next_rows-gt-ROW_LIMIT.false;
-      lanes = c.in_ok-merged.ensures.merged raw c.rounds.invariant.lanes ∙ ap (λ rs. map merged (with_round raw rs)) c.advance.ensures.rows ∙ ap (map merged) (sym next);
-      tick = c.in_ok-merged.ensures.end ∙ ap (end_after c.rounds.merged.end) c.advance.ensures.rows
-          ∙ end_of_all rows c.rounds.merged.end end (omega (arith, whole, long, some)) (λ k row at. ap (λ (x : Row). x.end) (round_get p.set.tasks p.tree start end k row at));
+      lanes = lanes ∙ ap (map merged) (sym next);
+      tick = c.in_ok-merged.ensures.end ∙ c.now-to.ensures;
       table = subst IsTable (sym next) (IsTable-with_round raw rows c.rounds.invariant.table whole is_now);
       end = ap end_of next ∙ next_end p h start end round raw long;
+      kept = kept_on p start end c.rounds.merged.lanes c.rounds.kept c.look_each.new.kept c.look_each.new.told c.rounds.invariant.kept looked c.in_ok-merged.merged.lanes (let above = round.above in omega (arith, above))
+          (λ q r at. ap (λ (ls : List (List Row)). ends_showing (lane_of ls q) r.leaf) lanes
+          ∙ round_ends raw rows q r (let l = slice_get_within rows q r at in omega (arith, l, whole)) at);
       rounds = ap rounds_in next ∙ next_count p h start end round raw long ∙ ap (λ n. n + 1) c.rounds.invariant.rounds ∙ sym counted;
     }
 

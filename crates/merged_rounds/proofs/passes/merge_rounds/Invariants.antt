@@ -1,10 +1,11 @@
-use Rattle.std.proofs.Common.{◌≡◌, ◌≤◌, ◌-◌, ◌*◌, map}
+use Rattle.std.proofs.Common.{◌≡◌, ℕ, ◌<◌, ◌≤◌, ◌-◌, ◌*◌, None, get_or, map}
 use Rattle.sched_base.specs.Lanes.{lanes_of}
-use Rattle.sched_base.specs.Tables.{IsTable, end_of, rounds_of as rounds_in, row_limit}
+use Rattle.sched_base.specs.Tables.{IsTable, end_of, lane_of, rounds_of as rounds_in, row_limit}
 use Rattle.run_tree.specs.Plans.{stop_of}
 use Rattle.trace_lines.specs.Merging.{merged}
 use Rattle.event_core.specs.Rounds.{rounds_before, rows_before}
 use Rattle.event_core.specs.Cores.{IsCoreOf}
+use Rattle.merged_rounds.specs.Passes.{IsKept}
 use Rattle.merged_rounds.proofs.passes.merge_rounds.Given as goal
 
 abbrev pub invariant-rounds : goal.invariant-rounds
@@ -16,6 +17,7 @@ invariant-rounds l = record {
   tick : l.merged.end ≡ l.core.tick;
   table : IsTable (lanes_of l.plan.tree.processors (rows_before l.plan l.core.tick));
   end : end_of (lanes_of l.plan.tree.processors (rows_before l.plan l.core.tick)) ≡ l.core.tick;
+  kept : (q : ℕ) → q < l.plan.tree.processors → IsKept l.plan l.core.tick (lane_of l.merged.lanes q) (get_or l.kept q None);
   rounds : rounds_in (lanes_of l.plan.tree.processors (rows_before l.plan l.core.tick)) ≡ rounds_before l.plan l.core.tick;
 }
 
