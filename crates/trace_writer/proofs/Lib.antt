@@ -6,3 +6,6 @@ pub mod EndLemmas
 pub mod ReachLemmas
 pub mod LongTableLemmas
 pub mod MergedLemmas
+pub mod DigitLemmas
+pub mod PageLemmas
+pub mod RowLemmas

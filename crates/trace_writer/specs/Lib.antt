@@ -3,3 +3,4 @@ pub mod Parts
 pub mod Ends
 pub mod Reaches
 pub mod LongTables
+pub mod Digits

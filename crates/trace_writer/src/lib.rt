@@ -2,10 +2,12 @@
 #![tactic(auto)]
 
 mod body;
+mod digits;
 mod finishes;
 mod lines;
 mod merged;
 mod mets;
+mod pages;
 mod reaches;
 mod rows;
 mod text;

@@ -3,6 +3,7 @@ ghost use Rattle.std.specs.Prelude.{◌≡◌, ◌≤◌, ◌++◌, ◌∷◌, c
 ghost use Rattle.trace_lines.specs.Conditions.{IsAmong};
 ghost use Rattle.trace_lines.specs.Lines.{leaf_name, task_line, row_line};
 
+use crate::pages::Page;
 use sched_base::{Leaf, Row, Task, TaskSet};
 use sched_edges::Line;
 use trace_lines::Version;
@@ -42,23 +43,22 @@ fn start_of_task(task: &Task) -> Line
     line
 }
 
-/// The line of a row.
+/// Adds the line of a row to a page that has room for any.
 #[tactic(auto, unfolding(trace_lines::specs::Lines::row_line, sched_edges::specs::Lines::line_of))]
-pub(crate) fn line_of_row(set: &TaskSet, row: &Row) -> Line
-    requires { IsAmong (length set.now.tasks) row.now.leaf }
-    ensures { result ≡ row_line set.now.tasks row.now }
+pub(crate) fn add_row(page: &mut Page, set: &TaskSet, row: &Row)
+    requires among { IsAmong (length set.now.tasks) row.now.leaf }
+    requires room { length page.old ≤ 3840 }
+    ensures { page.new ≡ page.old ++ row_line set.now.tasks row.now }
 {
-    let mut line = Line::new();
-    line.text(b"row ");
-    line.number(u128::from(row.processor));
-    line.space();
-    line.number(row.start);
-    line.space();
-    line.number(row.end);
-    line.space();
-    line.text(name_of(set, row.leaf));
-    line.end();
-    line
+    page.text(b"row ");
+    page.number(u128::from(row.processor));
+    page.space();
+    page.number(row.start);
+    page.space();
+    page.number(row.end);
+    page.space();
+    page.text(name_of(set, row.leaf));
+    page.end();
 }
 
 // The name that a row's line gives its leaf.

@@ -1,5 +1,5 @@
 //! The lines of rows that are merged already.
-ghost use Rattle.std.specs.Prelude.{◌≡◌, ◌≤◌, ◌<◌, length, IfOk};
+ghost use Rattle.std.specs.Prelude.{◌≡◌, ◌≤◌, ◌<◌, ◌++◌, length, take, IfOk};
 ghost use Rattle.std.specs.List.{AllByRecursion, flat_map};
 ghost use Rattle.sched_base.specs.Tables.{all_rows, lane_of};
 ghost use Rattle.sched_edges.specs.Causes.{HasCause};
@@ -7,10 +7,14 @@ ghost use Rattle.sched_edges.specs.Streams.{Wrote};
 ghost use Rattle.trace_lines.specs.Conditions.{NameTasks};
 ghost use Rattle.trace_lines.specs.Lines.{row_line};
 
-use crate::lines::line_of_row;
+use crate::lines::add_row;
+use crate::pages::Page;
 use merged_rows::MergedRows;
 use sched_base::TaskSet;
 use sched_edges::{Failed, Sink, write_all};
+
+/// A page with more bytes than these may have no room for another line.
+const FULL: usize = 3840;
 
 /// Writes the rows of all processors, and says how many lines these are.
 pub(crate) fn write_merged_rows<W: Sink>(
@@ -45,8 +49,32 @@ fn write_merged_lane<W: Sink>(
     ensures cause { HasCause (W.faults sink.old) (W.faults sink.new) result }
 {
     let count = rows.count(p);
-    for i in 0..count {
-        write_all(sink, line_of_row(set, &rows.row(p, i)).as_slice())?;
+    let mut page = Page::new();
+    let mut next = 0;
+    while next < count {
+        next = fill(&mut page, set, rows, p, next);
+        write_all(sink, page.as_slice())?;
     }
     Ok(count as u64)
+}
+
+// The page holds lines of processor p alone, from row `first` on, as many as it has room for. Says which row comes after them.
+fn fill(page: &mut Page, set: &TaskSet, rows: &MergedRows, p: u32, first: usize) -> usize
+    requires processor { p < length rows.now.lanes }
+    requires some { first < length (lane_of rows.now.lanes p) }
+    requires names { NameTasks set.now.tasks (lane_of rows.now.lanes p) }
+    ensures later { first < result }
+    ensures within { result ≤ length (lane_of rows.now.lanes p) }
+    ensures text { flat_map (row_line set.now.tasks) (take result (lane_of rows.now.lanes p))
+        ≡ flat_map (row_line set.now.tasks) (take first (lane_of rows.now.lanes p)) ++ page.new }
+{
+    page.clear();
+    let count = rows.count(p);
+    for i in first..count {
+        if page.len() > FULL {
+            return i;
+        }
+        add_row(page, set, &rows.row(p, i));
+    }
+    count
 }

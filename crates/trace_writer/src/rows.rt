@@ -8,7 +8,8 @@ ghost use Rattle.trace_lines.specs.Conditions.{NameTasks};
 ghost use Rattle.trace_lines.specs.Lines.{row_line};
 ghost use Rattle.trace_lines.specs.Merging.{merged, merged_lanes};
 
-use crate::lines::line_of_row;
+use crate::lines::add_row;
+use crate::pages::Page;
 use sched_base::{Row, RowTable, TaskSet};
 use sched_edges::{Failed, Sink, write_all};
 use trace_lines::first_merged;
@@ -41,10 +42,13 @@ fn write_lane<W: Sink>(sink: &mut W, set: &TaskSet, lane: &[Row]) -> Result<u64,
     ensures few { IfOk result (λ n. n ≤ 2_097_152) }
     ensures cause { HasCause (W.faults sink.old) (W.faults sink.new) result }
 {
+    let mut page = Page::new();
     let mut count = 0;
     let mut left = lane;
     while let Some((row, later)) = first_merged(left) {
-        write_all(sink, line_of_row(set, &row).as_slice())?;
+        page.clear();
+        add_row(&mut page, set, &row);
+        write_all(sink, page.as_slice())?;
         count += 1;
         left = later;
     }

@@ -3,6 +3,7 @@ ghost use Rattle.std.specs.Prelude.{◌≡◌, ◌≤◌, [], ◌∷◌, IfOk};
 ghost use Rattle.trace_writer.specs.LongTables.{steady_rows};
 
 use super::{write_met, write_trace};
+use crate::pages::Page;
 use sched_base::{Leaf, NoMemory, Row, RowTable, TaskId, TaskSet};
 use sched_edges::{Failed, MemSink};
 use std::alloc::Global;
@@ -104,6 +105,26 @@ fn a_sink_that_fails_takes_a_first_part(rt: HostRuntime) -> Result<(), Fail> {
     let mut sink = MemSink::new(rt.alloc(), 1024, &[3])?;
     assert!(rt; write_trace(&mut sink, &set, 1, &table, &[]) == Err(Failed));
     assert_eq!(rt; sink.taken(), b"run-trace 1\nprocessors 1\n".as_slice());
+    Ok(())
+}
+
+#[test]
+fn numbers_past_64_bits(rt: HostRuntime) -> Result<(), Fail> {
+    let rows: [(u128, &str); 5] = [
+        (18_446_744_073_709_551_615, "18446744073709551615"),
+        (18_446_744_073_709_551_616, "18446744073709551616"),
+        (100_000_000_000_000_000_007, "100000000000000000007"),
+        (
+            100_000_000_000_000_000_000_000_000_000_000_000_000,
+            "100000000000000000000000000000000000000",
+        ),
+        (u128::MAX, "340282366920938463463374607431768211455"),
+    ];
+    for (number, text) in rows {
+        let mut page = Page::new();
+        page.number(number);
+        assert_eq!(rt; page.as_slice(), text.as_bytes());
+    }
     Ok(())
 }
 

@@ -43,7 +43,7 @@ pub fn write_trace<W: Sink>(
     write_all(sink, line.as_slice())
 }
 
-/// The same of rows that are merged already.
+/// The same of rows that are merged already. The lines of each processor go out in pieces of up to 4096 bytes, and each other line as one.
 pub fn write_merged<W: Sink>(
     sink: &mut W,
     set: &TaskSet,

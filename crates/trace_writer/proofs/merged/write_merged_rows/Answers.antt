@@ -1,4 +1,4 @@
-use Rattle.std.proofs.Common.{◌≡◌, ◌+◌, ◌<◌, ◌≤◌, [], List, length, ap, arith, ◌∙◌, sym}
+use Rattle.std.proofs.Common.{◌+◌, ◌<◌, ◌≤◌, [], List, length, ap, arith, ◌∙◌}
 use Rattle.std.specs.List.{flat_map}
 use Rattle.std.proofs.lemmas.List.{get_or_default, take_all}
 use Rattle.sched_base.specs.declared.rows.Row.{Row}

@@ -10,13 +10,13 @@ loop-row-init g c =
 pub returns-in_err-write_all-clause-wrote : goal.returns-in_err-write_all-clause-wrote
 returns-in_err-write_all-clause-wrote g c =
     let (so_far, before, names, few) = c.loop-row.invariant in
-    let wrote = rw (c.as_slice.ensures.bytes, c.line_of_row.ensures) at c.in_err-write_all.ensures.wrote in
+    let wrote = rw (c.as_slice.ensures, c.add_row.ensures, c.clear.ensures) at c.in_err-write_all.ensures.wrote in
     written_cut c.args.set.now.tasks _ _ _ c.args.lane.now c.loop-row.left.now c.in-Some.later.now c.in-Some.row c.loop-row.count _ _ c.in-Some.ensures.first so_far wrote c.from_residual.ensures.0
 
 pub loop-row-preserved : goal.loop-row-preserved
 loop-row-preserved g c =
     let (so_far, before, names, few) = c.loop-row.invariant in
-    let wrote = rw (c.as_slice.ensures.bytes, c.line_of_row.ensures) at c.in_ok-write_all.ensures.wrote in
+    let wrote = rw (c.as_slice.ensures, c.add_row.ensures, c.clear.ensures) at c.in_ok-write_all.ensures.wrote in
     let next = written_more c.args.set.now.tasks _ _ _ c.args.lane.now c.loop-row.left.now c.in-Some.later.now c.in-Some.row c.loop-row.count c.in-Some.ensures.first so_far wrote.ok in
     let later = c.write_all.ensures.cause.later in
     let known = names_next c.args.set.now.tasks c.loop-row.left.now c.in-Some.later.now c.in-Some.row c.in-Some.ensures.first names in

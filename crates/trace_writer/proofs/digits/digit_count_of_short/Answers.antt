@@ -1,0 +1,23 @@
+use Rattle.std.proofs.Common.{◌/◌, sym, arith}
+use Rattle.itoa.proofs.Decimal.{length_one, length_two, length_pair}
+use Rattle.trace_writer.proofs.digits.digit_count_of_short.Goals as goal
+
+pub returns-in-0-to-9 : goal.returns-in-0-to-9
+returns-in-0-to-9 c = sym (length_one c.args.number (omega arith))
+
+pub returns-in-10-to-99 : goal.returns-in-10-to-99
+returns-in-10-to-99 c = sym (length_two c.args.number (omega arith) (omega arith))
+
+pub returns-in-100-to-999 : goal.returns-in-100-to-999
+returns-in-100-to-999 c =
+    let n = c.args.number in
+    let pair = length_pair n (omega arith) (omega arith) in
+    let front = length_one (n / 100) (omega arith) in
+    omega (arith, pair, front)
+
+pub returns-in_default : goal.returns-in_default
+returns-in_default c =
+    let n = c.args.number in
+    let pair = length_pair n (omega arith) (omega arith) in
+    let front = length_two (n / 100) (omega arith) (omega arith) in
+    omega (arith, pair, front)

@@ -1,0 +1,93 @@
+//! Lines that go out together.
+ghost use Rattle.std.specs.Prelude.{◌≡◌, ◌≤◌, ◌<◌, ◌+◌, ◌++◌, ◌∷◌, ◌==◌, [], length, decimal};
+
+use crate::digits::put_number;
+use std::marker::Model;
+
+/// The most bytes of a page.
+const ROOM: usize = 4096;
+
+/// Lines that aren't handed on yet, of at most 4096 bytes. It is seen as these bytes.
+#[derive(Drop)]
+pub(crate) struct Page {
+    bytes: [u8; ROOM],
+    len: usize,
+}
+
+impl Model for Page {
+    ghost use Rattle.std.specs.Prelude.{ℕ, List, ◌≤◌, take};
+
+    ghost Value = { List ℕ };
+
+    ghost view = { λ p. take p.len p.bytes };
+
+    ghost invariant = { λ p. p.len ≤ 4096 };
+}
+
+impl Page {
+    /// No bytes yet.
+    pub(crate) fn new() -> Page
+        ensures { result ≡ [] }
+    {
+        Page {
+            bytes: [0; ROOM],
+            len: 0,
+        }
+    }
+
+    /// The bytes.
+    pub(crate) fn as_slice(&self) -> &[u8]
+        ensures { result.now ≡ self.now }
+    {
+        &self.bytes[..self.len]
+    }
+
+    /// How many bytes there are.
+    pub(crate) fn len(&self) -> usize
+        ensures { result ≡ length self.now }
+    {
+        self.len
+    }
+
+    /// No bytes again.
+    pub(crate) fn clear(&mut self)
+        ensures { self.new ≡ [] }
+    {
+        self.len = 0;
+    }
+
+    /// Adds a text.
+    pub(crate) fn text(&mut self, text: &[u8])
+        requires { length self.old + length text.now ≤ 4096 }
+        ensures { self.new ≡ self.old ++ text.now }
+    {
+        let end = self.len + text.len();
+        self.bytes[self.len..end].copy_from_slice(text);
+        self.len = end;
+    }
+
+    /// Adds a number, in decimal digits.
+    pub(crate) fn number(&mut self, number: u128)
+        requires { length self.old + 40 ≤ 4096 }
+        ensures text { self.new ≡ self.old ++ decimal number }
+        ensures short { length self.new ≤ length self.old + 40 }
+    {
+        self.len = put_number(&mut self.bytes, self.len, number);
+    }
+
+    /// Adds the space between two words.
+    pub(crate) fn space(&mut self)
+        requires { length self.old < 4096 }
+        ensures { self.new ≡ self.old ++ 32 ∷ [] }
+    {
+        self.text(b" ");
+    }
+
+    /// Adds the line feed.
+    pub(crate) fn end(&mut self)
+        requires { length self.old < 4096 }
+        ensures { self.new ≡ self.old ++ 10 ∷ [] }
+    {
+        self.text(b"\n");
+    }
+}
