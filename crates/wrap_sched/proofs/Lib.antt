@@ -9,4 +9,6 @@ mod CountLemmas
 mod PatternLemmas
 mod TableLemmas
 mod RowNames
+mod MergedTables
+mod MergedLemmas
 mod Examples

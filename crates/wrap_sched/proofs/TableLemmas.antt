@@ -49,7 +49,7 @@ module _ (s : SetContents) (scale : ℕ) (lawful : IsLawful s) (is : IsScale s.t
   row = row_of s.tasks scale slice.begin (units slice * scale) (shares scale (units slice) s.tasks)
 
   -- the row of processor p in a round
-  round_get : (r : Span) (p : ℕ) (x : Row) → slice_get (round_rows scale s.tasks s.processors slice r) p ≡ Some x → x ≡ row r p
+  pub round_get : (r : Span) (p : ℕ) (x : Row) → slice_get (round_rows scale s.tasks s.processors slice r) p ≡ Some x → x ≡ row r p
   round_get r p x at = map_get (row r) s.processors 0 p x at ∙ ap (row r) (zero-add p)
 
   pub round_long : (r : Span) → length (round_rows scale s.tasks s.processors slice r) ≡ s.processors

@@ -2,3 +2,4 @@ pub mod Spans
 pub mod Wrapped
 pub mod Steps
 pub mod Faults
+pub mod Merged

@@ -16,8 +16,8 @@ use crate::units::{UnitRound, unit_rounds};
 use sched_base::{Leaf, NoMemory, Row, RowTable, TaskId, TaskSet};
 use std::alloc::Global;
 
-// Rows to be overwritten.
-fn blank_rows(alloc: Global, processors: u32) -> Result<Vec<Row>, NoMemory>
+/// Rows to be overwritten.
+pub(crate) fn blank_rows(alloc: Global, processors: u32) -> Result<Vec<Row>, NoMemory>
     ensures { IfOk result (λ v. vec_len v ≡ processors) }
 {
     let blank = Row {
@@ -45,8 +45,15 @@ fn leaf_of(set: &TaskSet, x: u64, processor: u32, holder: u32) -> Leaf
     }
 }
 
-// Writes the rows of a round of a slice from unit x on.
-fn write_rows(set: &TaskSet, x: u64, start: u128, end: u128, holders: &[u32], rows: &mut [Row])
+/// Writes the rows of a round of a slice from unit x on.
+pub(crate) fn write_rows(
+    set: &TaskSet,
+    x: u64,
+    start: u128,
+    end: u128,
+    holders: &[u32],
+    rows: &mut [Row],
+)
     requires holders { length holders.now ≡ set.now.processors }
     requires rows { length rows.old ≡ set.now.processors }
     ensures { rows.new ≡ map (λ p. record {

@@ -2,7 +2,7 @@
 ghost use Rattle.std.specs.Prelude.{◌≡◌, ◌∷◌, [], ◌++◌, ◌≤◌, ◌^◌, OnOk, IfOk};
 ghost use Rattle.sched_base.specs.Scale.{Fits, IsScale};
 
-use crate::{WrapFault, wrap, wrap_rounds};
+use crate::{WrapFault, merged_wrap, wrap, wrap_rounds};
 use rate_scale::{fits, scale_of};
 use sched_base::{Leaf, Row, RowTable, TaskSet, lawful_name};
 use std::alloc::Global;
@@ -145,6 +145,27 @@ fn wraps_worked_sets(rt: HostRuntime) -> Result<(), Fail> {
         assert!(rt; lanes.len() <= processors as usize);
         for p in 0..lanes.len() {
             compare(&rt, table.lane(p as u32), starts, lanes[p]);
+        }
+    }
+    Ok(())
+}
+
+// Three tasks of rate 2/3 on two processors: on each of them two rounds under one name are one row.
+#[test]
+fn merges_the_rows_of_a_worked_set(rt: HostRuntime) -> Result<(), Fail> {
+    let set = set_of(&rt, rt.alloc(), 2, 3, &[(3, 2, 3, 0)])?;
+    let scale = scale_that_fits(&rt, &set);
+    assert_eq!(rt; wrap_rounds(rt.alloc(), &set, scale)?, 3);
+    let rows = merged_wrap(rt.alloc(), &set, scale)?;
+    assert_eq!(rt; rows.processors(), 2);
+    for (processor, want) in [
+        (0, [(0, 6, b'a'), (6, 9, b'b')]),
+        (1, [(0, 3, b'b'), (3, 9, b'c')]),
+    ] {
+        assert_eq!(rt; rows.count(processor), 2);
+        for i in 0..2 {
+            let row = rows.row(processor, i);
+            assert_eq!(rt; (row.start, row.end, letter(row.leaf)), want[i]);
         }
     }
     Ok(())

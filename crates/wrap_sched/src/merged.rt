@@ -1,0 +1,100 @@
+//! The merged rows of the wrapped schedule, in one pass over its rounds.
+ghost use Rattle.std.specs.Prelude.{ℕ, ◌≡◌, ◌<◌, ◌≤◌, ◌+◌, ◌*◌, ◌^◌, IfOk};
+ghost use Rattle.std.specs.Prelude.{List, [], ◌++◌, length, replicate};
+ghost use Rattle.sched_base.specs.Scale.{IsScale, Fits};
+ghost use Rattle.sched_base.specs.Tables.{row_limit};
+ghost use Rattle.sched_base.specs.declared.rows.Row.{Row as DeclaredRow};
+ghost use Rattle.wrap_sched.specs.Merged.{AreMergedOf, AreLawful, AreMergedUpTo};
+ghost use Rattle.wrap_sched.specs.Steps.{rates, unit_rounds};
+ghost use Rattle.wrap_sched.specs.Wrapped.{slice_rows, wrapped_rounds};
+
+use crate::cuts::rates_of;
+use crate::points::next_point;
+use crate::tables::{blank_rows, write_rows};
+use crate::units::{UnitRound, unit_rounds};
+use merged_rows::MergedRows;
+use sched_base::{NoMemory, Row, TaskSet};
+use std::alloc::Global;
+
+// Merges the rounds of the slice from unit x up to unit y onto those before it.
+fn merge_slice(
+    set: &TaskSet,
+    scale: u128,
+    pattern: &[UnitRound],
+    x: u64,
+    y: u64,
+    rows: &mut [Row],
+    before: MergedRows,
+) -> Result<MergedRows, NoMemory>
+    requires scale { IsScale set.now.tasks scale }
+    requires scale_fits { scale ≤ 2 ^ 94 }
+    requires fits { Fits scale set.now }
+    requires pattern { pattern.now ≡ unit_rounds set.now.processors scale (rates scale set.now.tasks) }
+    requires forward { x < y }
+    requires early { y ≤ set.now.horizon }
+    requires rows { length rows.old ≡ set.now.processors }
+    requires before { (done : List DeclaredRow) × (count : ℕ) × AreMergedUpTo set.now.processors (x * scale) count done before }
+    ensures { IfOk result (λ now. let m = set.now.processors in (done : List DeclaredRow) (count : ℕ)
+        → AreMergedUpTo m (x * scale) count done before → AreMergedUpTo m (y * scale) (count + length pattern.now)
+        (done ++ slice_rows scale set.now.tasks m (record { begin = x; end = y })) now) }
+{
+    let _lawful = set.processors();
+    let start = u128::from(x) * scale;
+    let units = u128::from(y - x);
+    let mut merged = before;
+    for round in pattern {
+        let begin = start + units * round.begin();
+        let end = start + units * round.end();
+        write_rows(set, x, begin, end, round.holders(), rows);
+        merged = merged.with_rows(rows)?;
+    }
+    Ok(merged)
+}
+
+// Merges the rounds of all slices.
+fn merge_slices(
+    set: &TaskSet,
+    scale: u128,
+    pattern: &[UnitRound],
+    rows: &mut [Row],
+    none: MergedRows,
+) -> Result<MergedRows, NoMemory>
+    requires scale { IsScale set.now.tasks scale }
+    requires scale_fits { scale ≤ 2 ^ 94 }
+    requires fits { Fits scale set.now }
+    requires pattern { pattern.now ≡ unit_rounds set.now.processors scale (rates scale set.now.tasks) }
+    requires rows { length rows.old ≡ set.now.processors }
+    requires few { wrapped_rounds scale set.now * set.now.processors ≤ row_limit }
+    requires none { none.lanes ≡ replicate set.now.processors [] }
+    requires start { none.end ≡ 0 }
+    ensures rows { IfOk result (λ merged. AreMergedOf scale set.now merged.lanes) }
+    ensures lawful { IfOk result (λ merged. AreLawful set.now merged.lanes) }
+{
+    let _lawful = set.processors();
+    let mut merged = none;
+    let mut x: u64 = 0;
+    'slices: while x < set.horizon() {
+        let y = next_point(set, x);
+        merged = merge_slice(set, scale, pattern, x, y, rows, merged)?;
+        x = y;
+    }
+    Ok(merged)
+}
+
+/// The merged rows of the wrapped schedule of a set, whose rows are at most 2,097,152. It goes over each round once, and keeps no
+/// row that is merged with the one before.
+pub fn merged_wrap(alloc: Global, set: &TaskSet, scale: u128) -> Result<MergedRows, NoMemory>
+    requires scale { IsScale set.now.tasks scale }
+    requires scale_fits { scale ≤ 2 ^ 94 }
+    requires fits { Fits scale set.now }
+    requires few { wrapped_rounds scale set.now * set.now.processors ≤ row_limit }
+    ensures rows { IfOk result (λ merged. AreMergedOf scale set.now merged.lanes) }
+    ensures lawful { IfOk result (λ merged. AreLawful set.now merged.lanes) }
+{
+    let processors = set.processors();
+    let rates = rates_of(alloc, set, scale)?;
+    let pattern = unit_rounds(alloc, &rates, scale, processors)?;
+    let mut rows = blank_rows(alloc, processors)?;
+    let none = MergedRows::new(alloc, processors)?;
+    merge_slices(set, scale, &pattern, &mut rows, none)
+}
