@@ -3,6 +3,7 @@ pub mod ObeyedLemmas
 pub mod LinesLemmas
 pub mod InstructionsLemmas
 pub mod ProgramsLemmas
+pub mod NamesLemmas
 pub mod SearchLemmas
 pub mod LoadingLemmas
 pub mod ResultsLemmas

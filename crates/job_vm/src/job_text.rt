@@ -4,7 +4,7 @@ ghost use Rattle.job_vm.specs.Faults.{Stops};
 ghost use Rattle.job_vm.specs.Programs.{reading};
 
 use crate::faults::JobTextFault;
-use crate::programs::{ReadProgram, cut_line, is_tasks, read_line};
+use crate::programs::{Programs, ReadProgram, cut_line, is_tasks, read_line};
 use std::alloc::Global;
 use std::marker::Model;
 
@@ -87,7 +87,7 @@ pub fn read_jobs(alloc: Global, bytes: &[u8]) -> Result<JobText, JobTextFault>
     if head != b"run-jobs 1".as_slice() {
         return Err(JobTextFault::BadProgram { line: 1 });
     }
-    let mut programs = Vec::new(alloc);
+    let mut programs = Programs::new(alloc);
     let mut count = 0;
     let mut at = 2;
     while !rest.is_empty() {
@@ -95,7 +95,7 @@ pub fn read_jobs(alloc: Global, bytes: &[u8]) -> Result<JobText, JobTextFault>
         if is_tasks(line) {
             let set_start = bytes.len() - next.len();
             return Ok(JobText {
-                programs,
+                programs: programs.into_list(),
                 set_start,
             });
         }

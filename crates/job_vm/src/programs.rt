@@ -1,5 +1,5 @@
 //! The programs of a job text, line by line.
-ghost use Rattle.std.specs.Prelude.{◌≡◌, ◌<◌, ◌^◌, ◌++◌, ◌∷◌, [], ◌==◌, length, Some, OnOk, OnErr, IfOk, IfErr};
+ghost use Rattle.std.specs.Prelude.{◌≡◌, ◌<◌, ◌^◌, ◌++◌, ◌∷◌, [], ◌==◌, length, Some, OnOk, IfOk, IfErr};
 ghost use Rattle.std.specs.List.{after_first};
 ghost use Rattle.trace_text.specs.Words.{lines_of};
 ghost use Rattle.job_vm.specs.Faults.{StopsAt};
@@ -9,6 +9,7 @@ use crate::faults::JobTextFault;
 use crate::instructions::instruction_of;
 use sched_base::{Name, lawful_name};
 use std::alloc::Global;
+use std::collections::BTreeSet;
 use std::marker::Model;
 use trace_text::{after_word, first_line};
 
@@ -52,10 +53,97 @@ impl ReadProgram {
 
     fn push(&mut self, word: u64) -> Result<(), JobTextFault>
         ensures ok { OnOk result (self.new ≡ record self.old { code = self.old.code ++ word ∷ [] }) }
+        ensures name { self.new.name ≡ self.old.name }
         ensures err { IfErr result (λ f. f ≡ JobTextFault.NoMemory) }
     {
         self.code.push(word)?;
         Ok(())
+    }
+}
+
+/// The programs that were read. Their names are kept in order besides, so that a text of many programs is read fast.
+#[derive(Drop)]
+pub(crate) struct Programs {
+    list: Vec<ReadProgram>,
+    names: BTreeSet<Vec<u8>>,
+}
+
+impl Model for Programs {
+    ghost use Rattle.std.specs.Prelude.{◌≡◌, ◌<◌, ◌^◌, ℕ, List, length, not};
+    ghost use Rattle.std.specs.BTreeSet.{contains_by};
+    ghost use Rattle.std.specs.Cmp.Lexicographic.{slice_cmp};
+    ghost use Rattle.std.specs.Ordering.{nat_cmp};
+    ghost use Rattle.job_vm.specs.Programs.{Program, is_new};
+
+    ghost Value = { List Program };
+
+    ghost view = { λ p. p.list.items };
+
+    ghost invariant = { λ p. (length p.list.items < 2 ^ 32)
+        × ((name : List ℕ) → contains_by (λ k. slice_cmp nat_cmp name k.items) p.names ≡ not (is_new p.list.items name)) };
+}
+
+impl Programs {
+    /// No program yet. This takes no memory.
+    pub(crate) fn new(alloc: Global) -> Programs
+        ensures { result ≡ [] }
+    {
+        Programs {
+            list: Vec::new(alloc),
+            names: BTreeSet::new(alloc),
+        }
+    }
+
+    /// The programs, in the order of their lines.
+    pub(crate) fn into_list(self) -> Vec<ReadProgram>
+        ensures list { result.items ≡ self }
+        ensures few { length result.items < 2 ^ 32 }
+    {
+        self.list
+    }
+
+    // Whether no program has this name.
+    fn is_new(&self, name: &[u8]) -> bool
+        ensures { result ≡ is_new self.now name.now }
+    {
+        !self.names.contains(name)
+    }
+
+    // Begins a program of this name.
+    fn begin(&mut self, alloc: Global, at: u64, name: &[u8]) -> Result<(), JobTextFault>
+        ensures begun { OnOk result (begun at self.old name.now ≡ Some self.new) }
+        ensures fault { IfErr result (StopsAt at (begun at self.old name.now)) }
+    {
+        if !lawful_name(name) || !self.is_new(name) {
+            return Err(JobTextFault::BadProgram { line: at });
+        }
+        // Programs are counted in 32 bits.
+        if self.list.len() >= u32::MAX as usize {
+            return Err(JobTextFault::NoMemory);
+        }
+        self.list.reserve(1)?;
+        self.names.insert(name.to_vec(alloc)?)?;
+        self.list.push_reserved(ReadProgram {
+            name: Name::new(name),
+            line: at,
+            code: Vec::new(alloc),
+        });
+        Ok(())
+    }
+
+    // A word more for the last program.
+    fn lengthen(&mut self, at: u64, word: u64) -> Result<(), JobTextFault>
+        ensures lengthened { OnOk result (lengthened self.old word ≡ Some self.new) }
+        ensures fault { IfErr result (StopsAt at (lengthened self.old word)) }
+    {
+        let count = self.list.len();
+        if count == 0 {
+            return Err(JobTextFault::BadProgram { line: at });
+        }
+        match self.list[count - 1].push(word) {
+            Ok(()) => Ok(()),
+            Err(fault) => Err(fault),
+        }
     }
 }
 
@@ -81,80 +169,29 @@ pub(crate) fn is_tasks(line: &[u8]) -> bool
 /// then on.
 pub(crate) fn read_line(
     alloc: Global,
-    programs: &mut Vec<ReadProgram>,
+    programs: &mut Programs,
     count: usize,
     at: u64,
     line: &[u8],
     rest: &[u8],
 ) -> Result<usize, JobTextFault>
-    requires { length programs.old.items < 2 ^ 32 }
-    ensures read { IfOk result (λ n. line_read at (record { programs = programs.old.items; count = count }) line.now (lines_of rest.now)
-        ≡ Some (record { programs = programs.new.items; count = n })) }
-    ensures fault { IfErr result (StopsAt at (line_read at (record { programs = programs.old.items; count = count }) line.now (lines_of rest.now))) }
-    ensures few { OnOk result (length programs.new.items < 2 ^ 32) }
+    ensures read { IfOk result (λ n. line_read at (record { programs = programs.old; count = count }) line.now (lines_of rest.now)
+        ≡ Some (record { programs = programs.new; count = n })) }
+    ensures fault { IfErr result (StopsAt at (line_read at (record { programs = programs.old; count = count }) line.now (lines_of rest.now))) }
 {
     match after_word(b"program", line) {
         Some(name) => {
-            begin(alloc, programs, at, name)?;
+            programs.begin(alloc, at, name)?;
             Ok(instructions(rest))
         }
         None => match instruction_of(count, line) {
             Some(word) => {
-                lengthen(programs, at, word)?;
+                programs.lengthen(at, word)?;
                 Ok(count)
             }
             None => Err(JobTextFault::BadProgram { line: at }),
         },
     }
-}
-
-// Begins a program of this name.
-fn begin(
-    alloc: Global,
-    programs: &mut Vec<ReadProgram>,
-    at: u64,
-    name: &[u8],
-) -> Result<(), JobTextFault>
-    requires { length programs.old.items < 2 ^ 32 }
-    ensures begun { OnOk result (begun at programs.old.items name.now ≡ Some programs.new.items) }
-    ensures fault { IfErr result (StopsAt at (begun at programs.old.items name.now)) }
-    ensures few { OnOk result (length programs.new.items < 2 ^ 32) }
-{
-    if !lawful_name(name) || !is_new(programs, name) {
-        return Err(JobTextFault::BadProgram { line: at });
-    }
-    // Programs are counted in 32 bits.
-    if programs.len() >= u32::MAX as usize {
-        return Err(JobTextFault::NoMemory);
-    }
-    programs.push(ReadProgram {
-        name: Name::new(name),
-        line: at,
-        code: Vec::new(alloc),
-    })?;
-    Ok(())
-}
-
-// A word more for the last program.
-fn lengthen(programs: &mut Vec<ReadProgram>, at: u64, word: u64) -> Result<(), JobTextFault>
-    ensures lengthened { OnOk result (lengthened programs.old.items word ≡ Some programs.new.items) }
-    ensures fault { IfErr result (StopsAt at (lengthened programs.old.items word)) }
-    ensures len { length programs.new.items ≡ length programs.old.items }
-{
-    let count = programs.len();
-    if count == 0 {
-        return Err(JobTextFault::BadProgram { line: at });
-    }
-    match programs[count - 1].push(word) {
-        Ok(()) => Ok(()),
-        Err(fault) => Err(fault),
-    }
-}
-
-fn is_new(programs: &[ReadProgram], name: &[u8]) -> bool
-    ensures { result ≡ is_new programs.now name.now }
-{
-    programs.iter().all(|program| program.name() != name)
 }
 
 fn ends_program(line: &[u8]) -> bool

@@ -1,13 +1,12 @@
-use Rattle.std.proofs.Common.{◌≡◌, ◌+◌, ◌-◌, ◌≤◌, ◌<◌, ◌^◌, length}
+use Rattle.std.proofs.Common.{◌≡◌, ◌+◌, ◌-◌, ◌≤◌, length}
 use Rattle.trace_text.specs.Words.{lines_of}
 use Rattle.job_vm.specs.Programs.{programs_from, programs_of, behind_lines}
 use Rattle.job_vm.proofs.job_text.read_jobs.Given as goal
 
 abbrev pub invariant-loop-rest : goal.invariant-loop-rest
 invariant-loop-rest l =
-    (programs_of (lines_of l.bytes) ≡ programs_from l.at (record { programs = l.programs.items; count = l.count }) (lines_of l.rest))
+    (programs_of (lines_of l.bytes) ≡ programs_from l.at (record { programs = l.programs; count = l.count }) (lines_of l.rest))
     × (l.rest ≡ behind_lines (l.at - 1) l.bytes)
-    × (length l.programs.items < 2 ^ 32)
     × (2 ≤ l.at)
     × (l.at + length l.rest ≤ length l.bytes + 1)
 
