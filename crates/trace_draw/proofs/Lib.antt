@@ -1,0 +1,5 @@
+pub mod LengthLemmas
+pub mod WindowLemmas
+pub mod ServedLemmas
+pub mod PeriodLemmas
+pub mod HeadLemmas

@@ -1,0 +1,51 @@
+-- The periods that are shown begin by the end of the window.
+use Rattle.std.proofs.Common.{ℕ, ◌+◌, ◌-◌, ◌*◌, ◌^◌, ◌<◌, ◌≤◌, ◌≡◌, inl, inr, min, ◌&&◌, cond, not, eqb, leb, ltb, sym, ap, ◌∙◌, arith, [], ◌∷◌}
+use Rattle.std.proofs.Math.Nat.{le-div_iff_mul-le, le-mul_of_pos_right}
+use Rattle.std.proofs.lemmas.Bool.{cases_Bool, cases_lt, ne_eqb, lt-ltb}
+use Rattle.sched_base.specs.declared.sets.Task.{Task}
+use Rattle.trace_draw.specs.declared.windows.Window.{Window}
+use Rattle.trace_draw.specs.Windows.{first_tick, has_tick, place}
+use Rattle.trace_draw.specs.Shapes.{box_line, arrow_line, ring_line}
+use Rattle.trace_draw.specs.Rows.{line_if}
+use Rattle.trace_draw.specs.Periods.{begun_before, is_wide, first_shown, count_shown, is_wrong, period_lines}
+
+begun_by : (t : Task) (unit k : ℕ) → 1 ≤ t.period → k < begun_before t unit → t.offset + k * t.period < unit
+begun_by t unit k some h =
+    let fits : (k + 1) * t.period ≤ unit - t.offset + t.period - 1 = (le-div_iff_mul-le some).0 (omega (arith, h)) in
+    let spread : (k + 1) * t.period ≡ k * t.period + t.period = omega arith in
+    omega (arith, fits, spread, some)
+
+pub shown_begun : (w : Window) (t : Task) (i : ℕ) → 1 ≤ t.period → i < count_shown w t → t.offset + (first_shown w t + i) * t.period < w.from + w.units + 1
+shown_begun w t i some h =
+    elim (cases_Bool (is_wide w t)) [
+      | inl wide ↦ (
+          let count : count_shown w t ≡ begun_before t (w.from + w.units + 1) - first_shown w t
+          = ap (λ b. cond b (begun_before t (w.from + w.units + 1) - first_shown w t) 0) wide in
+          begun_by t (w.from + w.units + 1) (first_shown w t + i) some (omega (arith, h, count)))
+      | inr narrow ↦ (
+          let count : count_shown w t ≡ 0 = ap (λ b. cond b (begun_before t (w.from + w.units + 1) - first_shown w t) 0) narrow in
+          absurd (omega (arith, h, count)))
+    ]
+
+-- the number of a period is no greater than the unit at which it begins
+pub number_within : (t : Task) (k : ℕ) → 1 ≤ t.period → k ≤ t.offset + k * t.period
+number_within t k some = (let more = le-mul_of_pos_right k some in omega (arith, more))
+
+-- ticks past the greatest number of 128 bits tell the same of a due below it
+wrong_capped : (horizon end due given : ℕ) → due < 2 ^ 128 - 1 → is_wrong horizon end due (min given (2 ^ 128 - 1)) ≡ is_wrong horizon end due given
+wrong_capped horizon end due given small =
+    let most : ℕ = 2 ^ 128 - 1 in
+    elim (cases_lt most given) [
+      | inr fits ↦ (let same : min given most ≡ given = omega (arith, fits) in ap (is_wrong horizon end due) same)
+      | inl past ↦ (
+          let other = ne_eqb (min given most) due (λ e. omega (arith, e, past, small)) ∙ sym (ne_eqb given due (λ e. omega (arith, e, past, small))) in
+          let more = lt-ltb due (min given most) (omega (arith, past, small)) ∙ sym (lt-ltb due given (omega (arith, past, small))) in
+          ap (λ b. cond (leb end horizon) (not b) (ltb due (min given most))) other ∙ ap (λ b. cond (leb end horizon) (not (eqb given due)) b) more)
+    ]
+
+pub lines_capped : (w : Window) (horizon y a b due given done : ℕ) → due < 2 ^ 128 - 1
+    → period_lines w horizon y a b due (min given (2 ^ 128 - 1)) done ≡ period_lines w horizon y a b due given done
+lines_capped w horizon y a b due given done small =
+    ap (λ t. line_if (leb (first_tick w) a) (arrow_line (place w a) y)
+    ∷ cond t (box_line (119 ∷ []) (place w a) (y - 20) (place w b - place w a) 40) (line_if (leb b horizon && (has_tick w done && ltb (first_tick w) done)) (ring_line (place w done) y)) ∷ [])
+    (wrong_capped horizon b due given small)

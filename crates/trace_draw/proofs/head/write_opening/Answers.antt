@@ -1,0 +1,5 @@
+use Rattle.trace_draw.proofs.head.write_opening.Goals as goal
+
+pub returns-clause-wrote : goal.returns-clause-wrote
+returns-clause-wrote g c =
+    rw (c.word_line.ensures, c.size_line.ensures, c.title_line.ensures, c.word_line-2.ensures, c.description_line.ensures) at c.write_lines.ensures.wrote

@@ -1,0 +1,14 @@
+use Rattle.trace_draw.proofs.head.write_style.Goals as goal
+
+pub returns-clause-wrote : goal.returns-clause-wrote
+returns-clause-wrote g c =
+    rw (
+      c.word_line.ensures,
+      c.word_line-2.ensures,
+      c.word_line-3.ensures,
+      c.word_line-4.ensures,
+      c.word_line-5.ensures,
+      c.word_line-6.ensures,
+      c.word_line-7.ensures,
+      c.word_line-8.ensures,
+    ) at c.write_lines.ensures.wrote

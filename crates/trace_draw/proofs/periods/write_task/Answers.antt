@@ -1,0 +1,12 @@
+use Rattle.std.specs.List.{concat}
+use Rattle.sched_edges.proofs.Wrote.{wrote_then}
+use Rattle.trace_draw.specs.Shapes.{task_top}
+use Rattle.trace_draw.specs.Periods.{title_lines, marks_text}
+use Rattle.trace_draw.proofs.periods.write_task.Goals as goal
+
+pub returns-clause-wrote : goal.returns-clause-wrote
+returns-clause-wrote g c =
+    let t = c.args.trace.now in
+    let j = c.args.task in
+    let titles = rw (c.title_lines.ensures, c.task_top-top.ensures.value, c.processors.ensures.value, c.set.ensures) at c.in_ok-write_lines.ensures.wrote in
+    wrote_then _ _ _ (concat (title_lines t c.args.verdict j (task_top t.set.processors j))) (marks_text t c.args.window.now j) _ _ titles c.write_marks.ensures.wrote

@@ -1,0 +1,29 @@
+use Rattle.std.proofs.Common.{◌++◌}
+use Rattle.sched_edges.proofs.Wrote.{wrote_then, wrote_cut}
+use Rattle.trace_draw.specs.Head.{head_text, lanes_text, axis_text}
+use Rattle.trace_draw.proofs.picture.write_base.Goals as goal
+
+pub returns-in_err-write_head-clause-wrote : goal.returns-in_err-write_head-clause-wrote
+returns-in_err-write_head-clause-wrote g c =
+    let s = c.args.trace.now.set in
+    let w = c.args.window.now in
+    let head = rw c.set-set.ensures at c.in_err-write_head.ensures.wrote in
+    wrote_cut _ _ (head_text s w c.args.verdict) (lanes_text s ++ axis_text s w) _ _ head c.from_residual.ensures.0
+
+pub returns-in_err-write_lanes-clause-wrote : goal.returns-in_err-write_lanes-clause-wrote
+returns-in_err-write_lanes-clause-wrote g c =
+    let s = c.args.trace.now.set in
+    let w = c.args.window.now in
+    let head = rw c.set-set.ensures at c.in_ok-write_head.ensures.wrote in
+    let lanes = rw c.set-set.ensures at c.in_err-write_lanes.ensures.wrote in
+    wrote_then _ _ _ (head_text s w c.args.verdict) (lanes_text s ++ axis_text s w) _ _ head
+    (wrote_cut _ _ (lanes_text s) (axis_text s w) _ _ lanes c.from_residual-in_err-write_lanes.ensures.0)
+
+pub returns-clause-wrote : goal.returns-clause-wrote
+returns-clause-wrote g c =
+    let s = c.args.trace.now.set in
+    let w = c.args.window.now in
+    let head = rw c.set-set.ensures at c.in_ok-write_head.ensures.wrote in
+    let lanes = rw c.set-set.ensures at c.in_ok-write_lanes.ensures.wrote in
+    let axis = rw c.set-set.ensures at c.write_axis.ensures.wrote in
+    wrote_then _ _ _ (head_text s w c.args.verdict) (lanes_text s ++ axis_text s w) _ _ head (wrote_then _ _ _ (lanes_text s) (axis_text s w) _ _ lanes axis)

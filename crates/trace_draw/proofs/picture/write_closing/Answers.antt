@@ -1,0 +1,4 @@
+use Rattle.trace_draw.proofs.picture.write_closing.Goals as goal
+
+pub returns-clause-wrote : goal.returns-clause-wrote
+returns-clause-wrote g c = rw (c.label_line.ensures, c.word_line.ensures, c.bottom.ensures.value) at c.write_lines.ensures.wrote

@@ -1,0 +1,31 @@
+use Rattle.std.proofs.Common.{arith}
+use Rattle.std.proofs.lemmas.List.{take_all, get_or_default}
+use Rattle.sched_base.specs.declared.rows.Leaf.TheVariants as leaves
+use Rattle.sched_edges.proofs.Wrote.{item_written, wrote_item}
+use Rattle.trace_rows.specs.Faults.{row_at}
+use Rattle.trace_draw.specs.Rows.{row_text}
+use Rattle.trace_draw.proofs.rows.write_rows.Goals as goal
+
+pub returns-in_err-write_row-clause-wrote : goal.returns-in_err-write_row-clause-wrote
+returns-in_err-write_row-clause-wrote g c =
+    let rows = c.args.rows.now in
+    let i = c.loop-row.row-index in
+    let at = get_or_default rows i (record { processor = 0; start = 0; end = 0; leaf = leaves.Task (record { 0 = 0 }) }) (row_at rows i) c.loop-row-test.true in
+    wrote_item (row_text c.args.set.now c.args.window.now) rows i (row_at rows i) _ _ _ _ _ c.loop-row-test.true at c.loop-row.invariant.0 c.in_err-write_row.ensures.wrote
+    c.from_residual.ensures.0
+
+pub loop-row-preserved : goal.loop-row-preserved
+loop-row-preserved g c =
+    let rows = c.args.rows.now in
+    let i = c.loop-row.row-index in
+    let at = get_or_default rows i (record { processor = 0; start = 0; end = 0; leaf = leaves.Task (record { 0 = 0 }) }) (row_at rows i) c.loop-row-test.true in
+    let before = c.loop-row.invariant.1 in
+    let later = c.write_row.ensures.cause.later in (
+      item_written (row_text c.args.set.now c.args.window.now) rows i (row_at rows i) _ _ _ c.loop-row-test.true at c.loop-row.invariant.0 c.in_ok-write_row.ensures.wrote.ok,
+      omega (arith, before, later),
+    )
+
+pub returns-clause-wrote : goal.returns-clause-wrote
+returns-clause-wrote g c =
+    let all = take_all c.loop-row.row-index c.args.rows.now c.loop-row-test.false in
+    record { ok = rw all at c.loop-row.invariant.0; err = tt }

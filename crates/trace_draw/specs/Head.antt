@@ -1,0 +1,135 @@
+-- The head of a picture: what a screen reader reads, the style, the words above the plot, the lanes of the processors and the axis.
+use Rattle.std.specs.Prelude.{ℕ, ◌+◌, ◌-◌, ◌*◌, ◌/◌, ◌==◌, nat_le, if◌then◌else◌, List, [], ◌∷◌, ◌++◌, length, codes, decimal}
+use Rattle.std.specs.List.{flat_map, concat, range_with_len}
+use Rattle.sched_base.specs.Sets.{SetContents}
+use Rattle.sched_edges.specs.Lines.{word_line}
+use Rattle.trace_rows.specs.declared.faults.FaultKind.{FaultKind}
+use Rattle.trace_rows.specs.declared.faults.FaultKind.TheVariants.{Processor, End, ProcessorOverlap, TaskOverlap, Early, Supply}
+use Rattle.trace_rows.specs.declared.faults.Verdict.{Verdict}
+use Rattle.trace_rows.specs.declared.faults.Verdict.TheVariants.{Valid, Fault}
+use Rattle.trace_draw.specs.declared.windows.Window.{Window}
+use Rattle.trace_draw.specs.Windows.{plot_left, plot_width, place}
+use Rattle.trace_draw.specs.Shapes.{box_line, label_line, grid_line, lane_top, task_top}
+
+-- how far from the top the plot ends
+abbrev pub bottom : SetContents → ℕ
+bottom s = task_top s.processors (length s.tasks)
+
+-- how high the picture is
+abbrev pub height : SetContents → ℕ
+height s = bottom s + 400
+
+-- what follows the name of a thing, where there are so many
+abbrev pub plural : ℕ → List ℕ
+plural n = if n == 1 then [] else codes "s"
+
+-- how many tasks and processors there are
+unfoldable pub size_text : SetContents → List ℕ
+size_text s = decimal (length s.tasks) ++ (codes " task" ++ (plural (length s.tasks) ++ (codes " on " ++ (decimal s.processors ++ (codes " processor" ++ plural s.processors)))))
+
+-- which units of the schedule are shown
+unfoldable pub units_text : SetContents → Window → List ℕ
+units_text s w = codes "units " ++ (decimal w.from ++ (codes " to " ++ (decimal (w.from + w.units) ++ (codes " of " ++ decimal s.horizon))))
+
+-- how long a unit is
+unfoldable pub scale_text : ℕ → List ℕ
+scale_text scale = codes "one unit is " ++ (decimal scale ++ (codes " tick" ++ plural scale))
+
+-- the kind of a fault
+abbrev pub kind_text : FaultKind → List ℕ
+kind_text Processor = codes "processor"
+kind_text End = codes "end"
+kind_text ProcessorOverlap = codes "processor-overlap"
+kind_text TaskOverlap = codes "task-overlap"
+kind_text Early = codes "early"
+kind_text Supply = codes "supply"
+
+-- whether the trace is valid, and else where it is at fault
+abbrev pub verdict_text : Verdict → List ℕ
+verdict_text Valid = codes "valid"
+verdict_text (Fault line kind) = codes "line " ++ (decimal line ++ (codes ": " ++ kind_text kind))
+
+-- the look of that text
+abbrev pub verdict_look : Verdict → List ℕ
+verdict_look Valid = codes "ok"
+verdict_look (Fault line kind) = codes "bad"
+
+-- the picture's size, its title, and a description
+unfoldable pub size_line : SetContents → List ℕ
+size_line s = codes " viewBox='0 0 12000 " ++ (decimal (height s) ++ (codes "'>" ++ 10 ∷ []))
+
+unfoldable pub title_line : SetContents → List ℕ
+title_line s = codes "<title id='t'>Schedule of " ++ (size_text s ++ (codes "</title>" ++ 10 ∷ []))
+
+unfoldable pub description_line : SetContents → Window → Verdict → List ℕ
+description_line s w v = units_text s w ++ (codes "; " ++ (verdict_text v ++ (codes "</desc>" ++ 10 ∷ [])))
+
+unfoldable pub paper_line : SetContents → List ℕ
+paper_line s = codes "<rect width='12000' height='" ++ (decimal (height s) ++ (codes "' fill='#fff'/>" ++ 10 ∷ []))
+
+-- how the shapes look: the colours are told apart by colour-blind people, and each text by its contrast
+abbrev pub style_lines : List (List ℕ)
+style_lines =
+    word_line (codes "<style>text{font:125px ui-monospace,DejaVu Sans Mono,monospace}.h{font-size:180px;font-weight:bold}")
+    ∷ word_line (codes ".n,.a,.u,.s{fill:#444}.l,.s,.e,.u,.ok,.bad{text-anchor:end}.m,.a,.k{text-anchor:middle}.l,.e{font-size:115px}")
+    ∷ word_line (codes ".ok,.bad{font-size:160px;fill:#00603f}.e{font-weight:bold}.e,.bad{fill:#b00000}.q,.s{font-size:85px}")
+    ∷ word_line (codes ".k{font-size:95px}.p{fill:#f2f2f2}.g,.b,.r,.f,.o{fill:none;stroke:#bbb;stroke-width:6}.b{stroke:#999}")
+    ∷ word_line (codes ".r,.o{stroke:#000;stroke-width:14}.o{fill:#fff}.f{stroke:#b00000;stroke-width:24}.w{fill:#b00000}")
+    ∷ word_line (codes ".c0{fill:#0072b2}.c1{fill:#e69f00}.c2{fill:#009e73}.c3{fill:#cc79a7}")
+    ∷ word_line (codes ".c4{fill:#56b4e9}.c5{fill:#d55e00}.c6{fill:#f0e442}.c7{fill:#595959}.i0,.i7{fill:#fff}")
+    ∷ word_line (codes ".v1,.v2,.v3{stroke:#000;stroke-width:12}.v2{stroke-dasharray:40}.v3{stroke-dasharray:160 60}</style>") ∷ []
+
+-- what comes before the lanes
+abbrev pub opening_lines : SetContents → Window → Verdict → List (List ℕ)
+opening_lines s w v =
+    word_line (codes "<svg xmlns='http://www.w3.org/2000/svg' role='img' aria-labelledby='t d'") ∷ size_line s ∷ title_line s
+    ∷ word_line (codes "<desc id='d'>A lane for each processor, and below them one for each task;") ∷ description_line s w v ∷ []
+
+-- the words above the plot
+abbrev pub caption_lines : SetContents → Window → Verdict → List (List ℕ)
+caption_lines s w v =
+    paper_line s ∷ label_line (codes "h") 250 330 (size_text s) ∷ label_line (codes "n") 250 560 (units_text s w)
+    ∷ label_line (codes "u") 11600 560 (scale_text w.scale) ∷ label_line (verdict_look v) 11600 330 (verdict_text v) ∷ []
+
+-- the whole head
+abbrev pub head_text : SetContents → Window → Verdict → List ℕ
+head_text s w v = concat (opening_lines s w v) ++ (concat style_lines ++ concat (caption_lines s w v))
+
+-- the lane of processor p, with nothing on it
+abbrev pub lane_lines : ℕ → List (List ℕ)
+lane_lines p = label_line (codes "l") 1780 (lane_top p + 215) (codes "cpu " ++ decimal p) ∷ box_line (codes "p") plot_left (lane_top p) plot_width 340 ∷ []
+
+-- the lanes of all processors
+abbrev pub lanes_text : SetContents → List ℕ
+lanes_text s = flat_map (λ p. concat (lane_lines p)) (range_with_len 0 s.processors)
+
+-- the first of these tens, twice it or five times it of which twelve cover so many units
+abbrev pub step_among : List ℕ → ℕ → ℕ
+step_among [] units = 1
+step_among (ten ∷ tens) units =
+    if nat_le units (12 * ten) then ten
+    else (if nat_le units (24 * ten) then 2 * ten else (if nat_le units (60 * ten) then 5 * ten else step_among tens units))
+
+-- the units from one number on the axis to the next: 1, 2, 5, 10, 20, 50 and so on, so that there are at most thirteen numbers
+unfoldable pub axis_step : ℕ → ℕ
+axis_step units = step_among (1 ∷ 10 ∷ 100 ∷ 1000 ∷ 10_000 ∷ 100_000 ∷ 1_000_000 ∷ 10_000_000 ∷ 100_000_000 ∷ 1_000_000_000 ∷ []) units
+
+-- the number of the first mark of the axis, where the mark of number i is that of unit i * step
+abbrev pub first_mark : Window → ℕ → ℕ
+first_mark w step = (w.from + step - 1) / step
+
+-- how many marks it has
+abbrev pub mark_count : Window → ℕ → ℕ
+mark_count w step = (w.from + w.units) / step + 1 - first_mark w step
+
+-- the line and the number of a unit at this place
+abbrev pub mark_lines : ℕ → ℕ → ℕ → List (List ℕ)
+mark_lines at end unit = grid_line at end ∷ label_line (codes "a") at 730 (decimal unit) ∷ []
+
+-- the i-th mark of the axis
+abbrev pub mark_text : SetContents → Window → ℕ → ℕ → List ℕ
+mark_text s w step i = concat (mark_lines (place w ((first_mark w step + i) * step * w.scale)) (bottom s) ((first_mark w step + i) * step))
+
+-- the axis
+abbrev pub axis_text : SetContents → Window → List ℕ
+axis_text s w = flat_map (mark_text s w (axis_step w.units)) (range_with_len 0 (mark_count w (axis_step w.units)))

@@ -1,0 +1,8 @@
+pub mod Windows
+pub mod Shapes
+pub mod Head
+pub mod Rows
+pub mod Served
+pub mod Periods
+pub mod Picture
+pub mod Drawing

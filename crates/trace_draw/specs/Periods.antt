@@ -1,0 +1,85 @@
+-- The lanes of the tasks: names, releases, and how each period was served.
+use Rattle.std.specs.Prelude.{ℕ, ◌+◌, ◌-◌, ◌*◌, ◌/◌, ◌==◌, nat_le, nat_lt, not, Bool, ◌&&◌, if◌then◌else◌, List, [], ◌∷◌, ◌++◌, length, codes, decimal}
+use Rattle.std.specs.List.{flat_map, concat, range_with_len}
+use Rattle.sched_base.specs.declared.sets.Task.{Task}
+use Rattle.sched_base.specs.Sets.{task_at}
+use Rattle.sched_base.specs.Valid.{period_start, served}
+use Rattle.trace_lines.specs.Finishes.{finish}
+use Rattle.trace_rows.specs.declared.faults.Verdict.{Verdict}
+use Rattle.trace_rows.specs.declared.faults.Verdict.TheVariants.{Valid, Fault}
+use Rattle.trace_check.specs.Traces.{Trace}
+use Rattle.trace_draw.specs.declared.windows.Window.{Window}
+use Rattle.trace_draw.specs.Windows.{plot_width, first_tick, has_tick, place}
+use Rattle.trace_draw.specs.Shapes.{box_line, label_line, base_line, arrow_line, ring_line, task_top}
+use Rattle.trace_draw.specs.Rows.{line_if}
+
+-- how many periods of the task begin before this unit
+abbrev pub begun_before : Task → ℕ → ℕ
+begun_before t unit = (unit - t.offset + t.period - 1) / t.period
+
+-- whether a period is as wide as an arrow needs
+abbrev pub is_wide : Window → Task → Bool
+is_wide w t = nat_le (150 * w.units) (t.period * plot_width)
+
+-- the first period that is shown: the one in which the window begins
+abbrev pub first_shown : Window → Task → ℕ
+first_shown w t = begun_before t (w.from + 1) - 1
+
+-- how many are shown: those that begin by the end of the window, and none where they are too narrow
+abbrev pub count_shown : Window → Task → ℕ
+count_shown w t = if is_wide w t then begun_before t (w.from + w.units + 1) - first_shown w t else 0
+
+-- whether the period that ends at tick `end` was given other than its due, or, past the horizon, more
+abbrev pub is_wrong : ℕ → ℕ → ℕ → ℕ → Bool
+is_wrong horizon end due given = if nat_le end horizon then not (given == due) else nat_lt due given
+
+-- what is drawn of a period from tick a to tick b above y: an arrow at its begin, and a red bar where it was served wrongly, or else
+-- a ring where its work was done
+abbrev pub period_lines : Window → ℕ → ℕ → ℕ → ℕ → ℕ → ℕ → ℕ → List (List ℕ)
+period_lines w horizon y a b due given done =
+    line_if (nat_le (first_tick w) a) (arrow_line (place w a) y)
+    ∷ (if is_wrong horizon b due given then box_line (119 ∷ []) (place w a) (y - 20) (place w b - place w a) 40
+    else line_if (nat_le b horizon && (has_tick w done && nat_lt (first_tick w) done)) (ring_line (place w done) y)) ∷ []
+
+-- what is drawn of period k of task j
+abbrev pub period_text : Trace → Window → ℕ → ℕ → List ℕ
+period_text t w j k =
+    concat (period_lines w (t.set.horizon * t.scale) (task_top t.set.processors j + 230)
+    (period_start t.scale (task_at t.set.tasks j) k) (period_start t.scale (task_at t.set.tasks j) (k + 1))
+    ((task_at t.set.tasks j).work * t.scale) (served t.scale t.set t.rows j k) (finish t.scale t.set t.rows j k))
+
+-- the offset of a task that has one
+abbrev pub offset_text : ℕ → List ℕ
+offset_text offset = if offset == 0 then [] else codes " @" ++ decimal offset
+
+-- the work, the period and the offset of a task
+unfoldable pub numbers_text : Task → List ℕ
+numbers_text t = decimal t.work ++ (47 ∷ (decimal t.period ++ offset_text t.offset))
+
+-- whether the trace is at fault at the line of the total of task j
+abbrev pub is_at_fault : Trace → Verdict → ℕ → Bool
+is_at_fault t Valid j = Bool.false
+is_at_fault t (Fault line kind) j = line == 6 + length t.set.tasks + length t.rows + j
+
+-- the look of a task's name: bold and red where its total is at fault, small where it is long
+abbrev pub title_look : Bool → Bool → List ℕ
+title_look fault long = if fault then (if long then codes "e q" else codes "e") else (if long then codes "l q" else codes "l")
+
+-- the words and the line of the lane of task j
+abbrev pub title_lines : Trace → Verdict → ℕ → ℕ → List (List ℕ)
+title_lines t v j top =
+    label_line (title_look (is_at_fault t v j) (nat_lt 24 (length (task_at t.set.tasks j).name))) 1780 (top + 105) (task_at t.set.tasks j).name
+    ∷ label_line (codes "s") 1780 (top + 215) (numbers_text (task_at t.set.tasks j)) ∷ base_line (top + 230) ∷ []
+
+-- the marks of the periods of task j that are shown
+abbrev pub marks_text : Trace → Window → ℕ → List ℕ
+marks_text t w j =
+    flat_map (λ i. period_text t w j (first_shown w (task_at t.set.tasks j) + i)) (range_with_len 0 (count_shown w (task_at t.set.tasks j)))
+
+-- the lane of task j
+abbrev pub task_text : Trace → Window → Verdict → ℕ → List ℕ
+task_text t w v j = concat (title_lines t v j (task_top t.set.processors j)) ++ marks_text t w j
+
+-- the lanes of all tasks
+abbrev pub tasks_text : Trace → Window → Verdict → List ℕ
+tasks_text t w v = flat_map (task_text t w v) (range_with_len 0 (length t.set.tasks))

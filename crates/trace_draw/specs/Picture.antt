@@ -1,0 +1,44 @@
+-- The picture of a trace. Names are lawful ones, in which nothing needs escaping.
+use Rattle.std.specs.Prelude.{ℕ, ◌+◌, ◌-◌, nat_le, nat_lt, ◌&&◌, if◌then◌else◌, List, [], ◌∷◌, ◌++◌, length, codes}
+use Rattle.std.specs.List.{concat}
+use Rattle.sched_edges.specs.Lines.{word_line}
+use Rattle.sched_base.specs.Sets.{SetContents}
+use Rattle.trace_rows.specs.declared.faults.Verdict.{Verdict}
+use Rattle.trace_rows.specs.declared.faults.Verdict.TheVariants.{Valid, Fault}
+use Rattle.trace_rows.specs.Faults.{row_at}
+use Rattle.trace_check.specs.Traces.{Trace}
+use Rattle.trace_draw.specs.declared.windows.Window.{Window}
+use Rattle.trace_draw.specs.Windows.{reaches, place, span}
+use Rattle.trace_draw.specs.Shapes.{label_line}
+use Rattle.trace_draw.specs.Head.{bottom, head_text, lanes_text, axis_text}
+use Rattle.trace_draw.specs.Rows.{rows_text, frame_lines}
+use Rattle.trace_draw.specs.Periods.{tasks_text}
+
+-- the frames of row i, where there is such a row and it reaches into the window
+abbrev pub framed_row : Trace → Window → ℕ → List ℕ
+framed_row t w i =
+    if nat_lt i (length t.rows) && reaches w (row_at t.rows i)
+    then concat (frame_lines t.set (row_at t.rows i) (place w (row_at t.rows i).start) (span w (row_at t.rows i).start (row_at t.rows i).end)) else []
+
+-- the frames of the row at fault
+abbrev pub fault_text : Trace → Window → Verdict → List ℕ
+fault_text t w Valid = []
+fault_text t w (Fault line kind) = if nat_le (6 + length t.set.tasks) line then framed_row t w (line - (6 + length t.set.tasks)) else []
+
+-- what the marks mean, and the end
+abbrev pub closing_lines : SetContents → List (List ℕ)
+closing_lines s =
+    label_line (codes "n") 250 (bottom s + 200) (codes "arrow: release, and deadline of the job before; ring: the period has its work; red: at fault")
+    ∷ word_line (codes "</svg>") ∷ []
+
+-- what lies below the rows: the head, the empty lanes and the axis
+abbrev pub base_text : Trace → Window → Verdict → List ℕ
+base_text t w v = head_text t.set w v ++ (lanes_text t.set ++ axis_text t.set w)
+
+-- what comes last
+abbrev pub end_text : Trace → Window → Verdict → List ℕ
+end_text t w v = fault_text t w v ++ concat (closing_lines t.set)
+
+-- the picture of a trace with this verdict
+unfoldable pub picture : Trace → Window → Verdict → List ℕ
+picture t w v = base_text t w v ++ (rows_text t.set w t.rows ++ (tasks_text t w v ++ end_text t w v))

@@ -1,0 +1,112 @@
+//! Which window is shown.
+ghost use Rattle.std.specs.Prelude.{◌≡◌, ◌≤◌, ◌<◌, ◌+◌, IfSome, length, filter};
+ghost use Rattle.trace_draw.specs.Windows.{first_unit, most_units, most_rows, reaches, shown_window, has_few, window_of_units, greatest_passing, IsWindow};
+
+use crate::windows::Window;
+use sched_base::Row;
+use trace_check::ReadTrace;
+
+/// What the user asks to see.
+#[derive(Clone, Copy, Debug, PartialEq, Eq)]
+pub struct Asked {
+    /// The first unit.
+    pub from: u64,
+    /// How many units, at least 1; None for as many as are easily looked at.
+    pub units: Option<u64>,
+}
+
+/// The most rows in a window, where the number of units isn't asked for.
+const FEW: usize = 200;
+
+/// The most rows in a window.
+const MANY: usize = 20_000;
+
+/// The window that is shown. It is found by halving, and each half counts the rows once.
+#[tactic(auto, unfolding(crate::specs::Windows::shown_window))]
+pub fn shown_window(trace: &ReadTrace, asked: &Asked) -> Window
+    requires some { IfSome asked.now.units (λ n. 1 ≤ n) }
+    ensures value { result ≡ shown_window trace.now asked.now }
+    ensures window { IsWindow result }
+{
+    let _rows = trace.rows();
+    let set = trace.set();
+    let horizon = set.horizon();
+    let from = asked.from.min(horizon - 1);
+    let most = most_units(horizon - from, asked.units);
+    Window {
+        scale: trace.scale(),
+        from,
+        units: most_shown(trace, asked, from, most),
+    }
+}
+
+fn most_units(left: u64, asked: Option<u64>) -> u64
+    ensures value { result ≡ most_units left asked }
+    ensures within { result ≤ left }
+{
+    match asked {
+        Some(units) => units.min(left),
+        None => left,
+    }
+}
+
+fn most_rows(asked: Option<u64>) -> usize
+    ensures { result ≡ most_rows asked }
+{
+    match asked {
+        Some(_) => MANY,
+        None => FEW,
+    }
+}
+
+// The rows that reach into a window.
+fn count_rows(rows: &[Row], window: &Window) -> usize
+    requires { IsWindow window.now }
+    ensures { result ≡ length (filter (reaches window.now) rows.now) }
+{
+    let mut count = 0;
+    for row in rows {
+        if window.reaches(row) {
+            count += 1;
+        }
+    }
+    count
+}
+
+fn has_few(trace: &ReadTrace, asked: &Asked, from: u64, units: u64) -> bool
+    requires from { from ≡ first_unit trace.now.set asked.now }
+    requires some { 1 ≤ units }
+    requires within { from + units ≤ trace.now.set.horizon }
+    ensures { result ≡ has_few trace.now asked.now units }
+{
+    let _horizon = trace.set().horizon();
+    let rows = trace.rows();
+    let window = Window {
+        scale: trace.scale(),
+        from,
+        units,
+    };
+    count_rows(rows, &window) <= most_rows(asked.units)
+}
+
+// The most units up to `most` into which few rows reach. Fewer rows reach into fewer units.
+fn most_shown(trace: &ReadTrace, asked: &Asked, from: u64, most: u64) -> u64
+    requires from { from ≡ first_unit trace.now.set asked.now }
+    requires some { 1 ≤ most }
+    requires within { from + most ≤ trace.now.set.horizon }
+    ensures value { result ≡ greatest_passing (has_few trace.now asked.now) most }
+    ensures some { 1 ≤ result }
+    ensures within { result ≤ most }
+{
+    let mut low = 1;
+    let mut high = most;
+    'halving: while low < high {
+        let middle = high - (high - low) / 2;
+        if has_few(trace, asked, from, middle) {
+            low = middle;
+        } else {
+            high = middle - 1;
+        }
+    }
+    low
+}

@@ -1,0 +1,378 @@
+//! The head of a picture: what a screen reader reads, the style, the words above the plot, the lanes and the axis.
+ghost use Rattle.std.specs.Prelude.{◌≡◌, ◌+◌, ◌*◌, ◌≤◌, ◌<◌, ◌^◌, length};
+ghost use Rattle.std.specs.List.{concat};
+ghost use Rattle.sched_edges.specs.Causes.{HasCause};
+ghost use Rattle.sched_edges.specs.Streams.{Wrote};
+ghost use Rattle.trace_draw.specs.Windows.{IsWindow};
+ghost use Rattle.trace_draw.specs.Head.{bottom, height, plural, size_text, units_text, scale_text, kind_text, verdict_text, verdict_look, size_line};
+ghost use Rattle.trace_draw.specs.Head.{title_line, description_line, paper_line, style_lines, opening_lines, caption_lines, head_text};
+ghost use Rattle.trace_draw.specs.Head.{lane_lines, lanes_text, axis_step, first_mark, mark_count, mark_lines, axis_text};
+
+use crate::shapes::{box_line, grid_line, label_line, lane_top, number_text, task_top};
+use crate::windows::{LEFT, WIDTH, Window};
+use sched_base::TaskSet;
+use sched_edges::{Failed, Line, Sink, word_line, write_lines};
+use trace_rows::{FaultKind, Verdict};
+
+/// How far from the top the plot ends.
+pub(crate) fn bottom(set: &TaskSet) -> u64
+    ensures value { result ≡ bottom set.now }
+    ensures fits { result < 2 ^ 43 }
+{
+    task_top(set.processors(), set.count())
+}
+
+// What follows the name of a thing, where there are so many.
+fn plural(count: u128) -> &'static [u8]
+    ensures text { result.now ≡ plural count }
+    ensures short { length result.now ≤ 1 }
+{
+    if count == 1 { b"" } else { b"s" }
+}
+
+// How many tasks and processors there are.
+#[tactic(auto, unfolding(crate::specs::Head::size_text))]
+fn size_text(set: &TaskSet) -> Line
+    ensures text { result ≡ size_text set.now }
+    ensures short { length result ≤ 120 }
+{
+    let tasks = u128::from(set.count());
+    let processors = u128::from(set.processors());
+    let mut text = Line::new();
+    text.number(tasks);
+    text.text(b" task");
+    text.text(plural(tasks));
+    text.text(b" on ");
+    text.number(processors);
+    text.text(b" processor");
+    text.text(plural(processors));
+    text
+}
+
+// Which units of the schedule are shown.
+#[tactic(auto, unfolding(crate::specs::Head::units_text))]
+fn units_text(set: &TaskSet, window: &Window) -> Line
+    requires { IsWindow window.now }
+    ensures text { result ≡ units_text set.now window.now }
+    ensures short { length result ≤ 136 }
+{
+    let mut text = Line::new();
+    text.text(b"units ");
+    text.number(u128::from(window.from));
+    text.text(b" to ");
+    text.number(u128::from(window.from + window.units));
+    text.text(b" of ");
+    text.number(u128::from(set.horizon()));
+    text
+}
+
+// How long a unit is.
+#[tactic(auto, unfolding(crate::specs::Head::scale_text))]
+fn scale_text(scale: u128) -> Line
+    ensures text { result ≡ scale_text scale }
+    ensures short { length result ≤ 120 }
+{
+    let mut text = Line::new();
+    text.text(b"one unit is ");
+    text.number(scale);
+    text.text(b" tick");
+    text.text(plural(scale));
+    text
+}
+
+// The kind of a fault.
+fn kind_text(kind: FaultKind) -> &'static [u8]
+    ensures text { result.now ≡ kind_text kind }
+    ensures short { length result.now ≤ 32 }
+{
+    match kind {
+        FaultKind::Processor => b"processor",
+        FaultKind::End => b"end",
+        FaultKind::ProcessorOverlap => b"processor-overlap",
+        FaultKind::TaskOverlap => b"task-overlap",
+        FaultKind::Early => b"early",
+        FaultKind::Supply => b"supply",
+    }
+}
+
+// Whether the trace is valid, and else where it is at fault.
+fn verdict_text(verdict: Verdict) -> Line
+    ensures text { result ≡ verdict_text verdict }
+    ensures short { length result ≤ 80 }
+{
+    let mut text = Line::new();
+    match verdict {
+        Verdict::Valid => {
+            text.text(b"valid");
+            text
+        }
+        Verdict::Fault { line, kind } => {
+            text.text(b"line ");
+            text.number(u128::from(line));
+            text.text(b": ");
+            text.text(kind_text(kind));
+            text
+        }
+    }
+}
+
+// The look of that text.
+fn verdict_look(verdict: Verdict) -> &'static [u8]
+    ensures look { result.now ≡ verdict_look verdict }
+    ensures short { length result.now ≤ 3 }
+{
+    match verdict {
+        Verdict::Valid => b"ok",
+        Verdict::Fault { line: _, kind: _ } => b"bad",
+    }
+}
+
+#[tactic(auto, unfolding(crate::specs::Head::size_line))]
+fn size_line(set: &TaskSet) -> Line
+    ensures { result ≡ size_line set.now }
+{
+    let mut line = Line::new();
+    line.text(b" viewBox='0 0 12000 ");
+    line.number(u128::from(bottom(set) + 400));
+    line.text(b"'>");
+    line.end();
+    line
+}
+
+#[tactic(auto, unfolding(crate::specs::Head::title_line))]
+fn title_line(set: &TaskSet) -> Line
+    ensures { result ≡ title_line set.now }
+{
+    let mut line = Line::new();
+    line.text(b"<title id='t'>Schedule of ");
+    line.text(size_text(set).as_slice());
+    line.text(b"</title>");
+    line.end();
+    line
+}
+
+#[tactic(auto, unfolding(crate::specs::Head::description_line))]
+fn description_line(set: &TaskSet, window: &Window, verdict: Verdict) -> Line
+    requires { IsWindow window.now }
+    ensures { result ≡ description_line set.now window.now verdict }
+{
+    let mut line = Line::new();
+    line.text(units_text(set, window).as_slice());
+    line.text(b"; ");
+    line.text(verdict_text(verdict).as_slice());
+    line.text(b"</desc>");
+    line.end();
+    line
+}
+
+#[tactic(auto, unfolding(crate::specs::Head::paper_line))]
+fn paper_line(set: &TaskSet) -> Line
+    ensures { result ≡ paper_line set.now }
+{
+    let mut line = Line::new();
+    line.text(b"<rect width='12000' height='");
+    line.number(u128::from(bottom(set) + 400));
+    line.text(b"' fill='#fff'/>");
+    line.end();
+    line
+}
+
+/// Writes what comes before the lanes.
+pub(crate) fn write_head<W: Sink>(
+    sink: &mut W,
+    set: &TaskSet,
+    window: &Window,
+    verdict: Verdict,
+) -> Result<(), Failed>
+    requires { IsWindow window.now }
+    ensures wrote { Wrote (W.taken sink.old) (W.taken sink.new) (head_text set.now window.now verdict) result }
+    ensures cause { HasCause (W.faults sink.old) (W.faults sink.new) result }
+{
+    write_opening(sink, set, window, verdict)?;
+    write_style(sink)?;
+    write_caption(sink, set, window, verdict)
+}
+
+fn write_opening<W: Sink>(
+    sink: &mut W,
+    set: &TaskSet,
+    window: &Window,
+    verdict: Verdict,
+) -> Result<(), Failed>
+    requires { IsWindow window.now }
+    ensures wrote { Wrote (W.taken sink.old) (W.taken sink.new) (concat (opening_lines set.now window.now verdict)) result }
+    ensures cause { HasCause (W.faults sink.old) (W.faults sink.new) result }
+{
+    let lines = [
+        word_line(b"<svg xmlns='http://www.w3.org/2000/svg' role='img' aria-labelledby='t d'"),
+        size_line(set),
+        title_line(set),
+        word_line(b"<desc id='d'>A lane for each processor, and below them one for each task;"),
+        description_line(set, window, verdict),
+    ];
+    write_lines(sink, &lines)
+}
+
+fn write_style<W: Sink>(sink: &mut W) -> Result<(), Failed>
+    ensures wrote { Wrote (W.taken sink.old) (W.taken sink.new) (concat style_lines) result }
+    ensures cause { HasCause (W.faults sink.old) (W.faults sink.new) result }
+{
+    let lines = [
+        word_line(
+            b"<style>text{font:125px ui-monospace,DejaVu Sans Mono,monospace}.h{font-size:180px;font-weight:bold}",
+        ),
+        word_line(
+            b".n,.a,.u,.s{fill:#444}.l,.s,.e,.u,.ok,.bad{text-anchor:end}.m,.a,.k{text-anchor:middle}.l,.e{font-size:115px}",
+        ),
+        word_line(
+            b".ok,.bad{font-size:160px;fill:#00603f}.e{font-weight:bold}.e,.bad{fill:#b00000}.q,.s{font-size:85px}",
+        ),
+        word_line(
+            b".k{font-size:95px}.p{fill:#f2f2f2}.g,.b,.r,.f,.o{fill:none;stroke:#bbb;stroke-width:6}.b{stroke:#999}",
+        ),
+        word_line(
+            b".r,.o{stroke:#000;stroke-width:14}.o{fill:#fff}.f{stroke:#b00000;stroke-width:24}.w{fill:#b00000}",
+        ),
+        word_line(b".c0{fill:#0072b2}.c1{fill:#e69f00}.c2{fill:#009e73}.c3{fill:#cc79a7}"),
+        word_line(
+            b".c4{fill:#56b4e9}.c5{fill:#d55e00}.c6{fill:#f0e442}.c7{fill:#595959}.i0,.i7{fill:#fff}",
+        ),
+        word_line(
+            b".v1,.v2,.v3{stroke:#000;stroke-width:12}.v2{stroke-dasharray:40}.v3{stroke-dasharray:160 60}</style>",
+        ),
+    ];
+    write_lines(sink, &lines)
+}
+
+fn write_caption<W: Sink>(
+    sink: &mut W,
+    set: &TaskSet,
+    window: &Window,
+    verdict: Verdict,
+) -> Result<(), Failed>
+    requires { IsWindow window.now }
+    ensures wrote { Wrote (W.taken sink.old) (W.taken sink.new) (concat (caption_lines set.now window.now verdict)) result }
+    ensures cause { HasCause (W.faults sink.old) (W.faults sink.new) result }
+{
+    let lines = [
+        paper_line(set),
+        label_line(b"h", 250, 330, size_text(set).as_slice()),
+        label_line(b"n", 250, 560, units_text(set, window).as_slice()),
+        label_line(b"u", 11600, 560, scale_text(window.scale).as_slice()),
+        label_line(
+            verdict_look(verdict),
+            11600,
+            330,
+            verdict_text(verdict).as_slice(),
+        ),
+    ];
+    write_lines(sink, &lines)
+}
+
+// The lane of a processor, with nothing on it.
+fn lane_lines(processor: u32) -> [Line; 2]
+    ensures { result ≡ lane_lines processor }
+{
+    let top = lane_top(processor);
+    let mut name = Line::new();
+    name.text(b"cpu ");
+    name.number(u128::from(processor));
+    [
+        label_line(b"l", 1780, top + 215, name.as_slice()),
+        box_line(b"p", LEFT, top, WIDTH, 340),
+    ]
+}
+
+/// Writes the lanes of the processors, with nothing on them.
+pub(crate) fn write_lanes<W: Sink>(sink: &mut W, set: &TaskSet) -> Result<(), Failed>
+    ensures wrote { Wrote (W.taken sink.old) (W.taken sink.new) (lanes_text set.now) result }
+    ensures cause { HasCause (W.faults sink.old) (W.faults sink.new) result }
+{
+    for processor in 0..set.processors() {
+        write_lines(sink, &lane_lines(processor))?;
+    }
+    Ok(())
+}
+
+// The units from one number on the axis to the next.
+#[tactic(auto, unfolding(crate::specs::Head::axis_step))]
+fn axis_step(units: u64) -> u64
+    ensures value { result ≡ axis_step units }
+    ensures some { 0 < result }
+    ensures fits { result < 2 ^ 35 }
+{
+    let tens: [u32; 10] = [
+        1,
+        10,
+        100,
+        1000,
+        10_000,
+        100_000,
+        1_000_000,
+        10_000_000,
+        100_000_000,
+        1_000_000_000,
+    ];
+    for ten in &tens {
+        let ten = u64::from(*ten);
+        if units <= 12 * ten {
+            return ten;
+        }
+        if units <= 24 * ten {
+            return 2 * ten;
+        }
+        if units <= 60 * ten {
+            return 5 * ten;
+        }
+    }
+    1
+}
+
+// The line and the number of a unit at a place.
+fn mark_lines(at: u64, end: u64, unit: u64) -> [Line; 2]
+    ensures { result ≡ mark_lines at end unit }
+{
+    [
+        grid_line(at, end),
+        label_line(b"a", at, 730, number_text(unit).as_slice()),
+    ]
+}
+
+/// Writes the axis.
+pub(crate) fn write_axis<W: Sink>(
+    sink: &mut W,
+    set: &TaskSet,
+    window: &Window,
+) -> Result<(), Failed>
+    requires { IsWindow window.now }
+    ensures wrote { Wrote (W.taken sink.old) (W.taken sink.new) (axis_text set.now window.now) result }
+    ensures cause { HasCause (W.faults sink.old) (W.faults sink.new) result }
+{
+    let step = axis_step(window.units);
+    let end = bottom(set);
+    let first = first_mark(window, step);
+    for i in 0..mark_count(window, step) {
+        let unit = (first + i) * step;
+        let at = window.place(u128::from(unit) * window.scale);
+        write_lines(sink, &mark_lines(at, end, unit))?;
+    }
+    Ok(())
+}
+
+fn first_mark(window: &Window, step: u64) -> u64
+    requires window { IsWindow window.now }
+    requires some { 0 < step }
+    requires fits { step < 2 ^ 35 }
+    ensures { result ≡ first_mark window.now step }
+{
+    (window.from + step - 1) / step
+}
+
+fn mark_count(window: &Window, step: u64) -> u64
+    requires window { IsWindow window.now }
+    requires some { 0 < step }
+    requires fits { step < 2 ^ 35 }
+    ensures { result ≡ mark_count window.now step }
+{
+    ((window.from + window.units) / step + 1).saturating_sub(first_mark(window, step))
+}

@@ -1,0 +1,19 @@
+//! A picture of a trace: the lanes of processors and tasks over a stretch of time, as an SVG text that a browser shows.
+#![tactic(auto)]
+
+mod asking;
+mod drawing;
+mod head;
+mod periods;
+mod picture;
+mod rows;
+mod served;
+mod shapes;
+#[cfg(test)]
+mod tests;
+mod windows;
+
+pub use asking::{Asked, shown_window};
+pub use drawing::draw_trace;
+pub use picture::write_picture;
+pub use windows::Window;

@@ -1,0 +1,131 @@
+//! The picture of a trace.
+ghost use Rattle.std.specs.Prelude.{◌≡◌, ◌+◌, ◌≤◌, ◌<◌, length};
+ghost use Rattle.std.specs.List.{concat};
+ghost use Rattle.sched_edges.specs.Causes.{HasCause};
+ghost use Rattle.sched_edges.specs.Streams.{Wrote};
+ghost use Rattle.trace_draw.specs.Windows.{IsWindow};
+ghost use Rattle.trace_draw.specs.Picture.{framed_row, fault_text, closing_lines, base_text, end_text, picture};
+
+use crate::head::{bottom, write_axis, write_head, write_lanes};
+use crate::periods::write_tasks;
+use crate::rows::{frame_lines, write_rows};
+use crate::shapes::label_line;
+use crate::windows::Window;
+use sched_base::TaskSet;
+use sched_edges::{Failed, Sink, word_line, write_lines};
+use trace_check::ReadTrace;
+use trace_rows::Verdict;
+
+/// Writes the picture of a trace over a window: the trace may be valid or not, and the verdict is the one that is told.
+///
+/// It takes no memory. Its time is that of the rows, and for each task that of its rows for each of its periods that is drawn,
+/// which are at most 66. Each shape goes out as one piece. Where the sink fails, it has taken a first part of the picture.
+#[tactic(auto, unfolding(crate::specs::Picture::picture))]
+pub fn write_picture<W: Sink>(
+    sink: &mut W,
+    trace: &ReadTrace,
+    window: &Window,
+    verdict: Verdict,
+) -> Result<(), Failed>
+    requires { IsWindow window.now }
+    ensures wrote { Wrote (W.taken sink.old) (W.taken sink.new) (picture trace.now window.now verdict) result }
+    ensures cause { HasCause (W.faults sink.old) (W.faults sink.new) result }
+{
+    write_base(sink, trace, window, verdict)?;
+    write_rows(sink, trace.set(), window, trace.rows())?;
+    write_tasks(sink, trace, window, verdict)?;
+    write_end(sink, trace, window, verdict)
+}
+
+// Writes what lies below the rows.
+fn write_base<W: Sink>(
+    sink: &mut W,
+    trace: &ReadTrace,
+    window: &Window,
+    verdict: Verdict,
+) -> Result<(), Failed>
+    requires { IsWindow window.now }
+    ensures wrote { Wrote (W.taken sink.old) (W.taken sink.new) (base_text trace.now window.now verdict) result }
+    ensures cause { HasCause (W.faults sink.old) (W.faults sink.new) result }
+{
+    let set = trace.set();
+    write_head(sink, set, window, verdict)?;
+    write_lanes(sink, set)?;
+    write_axis(sink, set, window)
+}
+
+// Writes the frames of row i, where there is such a row.
+fn write_frames<W: Sink>(
+    sink: &mut W,
+    trace: &ReadTrace,
+    window: &Window,
+    i: u64,
+) -> Result<(), Failed>
+    requires { IsWindow window.now }
+    ensures wrote { Wrote (W.taken sink.old) (W.taken sink.new) (framed_row trace.now window.now i) result }
+    ensures cause { HasCause (W.faults sink.old) (W.faults sink.new) result }
+{
+    let rows = trace.rows();
+    if i >= rows.len() as u64 {
+        return Ok(());
+    }
+    let row = &rows[i as usize];
+    if !window.reaches(row) {
+        return Ok(());
+    }
+    let x = window.place(row.start);
+    let width = window.span(row.start, row.end);
+    write_lines(sink, &frame_lines(trace.set(), row, x, width))
+}
+
+// Writes the frames of the row at fault.
+fn write_fault<W: Sink>(
+    sink: &mut W,
+    trace: &ReadTrace,
+    window: &Window,
+    verdict: Verdict,
+) -> Result<(), Failed>
+    requires { IsWindow window.now }
+    ensures wrote { Wrote (W.taken sink.old) (W.taken sink.new) (fault_text trace.now window.now verdict) result }
+    ensures cause { HasCause (W.faults sink.old) (W.faults sink.new) result }
+{
+    let first = 6 + u64::from(trace.set().count());
+    match verdict {
+        Verdict::Valid => Ok(()),
+        Verdict::Fault { line, kind: _ } => match line.checked_sub(first) {
+            Some(i) => write_frames(sink, trace, window, i),
+            None => Ok(()),
+        },
+    }
+}
+
+fn write_closing<W: Sink>(sink: &mut W, set: &TaskSet) -> Result<(), Failed>
+    ensures wrote { Wrote (W.taken sink.old) (W.taken sink.new) (concat (closing_lines set.now)) result }
+    ensures cause { HasCause (W.faults sink.old) (W.faults sink.new) result }
+{
+    let lines = [
+        label_line(
+            b"n",
+            250,
+            bottom(set) + 200,
+            b"arrow: release, and deadline of the job before; ring: the period has its work; red: at fault",
+        ),
+        word_line(b"</svg>"),
+    ];
+    write_lines(sink, &lines)
+}
+
+// Writes what comes last.
+fn write_end<W: Sink>(
+    sink: &mut W,
+    trace: &ReadTrace,
+    window: &Window,
+    verdict: Verdict,
+) -> Result<(), Failed>
+    requires { IsWindow window.now }
+    ensures wrote { Wrote (W.taken sink.old) (W.taken sink.new) (end_text trace.now window.now verdict) result }
+    ensures cause { HasCause (W.faults sink.old) (W.faults sink.new) result }
+{
+    write_fault(sink, trace, window, verdict)?;
+    write_closing(sink, trace.set())
+}

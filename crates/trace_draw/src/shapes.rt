@@ -1,0 +1,173 @@
+//! The shapes of a picture, each a line of text. Lengths are tenths of a pixel.
+ghost use Rattle.std.specs.Prelude.{◌≡◌, ◌+◌, ◌≤◌, ◌<◌, ◌^◌, [], length, decimal};
+ghost use Rattle.trace_draw.specs.Shapes.{box_line, label_line, grid_line, base_line, arrow_line, ring_line, task_look, name_look, number_look};
+ghost use Rattle.trace_draw.specs.Shapes.{lane_top, task_top};
+ghost use Rattle.trace_draw.specs.Rows.{line_if};
+
+use sched_edges::Line;
+
+/// The digits of a number.
+pub(crate) fn number_text(number: u64) -> Line
+    ensures text { result ≡ decimal number }
+    ensures short { length result ≤ 40 }
+{
+    let mut text = Line::new();
+    text.number(u128::from(number));
+    text
+}
+
+/// The line, where it is to be shown.
+pub(crate) fn line_if(shown: bool, line: Line) -> Line
+    ensures { result ≡ line_if shown line }
+{
+    if shown { line } else { Line::new() }
+}
+
+/// A filled box.
+#[tactic(auto, unfolding(crate::specs::Shapes::box_line))]
+pub(crate) fn box_line(look: &[u8], x: u64, y: u64, width: u64, height: u64) -> Line
+    requires { length look.now ≤ 8 }
+    ensures { result ≡ box_line look.now x y width height }
+{
+    let mut line = Line::new();
+    line.text(b"<rect class='");
+    line.text(look);
+    line.text(b"' x='");
+    line.number(u128::from(x));
+    line.text(b"' y='");
+    line.number(u128::from(y));
+    line.text(b"' width='");
+    line.number(u128::from(width));
+    line.text(b"' height='");
+    line.number(u128::from(height));
+    line.text(b"'/>");
+    line.end();
+    line
+}
+
+/// A text.
+#[tactic(auto, unfolding(crate::specs::Shapes::label_line))]
+pub(crate) fn label_line(look: &[u8], x: u64, y: u64, text: &[u8]) -> Line
+    requires look { length look.now ≤ 5 }
+    requires text { length text.now ≤ 136 }
+    ensures { result ≡ label_line look.now x y text.now }
+{
+    let mut line = Line::new();
+    line.text(b"<text class='");
+    line.text(look);
+    line.text(b"' x='");
+    line.number(u128::from(x));
+    line.text(b"' y='");
+    line.number(u128::from(y));
+    line.text(b"'>");
+    line.text(text);
+    line.text(b"</text>");
+    line.end();
+    line
+}
+
+/// An upright line from the axis down to y.
+#[tactic(auto, unfolding(crate::specs::Shapes::grid_line))]
+pub(crate) fn grid_line(x: u64, y: u64) -> Line
+    ensures { result ≡ grid_line x y }
+{
+    let mut line = Line::new();
+    line.text(b"<path class='g' d='M");
+    line.number(u128::from(x));
+    line.text(b" 780V");
+    line.number(u128::from(y));
+    line.text(b"'/>");
+    line.end();
+    line
+}
+
+/// A line under the lane of a task.
+#[tactic(auto, unfolding(crate::specs::Shapes::base_line))]
+pub(crate) fn base_line(y: u64) -> Line
+    ensures { result ≡ base_line y }
+{
+    let mut line = Line::new();
+    line.text(b"<path class='b' d='M1900 ");
+    line.number(u128::from(y));
+    line.text(b"H11600'/>");
+    line.end();
+    line
+}
+
+/// An arrow that stands on y.
+#[tactic(auto, unfolding(crate::specs::Shapes::arrow_line))]
+pub(crate) fn arrow_line(x: u64, y: u64) -> Line
+    ensures { result ≡ arrow_line x y }
+{
+    let mut line = Line::new();
+    line.text(b"<path class='r' d='M");
+    line.number(u128::from(x));
+    line.space();
+    line.number(u128::from(y));
+    line.text(b"v-230m-45 70l45-70l45 70'/>");
+    line.end();
+    line
+}
+
+/// A ring.
+#[tactic(auto, unfolding(crate::specs::Shapes::ring_line))]
+pub(crate) fn ring_line(x: u64, y: u64) -> Line
+    ensures { result ≡ ring_line x y }
+{
+    let mut line = Line::new();
+    line.text(b"<circle class='o' cx='");
+    line.number(u128::from(x));
+    line.text(b"' cy='");
+    line.number(u128::from(y));
+    line.text(b"' r='40'/>");
+    line.end();
+    line
+}
+
+// The digit of a number below 10.
+fn digit(number: u32) -> u8
+    requires { number < 10 }
+    ensures { result ≡ 48 + number }
+{
+    b'0' + number as u8
+}
+
+/// The look of a task's boxes: one of eight colours, and one of four borders.
+pub(crate) fn task_look(task: u32) -> [u8; 5]
+    ensures look { result ≡ task_look task }
+    ensures short { length result ≤ 5 }
+{
+    [b'c', digit(task % 8), b' ', b'v', digit(task / 8 % 4)]
+}
+
+/// The look of a name on them.
+pub(crate) fn name_look(task: u32) -> [u8; 4]
+    ensures look { result ≡ name_look task }
+    ensures short { length result ≤ 5 }
+{
+    [b'm', b' ', b'i', digit(task % 8)]
+}
+
+/// The look of a number on them.
+pub(crate) fn number_look(task: u32) -> [u8; 4]
+    ensures look { result ≡ number_look task }
+    ensures short { length result ≤ 5 }
+{
+    [b'k', b' ', b'i', digit(task % 8)]
+}
+
+/// How far from the top the lane of a processor begins.
+pub(crate) fn lane_top(processor: u32) -> u64
+    ensures value { result ≡ lane_top processor }
+    ensures fits { result < 2 ^ 42 }
+{
+    900 + 420 * u64::from(processor)
+}
+
+/// How far from the top the lane of a task begins, below those of so many processors.
+pub(crate) fn task_top(processors: u32, task: u32) -> u64
+    ensures value { result ≡ task_top processors task }
+    ensures fits { result < 2 ^ 43 }
+{
+    1130 + 420 * u64::from(processors) + 320 * u64::from(task)
+}
