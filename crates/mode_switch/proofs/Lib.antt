@@ -1,2 +1,5 @@
 pub mod JoinLemmas
+pub mod MadeLemmas
 pub mod ModeLemmas
+pub mod RosterLemmas
+pub mod RunLemmas

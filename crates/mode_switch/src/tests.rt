@@ -1,4 +1,7 @@
 //! Lists of sets, and what joining them answers: values from outside.
+
+mod runs;
+
 use crate::{ModeFault, ModeKind, Modes};
 use sched_base::{TaskSet, lawful_name};
 use std::alloc::Global;

@@ -1,0 +1,124 @@
+use Rattle.std.proofs.Common.{◌≡◌, ◌+◌, ◌≤◌, ◌<◌, [], ◌∷◌, Ok, Err, length, length-append, take, sym, ap, subst, arith}
+use Rattle.sched_base.specs.Tables.{row_limit}
+use Rattle.run_tree.specs.Plans.{PlanContents}
+use Rattle.mode_switch.proofs.ModeLemmas.{few_modes}
+use Rattle.mode_switch.proofs.RunLemmas.{all_get, next_mode, modes_back, filled_after, own_after, stopped_in, ran_more, ran_to_end, ran_first, names_risen, are_back, grew_through, runs_whole, jobs_last}
+use Rattle.mode_switch.proofs.running.run_modes.Goals as goal
+
+pub run_mode-requires-clause-few : goal.run_mode-requires-clause-few
+run_mode-requires-clause-few g c κs within =
+    let next = next_mode c.args.modes.now c.count.ensures.lawful c.loop-j.j c.plan.result.now c.rounds.result c.plan.ensures.value c.rounds.ensures.value in
+    next.few
+
+pub run_mode-requires-clause-kits : goal.run_mode-requires-clause-kits
+run_mode-requires-clause-kits g c κs within =
+    let next = next_mode c.args.modes.now c.count.ensures.lawful c.loop-j.j c.plan.result.now c.rounds.result c.plan.ensures.value c.rounds.ensures.value in
+    let back = modes_back _ _ (take c.loop-j.j c.args.modes.now.modes) c.loop-j.runs.items _ _ c.loop-j.invariant.ran in
+    let filled = filled_after _ _ c.args.modes.now.processors _ _ back c.requires.kits in
+    λ p below. filled p (let wide = next.wide in omega (arith, below, wide))
+
+pub run_mode-requires-clause-jobs : goal.run_mode-requires-clause-jobs
+run_mode-requires-clause-jobs g c κs within =
+    let next = next_mode c.args.modes.now c.count.ensures.lawful c.loop-j.j c.plan.result.now c.rounds.result c.plan.ensures.value c.rounds.ensures.value in
+    let back = modes_back _ _ (take c.loop-j.j c.args.modes.now.modes) c.loop-j.runs.items _ _ c.loop-j.invariant.ran in
+    let own = all_get _ c.args.modes.now.modes c.loop-j.j next.mode c.requires.jobs next.at in
+    let after = own_after _ _ (length next.mode.plan.set.tasks) _ _ back own in
+    λ t below. after t (subst (λ (p : PlanContents). t < length p.set.tasks) (sym next.plan) below)
+
+pub returns-in-Err-clause-outcome : goal.returns-in-Err-clause-outcome
+returns-in-Err-clause-outcome g c =
+    let next = next_mode c.args.modes.now c.count.ensures.lawful c.loop-j.j c.plan.result.now c.rounds.result c.plan.ensures.value c.rounds.ensures.value in
+    stopped_in _ _ c.args.modes.now c.loop-j.j c.plan.result.now c.rounds.result next c.loop-j.runs.items _ _ _ c.loop-j.invariant.ran c.run_mode.result c.run_mode.ensures
+    c.in-Err.fault c.in-Err.is c.in_mode.result c.in_mode.ensures
+
+pub returns-in-Err-clause-first : goal.returns-in-Err-clause-first
+returns-in-Err-clause-first g c =
+    let next = next_mode c.args.modes.now c.count.ensures.lawful c.loop-j.j c.plan.result.now c.rounds.result c.plan.ensures.value c.rounds.ensures.value in
+    let outcome =
+    stopped_in _ _ c.args.modes.now c.loop-j.j c.plan.result.now c.rounds.result next c.loop-j.runs.items _ _ _ c.loop-j.invariant.ran c.run_mode.result c.run_mode.ensures
+    c.in-Err.fault c.in-Err.is c.in_mode.result c.in_mode.ensures in
+    ran_first _ _ c.args.modes.now.processors c.args.modes.now.modes c.count.ensures.lawful.each _ _ (Err c.in_mode.result) outcome
+
+pub returns-in-Err-clause-risen : goal.returns-in-Err-clause-risen
+returns-in-Err-clause-risen g c =
+    let next = next_mode c.args.modes.now c.count.ensures.lawful c.loop-j.j c.plan.result.now c.rounds.result c.plan.ensures.value c.rounds.ensures.value in
+    let outcome =
+    stopped_in _ _ c.args.modes.now c.loop-j.j c.plan.result.now c.rounds.result next c.loop-j.runs.items _ _ _ c.loop-j.invariant.ran c.run_mode.result c.run_mode.ensures
+    c.in-Err.fault c.in-Err.is c.in_mode.result c.in_mode.ensures in
+    names_risen _ _ c.args.modes.now.processors c.args.modes.now.modes c.count.ensures.lawful.each (record { kits = c.args.kits.now.items; places = c.args.jobs.now.places }) _
+    c.requires.kits c.in_mode.result outcome
+
+pub returns-in-Err-clause-back : goal.returns-in-Err-clause-back
+returns-in-Err-clause-back g c =
+    let next = next_mode c.args.modes.now c.count.ensures.lawful c.loop-j.j c.plan.result.now c.rounds.result c.plan.ensures.value c.rounds.ensures.value in
+    let outcome =
+    stopped_in _ _ c.args.modes.now c.loop-j.j c.plan.result.now c.rounds.result next c.loop-j.runs.items _ _ _ c.loop-j.invariant.ran c.run_mode.result c.run_mode.ensures
+    c.in-Err.fault c.in-Err.is c.in_mode.result c.in_mode.ensures in
+    are_back _ _ c.args.modes.now.modes _ _ (Err c.in_mode.result) outcome
+
+pub loop-j-preserved : goal.loop-j-preserved
+loop-j-preserved g c =
+    let inv = c.loop-j.invariant in
+    let next = next_mode c.args.modes.now c.count.ensures.lawful c.loop-j.j c.plan.result.now c.rounds.result c.plan.ensures.value c.rounds.ensures.value in
+    let long = ap length c.push_reserved.ensures.items in
+    let more = length-append c.loop-j.runs.items (c.in-Ok.executed ∷ []) in
+    let count = inv.count in
+    let room = inv.room in
+    let same = c.push_reserved.ensures.capacity in
+    record {
+      count = omega (arith, long, more, count);
+      room = omega (arith, room, same);
+      ran = ran_more _ _ c.args.modes.now c.loop-j.j c.plan.result.now c.rounds.result next c.loop-j.runs.items _ _ _ inv.ran c.run_mode.result c.run_mode.ensures
+          c.in-Ok.executed c.in-Ok.is c.push_reserved.new.self.items c.push_reserved.ensures.items;
+    }
+
+pub invariant_of-result : goal.invariant_of-result
+invariant_of-result g c =
+    let are = c.count.ensures.lawful in
+    let few = few_modes c.args.modes.now.processors are.some_processors c.args.modes.now.modes are.each in
+    let rows = are.few_rows in
+    let count = c.loop-j.invariant.count in
+    let end = c.loop-j.auto.j-end in
+    let value = c.count-j-end.ensures.value in
+    let fits : length c.loop-j.runs.items ≤ row_limit = omega (arith, few, rows, count, end, value) in
+    fits
+
+pub returns-clause-gates : goal.returns-clause-gates
+returns-clause-gates g c =
+    let value = c.count-j-end.ensures.value in
+    let end = c.loop-j-test.false in
+    let past : length c.args.modes.now.modes ≤ c.loop-j.j = omega (arith, value, end) in
+    let ran = ran_to_end _ _ c.args.modes.now.modes c.loop-j.j c.loop-j.runs.items _ _ past c.loop-j.invariant.ran in
+    grew_through _ _ c.args.modes.now.processors c.args.modes.now.modes c.count.ensures.lawful.each c.loop-j.runs.items _ _ ran
+
+pub returns-clause-whole : goal.returns-clause-whole
+returns-clause-whole g c =
+    let value = c.count-j-end.ensures.value in
+    let end = c.loop-j-test.false in
+    let past : length c.args.modes.now.modes ≤ c.loop-j.j = omega (arith, value, end) in
+    let ran = ran_to_end _ _ c.args.modes.now.modes c.loop-j.j c.loop-j.runs.items _ _ past c.loop-j.invariant.ran in
+    runs_whole _ _ c.args.modes.now.modes c.loop-j.runs.items _ _ ran
+
+pub returns-clause-jobs : goal.returns-clause-jobs
+returns-clause-jobs g c =
+    let value = c.count-j-end.ensures.value in
+    let end = c.loop-j-test.false in
+    let past : length c.args.modes.now.modes ≤ c.loop-j.j = omega (arith, value, end) in
+    let ran = ran_to_end _ _ c.args.modes.now.modes c.loop-j.j c.loop-j.runs.items _ _ past c.loop-j.invariant.ran in
+    jobs_last _ _ c.args.modes.now.processors c.args.modes.now.modes c.count.ensures.lawful.each c.loop-j.runs.items _ _ ran
+
+pub returns-clause-first : goal.returns-clause-first
+returns-clause-first g c =
+    let value = c.count-j-end.ensures.value in
+    let end = c.loop-j-test.false in
+    let past : length c.args.modes.now.modes ≤ c.loop-j.j = omega (arith, value, end) in
+    let ran = ran_to_end _ _ c.args.modes.now.modes c.loop-j.j c.loop-j.runs.items _ _ past c.loop-j.invariant.ran in
+    ran_first _ _ c.args.modes.now.processors c.args.modes.now.modes c.count.ensures.lawful.each _ _ (Ok c.loop-j.runs.items) ran
+
+pub returns-clause-back : goal.returns-clause-back
+returns-clause-back g c =
+    let value = c.count-j-end.ensures.value in
+    let end = c.loop-j-test.false in
+    let past : length c.args.modes.now.modes ≤ c.loop-j.j = omega (arith, value, end) in
+    let ran = ran_to_end _ _ c.args.modes.now.modes c.loop-j.j c.loop-j.runs.items _ _ past c.loop-j.invariant.ran in
+    are_back _ _ c.args.modes.now.modes _ _ (Ok c.loop-j.runs.items) ran
