@@ -82,6 +82,6 @@ fn main(rt: HostRuntime) -> ExitCode {
     let status = run_words(&rt, rt.alloc(), &words, &mut source, &mut out, &mut err).unwrap_or(
         Status::NoMemory,
     );
-    let status = close_run(status, out.flush(), &mut err);
+    let status = close_run(status, &mut out, &mut err);
     ExitCode::from(status.code())
 }

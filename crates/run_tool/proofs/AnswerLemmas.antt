@@ -17,14 +17,15 @@ use Rattle.run_tool.specs.declared.refusal.Refusal.{Refusal}
 use Rattle.run_tool.specs.declared.refusal.Refusal.TheVariants as why
 use Rattle.run_tool.specs.declared.status.Status.{Status}
 use Rattle.run_tool.specs.declared.status.Status.TheVariants.{Done, Invalid, Usage, ReadFault, WriteFault, NoMemory, BadInput, Overload}
-use Rattle.run_tool.specs.declared.status.Status.TheVariants.{ScaleTooLarge, TooLong, GateFault, JobFault, InputTooLong, BadTree}
+use Rattle.run_tool.specs.declared.status.Status.TheVariants.{ScaleTooLarge, TooLong, GateFault, JobFault, InputTooLong, ModeFault, BadTree}
 use Rattle.sched_base.specs.Tables.{row_limit}
-use Rattle.run_tool.specs.Commands.{SetText, rates, server_tree, schedule_rows, wrapped_rows, Output, of_set, of_trace, of_tree, of_batch, of_jobs, of_drill}
+use Rattle.run_tool.specs.Commands.{SetText, rates, server_tree, schedule_rows, wrapped_rows, Output, of_set, of_trace, of_tree, of_batch, of_jobs, of_modes, of_drill}
 use Rattle.run_tool.specs.Commands.{output_of, limit_of, ReadsSet, text_of}
 use Rattle.run_tool.specs.Commands.{plan_of, rows_of, wrapped_rows_of, HasRoom, HasTooManyRows, HasTooManyWrapped, HasNoRoom, WritesSet, Writes, CallsFor, RefusesSet}
 use Rattle.run_tool.specs.Commands.{RefusesText}
 use Rattle.run_tool.specs.Commands.{Refuses}
 use Rattle.run_tool.proofs.FollowLemmas.{followed_or_refused, one_follow_status}
+use Rattle.run_tool.proofs.ModeTextLemmas.{modes_or_refused, one_modes_status}
 use Rattle.run_tool.specs.Checks.{TellsTrace, Judges, RefusesTrace}
 use Rattle.run_tool.specs.Refusals.{status_of, set_status}
 use Rattle.run_tool.specs.Ends.{Streams, ErrorStream, IsTold, IsDone, StopsAs, StopsDrill, Stops, IsAnswer, AnswersBytes, Answers, IsAnswered}
@@ -79,6 +80,7 @@ fits_not_refused bytes s scale (why.Overload total room) reads fits refuses =
 fits_not_refused bytes s scale (why.BadLine line) reads fits refuses = refuses
 fits_not_refused bytes s scale (why.BadProgram line) reads fits refuses = refuses
 fits_not_refused bytes s scale (why.BadTree line kind) reads fits refuses = refuses
+fits_not_refused bytes s scale (why.OfMode j q) reads fits refuses = refuses
 fits_not_refused bytes s scale (why.GateFault row name) reads fits refuses = refuses
 fits_not_refused bytes s scale (why.JobFault row name) reads fits refuses = refuses
 fits_not_refused bytes s scale why.Usage reads fits refuses = refuses
@@ -137,6 +139,7 @@ as_set what bytes (why.Overload total room) refuses = inl refuses
 as_set what bytes (why.BadLine line) refuses = absurd refuses
 as_set what bytes (why.BadProgram line) refuses = absurd refuses
 as_set what bytes (why.BadTree line kind) refuses = absurd refuses
+as_set what bytes (why.OfMode j q) refuses = absurd refuses
 as_set what bytes (why.GateFault row name) refuses = absurd refuses
 as_set what bytes (why.JobFault row name) refuses = absurd refuses
 as_set what bytes why.Usage refuses = absurd refuses
@@ -169,6 +172,7 @@ one_set_status bytes (why.Overload total room) (why.Overload other more) a b = r
 one_set_status bytes (why.BadLine line) q a b = absurd a
 one_set_status bytes (why.BadProgram line) q a b = absurd a
 one_set_status bytes (why.BadTree line kind) q a b = absurd a
+one_set_status bytes (why.OfMode j r) q a b = absurd a
 one_set_status bytes (why.GateFault row name) q a b = absurd a
 one_set_status bytes (why.JobFault row name) q a b = absurd a
 one_set_status bytes why.Usage q a b = absurd a
@@ -180,6 +184,7 @@ one_set_status bytes (why.InputTooLong count) q a b = absurd a
 one_set_status bytes r (why.BadLine line) a b = absurd b
 one_set_status bytes r (why.BadProgram line) a b = absurd b
 one_set_status bytes r (why.BadTree line kind) a b = absurd b
+one_set_status bytes r (why.OfMode j q) a b = absurd b
 one_set_status bytes r (why.GateFault row name) a b = absurd b
 one_set_status bytes r (why.JobFault row name) a b = absurd b
 one_set_status bytes r why.Usage a b = absurd b
@@ -346,6 +351,7 @@ told_or_refused of_trace bytes status r is refuses = judged_or_refused bytes sta
 told_or_refused of_tree bytes status r is refuses = followed_or_refused bytes is.0 status r is.1 refuses
 told_or_refused of_batch bytes status r is refuses = refuses
 told_or_refused of_jobs bytes status r is refuses = jobs_or_refused bytes is.0 is.1.0 status r is.1.1 refuses
+told_or_refused of_modes bytes status r is refuses = modes_or_refused bytes is.0 status r is.1 refuses
 told_or_refused (of_drill number) bytes status r is refuses = refuses
 
 -- bytes are told of with one status
@@ -355,6 +361,7 @@ one_telling of_trace bytes a b x y = one_judgment bytes a b x y
 one_telling of_tree bytes a b x y = x.1.0 ∙ sym y.1.0
 one_telling of_batch bytes a b x y = x ∙ sym y
 one_telling of_jobs bytes a b x y = x.1.1.0 ∙ sym y.1.1.0
+one_telling of_modes bytes a b x y = x.1.0 ∙ sym y.1.0
 one_telling (of_drill number) bytes a b x y = x.1.0 ∙ sym y.1.0
 
 -- bytes are refused with one status
@@ -363,6 +370,7 @@ one_status (of_set what) bytes r q a b = one_text_status what bytes r q a b
 one_status of_tree bytes r q a b = one_follow_status bytes r q a b
 one_status of_batch bytes r q a b = absurd a
 one_status of_jobs bytes r q a b = one_jobs_status bytes r q a b
+one_status of_modes bytes r q a b = one_modes_status bytes r q a b
 one_status of_trace bytes r q a b = (refused_line bytes r a).1 ∙ sym (refused_line bytes q b).1
 one_status (of_drill number) bytes r q a b = absurd a
 
@@ -373,6 +381,7 @@ called_for of_trace bytes text status writes = told_trace bytes text status writ
 called_for of_tree bytes text status writes = (text, writes)
 called_for of_batch bytes text status writes = writes.0
 called_for of_jobs bytes text status writes = (text, writes)
+called_for of_modes bytes text status writes = (text, writes)
 called_for (of_drill number) bytes text status writes = (text, writes)
 
 -- the answer, where the bytes call for a status
@@ -386,6 +395,7 @@ answer_called_for o bytes status Overload within called is = absurd (told_or_ref
 answer_called_for o bytes status ScaleTooLarge within called is = absurd (told_or_refused o bytes status is.1.0 called is.1.2)
 answer_called_for o bytes status TooLong within called is = absurd (told_or_refused o bytes status is.1.0 called is.1.2)
 answer_called_for o bytes status BadTree within called is = absurd (told_or_refused o bytes status is.1.0 called is.1.2)
+answer_called_for o bytes status ModeFault within called is = absurd (told_or_refused o bytes status is.1.0 called is.1.2)
 answer_called_for o bytes status Usage within called is = absurd is
 answer_called_for o bytes status ReadFault within called is = absurd is
 answer_called_for o bytes status WriteFault within called is = absurd is
@@ -404,6 +414,7 @@ answer_refuses o bytes r Overload within refuses is = one_status o bytes r is.1.
 answer_refuses o bytes r ScaleTooLarge within refuses is = one_status o bytes r is.1.0 refuses is.1.2 ∙ is.1.1
 answer_refuses o bytes r TooLong within refuses is = one_status o bytes r is.1.0 refuses is.1.2 ∙ is.1.1
 answer_refuses o bytes r BadTree within refuses is = one_status o bytes r is.1.0 refuses is.1.2 ∙ is.1.1
+answer_refuses o bytes r ModeFault within refuses is = one_status o bytes r is.1.0 refuses is.1.2 ∙ is.1.1
 answer_refuses o bytes r Usage within refuses is = absurd is
 answer_refuses o bytes r ReadFault within refuses is = absurd is
 answer_refuses o bytes r WriteFault within refuses is = absurd is
@@ -421,6 +432,7 @@ answer_too_long o bytes Overload over is = let within = is.0 in absurd (omega (a
 answer_too_long o bytes ScaleTooLarge over is = let within = is.0 in absurd (omega (arith, within, over))
 answer_too_long o bytes TooLong over is = let within = is.0 in absurd (omega (arith, within, over))
 answer_too_long o bytes BadTree over is = let within = is.0 in absurd (omega (arith, within, over))
+answer_too_long o bytes ModeFault over is = let within = is.0 in absurd (omega (arith, within, over))
 answer_too_long o bytes Usage over is = absurd is
 answer_too_long o bytes ReadFault over is = absurd is
 answer_too_long o bytes WriteFault over is = absurd is
@@ -445,6 +457,7 @@ done_by of_trace status old new h = done_asked of_trace status old.left old new 
 done_by of_tree status old new h = done_asked of_tree status old.left old new refl h
 done_by of_batch status old new h = done_asked of_batch status old.left old new refl h
 done_by of_jobs status old new h = done_asked of_jobs status old.left old new refl h
+done_by of_modes status old new h = done_asked of_modes status old.left old new refl h
 done_by (of_drill number) status old new h = let (text, writes, took) = h.told in λ unwritten. inl writes.0
 
 -- a command that was done answered
@@ -485,6 +498,9 @@ stop_answered o bytes old new (why.BadProgram line) answer e stops unread unwrit
 stop_answered o bytes old new (why.BadTree line kind) answer e stops unread unwritten is =
     inl (refused_by o bytes stops.0 new.left (why.BadTree line kind) answer
     (subst (λ (l : Option (List ℕ)). GaveAll l new.left (limit_of o) stops.0) e stops.1) stops.2 is)
+stop_answered o bytes old new (why.OfMode j q) answer e stops unread unwritten is =
+    inl (refused_by o bytes stops.0 new.left (why.OfMode j q) answer
+    (subst (λ (l : Option (List ℕ)). GaveAll l new.left (limit_of o) stops.0) e stops.1) stops.2 is)
 stop_answered o bytes old new (why.GateFault row name) answer e stops unread unwritten is =
     inl (refused_by o bytes stops.0 new.left (why.GateFault row name) answer
     (subst (λ (l : Option (List ℕ)). GaveAll l new.left (limit_of o) stops.0) e stops.1) stops.2 is)
@@ -523,6 +539,7 @@ stops_by of_trace old new err err' r status stops told = stops_asked of_trace ol
 stops_by of_tree old new err err' r status stops told = stops_asked of_tree old.left old new err err' r status refl stops told
 stops_by of_batch old new err err' r status stops told = stops_asked of_batch old.left old new err err' r status refl stops told
 stops_by of_jobs old new err err' r status stops told = stops_asked of_jobs old.left old new err err' r status refl stops told
+stops_by of_modes old new err err' r status stops told = stops_asked of_modes old.left old new err err' r status refl stops told
 stops_by (of_drill number) old new err err' r status stops told = λ unwritten. inr (told.status_is ∙ drill_wants number old new r stops unwritten)
 
 -- a command that stopped answered
@@ -541,6 +558,7 @@ wanting_by of_trace old new status wanting = wanting_asked of_trace old.left old
 wanting_by of_tree old new status wanting = wanting_asked of_tree old.left old new status wanting
 wanting_by of_batch old new status wanting = wanting_asked of_batch old.left old new status wanting
 wanting_by of_jobs old new status wanting = wanting_asked of_jobs old.left old new status wanting
+wanting_by of_modes old new status wanting = wanting_asked of_modes old.left old new status wanting
 wanting_by (of_drill number) old new status wanting = λ unwritten. inr wanting
 
 -- where there was no memory to read the words, that is told

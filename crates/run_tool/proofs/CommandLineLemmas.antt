@@ -13,7 +13,7 @@ use Rattle.run_tool.specs.declared.command.Command.TheVariants.{Read, Batch, Exe
 use Rattle.run_tool.specs.declared.command.Reading.{Reading}
 use Rattle.run_tool.specs.declared.command.Reading.TheVariants.{Rate, Tree, Trace, TraceMet, TraceWrap, Check, Follow}
 use Rattle.run_tool.specs.declared.command.Execution.{Execution}
-use Rattle.run_tool.specs.declared.command.Execution.TheVariants.{Exec, ExecMet, Drill, Jobs}
+use Rattle.run_tool.specs.declared.command.Execution.TheVariants.{Exec, ExecMet, Drill, Jobs, Modes}
 use Rattle.run_tool.specs.Words.{window_of, exec_with, exec_by, drill_of, drill_with, after_text, HasWindow}
 use Rattle.run_tool.specs.Words.{reading_of, reading_named, reading_with, reading_with_value, batch_of, execution_of, execution_named, execution_with, execution_with_value}
 use Rattle.run_tool.specs.Words.{asks_to_execute, asks_for_batch, asks_for_threads, command_of}
@@ -133,6 +133,7 @@ taken (Execute (Exec window)) words e = taken_exec window words e
 taken (Execute ExecMet) words e = ap (takes parser) e
 taken (Execute (Drill number)) words e = ap (takes parser) e.2 ∙ (read_number e.0 number e.1).taken
 taken (Execute Jobs) words e = ap (takes parser) e
+taken (Execute Modes) words e = ap (takes parser) e
 
 -- the first word of a command
 abbrev pub name_of : Command → Text
@@ -148,6 +149,7 @@ name_of (Execute (Exec window)) = codes "exec"
 name_of (Execute ExecMet) = codes "exec"
 name_of (Execute (Drill number)) = codes "drill"
 name_of (Execute Jobs) = codes "jobs"
+name_of (Execute Modes) = codes "modes"
 
 abbrev Either : Bool → Type 0 → Type 0 → Type 0
 Either true a b = a
@@ -164,7 +166,8 @@ IsCalled name c =
     (Either (bytes_eq name (codes "batch")) (c ≡ Batch)
     (Either (bytes_eq name (codes "exec")) (((window : ℕ) × (c ≡ Execute (Exec window))) ⊎ (c ≡ Execute ExecMet))
     (Either (bytes_eq name (codes "drill")) ((number : ℕ) × (c ≡ Execute (Drill number)))
-    (Either (bytes_eq name (codes "jobs")) (c ≡ Execute Jobs) ⊥))))))))
+    (Either (bytes_eq name (codes "jobs")) (c ≡ Execute Jobs)
+    (Either (bytes_eq name (codes "modes")) (c ≡ Execute Modes) ⊥)))))))))
 
 called : (c : Command) → IsCalled (name_of c) c
 called (Read Rate) = refl
@@ -179,6 +182,7 @@ called (Execute (Exec window)) = inl (window, refl)
 called (Execute ExecMet) = inr refl
 called (Execute (Drill number)) = (number, refl)
 called (Execute Jobs) = refl
+called (Execute Modes) = refl
 
 pub called_as : (c : Command) (name : Text) → name ≡ name_of c → IsCalled name c
 called_as c name e = subst (λ (n : Text). IsCalled n c) (sym e) (called c)
@@ -223,6 +227,7 @@ named (Execute (Exec window)) words e = named_exec window words e
 named (Execute ExecMet) words e = ap named_by e
 named (Execute (Drill number)) words e = ap named_by e.2 ∙ (read_number e.0 number e.1).named
 named (Execute Jobs) words e = ap named_by e
+named (Execute Modes) words e = ap named_by e
 
 -- the value of `--met`, that of `--by`, and that of `--window`, in the matches of a subcommand
 abbrev met_in : Option (List Row) → Option Text
@@ -498,7 +503,11 @@ execution_named_spelled w x e = elim (if_is (bytes_eq w (codes "exec")) _ _ _ e)
   | inr other ↦ elim (if_is (bytes_eq w (codes "jobs")) _ _ _ other.1) [
     | inl is ↦
         subst (λ (y : Execution). Spells (Execute y) (w ∷ [])) (some_is Jobs x is.1) (ap (λ a. a ∷ []) (same_text w _ is.0))
-    | inr other ↦ absurd (no_some x other.1)
+    | inr other ↦ elim (if_is (bytes_eq w (codes "modes")) _ _ _ other.1) [
+      | inl is ↦
+          subst (λ (y : Execution). Spells (Execute y) (w ∷ [])) (some_is Modes x is.1) (ap (λ a. a ∷ []) (same_text w _ is.0))
+      | inr other ↦ absurd (no_some x other.1)
+    ]
   ]
 ]
 
@@ -650,6 +659,7 @@ window_by (Exec window) words spells = exec_window window words spells
 window_by ExecMet words spells = tt
 window_by (Drill number) words spells = tt
 window_by Jobs words spells = tt
+window_by Modes words spells = tt
 
 pub has_window : (words : List Text) (x : Execution) → execution_of words ≡ Some x → HasWindow x
 has_window words x e = window_by x words (execution_spelled words x e)

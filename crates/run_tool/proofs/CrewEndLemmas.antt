@@ -1,13 +1,14 @@
 -- How a run ends, as the crew shows it.
 use Rattle.std.proofs.Common.{◌≡◌, inl, inr, ℕ, zero, suc, ◌+◌, ◌*◌, ◌-◌, ◌≤◌, ◌<◌, false, List, [], ◌∷◌, ◌++◌, Option, Some, None, Result, Ok, Err}
 use Rattle.std.proofs.Common.{length, take, map, refl, sym, ◌∙◌, ap, subst, arith, append-nil, mul_comm}
-use Rattle.std.specs.Prelude.{slice_get, slice_index, IfSome}
+use Rattle.std.specs.Prelude.{slice_get, slice_index, option_map, IfSome}
 use Rattle.std.specs.List.{AllByRecursion}
 use Rattle.std.proofs.lemmas.List.{get_or_past, get_or-map, length-map}
 use Rattle.std.proofs.lemmas.Bool.{cases_Bool, eqb-true}
 use Rattle.sched_base.specs.declared.rows.Leaf.{Leaf}
 use Rattle.sched_base.specs.declared.rows.Leaf.TheVariants.{Task, Wait, Idle, Empty}
 use Rattle.sched_base.specs.declared.rows.Row.{Row}
+use Rattle.sched_base.specs.declared.rows.TaskId.{TaskId}
 use Rattle.sched_base.specs.declared.sets.Task as declared
 use Rattle.sched_base.specs.Counting.{bit}
 use Rattle.sched_base.specs.Rows.{is_of_task}
@@ -33,7 +34,7 @@ use Rattle.exec_workers.proofs.StageLemmas.{same_job}
 use Rattle.exec_workers.proofs.HeadlineLemmas.{take_next}
 use Rattle.exec_workers.proofs.WholeLemmas.{ticks_at_end, posted_at_end}
 use Rattle.run_tool.specs.Executions.{GateSeen, JobSeen, Crew, crew, gates_of, jobs_of, Holds, IsReady, AreBack, RanAll, RanPart, GateRose, GateKept}
-use Rattle.run_tool.specs.Executions.{JobRose, GateStopped, JobStopped}
+use Rattle.run_tool.specs.Executions.{JobRose, JobKept, ShowsFailed, next_leaf, GateStopped, JobStopped}
 use Rattle.run_tool.proofs.CrewLemmas.{below_or, grown_none, seen_gate, seen_job, gate_in_kit, kit_shown, job_in_place, place_shown, gates_ran_all}
 use Rattle.run_tool.proofs.CrewLemmas.{back_after, back_kept}
 
@@ -82,7 +83,7 @@ ticks_in-append : (j : ℕ) (xs ys : List Row) → ticks_in j (xs ++ ys) ≡ tic
 ticks_in-append j [] ys = omega arith
 ticks_in-append j (r ∷ xs) ys = let rest = ticks_in-append j xs ys in omega (arith, rest)
 
-no_ticks_at_all : (tasks : List declared.Task) (i : ℕ) (lanes : List (List Row))
+pub no_ticks_at_all : (tasks : List declared.Task) (i : ℕ) (lanes : List (List Row))
     → AllByRecursion (λ rows. AllByRecursion (λ r. NamesOneOf tasks r.leaf) rows) lanes → length tasks ≤ i → ticks_in i (all_rows lanes) ≡ 0
 no_ticks_at_all tasks i [] all past = refl
 no_ticks_at_all tasks i (lane ∷ lanes) all past =
@@ -140,7 +141,14 @@ not_job None of none = refl
 not_job (Some (cause.Gate r)) of none = refl
 not_job (Some (cause.Job r n)) of none = absurd (none of.0.0 r n refl of.1)
 
-same_seen : {X : Type 0} (o : Option (Option X)) (x y : X) → o ≡ Some (Some x) → o ≡ Some (Some y) → x ≡ y
+-- what a gate ran beside the posted rows is a row at which its task's job failed
+out_job : (o : Option Cause) → IsOfTask o → 0 < length (unposted o)
+    → (task : TaskId) × (r : Row) × (n : ℕ) × (o ≡ Some (cause.Job r n)) × (r.leaf ≡ Task task)
+out_job None of some = absurd (let none : length (unposted None) ≡ 0 = refl in omega (arith, some, none))
+out_job (Some (cause.Gate r)) of some = absurd (let none : length (unposted (Some (cause.Gate r))) ≡ 0 = refl in omega (arith, some, none))
+out_job (Some (cause.Job r n)) of some = (of.0, r, n, refl, of.1)
+
+pub same_seen : {X : Type 0} (o : Option (Option X)) (x y : X) → o ≡ Some (Some x) → o ≡ Some (Some y) → x ≡ y
 same_seen o x y here there = let same : Some (Some x) ≡ Some (Some y) = sym here ∙ there in cc
 
 -- ---- what a run may ask for
@@ -258,15 +266,6 @@ module _ {G J : Type 0} (ran : G → Option (List Row)) (gate_faults : G → ℕ
               )
         ]
 
-    -- what was posted, and what was run
-    part : RanPart p before after (posted_by lanes) (ran_by lanes)
-    part = record {
-      beside = beside_by lanes;
-      gates = λ q g at. let (k, back, list, kept) = gate_now q g at in (k, back, list);
-      jobs = λ i j at. let (k, back, own, worked, kept, programmed) = job_now i j at in (k, back, worked, programmed);
-      front = r.front;
-    }
-
     -- a gate of a lane that didn't fail at its gate
     gate_kept : (q : ℕ) → ((x : Row) → GateFailed lanes q x → ⊥) → GateKept before after q
     gate_kept q none g k at back =
@@ -288,6 +287,80 @@ module _ {G J : Type 0} (ran : G → Option (List Row)) (gate_faults : G → ℕ
     named : (q k : ℕ) (x : Row) → RowAt (plan_rows p) q k x → NamesOneOf p.set.tasks x.leaf
     named q k x at = in_lane (λ y. NamesOneOf p.set.tasks y.leaf) (plan_rows p) q k x names at
 
+    module _ (q t n : ℕ) (x : Row) (failed : JobFailed lanes q t x n) where
+      job_lane : q < p.tree.processors
+      job_lane = let width = r.width in let within = failed.lane in omega (arith, width, within)
+
+      job_row : RowAt (plan_rows p) q (lane_in lanes q).seat.posted x
+      job_row = subst (λ c. FailsNext (plan_rows p) (record { lane = q; posted = (lane_in lanes q).seat.posted }) c) failed.cause (lane_row q job_lane)
+
+      pub job_names : NamesOneOf p.set.tasks x.leaf
+      job_names = named q (lane_in lanes q).seat.posted x job_row
+
+      job_rose : JobRose before after t
+      job_rose =
+          let within : t < length p.set.tasks = subst (λ (l : Leaf). NamesOneOf p.set.tasks l) failed.of_task job_names in
+          let start = fresh t within in
+          let (now, back, jr) = r.jobs t start.0 within start.1 in
+          let risen = jr.risen q x n failed in (
+            seen_job id used job_faults made start.0,
+            seen_job id used job_faults made now,
+            place_shown id used job_faults made places t start.0 start.1,
+            place_shown id used job_faults made places' t now back,
+            risen.rose,
+          )
+
+      job_posted : slice_index (posted_by lanes) q ≡ (lane_in lanes q).seat.posted
+      job_posted = posted_at_end lanes q failed.lane
+
+      job_ran : slice_index (ran_by lanes) q ≡ (lane_in lanes q).seat.posted + 1
+      job_ran = ran_at lanes q failed.lane ∙ ap (λ (c : Option Cause). (lane_in lanes q).seat.posted + length (unposted c)) failed.cause
+
+      job_out : slice_index (posted_by lanes) q < slice_index (ran_by lanes) q
+      job_out = let posted = job_posted in let run = job_ran in omega (arith, posted, run)
+
+      job_leaf : next_leaf p (posted_by lanes) q ≡ Some (Task (record { 0 = t }))
+      job_leaf =
+          ap (λ (k : ℕ). option_map (λ (y : Row). y.leaf) (slice_get (lane_of (plan_rows p) q) k)) job_posted
+          ∙ ap (λ (o : Option Row). option_map (λ (y : Row). y.leaf) o) job_row
+          ∙ ap Some failed.of_task
+
+    -- a row that ran and isn't posted is one at which its task's job failed
+    out_failed : (q : ℕ) → slice_index (posted_by lanes) q < slice_index (ran_by lanes) q → ShowsFailed before after (next_leaf p (posted_by lanes) q)
+    out_failed q out =
+        elim (below_or q (length lanes)) [
+          | inl here ↦
+              let width = r.width in
+              let within : q < p.tree.processors = omega (arith, width, here) in
+              let posted : slice_index (posted_by lanes) q ≡ (lane_in lanes q).seat.posted = posted_at_end lanes q here in
+              let all = ran_at lanes q here in
+              let some : 0 < length (unposted (lane_in lanes q).cause) = omega (arith, out, posted, all) in
+              let (task, x, n, is, of) = out_job (lane_in lanes q).cause (lane_task q within) some in
+              let failed : JobFailed lanes q task.0 x n = record { lane = here; cause = is; of_task = of } in
+              subst (λ (o : Option Leaf). ShowsFailed before after o) (sym (job_leaf q task.0 n x failed)) (job_rose q task.0 n x failed)
+          | inr past ↦ absurd (let none = ran_past lanes q past in omega (arith, out, none))
+        ]
+
+    -- a job of whose task no such row ran didn't fail
+    job_kept : (i : ℕ)
+        → ((q : ℕ) → slice_index (posted_by lanes) q < slice_index (ran_by lanes) q → next_leaf p (posted_by lanes) q ≡ Some (Task (record { 0 = i })) → ⊥)
+        → JobKept before after i
+    job_kept i none j k at back =
+        let (now, there, own, worked, kept, programmed) = job_now i j at in
+        ap (λ (x : JobSeen). x.faults) (same_seen (slice_get (jobs_of id used job_faults made places') i) k now back there)
+        ∙ kept (λ q x n failed. none q (job_out q i n x failed) (job_leaf q i n x failed))
+
+    -- what was posted, and what was run
+    part : RanPart p before after (posted_by lanes) (ran_by lanes)
+    part = record {
+      beside = beside_by lanes;
+      gates = λ q g at. let (k, back, list, kept) = gate_now q g at in (k, back, list);
+      jobs = λ i j at. let (k, back, own, worked, kept, programmed) = job_now i j at in (k, back, worked, programmed);
+      failed = out_failed;
+      kept = job_kept;
+      front = r.front;
+    }
+
     module _ (q : ℕ) (x : Row) (failed : GateFailed lanes q x) where
       gate_lane : q < p.tree.processors
       gate_lane = let width = r.width in let within = failed.0 in omega (arith, width, within)
@@ -297,6 +370,9 @@ module _ {G J : Type 0} (ran : G → Option (List Row)) (gate_faults : G → ℕ
 
       pub gate_names : NamesOneOf p.set.tasks x.leaf
       gate_names = named q (lane_in lanes q).seat.posted x gate_row
+
+      pub gate_below : x.processor < p.tree.processors
+      gate_below = subst (λ n. n < p.tree.processors) (sym ((plan_table p h).own q (lane_in lanes q).seat.posted x gate_row)) gate_lane
 
       gate_rose : GateRose before after q
       gate_rose =
@@ -325,38 +401,16 @@ module _ {G J : Type 0} (ran : G → Option (List Row)) (gate_faults : G → ℕ
           }
 
     module _ (q t n : ℕ) (x : Row) (failed : JobFailed lanes q t x n) where
-      job_lane : q < p.tree.processors
-      job_lane = let width = r.width in let within = failed.lane in omega (arith, width, within)
-
-      job_row : RowAt (plan_rows p) q (lane_in lanes q).seat.posted x
-      job_row = subst (λ c. FailsNext (plan_rows p) (record { lane = q; posted = (lane_in lanes q).seat.posted }) c) failed.cause (lane_row q job_lane)
-
-      pub job_names : NamesOneOf p.set.tasks x.leaf
-      job_names = named q (lane_in lanes q).seat.posted x job_row
-
-      job_rose : JobRose before after t
-      job_rose =
-          let within : t < length p.set.tasks = subst (λ (l : Leaf). NamesOneOf p.set.tasks l) failed.of_task job_names in
-          let start = fresh t within in
-          let (now, back, jr) = r.jobs t start.0 within start.1 in
-          let risen = jr.risen q x n failed in (
-            seen_job id used job_faults made start.0,
-            seen_job id used job_faults made now,
-            place_shown id used job_faults made places t start.0 start.1,
-            place_shown id used job_faults made places' t now back,
-            risen.rose,
-          )
-
       pub job_stopped : NoGateBefore lanes (length lanes) → NoJobBefore lanes q → JobStopped p before after x
       job_stopped no_gate lowest =
-          let own : x.processor ≡ q = (plan_table p h).own q (lane_in lanes q).seat.posted x job_row in
-          let posted : slice_index (posted_by lanes) q ≡ (lane_in lanes q).seat.posted = posted_at_end lanes q failed.lane in
-          let run : slice_index (ran_by lanes) q ≡ (lane_in lanes q).seat.posted + 1 =
-          ran_at lanes q failed.lane ∙ ap (λ (c : Option Cause). (lane_in lanes q).seat.posted + length (unposted c)) failed.cause in
-          let at : RowAt (plan_rows p) q (slice_index (posted_by lanes) q) x = subst (λ k. RowAt (plan_rows p) q k x) (sym posted) job_row in
+          let row = job_row q t n x failed in
+          let own : x.processor ≡ q = (plan_table p h).own q (lane_in lanes q).seat.posted x row in
+          let posted = job_posted q t n x failed in
+          let run = job_ran q t n x failed in
+          let at : RowAt (plan_rows p) q (slice_index (posted_by lanes) q) x = subst (λ k. RowAt (plan_rows p) q k x) (sym posted) row in
           let one : slice_index (ran_by lanes) q ≡ slice_index (posted_by lanes) q + 1 = omega (arith, posted, run) in
           record {
-            task = (record { 0 = t }, failed.of_task, job_rose);
+            task = (record { 0 = t }, failed.of_task, job_rose q t n x failed);
             gates = λ m. gate_kept m (λ y other. no_gate m y other.0 other);
             at = (
               posted_by lanes,
@@ -365,7 +419,7 @@ module _ {G J : Type 0} (ran : G → Option (List Row)) (gate_faults : G → ℕ
               subst (λ m. RowAt (plan_rows p) m (slice_index (posted_by lanes) m) x) (sym own) at,
               subst (λ m. slice_index (ran_by lanes) m ≡ slice_index (posted_by lanes) m + 1) (sym own) one,
               λ m below.
-                  let lane = job_lane in
+                  let lane = job_lane q t n x failed in
                   let within : m < p.tree.processors = omega (arith, own, below, lane) in
                   let first : slice_index (posted_by lanes) m ≡ (lane_in lanes m).seat.posted = posted_at_end lanes m (inside m within) in
                   let all = ran_at lanes m (inside m within) in

@@ -1,4 +1,5 @@
 pub mod FollowLemmas
+pub mod ModeTextLemmas
 pub mod LoadedLemmas
 pub mod JobRunLemmas
 pub mod FollowedLemmas
@@ -15,4 +16,8 @@ pub mod ReadyLemmas
 pub mod DrillLemmas
 pub mod DrillEndLemmas
 pub mod StopLemmas
-pub mod BatchLemmas
+pub mod ClosingLemmas
+pub mod ModeRunLemmas
+pub mod ModeEndLemmas
+pub mod NumberedLemmas
+pub mod ModeRowLemmas

@@ -8,8 +8,9 @@ use Rattle.sched_edges.proofs.Wrote.{part_then, part_cut}
 use Rattle.task_reader.specs.declared.refusals.Place.{Place}
 use Rattle.task_reader.specs.declared.refusals.Place.TheVariants as place
 use Rattle.sched_edges.specs.Lines.{line_end, line_of}
-use Rattle.run_tool.specs.Refusals.{place_and, place_text, key_start, printed_byte, refusal_line}
-use Rattle.run_tool.specs.declared.refusal.Refusal.TheVariants.{BadSet}
+use Rattle.run_tool.specs.Refusals.{place_and, place_text, key_start, printed_byte, refusal_line, mode_line, set_start}
+use Rattle.run_tool.specs.declared.mode_refusal.ModeRefusal.{ModeRefusal}
+use Rattle.run_tool.specs.declared.refusal.Refusal.TheVariants.{BadSet, OfMode}
 use Rattle.task_reader.specs.declared.refusals.ReadSet.TheVariants.{UnknownKey}
 
 line_end-place : (p : Place) (word : List ℕ) → line_end (place_and p word) ≡ place_text p ++ (32 ∷ (word ++ 10 ∷ []))
@@ -82,6 +83,11 @@ unfolding refusal_line line_of
 key_parts p key =
     sym (append_assoc (key_start p) (map printed_byte key) (10 ∷ []))
     ∙ place_line_is (codes "refused") (decimal 6) (codes "UnknownKey") p (map printed_byte key)
+
+-- the line of a mode's refusal, behind the number of the mode
+pub mode_line_parts : (j : ℕ) (r : ModeRefusal) → set_start j ++ mode_line r ≡ refusal_line (OfMode j r)
+unfolding refusal_line mode_line
+mode_line_parts j r = refl
 
 -- ---- an unknown key, which is printed in pieces
 

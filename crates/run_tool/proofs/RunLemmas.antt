@@ -6,7 +6,7 @@ use Rattle.std.specs.Io.KnownBytes.{Keeps}
 use Rattle.run_tool.specs.declared.command.Command.{Command}
 use Rattle.run_tool.specs.declared.command.Command.TheVariants.{Read, Batch, Execute}
 use Rattle.run_tool.specs.declared.command.Execution.{Execution}
-use Rattle.run_tool.specs.declared.command.Execution.TheVariants.{Exec, ExecMet, Drill, Jobs}
+use Rattle.run_tool.specs.declared.command.Execution.TheVariants.{Exec, ExecMet, Drill, Jobs, Modes}
 use Rattle.run_tool.specs.declared.refusal.Refusal.{Refusal}
 use Rattle.run_tool.specs.declared.refusal.Refusal.TheVariants as why
 use Rattle.run_tool.specs.declared.status.Status.{Status}
@@ -20,6 +20,9 @@ use Rattle.run_tool.specs.Ends.{Streams, ErrorStream, streams, IsUnread, IsQuiet
 use Rattle.run_tool.proofs.WordLemmas.{executes, only_execute, not_executing}
 use Rattle.run_tool.specs.Executions.{Crew, AreBack, NothingRose}
 use Rattle.run_tool.specs.JobPrograms.{WritesResults, RefusesJobs}
+use Rattle.run_tool.specs.declared.mode_refusal.ModeRefusal.TheVariants as mode
+use Rattle.run_tool.specs.ModeRuns.{WritesModesRun, RefusesModesRun}
+use Rattle.run_tool.specs.ModeTexts.{WritesModes, RefusesModes}
 use Rattle.run_tool.proofs.LoadedLemmas.{rose_loaded}
 use Rattle.run_tool.specs.Executed.{WritesJobsRun, RefusesJobsRun}
 use Rattle.run_tool.specs.Executed.{WritesRun, RefusesRun, RanDrill, StopsAtDrill, ToldRun, StopsRun, EndsWith, EndsRun, NoneFailed, may_have_run}
@@ -57,10 +60,18 @@ weaker_results b n bytes status result w = (b.jobs, (w.0, (w.1.0, w.1.1, w.1.2, 
 jobs_told : (old new : Streams) (b n : Crew) → IsTold set_limit (WritesJobsRun b n) Done old new → IsTold set_limit WritesResults Done old new
 jobs_told old new b n t = record { told = (t.told.0, t.told.1, t.told.2, weaker_results b n t.told.0 Done t.told.1 t.told.3, t.told.4) }
 
+-- what was run as modes was written
+weaker_modes : (b n : Crew) (bytes : List ℕ) (status : Status) (text : List ℕ) → WritesModesRun b n bytes status text → WritesModes bytes status text
+weaker_modes b n bytes status text w = (w.0, (w.1.0, w.1.1, w.1.2))
+
+modes_told : (old new : Streams) (b n : Crew) → IsTold set_limit (WritesModesRun b n) Done old new → IsTold set_limit WritesModes Done old new
+modes_told old new b n t = record { told = (t.told.0, t.told.1, t.told.2, weaker_modes b n t.told.0 Done t.told.1 t.told.3, t.told.4) }
+
 pub done_is : (e : Execution) (old new : Streams) (b n : Crew) → ToldRun e old new b n → IsDone (output_of (Execute e)) Done old new
 done_is (Exec window) old new b n t = weaker_told false old new b n t
 done_is ExecMet old new b n t = weaker_told true old new b n t
 done_is Jobs old new b n t = jobs_told old new b n t
+done_is Modes old new b n t = modes_told old new b n t
 done_is (Drill number) old new b n t = drill_told number old new b n t
 
 -- where nothing failed, what stopped it is what would stop a trace
@@ -75,6 +86,7 @@ weaker_stops met old new b n (why.BadSet q) quiet s = s
 weaker_stops met old new b n (why.BadLine line) quiet s = s
 weaker_stops met old new b n (why.BadProgram line) quiet s = s
 weaker_stops met old new b n (why.BadTree line kind) quiet s = s
+weaker_stops met old new b n (why.OfMode j q) quiet s = s
 weaker_stops met old new b n (why.Overload total room) quiet s = s
 weaker_stops met old new b n (why.ScaleTooLarge task) quiet s = s
 weaker_stops met old new b n (why.TooLong rows) quiet s = s
@@ -119,11 +131,27 @@ jobs_stops old new b n (why.JobFault row name) quiet s =
     absurd (quiet.jobs task.0 (rose_loaded text scale set.tasks b n task.0 rose))
 jobs_stops old new b n _ quiet s = s
 
+-- where nothing failed, what stopped `modes` is a fault of a stream, want of memory, or a refusal of the bytes
+modes_stops : (old new : Streams) (b n : Crew) (r : Refusal) → NothingRose b n → StopsAs set_limit (WritesModesRun b n) (RefusesModesRun b n) old new r
+    → StopsAs set_limit WritesModes RefusesModes old new r
+modes_stops old new b n why.WriteFault quiet s = (s.0, s.1, s.2, s.3, weaker_modes b n s.0 s.2 s.1 s.4, s.5, s.6)
+modes_stops old new b n (why.OfMode j (mode.GateFault row name)) quiet s =
+    let (m, reads, stops) = s.2 in
+    absurd (quiet.gates row.processor stops.rose)
+modes_stops old new b n (why.OfMode j (mode.JobFault row name)) quiet s =
+    let (m, reads, stops) = s.2 in
+    let (task, leaf, rose) = stops.rose in
+    absurd (quiet.jobs task.0 rose)
+modes_stops old new b n (why.OfMode j (mode.BadSet q)) quiet s = s
+modes_stops old new b n (why.OfMode j (mode.NotJoined k)) quiet s = s
+modes_stops old new b n _ quiet s = s
+
 pub stop_is : (e : Execution) (old new : Streams) (b n : Crew) (r : Refusal) → NothingRose b n → StopsRun e old new b n r
     → Stops (output_of (Execute e)) old new r
 stop_is (Exec window) old new b n r quiet s = weaker_stops false old new b n r quiet s
 stop_is ExecMet old new b n r quiet s = weaker_stops true old new b n r quiet s
 stop_is Jobs old new b n r quiet s = jobs_stops old new b n r quiet s.0
+stop_is Modes old new b n r quiet s = modes_stops old new b n r quiet s.0
 stop_is (Drill number) old new b n r quiet s = drill_stops number old new b n r quiet s
 
 -- where nothing failed that an execution calls, no gate and no job failed
@@ -148,6 +176,7 @@ unread_stops : (e : Execution) (old new : Streams) (b n : Crew) → IsUnread old
 unread_stops (Exec window) old new b n unread keeps same = keeps
 unread_stops ExecMet old new b n unread keeps same = keeps
 unread_stops Jobs old new b n unread keeps same = (keeps, inl same)
+unread_stops Modes old new b n unread keeps same = (keeps, inl same)
 unread_stops (Drill number) old new b n unread keeps same = (unread, (inl same, keeps))
 
 pub ends_unread : (words : List (List ℕ)) (k : Command) (old new : Streams) (err err' : ErrorStream) (b n : Crew) (status : Status)

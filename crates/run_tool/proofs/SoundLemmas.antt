@@ -10,7 +10,11 @@ use Rattle.run_tree.specs.Plans.{schedule_of}
 use Rattle.run_tree.specs.Schedule.{schedule}
 use Rattle.task_reader.specs.Reading.{set_read_from}
 use Rattle.run_tool.specs.Commands.{SetText, rates, server_tree, schedule_rows, wrapped_rows, plan_of}
-use Rattle.run_tool.specs.Ends.{TellsTruth}
+use Rattle.run_tool.specs.Commands.{Output, of_set, of_tree}
+use Rattle.run_tool.specs.declared.status.Status.{Status}
+use Rattle.run_tool.specs.declared.status.Status.TheVariants.{Done}
+use Rattle.run_tool.specs.Follow.{FollowsTrees}
+use Rattle.run_tool.specs.Ends.{Streams, TellsTruth, IsDone, IsDoneSoundly}
 use Rattle.wrap_sched.specs.Wrapped.{wrapped}
 
 module _
@@ -32,3 +36,20 @@ module _
   tells_truth server_tree bytes s scale reads fits = is_tree s scale (lawful bytes s reads.read) reads.is_scale fits
   tells_truth (schedule_rows met) bytes s scale reads fits = schedule_valid s scale (lawful bytes s reads.read) reads.is_scale fits
   tells_truth wrapped_rows bytes s scale reads fits = wraps s scale (lawful bytes s reads.read) reads.is_scale fits
+
+module _ (truth : (what : SetText) → TellsTruth what) (follows : FollowsTrees) where
+  -- what was told is sound
+  pub done_soundly : (o : Output) (status : Status) (old new : Streams) → IsDone o status old new → IsDoneSoundly o status old new
+  done_soundly (of_set what) status old new done =
+      let w = done.told.3 in
+      let sound = truth what done.told.0 w.1.0 w.1.1 w.1.2 w.1.3 in
+      record { told = (done.told.0, done.told.1, done.told.2, (w.0, (w.1.0, w.1.1, w.1.2, w.1.3, w.1.4, w.1.5, sound)), done.told.4) }
+  done_soundly of_tree status old new done =
+      let w = done.told.3 in
+      let followed = follows done.told.0 w.1.0 (record { read = w.1.1; is_text = w.1.2.0 }) in
+      record { told = (done.told.0, done.told.1, done.told.2, (w.0, (w.1.0, w.1.1, w.1.2, followed)), done.told.4) }
+  done_soundly _ status old new done = done
+
+  -- the same, where the status is known to be this one
+  pub done_soundly_as : (o : Output) (status : Status) (old new : Streams) → status ≡ Done → IsDone o status old new → IsDoneSoundly o Done old new
+  done_soundly_as o status old new is done = done_soundly o Done old new (subst (λ (x : Status). IsDone o x old new) is done)

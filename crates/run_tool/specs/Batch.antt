@@ -1,5 +1,5 @@
 -- What `batch` tells of many sets.
-use Rattle.std.specs.Prelude.{◌≡◌, ℕ, ◌+◌, List, [], ◌∷◌, ◌++◌, length, codes, decimal}
+use Rattle.std.specs.Prelude.{◌≡◌, ℕ, List, [], ◌∷◌, ◌++◌, length, codes, decimal}
 use Rattle.std.specs.List.{AllZip}
 use Rattle.sched_edges.specs.Lines.{line_of, number_line}
 use Rattle.task_reader.specs.Pieces.{pieces_of}
@@ -9,7 +9,8 @@ use Rattle.batch_compile.specs.Answers.{IsAnswer}
 use Rattle.run_tool.specs.declared.refusal.Refusal.TheVariants as why
 use Rattle.run_tool.specs.declared.status.Status.{Status}
 use Rattle.run_tool.specs.declared.status.Status.TheVariants.{Done}
-use Rattle.run_tool.specs.Refusals.{refusal_line}
+use Rattle.run_tool.specs.Numbered.{numbered}
+use Rattle.run_tool.specs.Refusals.{refusal_line, set_start}
 
 -- what is told of one set: that it fits, with its scale and the number of levels of its tree, or the line of its refusal
 unfoldable pub answer_text : Answer → List ℕ
@@ -18,18 +19,13 @@ answer_text (answer.ScaleTooLarge at) = refusal_line (why.ScaleTooLarge at)
 answer_text (answer.Overload total room) = refusal_line (why.Overload total room)
 answer_text (answer.Fits scale levels) = line_of (codes "fits") (codes "scale" ∷ decimal scale ∷ codes "levels" ∷ decimal levels ∷ [])
 
--- `set`, the number of a set, and a space
-abbrev pub set_start : ℕ → List ℕ
-set_start j = codes "set" ++ (32 ∷ (decimal j ++ 32 ∷ []))
-
 -- the line of set j
 abbrev pub answer_line : ℕ → Answer → List ℕ
 answer_line j a = set_start j ++ answer_text a
 
 -- the lines of these sets, the first of which has the number j
 abbrev pub answer_lines : ℕ → List Answer → List ℕ
-answer_lines j [] = []
-answer_lines j (a ∷ answers) = answer_line j a ++ answer_lines (j + 1) answers
+answer_lines j answers = numbered answer_line j answers
 
 -- the version and how many sets there are
 abbrev pub batch_head : ℕ → List ℕ

@@ -6,7 +6,7 @@ use Rattle.clap.specs.declared.builder.action.ArgAction.TheVariants.{Set, SetTru
 use Rattle.run_tool.specs.declared.command.Command.{Command}
 use Rattle.run_tool.specs.declared.command.Command.TheVariants.{Read, Batch, Execute}
 use Rattle.run_tool.specs.declared.command.Reading.TheVariants.{Rate, Tree, Trace, TraceMet, TraceWrap, Check, Follow}
-use Rattle.run_tool.specs.declared.command.Execution.TheVariants.{Exec, ExecMet, Drill, Jobs}
+use Rattle.run_tool.specs.declared.command.Execution.TheVariants.{Exec, ExecMet, Drill, Jobs, Modes}
 use Rattle.run_tool.specs.Words.{window_of, drill_of}
 
 -- the words are `exec` with a window: the usual one where none is written, as a value of its own or behind `=`
@@ -39,6 +39,7 @@ Spells (Execute (Exec window)) words = SpellsExec window words
 Spells (Execute ExecMet) words = words ≡ codes "exec" ∷ codes "--met" ∷ []
 Spells (Execute (Drill number)) words = SpellsDrill number words
 Spells (Execute Jobs) words = words ≡ codes "jobs" ∷ []
+Spells (Execute Modes) words = words ≡ codes "modes" ∷ []
 
 -- the option `--met`
 abbrev pub met : Rule
@@ -95,6 +96,9 @@ with_exec = with_command with_batch (with_rule (with_rule (new_app (codes "exec"
 abbrev pub with_drill : App
 with_drill = with_command with_exec (with_rule (new_app (codes "drill")) number)
 
+abbrev pub with_jobs : App
+with_jobs = with_command with_drill (new_app (codes "jobs"))
+
 -- the last of them
 abbrev pub parser : App
-parser = with_command with_drill (new_app (codes "jobs"))
+parser = with_command with_jobs (new_app (codes "modes"))

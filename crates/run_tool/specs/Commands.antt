@@ -3,13 +3,14 @@ use Rattle.std.specs.Prelude.{◌≡◌, ℕ, true, false, List}
 use Rattle.run_tool.specs.declared.command.Command.{Command}
 use Rattle.run_tool.specs.declared.command.Command.TheVariants.{Read, Batch, Execute}
 use Rattle.run_tool.specs.declared.command.Reading.TheVariants.{Rate, Tree, Trace, TraceMet, TraceWrap, Check, Follow}
-use Rattle.run_tool.specs.declared.command.Execution.TheVariants.{Exec, ExecMet, Drill, Jobs}
+use Rattle.run_tool.specs.declared.command.Execution.TheVariants.{Exec, ExecMet, Drill, Jobs, Modes}
 use Rattle.run_tool.specs.declared.refusal.Refusal.{Refusal}
 use Rattle.run_tool.specs.Batch.{WritesBatch}
 use Rattle.run_tool.specs.Drill.{WritesDrill}
 use Rattle.run_tool.specs.Checks.{WritesVerdict, Judges, RefusesTrace}
 use Rattle.run_tool.specs.Follow.{WritesFollow, RefusesFollow}
 use Rattle.run_tool.specs.JobPrograms.{WritesResults, RefusesJobs}
+use Rattle.run_tool.specs.ModeTexts.{WritesModes, RefusesModes}
 use Rattle.run_tool.specs.declared.status.Status.{Status}
 use Rattle.run_tool.specs.declared.status.Status.TheVariants.{Done}
 pub use Rattle.run_tool.specs.SetTexts.{SetText, rates, server_tree, schedule_rows, wrapped_rows, ReadsSet, plan_of, some_late, version_of}
@@ -24,14 +25,15 @@ abbrev pub trace_limit : ℕ
 trace_limit = 536870912
 
 -- what a command tells: a text of the set that it reads, the judgment of the trace that it reads, the schedule of the tree that it
--- reads, the answers of the sets that it reads, what the programs of the jobs that it reads compute, or what is counted of a drill, which
--- reads nothing
+-- reads, the answers of the sets that it reads, what the programs of the jobs that it reads compute, the schedules of the sets that it
+-- reads as modes, or what is counted of a drill, which reads nothing
 pub data Output : Type 0 where
   of_set : SetText → Output
   of_trace : Output
   of_tree : Output
   of_batch : Output
   of_jobs : Output
+  of_modes : Output
   of_drill : ℕ → Output
 
 -- what each command tells
@@ -48,6 +50,7 @@ output_of (Execute (Exec window)) = of_set (schedule_rows false)
 output_of (Execute ExecMet) = of_set (schedule_rows true)
 output_of (Execute (Drill number)) = of_drill number
 output_of (Execute Jobs) = of_jobs
+output_of (Execute Modes) = of_modes
 
 -- the most bytes that are read
 abbrev pub limit_of : Output → ℕ
@@ -56,6 +59,7 @@ limit_of of_trace = trace_limit
 limit_of of_tree = set_limit
 limit_of of_batch = set_limit
 limit_of of_jobs = set_limit
+limit_of of_modes = set_limit
 limit_of (of_drill number) = 0
 
 -- this text is written for these bytes, and the command ends with this status
@@ -65,6 +69,7 @@ Writes of_trace bytes status text = WritesVerdict bytes status text
 Writes of_tree bytes status text = WritesFollow bytes status text
 Writes of_batch bytes status text = WritesBatch bytes status text
 Writes of_jobs bytes status text = WritesResults bytes status text
+Writes of_modes bytes status text = WritesModes bytes status text
 Writes (of_drill number) bytes status text = WritesDrill number status text
 
 -- the bytes call for this status of a command that tells of them: that of `check` goes by whether the rows are a valid schedule,
@@ -81,4 +86,5 @@ Refuses of_trace bytes refusal = RefusesTrace bytes refusal
 Refuses of_tree bytes refusal = RefusesFollow bytes refusal
 Refuses of_batch bytes refusal = ⊥
 Refuses of_jobs bytes refusal = RefusesJobs bytes refusal
+Refuses of_modes bytes refusal = RefusesModes bytes refusal
 Refuses (of_drill number) bytes refusal = ⊥

@@ -11,11 +11,14 @@ use Rattle.run_tool.specs.declared.refusal.Refusal.{Refusal}
 use Rattle.run_tool.specs.declared.refusal.Refusal.TheVariants as why
 use Rattle.run_tool.specs.declared.status.Status.{Status}
 use Rattle.run_tool.specs.declared.status.Status.TheVariants.{Done, Invalid, Usage, NoMemory, BadInput, Overload, ScaleTooLarge, TooLong, InputTooLong}
-use Rattle.run_tool.specs.declared.status.Status.TheVariants.{BadTree}
+use Rattle.run_tool.specs.declared.status.Status.TheVariants.{ModeFault, BadTree}
 use Rattle.sched_base.specs.Sets.{SetContents}
 use Rattle.sched_base.specs.Scale.{Fits}
 use Rattle.run_tool.specs.Drill.{WritesDrill}
 use Rattle.run_tool.specs.Commands.{SetText, Output, of_drill, output_of, limit_of, ReadsSet, Writes, CallsFor, Refuses, IsSound}
+use Rattle.run_tool.specs.Commands.{of_set, of_tree, set_limit}
+use Rattle.run_tool.specs.SetTexts.{WritesSoundly}
+use Rattle.run_tool.specs.Follow.{WritesFollowed}
 use Rattle.run_tool.specs.Refusals.{status_of, refusal_line}
 
 -- the source and `out` at one moment; content is None where a stream doesn't tell it
@@ -101,6 +104,12 @@ abbrev pub IsDone : Output → Status → Streams → Streams → Type 0
 IsDone (of_drill number) status old new = IsDrilled number status old new
 IsDone output status old new = IsTold (limit_of output) (Writes output) status old new
 
+-- the same, and what the text tells of a set or of a tree is sound
+abbrev pub IsDoneSoundly : Output → Status → Streams → Streams → Type 0
+IsDoneSoundly (of_set what) status old new = IsTold set_limit (WritesSoundly what) status old new
+IsDoneSoundly of_tree status old new = IsTold set_limit WritesFollowed status old new
+IsDoneSoundly output status old new = IsDone output status old new
+
 -- why a command that tells this stopped, and what `out` took of its text
 abbrev pub Stops : Output → Streams → Streams → Refusal → Type 0
 Stops (of_drill number) old new refusal = StopsDrill number old new refusal
@@ -139,6 +148,7 @@ IsAnswer output bytes BadInput = Refused output bytes BadInput
 IsAnswer output bytes Overload = Refused output bytes Overload
 IsAnswer output bytes ScaleTooLarge = Refused output bytes ScaleTooLarge
 IsAnswer output bytes TooLong = Refused output bytes TooLong
+IsAnswer output bytes ModeFault = Refused output bytes ModeFault
 IsAnswer output bytes BadTree = Refused output bytes BadTree
 IsAnswer output bytes _ = ⊥
 

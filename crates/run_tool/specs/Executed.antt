@@ -1,10 +1,8 @@
 -- What `exec` writes, and why it stops: with what the gates and the jobs did.
 use Rattle.std.specs.Prelude.{ℕ, ◌≡◌, ◌⊎◌, ◌≤◌, Bool, true, false, List, take, Option, Some, None}
 use Rattle.std.specs.Io.KnownBytes.{Appends, Keeps}
-use Rattle.sched_base.specs.declared.rows.Leaf.{Leaf}
-use Rattle.sched_base.specs.declared.rows.Leaf.TheVariants as leaf
 use Rattle.sched_base.specs.declared.sets.Task.{Task}
-use Rattle.sched_base.specs.Sets.{SetContents, task_at}
+use Rattle.sched_base.specs.Sets.{SetContents}
 use Rattle.sched_base.specs.Scale.{IsScale, Fits}
 use Rattle.sched_edges.specs.Causes.{Rose}
 use Rattle.sched_edges.specs.Streams.{GaveAll, TookPart}
@@ -14,7 +12,7 @@ use Rattle.run_tool.specs.JobPrograms.{ReadsJobs, IsJobsToRun, result_text, Refu
 use Rattle.run_tool.specs.declared.command.Command.{Command}
 use Rattle.run_tool.specs.declared.command.Command.TheVariants.{Execute}
 use Rattle.run_tool.specs.declared.command.Execution.{Execution}
-use Rattle.run_tool.specs.declared.command.Execution.TheVariants.{Exec, ExecMet, Drill, Jobs}
+use Rattle.run_tool.specs.declared.command.Execution.TheVariants.{Exec, ExecMet, Drill, Jobs, Modes}
 use Rattle.run_tool.specs.declared.refusal.Refusal.{Refusal}
 use Rattle.run_tool.specs.declared.refusal.Refusal.TheVariants as why
 use Rattle.run_tool.specs.declared.status.Status.{Status}
@@ -25,14 +23,8 @@ use Rattle.run_tool.specs.Drill.{drilled, drill_plan, IsDrill, drill_text}
 use Rattle.run_tool.specs.Ends.{Streams, ErrorStream, IsUnread, IsQuiet, Tells, IsTold, StopsAs, Ends}
 use Rattle.run_tree.specs.Plans.{PlanContents}
 use Rattle.run_tool.specs.Input.{IsRun, IsRefusedSet, IsTooLongSet}
-use Rattle.run_tool.specs.Executions.{Crew, RanAll, GateStopped, JobStopped, NothingRose}
-
--- the name of the task that a leaf runs, if it runs one
-abbrev pub name_at : List Task → Leaf → Option (List ℕ)
-name_at tasks (leaf.Task task) = Some (task_at tasks task.0).name
-name_at tasks (leaf.Wait task) = None
-name_at tasks (leaf.Idle number) = None
-name_at tasks leaf.Empty = None
+use Rattle.run_tool.specs.Executions.{Crew, RanAll, GateStopped, JobStopped, NothingRose, name_at}
+use Rattle.run_tool.specs.ModeRuns.{WritesModesRun, RefusesModesRun, MayHaveRun}
 
 -- the bytes are a set that fits, whose schedule has room
 pub record IsToRun (met : Bool) (bytes : List ℕ) (s : SetContents) (scale : ℕ) : Type 0 where
@@ -142,6 +134,7 @@ abbrev pub ToldRun : Execution → Streams → Streams → Crew → Crew → Typ
 ToldRun (Exec window) old new before now = IsTold set_limit (WritesRun false before now) Done old new
 ToldRun ExecMet old new before now = IsTold set_limit (WritesRun true before now) Done old new
 ToldRun Jobs old new before now = IsTold set_limit (WritesJobsRun before now) Done old new
+ToldRun Modes old new before now = IsTold set_limit (WritesModesRun before now) Done old new
 ToldRun (Drill number) old new before now = IsUnread old new × RanDrill number old.out new.out before now
 
 -- why an execution stopped, what `out` took, and what the gates and the jobs did. A drill read nothing
@@ -150,6 +143,8 @@ StopsRun (Exec window) old new before now refusal = StopsAs set_limit (WritesRun
 StopsRun ExecMet old new before now refusal = StopsAs set_limit (WritesRun true before now) (RefusesRun true before now) old new refusal
 StopsRun Jobs old new before now refusal =
     StopsAs set_limit (WritesJobsRun before now) (RefusesJobsRun before now) old new refusal × MayHaveLoaded old new before now refusal
+StopsRun Modes old new before now refusal =
+    StopsAs set_limit (WritesModesRun before now) (RefusesModesRun before now) old new refusal × MayHaveRun old new before now refusal
 StopsRun (Drill number) old new before now refusal =
     IsUnread old new × StopsAtDrill number old.out new.out old.out_faults new.out_faults before now refusal
 
@@ -189,10 +184,11 @@ may_have_called JobFault = true
 may_have_called status = false
 
 -- whether memory may be refused once a gate or a job was touched: a drill takes memory for the trace of its rows once they were run,
--- and `jobs` loads one program after the other
+-- `jobs` loads one program after the other, and `modes` takes the memory of a mode before it begins it
 abbrev pub takes_memory_late : Option Command → Bool
 takes_memory_late (Some (Execute (Drill number))) = true
 takes_memory_late (Some (Execute Jobs)) = true
+takes_memory_late (Some (Execute Modes)) = true
 takes_memory_late _ = false
 
 -- the same by the command

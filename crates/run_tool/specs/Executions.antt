@@ -1,9 +1,12 @@
 -- What an execution does with the gates and the jobs.
-use Rattle.std.specs.Prelude.{ℕ, ◌≡◌, ◌<◌, ◌≤◌, ◌+◌, List, [], Option, Some, IfSome, option_map, length, map, slice_get}
+use Rattle.std.specs.Prelude.{ℕ, ◌≡◌, ◌<◌, ◌≤◌, ◌+◌, List, [], Option, Some, None, IfSome, option_map, length, map, slice_get}
 use Rattle.std.specs.Prelude.{slice_index, take, Vec}
-use Rattle.sched_base.specs.declared.rows.Leaf.TheVariants.{Task}
+use Rattle.sched_base.specs.declared.rows.Leaf.{Leaf}
+use Rattle.sched_base.specs.declared.rows.Leaf.TheVariants as leaf
 use Rattle.sched_base.specs.declared.rows.TaskId.{TaskId}
 use Rattle.sched_base.specs.declared.rows.Row.{Row}
+use Rattle.sched_base.specs.declared.sets.Task.{Task}
+use Rattle.sched_base.specs.Sets.{task_at}
 use Rattle.sched_base.specs.Tables.{all_rows, lane_of, RowAt, ticks_in, ticks_of}
 use Rattle.sched_base.specs.Valid.{IsValid}
 use Rattle.sched_edges.specs.Causes.{Rose}
@@ -61,14 +64,35 @@ pub record RanAll (p : PlanContents) (old new : Crew) : Type 0 where
       → Holds new.jobs i (record j { used = j.used + ticks_in i (all_rows (plan_rows p)) })
   pub valid : IsValid p.set p.tree.scale (stop_of p) (stop_of p) (all_rows (plan_rows p))
 
+-- what processor q shows in its next row after so many
+abbrev pub next_leaf : PlanContents → List ℕ → ℕ → Option Leaf
+next_leaf p counts q = option_map (λ row. row.leaf) (slice_get (lane_of (plan_rows p) q) (slice_index counts q))
+
+-- job i failed
+abbrev pub JobRose : Crew → Crew → ℕ → Type 0
+JobRose old new i = (j k : JobSeen) × Holds old.jobs i j × Holds new.jobs i k × Rose j.faults k.faults
+
+-- job i didn't fail
+abbrev pub JobKept : Crew → Crew → ℕ → Type 0
+JobKept old new i = (j k : JobSeen) → Holds old.jobs i j → Holds new.jobs i k → k.faults ≡ j.faults
+
+-- what is shown is a task, whose job failed
+abbrev pub ShowsFailed : Crew → Crew → Option Leaf → Type 0
+ShowsFailed old new (Some (leaf.Task task)) = JobRose old new task.0
+ShowsFailed old new _ = ⊥
+
 -- each gate ran the first rows of its processor, as many as `ran` says. As many of them as `posted` says are posted, all but one
--- at most. Each job has worked the ticks of its task's posted rows, which are the first of the task, with the program that it had
+-- at most: the one at which its task's job failed, and no other job failed. Each job has worked the ticks of its task's posted rows,
+-- which are the first of the task, with the program that it had
 pub record RanPart (p : PlanContents) (old new : Crew) (posted ran : List ℕ) : Type 0 where
   pub beside : (q : ℕ) → (slice_index posted q ≤ slice_index ran q) × (slice_index ran q ≤ slice_index posted q + 1)
   pub gates : (q : ℕ) (g : GateSeen) → Holds old.gates q g
       → (h : GateSeen) × Holds new.gates q h × (h.ran ≡ grown g.ran (take (slice_index ran q) (lane_of (plan_rows p) q)))
   pub jobs : (i : ℕ) (j : JobSeen) → Holds old.jobs i j
       → (k : JobSeen) × Holds new.jobs i k × (k.used ≡ j.used + ticks_of i (plan_rows p) posted) × (k.made ≡ j.made)
+  pub failed : (q : ℕ) → slice_index posted q < slice_index ran q → ShowsFailed old new (next_leaf p posted q)
+  pub kept : (i : ℕ) → ((q : ℕ) → slice_index posted q < slice_index ran q → next_leaf p posted q ≡ Some (leaf.Task (record { 0 = i })) → ⊥)
+      → JobKept old new i
   pub front : IsFrontAt p posted
 
 -- the gate of processor q failed
@@ -79,20 +103,16 @@ GateRose old new q = (g h : GateSeen) × Holds old.gates q g × Holds new.gates 
 abbrev pub GateKept : Crew → Crew → ℕ → Type 0
 GateKept old new q = (g h : GateSeen) → Holds old.gates q g → Holds new.gates q h → h.faults ≡ g.faults
 
--- job i failed
-abbrev pub JobRose : Crew → Crew → ℕ → Type 0
-JobRose old new i = (j k : JobSeen) × Holds old.jobs i j × Holds new.jobs i k × Rose j.faults k.faults
-
 -- the gate of the row's processor failed at this row, the next after those that it ran, and none of a lower processor failed
 pub record GateStopped (p : PlanContents) (old new : Crew) (row : Row) : Type 0 where
   pub rose : GateRose old new row.processor
   pub lowest : (q : ℕ) → q < row.processor → GateKept old new q
   pub at : (posted ran : List ℕ) × RanPart p old new posted ran × RowAt (plan_rows p) row.processor (slice_index ran row.processor) row
 
--- no gate failed. The job of the row's task failed at this row, the last one that the gate of the row's processor ran, and on
--- no lower processor a job failed
+-- no gate failed. The job of the row's task failed at this row, the last one that the gate of the row's processor ran. On each
+-- lower processor all that ran is posted, so no job failed there
 pub record JobStopped (p : PlanContents) (old new : Crew) (row : Row) : Type 0 where
-  pub task : (task : TaskId) × (row.leaf ≡ Task task) × JobRose old new task.0
+  pub task : (task : TaskId) × (row.leaf ≡ leaf.Task task) × JobRose old new task.0
   pub gates : (q : ℕ) → GateKept old new q
   pub at : (posted ran : List ℕ) × RanPart p old new posted ran × RowAt (plan_rows p) row.processor (slice_index posted row.processor) row
       × (slice_index ran row.processor ≡ slice_index posted row.processor + 1)
@@ -102,3 +122,10 @@ pub record JobStopped (p : PlanContents) (old new : Crew) (row : Row) : Type 0 w
 pub record NothingRose (old new : Crew) : Type 0 where
   pub gates : (q : ℕ) → ¬ (GateRose old new q)
   pub jobs : (i : ℕ) → ¬ (JobRose old new i)
+
+-- the name of the task that a leaf runs, if it runs one
+abbrev pub name_at : List Task → Leaf → Option (List ℕ)
+name_at tasks (leaf.Task task) = Some (task_at tasks task.0).name
+name_at tasks (leaf.Wait task) = None
+name_at tasks (leaf.Idle number) = None
+name_at tasks leaf.Empty = None

@@ -17,6 +17,9 @@ use Rattle.wrap_sched.specs.declared.counts.WrapFault.{WrapFault}
 use Rattle.wrap_sched.specs.declared.counts.WrapFault.TheVariants as wrap
 use Rattle.job_vm.specs.declared.faults.JobTextFault.{JobTextFault}
 use Rattle.job_vm.specs.declared.faults.JobTextFault.TheVariants as job_text
+use Rattle.mode_switch.specs.declared.faults.ModeFault.{ModeFault}
+use Rattle.mode_switch.specs.declared.faults.ModeFault.TheVariants as join
+use Rattle.run_tool.specs.declared.mode_refusal.ModeRefusal.TheVariants as mode
 use Rattle.run_tool.specs.declared.refusal.Refusal.{Refusal}
 use Rattle.run_tool.specs.declared.refusal.Refusal.TheVariants as why
 
@@ -61,6 +64,11 @@ of_compile compile.NoMemory = why.NoMemory
 abbrev pub of_count : CountFault → Refusal
 of_count (count.TooLong rows) = why.TooLong rows
 of_count count.NoMemory = why.NoMemory
+
+-- of joining sets as modes
+abbrev pub of_join : ModeFault → Refusal
+of_join (join.Refused j kind) = why.OfMode j (mode.NotJoined kind)
+of_join join.NoMemory = why.NoMemory
 
 -- of counting the rounds of a wrapped schedule
 abbrev pub of_wrap : WrapFault → Refusal

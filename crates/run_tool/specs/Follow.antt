@@ -75,6 +75,10 @@ pub record IsFollowed (w : Written) : Type 0 where
 abbrev pub FollowsTrees : Type 0
 FollowsTrees = (bytes : List ℕ) (w : Written) → ReadsTree bytes w → IsFollowed w
 
+-- `follow` writes this text, and what it followed is a reduction tree with a valid schedule
+abbrev pub WritesFollowed : List ℕ → Status → List ℕ → Type 0
+WritesFollowed bytes status text = (status ≡ Done) × ((w : Written) × (reading bytes ≡ Ok w) × TellsPlan w text × IsFollowed w)
+
 -- ---- the parts: reading the text, and writing its schedule
 
 -- the source gave all its bytes, at most the limit, and they are this tree text

@@ -6,10 +6,12 @@ pub mod RateText
 pub mod Faults
 pub mod Checks
 pub mod Drill
+pub mod Numbered
 pub mod Batch
 pub mod Follow
 pub mod SetTexts
 pub mod JobPrograms
+pub mod ModeTexts
 pub mod Commands
 pub mod Followed
 pub mod Input
@@ -17,6 +19,8 @@ pub mod Ends
 pub mod Refuse
 pub mod Closing
 pub mod Executions
+pub mod ModeRuns
 pub mod Ready
 pub mod Executed
 pub mod JobInput
+pub mod ModeInput

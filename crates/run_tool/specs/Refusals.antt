@@ -1,17 +1,22 @@
 -- The lines of refusals.
 use Rattle.std.specs.Prelude.{ℕ, nat_le, ◌&&◌, if◌then◌else◌, List, [], ◌∷◌, ◌++◌, Option, Some, None, map, codes, decimal}
 use Rattle.std.specs.Fmt.{signed_decimal}
+use Rattle.sched_base.specs.declared.rows.Row.{Row}
 use Rattle.sched_edges.specs.Lines.{line_of}
 use Rattle.task_reader.specs.declared.refusals.Place.{Place}
 use Rattle.task_reader.specs.declared.refusals.Place.TheVariants as place
 use Rattle.task_reader.specs.declared.refusals.ReadSet.{ReadSet}
 use Rattle.task_reader.specs.declared.refusals.ReadSet.TheVariants as set
 use Rattle.task_reader.specs.Keys.{key_text}
+use Rattle.mode_switch.specs.declared.faults.ModeKind.{ModeKind}
+use Rattle.mode_switch.specs.declared.faults.ModeKind.TheVariants as kind
 use Rattle.tree_check.specs.declared.faults.TreeKind.{TreeKind}
 use Rattle.tree_check.specs.declared.faults.TreeKind.TheVariants.{Total, Unplaced, Member, Rate, Pair, Unfinished}
 use Rattle.run_tool.specs.declared.refusal.Refusal.{Refusal}
 use Rattle.run_tool.specs.declared.refusal.Refusal.TheVariants.{Usage, ReadFault, WriteFault, NoMemory, BadSet, BadLine, Overload, ScaleTooLarge}
-use Rattle.run_tool.specs.declared.refusal.Refusal.TheVariants.{TooLong, GateFault, JobFault, InputTooLong, BadProgram, BadTree}
+use Rattle.run_tool.specs.declared.refusal.Refusal.TheVariants.{TooLong, GateFault, JobFault, InputTooLong, BadProgram, BadTree, OfMode}
+use Rattle.run_tool.specs.declared.mode_refusal.ModeRefusal.{ModeRefusal}
+use Rattle.run_tool.specs.declared.mode_refusal.ModeRefusal.TheVariants as mode
 use Rattle.run_tool.specs.declared.status.Status.{Status}
 use Rattle.run_tool.specs.declared.status.Status.TheVariants as status
 use Rattle.run_tool.specs.Status.{code_of}
@@ -20,6 +25,21 @@ use Rattle.run_tool.specs.Status.{code_of}
 abbrev pub set_status : ReadSet → Status
 set_status set.NoMemory = status.NoMemory
 set_status _ = status.BadInput
+
+-- the status where a set can't be a mode
+abbrev pub kind_status : ModeKind → Status
+kind_status kind.Processors = status.ModeFault
+kind_status (kind.Offset task) = status.ModeFault
+kind_status (kind.Period task) = status.ModeFault
+kind_status (kind.Overload total room) = status.Overload
+kind_status (kind.TooLong rows) = status.TooLong
+
+-- the status with which the refusal of a mode ends the call
+abbrev pub mode_status : ModeRefusal → Status
+mode_status (mode.BadSet refusal) = set_status refusal
+mode_status (mode.NotJoined k) = kind_status k
+mode_status (mode.GateFault row name) = status.GateFault
+mode_status (mode.JobFault row name) = status.JobFault
 
 -- the status with which a refusal ends the call
 abbrev pub status_of : Refusal → Status
@@ -37,6 +57,7 @@ status_of (GateFault row name) = status.GateFault
 status_of (JobFault row name) = status.JobFault
 status_of (InputTooLong count) = status.InputTooLong
 status_of (BadTree line kind) = status.BadTree
+status_of (OfMode j refusal) = mode_status refusal
 
 -- a byte of an unknown key as it is printed: `?` for one that isn't from 33 to 126
 abbrev pub printed_byte : ℕ → ℕ
@@ -82,6 +103,41 @@ tree_kind_text Rate = codes "rate"
 tree_kind_text Pair = codes "pair"
 tree_kind_text Unfinished = codes "unfinished"
 
+-- the tasks ask for more than the processors have
+abbrev pub overload_words : ℕ → ℕ → List (List ℕ)
+overload_words total room = codes "Overload" ∷ codes "total" ∷ decimal total ∷ codes "room" ∷ decimal room ∷ []
+
+-- a schedule has too many rows
+abbrev pub rows_words : ℕ → List (List ℕ)
+rows_words rows = codes "TooLong" ∷ codes "rows" ∷ decimal rows ∷ []
+
+-- a gate failed at a row, of the task of this name
+abbrev pub gate_words : Row → Option (List ℕ) → List (List ℕ)
+gate_words row name =
+    codes "GateFault" ∷ codes "processor" ∷ decimal row.processor ∷ codes "row" ∷ decimal row.start ∷ decimal row.end
+    ∷ printed_name name ∷ []
+
+-- the job of this name failed at a row
+abbrev pub job_words : Row → Option (List ℕ) → List (List ℕ)
+job_words row name =
+    codes "JobFault" ∷ codes "task" ∷ printed_name name ∷ codes "processor" ∷ decimal row.processor ∷ codes "row" ∷ decimal row.start
+    ∷ decimal row.end ∷ []
+
+-- why a set can't be a mode
+abbrev pub kind_words : ModeKind → List (List ℕ)
+kind_words kind.Processors = codes "Mode" ∷ codes "processors" ∷ []
+kind_words (kind.Offset task) = codes "Mode" ∷ codes "offset" ∷ decimal task ∷ []
+kind_words (kind.Period task) = codes "Mode" ∷ codes "period" ∷ decimal task ∷ []
+kind_words (kind.Overload total room) = overload_words total room
+kind_words (kind.TooLong rows) = rows_words rows
+
+-- why a mode wasn't done
+abbrev pub mode_words : ModeRefusal → List (List ℕ)
+mode_words (mode.BadSet refusal) = set_words refusal
+mode_words (mode.NotJoined k) = kind_words k
+mode_words (mode.GateFault row name) = gate_words row name
+mode_words (mode.JobFault row name) = job_words row name
+
 -- why a command wasn't done
 abbrev pub refusal_words : Refusal → List (List ℕ)
 refusal_words Usage = codes "Usage" ∷ []
@@ -91,21 +147,31 @@ refusal_words NoMemory = codes "NoMemory" ∷ []
 refusal_words (BadSet refusal) = set_words refusal
 refusal_words (BadLine line) = codes "BadLine" ∷ decimal line ∷ []
 refusal_words (BadProgram line) = codes "BadProgram" ∷ decimal line ∷ []
-refusal_words (Overload total room) = codes "Overload" ∷ codes "total" ∷ decimal total ∷ codes "room" ∷ decimal room ∷ []
+refusal_words (Overload total room) = overload_words total room
 refusal_words (ScaleTooLarge task) = codes "ScaleTooLarge" ∷ codes "task" ∷ decimal task ∷ []
-refusal_words (TooLong rows) = codes "TooLong" ∷ codes "rows" ∷ decimal rows ∷ []
-refusal_words (GateFault row name) =
-    codes "GateFault" ∷ codes "processor" ∷ decimal row.processor ∷ codes "row" ∷ decimal row.start ∷ decimal row.end
-    ∷ printed_name name ∷ []
-refusal_words (JobFault row name) =
-    codes "JobFault" ∷ codes "task" ∷ printed_name name ∷ codes "processor" ∷ decimal row.processor ∷ codes "row" ∷ decimal row.start
-    ∷ decimal row.end ∷ []
+refusal_words (TooLong rows) = rows_words rows
+refusal_words (GateFault row name) = gate_words row name
+refusal_words (JobFault row name) = job_words row name
 refusal_words (InputTooLong count) = codes "InputTooLong" ∷ decimal count ∷ []
 refusal_words (BadTree line kind) = codes "BadTree" ∷ codes "line" ∷ decimal line ∷ tree_kind_text kind ∷ []
+refusal_words (OfMode j refusal) = mode_words refusal
+
+-- `set`, the number of a set of several, and a space
+abbrev pub set_start : ℕ → List ℕ
+set_start j = codes "set" ++ (32 ∷ (decimal j ++ 32 ∷ []))
+
+-- what stands before the line of a refusal: which mode it is of, where it is of one
+abbrev pub line_start : Refusal → List ℕ
+line_start (OfMode j refusal) = set_start j
+line_start _ = []
 
 -- the line of a refusal: `refused`, the status, and why
 unfoldable pub refusal_line : Refusal → List ℕ
-refusal_line refusal = line_of (codes "refused") (decimal (code_of (status_of refusal)) ∷ refusal_words refusal)
+refusal_line refusal = line_start refusal ++ line_of (codes "refused") (decimal (code_of (status_of refusal)) ∷ refusal_words refusal)
+
+-- the same of a mode, behind its number
+unfoldable pub mode_line : ModeRefusal → List ℕ
+mode_line refusal = line_of (codes "refused") (decimal (code_of (mode_status refusal)) ∷ mode_words refusal)
 
 -- what a line has of a place
 abbrev pub place_text : Place → List ℕ
@@ -121,7 +187,13 @@ abbrev pub IsShortSet : ReadSet → Type 0
 IsShortSet (set.UnknownKey p key) = ⊥
 IsShortSet _ = Unit {0}
 
--- whether the bytes were refused for another reason than that they are no set
+-- whether the bytes were refused for another reason than that they, or a piece of them, are no set
 abbrev pub IsNoBadSet : Refusal → Type 0
 IsNoBadSet (BadSet refusal) = ⊥
+IsNoBadSet (OfMode j refusal) = ⊥
 IsNoBadSet _ = Unit {0}
+
+-- the same of the piece of a mode
+abbrev pub IsJoined : ModeRefusal → Type 0
+IsJoined (mode.BadSet refusal) = ⊥
+IsJoined _ = Unit {0}

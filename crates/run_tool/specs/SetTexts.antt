@@ -93,6 +93,12 @@ IsSound server_tree s scale = IsTreeOf s (tree_of scale s)
 IsSound (schedule_rows met) s scale = IsValid s scale (s.horizon * scale) (s.horizon * scale) (schedule_of (plan_of s scale))
 IsSound wrapped_rows s scale = IsValid s scale (s.horizon * scale) (s.horizon * scale) (wrapped scale s)
 
+-- the same text is written, and what it tells of the set is sound
+abbrev pub WritesSoundly : SetText → List ℕ → Status → List ℕ → Type 0
+WritesSoundly what bytes status text =
+    (status ≡ Done) × ((s : SetContents) × (scale : ℕ) × ReadsSet bytes s scale × Fits scale s × HasRoom what s scale
+    × (text ≡ text_of what s scale) × IsSound what s scale)
+
 -- these bytes are refused where a set that fits is wanted
 abbrev pub RefusesSet : List ℕ → Refusal → Type 0
 RefusesSet bytes (BadSet refusal) = set_read_from bytes ≡ Err refusal

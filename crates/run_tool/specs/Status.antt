@@ -2,7 +2,7 @@
 use Rattle.std.specs.Prelude.{ℕ}
 use Rattle.run_tool.specs.declared.status.Status.{Status}
 use Rattle.run_tool.specs.declared.status.Status.TheVariants.{Done, Invalid, Usage, ReadFault, WriteFault, NoMemory, BadInput, Overload}
-use Rattle.run_tool.specs.declared.status.Status.TheVariants.{ScaleTooLarge, TooLong, GateFault, JobFault, InputTooLong, BadTree}
+use Rattle.run_tool.specs.declared.status.Status.TheVariants.{ScaleTooLarge, TooLong, GateFault, JobFault, InputTooLong, ModeFault, BadTree}
 
 -- the exit status of the program
 abbrev pub code_of : Status → ℕ
@@ -19,4 +19,5 @@ code_of TooLong = 9
 code_of GateFault = 10
 code_of JobFault = 11
 code_of InputTooLong = 12
+code_of ModeFault = 15
 code_of BadTree = 16

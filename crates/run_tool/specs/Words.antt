@@ -9,7 +9,7 @@ use Rattle.run_tool.specs.declared.command.Command.TheVariants.{Read, Batch, Exe
 use Rattle.run_tool.specs.declared.command.Reading.{Reading}
 use Rattle.run_tool.specs.declared.command.Reading.TheVariants.{Rate, Tree, Trace, TraceMet, TraceWrap, Check, Follow}
 use Rattle.run_tool.specs.declared.command.Execution.{Execution}
-use Rattle.run_tool.specs.declared.command.Execution.TheVariants.{Exec, ExecMet, Drill, Jobs}
+use Rattle.run_tool.specs.declared.command.Execution.TheVariants.{Exec, ExecMet, Drill, Jobs, Modes}
 
 -- ---- commands that read
 
@@ -82,6 +82,7 @@ abbrev pub execution_named : List ℕ → Option Execution
 execution_named word =
     if bytes_eq word (codes "exec") then Some (Exec 32)
     else if bytes_eq word (codes "jobs") then Some Jobs
+    else if bytes_eq word (codes "modes") then Some Modes
     else None
 
 -- the command of this name with this option or value, if there is one
@@ -114,7 +115,8 @@ HasWindow _ = Unit {0}
 -- whether the words ask for an execution, by the first of them
 abbrev pub asks_to_execute : List (List ℕ) → Bool
 asks_to_execute [] = false
-asks_to_execute (word ∷ words) = bytes_eq word (codes "exec") || (bytes_eq word (codes "drill") || bytes_eq word (codes "jobs"))
+asks_to_execute (word ∷ words) =
+    bytes_eq word (codes "exec") || (bytes_eq word (codes "drill") || (bytes_eq word (codes "jobs") || bytes_eq word (codes "modes")))
 
 -- whether the words ask for many sets, by the first of them
 abbrev pub asks_for_batch : List (List ℕ) → Bool

@@ -6,7 +6,7 @@ ghost use Rattle.sched_edges.specs.Streams.{Wrote};
 ghost use Rattle.task_reader.specs.Pieces.{pieces_of};
 ghost use Rattle.batch_compile.specs.declared.answers.Answer.TheVariants.{Fits};
 ghost use Rattle.batch_compile.specs.Answers.{IsAnswer};
-ghost use Rattle.run_tool.specs.Batch.{set_start, answer_text, answer_line, answer_lines, batch_head, batch_text};
+ghost use Rattle.run_tool.specs.Batch.{answer_text, answer_line, answer_lines, batch_head, batch_text};
 ghost use Rattle.run_tool.specs.Words.{command_of, asks_for_batch};
 ghost use Rattle.run_tool.specs.Commands.{of_batch, output_of};
 ghost use Rattle.run_tool.specs.Ends.{streams_of, error_of, IsDone, IsUsage, Stops, Ends, IsAnswered};
@@ -14,6 +14,7 @@ ghost use Rattle.run_tool.specs.declared.command.Command.{Command};
 ghost use Rattle.run_tool.specs.declared.status.Status.TheVariants.{Done};
 
 use crate::input::SET_LIMIT;
+use crate::mode_line::set_start;
 use crate::refusal::Refusal;
 use crate::refusal_line::{refuse, write_refusal, write_set_refusal};
 use crate::status::Status;
@@ -146,18 +147,6 @@ fn write_answer_text<W: Sink>(answer: &Answer, out: &mut W) -> Result<(), Failed
         }
         Answer::Fits { scale, levels } => write_all(out, fits_line(*scale, *levels).as_slice()),
     }
-}
-
-// `set`, the number of a set, and a space.
-fn set_start(j: u32) -> Line
-    ensures { result ≡ set_start j }
-{
-    let mut start = Line::new();
-    start.text(b"set");
-    start.space();
-    start.number(u128::from(j));
-    start.space();
-    start
 }
 
 // That a set fits: its scale, and the number of levels of its tree.

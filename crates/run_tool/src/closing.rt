@@ -1,16 +1,36 @@
 //! The end of a run over an `out` that keeps bytes back.
-ghost use Rattle.std.specs.Prelude.{◌≡◌};
-ghost use Rattle.run_tool.specs.Ends.{error_of};
+ghost use Rattle.std.specs.Prelude.{◌≡◌, ◌≢◌};
+ghost use Rattle.sched_edges.specs.Causes.{Rose};
+ghost use Rattle.sched_edges.specs.StdStreams.{sink_faults};
+ghost use Rattle.run_tool.specs.Ends.{error_of, IsQuiet, Tells};
 ghost use Rattle.run_tool.specs.Closing.{closed, TellsClosed};
+ghost use Rattle.run_tool.specs.Refusals.{refusal_line};
+ghost use Rattle.run_tool.specs.declared.refusal.Refusal.TheVariants as why;
 
 use crate::refusal::Refusal;
 use crate::refusal_line::refuse;
 use crate::status::Status;
-use sched_edges::{Failed, Sink};
+use sched_edges::{Failed, Sink, StdSink};
+use std::io::Write;
 
-/// The status at the end of a run that had this status before `out` was to hand on what it kept back, where `flushed` says
-/// how that went. A text that wasn't handed on wasn't written, so that is a fault of `out`, and `err` takes its line.
-pub fn close_run<E: Sink>(status: Status, flushed: Result<(), Failed>, err: &mut E) -> Status
+/// The status at the end of a run that had this status before: `out` hands on what it kept back. A text that wasn't handed on
+/// wasn't written, so that is a fault of `out`, and `err` takes its line, where no other was told.
+pub fn close_run<W: Write + Drop, E: Sink>(
+    status: Status,
+    out: &mut StdSink<W>,
+    err: &mut E,
+) -> Status
+    // The status is another one only where the count of faults of `out` rose.
+    ensures fault { result ≢ status → (result ≡ Status.WriteFault) × Rose (sink_faults out.old) (sink_faults out.new)
+        × Tells (error_of E.Sink err.old) (error_of E.Sink err.new) (refusal_line why.WriteFault) }
+    ensures quiet { result ≡ status → IsQuiet (error_of E.Sink err.old) (error_of E.Sink err.new) }
+{
+    let flushed = out.flush();
+    close_flushed(status, flushed, err)
+}
+
+/// The same, where `flushed` says how handing on went.
+pub fn close_flushed<E: Sink>(status: Status, flushed: Result<(), Failed>, err: &mut E) -> Status
     ensures status { result ≡ closed status flushed }
     ensures told { TellsClosed status flushed (error_of E.Sink err.old) (error_of E.Sink err.new) }
 {

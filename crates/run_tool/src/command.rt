@@ -41,4 +41,7 @@ pub enum Execution {
     Drill { number: u64 },
     /// `jobs`: read programs and a task set, load each task's job with its program, run the schedule, and tell the jobs' states.
     Jobs,
+    /// `modes`: read task sets that follow each other on the same processors, run their schedules one after the other, and tell
+    /// them.
+    Modes,
 }

@@ -51,7 +51,8 @@ fn parser<'a>(alloc: Global) -> Result<clap::Command<'a>, AllocError>
         .subcommand(clap::Command::new(alloc, "batch"))?
         .subcommand(exec)?
         .subcommand(drill)?
-        .subcommand(clap::Command::new(alloc, "jobs"))
+        .subcommand(clap::Command::new(alloc, "jobs"))?
+        .subcommand(clap::Command::new(alloc, "modes"))
 }
 
 // The option `--met`.
@@ -106,6 +107,7 @@ fn command_in(matches: &ArgMatches<'_>) -> Option<Command>
         "exec" => executed(exec_in(options)),
         "drill" => executed(drill_in(options)),
         "jobs" => Some(Command::Execute(Execution::Jobs)),
+        "modes" => Some(Command::Execute(Execution::Modes)),
         _ => None,
     }
 }

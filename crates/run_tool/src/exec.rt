@@ -9,8 +9,8 @@ ghost use Rattle.exec_book.specs.PlanRows.{IsCompiled, plan_rows};
 ghost use Rattle.run_tool.specs.Commands.{set_limit};
 ghost use Rattle.run_tool.specs.Refusals.{status_of};
 ghost use Rattle.run_tool.specs.Ends.{streams_of, IsTold, StopsAs};
-ghost use Rattle.run_tool.specs.Executions.{crew_of, IsReady, AreBack, RanAll};
-ghost use Rattle.run_tool.specs.Executed.{name_at, WritesRun, RefusesRun, RanSet, StopsAtRun, StopsInRun, may_have_called};
+ghost use Rattle.run_tool.specs.Executions.{crew_of, IsReady, AreBack, RanAll, name_at};
+ghost use Rattle.run_tool.specs.Executed.{WritesRun, RefusesRun, RanSet, StopsAtRun, StopsInRun, may_have_called};
 ghost use Rattle.run_tool.specs.declared.status.Status.TheVariants.{Done};
 
 use crate::input::read_input;
@@ -147,8 +147,8 @@ pub(crate) fn run_plan<G: Gate + Send, X: Threads + Wait + Sync>(
     }
 }
 
-// The name of the task that a leaf runs, if it runs one.
-fn name_at(set: &TaskSet, leaf: Leaf) -> Option<Name>
+/// The name of the task that a leaf runs, if it runs one.
+pub(crate) fn name_at(set: &TaskSet, leaf: Leaf) -> Option<Name>
     requires { NamesOneOf set.now.tasks leaf }
     ensures { result ≡ name_at set.now.tasks leaf }
 {

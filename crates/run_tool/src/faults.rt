@@ -1,16 +1,19 @@
 //! Which refusal a fault of a call below is.
 ghost use Rattle.std.specs.Prelude.{◌≡◌};
 ghost use Rattle.run_tool.specs.Faults.{of_take, of_read_set, of_read_trace, of_read_tree, of_check_tree, of_read_jobs, of_compile};
-ghost use Rattle.run_tool.specs.Faults.{of_count, of_wrap};
+ghost use Rattle.run_tool.specs.Faults.{of_count, of_join, of_wrap};
 ghost use Rattle.run_tool.specs.declared.refusal.Refusal.TheVariants as why;
 
+use crate::mode_refusal::ModeRefusal;
 use crate::refusal::Refusal;
 use event_core::CountFault;
 use job_vm::JobTextFault;
+use mode_switch::ModeFault;
 use rate_scale::ScaleTooLarge;
 use run_compile::CompileFault;
 use sched_base::NoMemory;
 use sched_edges::{Failed, TakeFault};
+use std::alloc::AllocFailed;
 use task_reader::ReadSet;
 use trace_check::TraceFault;
 use tree_check::TreeRefused;
@@ -21,6 +24,14 @@ impl From<NoMemory> for Refusal {
     ghost from_gives = { λ _ refusal. refusal ≡ why.NoMemory };
 
     fn from(_: NoMemory) -> Self {
+        Refusal::NoMemory
+    }
+}
+
+impl<T: Drop> From<AllocFailed<T>> for Refusal {
+    ghost from_gives = { λ _ refusal. refusal ≡ why.NoMemory };
+
+    fn from(_: AllocFailed<T>) -> Self {
         Refusal::NoMemory
     }
 }
@@ -128,6 +139,20 @@ impl From<CountFault> for Refusal {
         match fault {
             CountFault::TooLong { rows } => Refusal::TooLong { rows },
             CountFault::NoMemory => Refusal::NoMemory,
+        }
+    }
+}
+
+impl From<ModeFault> for Refusal {
+    ghost from_gives = { λ fault refusal. refusal ≡ of_join fault };
+
+    fn from(fault: ModeFault) -> Self {
+        match fault {
+            ModeFault::Refused { mode, kind } => Refusal::OfMode {
+                mode,
+                refusal: ModeRefusal::NotJoined(kind),
+            },
+            ModeFault::NoMemory => Refusal::NoMemory,
         }
     }
 }

@@ -2,6 +2,7 @@
 ghost use Rattle.std.specs.Prelude.{◌≡◌, ◌≤◌, ◌<◌, ◌+◌, ◌++◌, ◌∷◌, [], length, IfOk};
 ghost use Rattle.run_tool.specs.Refusals.{status_of};
 
+use crate::mode_refusal::ModeRefusal;
 use crate::status::Status;
 use sched_base::{Name, Row};
 use task_reader::ReadSet;
@@ -38,6 +39,8 @@ pub enum Refusal {
     InputTooLong { count: u64 },
     /// The tree text is that of no reduction tree of its set: this line is the first at fault, counted from 1, and this is why.
     BadTree { line: u64, kind: TreeKind },
+    /// Of several sets that follow each other as modes, this mode, counted from 0, wasn't done, for this reason.
+    OfMode { mode: u32, refusal: ModeRefusal },
 }
 
 impl Refusal {
@@ -61,6 +64,7 @@ impl Refusal {
             Refusal::JobFault { .. } => Status::JobFault,
             Refusal::InputTooLong { .. } => Status::InputTooLong,
             Refusal::BadTree { .. } => Status::BadTree,
+            Refusal::OfMode { mode: _, refusal } => refusal.status(),
         }
     }
 }

@@ -13,6 +13,7 @@ ghost use Rattle.run_tool.specs.declared.status.Status.TheVariants.{BadInput};
 ghost use Rattle.run_tool.specs.declared.refusal.Refusal.TheVariants.{BadSet, Overload, ScaleTooLarge, TooLong, GateFault, JobFault, BadTree};
 ghost use Rattle.task_reader.specs.declared.refusals.ReadSet.TheVariants.{UnknownKey};
 
+use crate::mode_line::write_mode_refusal;
 use crate::refusal::Refusal;
 use crate::status::Status;
 use sched_base::{Name, Row};
@@ -32,13 +33,14 @@ pub fn refuse<E: Sink>(refusal: &Refusal, err: &mut E) -> Status
     refusal.status()
 }
 
-/// Writes the line of a refusal, as one piece but for that of an unknown key, whose text may be long.
+/// Writes the line of a refusal, as one piece but for that of an unknown key, whose text may be long, and for that of a mode.
 pub(crate) fn write_refusal<W: Sink>(refusal: &Refusal, out: &mut W) -> Result<(), Failed>
     ensures wrote { Wrote (W.taken out.old) (W.taken out.new) (refusal_line refusal.now) result }
     ensures cause { HasCause (W.faults out.old) (W.faults out.new) result }
 {
     match refusal {
         Refusal::BadSet(refusal) => write_set_refusal(refusal, out),
+        Refusal::OfMode { mode, refusal } => write_mode_refusal(*mode, refusal, out),
         _ => write_all(out, line_of(refusal).as_slice()),
     }
 }
@@ -54,7 +56,7 @@ pub(crate) fn write_set_refusal<W: Sink>(refusal: &ReadSet, out: &mut W) -> Resu
     }
 }
 
-// The line of a refusal for another reason than that the bytes are no set.
+// The line of a refusal for another reason than that the bytes are no set, of no mode.
 #[tactic(auto, unfolding(crate::specs::Refusals::refusal_line))]
 fn line_of(refusal: &Refusal) -> Line
     requires { IsNoBadSet refusal.now }
@@ -81,6 +83,7 @@ fn line_of(refusal: &Refusal) -> Line
             number_line(Status::InputTooLong, b"InputTooLong", u128::from(*count))
         }
         Refusal::BadTree { line, kind } => tree_line(*line, *kind),
+        Refusal::OfMode { .. } => unreachable!(),
     }
 }
 
@@ -100,8 +103,8 @@ fn key_text(key: Key) -> &'static [u8]
     }
 }
 
-// The begin of a line: the status, and the first word of why.
-fn begin(status: Status, why: &[u8]) -> Line
+/// The begin of a line: the status, and the first word of why.
+pub(crate) fn begin(status: Status, why: &[u8]) -> Line
     requires { length why.now ≤ 32 }
     ensures text { result ≡ codes "refused" ++ (32 ∷ (decimal (code_of status) ++ (32 ∷ why.now))) }
     ensures short { length result ≤ 96 }
@@ -218,9 +221,9 @@ fn index_line(why: &[u8], index: u32) -> Line
     number_line(Status::BadInput, why, u128::from(index))
 }
 
-// The line of a schedule with too many rows.
+/// The line of a schedule with too many rows.
 #[tactic(auto, unfolding(crate::specs::Refusals::refusal_line, sched_edges::specs::Lines::line_of))]
-fn rows_line(rows: u64) -> Line
+pub(crate) fn rows_line(rows: u64) -> Line
     ensures { result ≡ refusal_line (TooLong rows) }
 {
     let mut line = begin(Status::TooLong, b"TooLong");
@@ -229,8 +232,8 @@ fn rows_line(rows: u64) -> Line
     line
 }
 
-// Adds a word and a number.
-fn add_number(line: &mut Line, word: &[u8], number: u128)
+/// Adds a word and a number.
+pub(crate) fn add_number(line: &mut Line, word: &[u8], number: u128)
     requires line { length line.old ≤ 190 }
     requires word { length word.now ≤ 16 }
     ensures text { line.new ≡ line.old ++ (32 ∷ (word.now ++ (32 ∷ decimal number))) }
@@ -243,9 +246,9 @@ fn add_number(line: &mut Line, word: &[u8], number: u128)
     line.number(number);
 }
 
-// The line of tasks that ask for more than there is.
+/// The line of tasks that ask for more than there is.
 #[tactic(auto, unfolding(crate::specs::Refusals::refusal_line, sched_edges::specs::Lines::line_of))]
-fn overload_line(total: u128, room: u128) -> Line
+pub(crate) fn overload_line(total: u128, room: u128) -> Line
     ensures { result ≡ refusal_line (Overload total room) }
 {
     let mut line = begin(Status::Overload, b"Overload");
@@ -294,9 +297,9 @@ fn tree_kind_text(kind: TreeKind) -> &'static [u8]
     }
 }
 
-// The line of a gate that failed.
+/// The line of a gate that failed.
 #[tactic(auto, unfolding(crate::specs::Refusals::refusal_line, sched_edges::specs::Lines::line_of))]
-fn gate_line(row: &Row, name: &Option<Name>) -> Line
+pub(crate) fn gate_line(row: &Row, name: &Option<Name>) -> Line
     ensures { result ≡ refusal_line (GateFault row.now name.now) }
 {
     let mut line = begin(Status::GateFault, b"GateFault");
@@ -310,9 +313,9 @@ fn gate_line(row: &Row, name: &Option<Name>) -> Line
     line
 }
 
-// The line of a job that failed.
+/// The line of a job that failed.
 #[tactic(auto, unfolding(crate::specs::Refusals::refusal_line, sched_edges::specs::Lines::line_of))]
-fn job_line(row: &Row, name: &Option<Name>) -> Line
+pub(crate) fn job_line(row: &Row, name: &Option<Name>) -> Line
     ensures { result ≡ refusal_line (JobFault row.now name.now) }
 {
     let mut line = begin(Status::JobFault, b"JobFault");

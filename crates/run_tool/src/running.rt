@@ -1,10 +1,9 @@
 //! The top call, with the runtime, the gates and the jobs.
 ghost use Rattle.std.specs.Prelude.{◌≡◌, ◌≢◌, ◌↔◌, false, map, string_bytes, None, Some, OnOk, IfErr};
 ghost use Rattle.run_tool.specs.Words.{command_of, asks_to_execute, HasWindow};
-ghost use Rattle.run_tool.specs.Commands.{SetText, of_trace, output_of};
+ghost use Rattle.run_tool.specs.Commands.{of_trace, output_of};
 ghost use Rattle.run_tool.specs.Refusals.{status_of};
-ghost use Rattle.run_tool.specs.Follow.{FollowsTrees};
-ghost use Rattle.run_tool.specs.Ends.{streams_of, error_of, IsDone, IsUsage, IsAnswered, TellsTruth};
+ghost use Rattle.run_tool.specs.Ends.{streams_of, error_of, IsDone, IsDoneSoundly, IsUsage, IsAnswered};
 ghost use Rattle.run_tool.specs.Executions.{crew_of, IsReady, AreBack};
 ghost use Rattle.run_tool.specs.Executed.{ToldRun, StopsRun, EndsWith, NoneFailed, may_have_run};
 ghost use Rattle.run_tool.specs.declared.command.Command.{Command};
@@ -17,6 +16,7 @@ use crate::command::Execution;
 use crate::drill::drill;
 use crate::exec::exec;
 use crate::jobs::run_jobs;
+use crate::modes::modes;
 use crate::refusal::Refusal;
 use crate::refusal_line::refuse;
 use crate::sound::{follow_law, sound_law};
@@ -33,7 +33,8 @@ use std::thread::Threads;
 /// that says why not to `err`. `exec` has the gates of the kits and the jobs run the schedule of the set before its text is
 /// written: gate p runs the rows of processor p, and job i works for task i. It takes all its memory before the first gate is
 /// called. `drill` does the same with a set that it draws from a number, and reads nothing; it takes the memory for the trace of the
-/// rows once they were run, and all its memory before the first byte goes to `out`.
+/// rows once they were run, and all its memory before the first byte goes to `out`. `modes` runs several sets, one after the other, and
+/// takes the memory of a mode before the first gate is called in it.
 ///
 /// The clauses speak of bytes, rows and ticks where a stream, a gate or a job tells them. Want of memory alone has no cause.
 /// An execution takes a lock, so its clauses hold if it returns. `batch` takes threads and no lock; all else is done by `run_still`,
@@ -56,19 +57,14 @@ pub fn run<R: Source, W: Sink, E: Sink, G: Gate + Send, X: Threads + Wait + Sync
         (streams_of R.Source W.Sink source.old out.old) (streams_of R.Source W.Sink source.new out.new)
         (error_of E.Sink err.old) (error_of E.Sink err.new) result }
 
-    // Done: `out` took exactly the text that the command writes for the bytes that the source gave. For a drill it gave none.
-    ensures done { result ≡ Status.Done → (c : Command) × (command_of (map string_bytes words.now) ≡ Some c) × IsDone (output_of c) Done
+    // Done: `out` took exactly the text that the command writes for the bytes that the source gave, and what it tells of a set
+    // or of a tree is sound: a tree is a reduction tree of its set, and a schedule is valid. For a drill the source gave none.
+    ensures done { result ≡ Status.Done → (c : Command) × (command_of (map string_bytes words.now) ≡ Some c) × IsDoneSoundly (output_of c) Done
         (streams_of R.Source W.Sink source.old out.old) (streams_of R.Source W.Sink source.new out.new) }
 
     // Invalid: `check` read a trace whose rows aren't a valid schedule, and `out` took exactly the line that says where and why.
     ensures invalid { result ≡ Status.Invalid → (command_of (map string_bytes words.now) ≡ Some (Read Check)) × IsDone of_trace Invalid
         (streams_of R.Source W.Sink source.old out.old) (streams_of R.Source W.Sink source.new out.new) }
-
-    // What is told of a set is sound: a tree is a reduction tree of it, and a schedule is valid.
-    ensures sound { (what : SetText) → TellsTruth what }
-
-    // The tree that is followed is a reduction tree of its text's set, and its schedule is valid.
-    ensures followed { FollowsTrees }
 
     // Each status comes only for its reason, and `err` took its line. Where a schedule was run, its text comes after each gate ran
     // the rows of its processor and each job worked the ticks of its task; where a gate or a job failed, this is the one named, and
@@ -83,7 +79,7 @@ pub fn run<R: Source, W: Sink, E: Sink, G: Gate + Send, X: Threads + Wait + Sync
         EndsWith c old new told tells before now result }
 
     // No gate and no job is called but by an execution, and by none that is refused before. Where memory was refused, a drill may
-    // have run all rows, and `jobs` may have loaded programs.
+    // have run all rows, `jobs` may have loaded programs, and `modes` may have run its first modes.
     ensures still { asks_to_execute (map string_bytes words.now) ≡ false →
         (kits.new.items ≡ kits.old.items) × (jobs.new.places ≡ jobs.old.places) }
     ensures uncalled { may_have_run (command_of (map string_bytes words.now)) result ≡ false →
@@ -147,5 +143,6 @@ fn perform<R: Source, W: Sink, G: Gate + Send, X: Threads + Wait + Sync>(
         Execution::ExecMet => exec(rt, alloc, source, USUAL_WINDOW, true, out, kits, jobs),
         Execution::Drill { number } => drill(rt, alloc, number, out, kits, jobs),
         Execution::Jobs => run_jobs(rt, alloc, source, out, kits, jobs),
+        Execution::Modes => modes(rt, alloc, source, out, kits, jobs),
     }
 }

@@ -31,6 +31,8 @@ pub enum Status {
     JobFault,
     /// The source gave more bytes than the command reads.
     InputTooLong,
+    /// A set can't be a mode behind the others, for another reason than its load or its rows.
+    ModeFault,
     /// The tree text is that of no reduction tree of its set.
     BadTree,
 }
@@ -54,6 +56,7 @@ impl Status {
             Status::GateFault => 10,
             Status::JobFault => 11,
             Status::InputTooLong => 12,
+            Status::ModeFault => 15,
             Status::BadTree => 16,
         }
     }

@@ -1,9 +1,8 @@
 //! The top call for all commands but executions and `batch`.
 ghost use Rattle.std.specs.Prelude.{◌≡◌, ◌≢◌, ◌↔◌, false, map, string_bytes, None, Some, IfOk, IfErr};
 ghost use Rattle.run_tool.specs.Words.{command_of, asks_for_threads};
-ghost use Rattle.run_tool.specs.Follow.{FollowsTrees};
-ghost use Rattle.run_tool.specs.Ends.{streams_of, error_of, IsDone, IsUsage, Stops, Ends, IsAnswered, TellsTruth};
-ghost use Rattle.run_tool.specs.Commands.{SetText, of_trace, output_of};
+ghost use Rattle.run_tool.specs.Ends.{streams_of, error_of, IsDone, IsDoneSoundly, IsUsage, Stops, Ends, IsAnswered};
+ghost use Rattle.run_tool.specs.Commands.{of_trace, output_of};
 ghost use Rattle.run_tool.specs.declared.command.Command.{Command};
 ghost use Rattle.run_tool.specs.declared.command.Command.TheVariants.{Read};
 ghost use Rattle.run_tool.specs.declared.command.Reading.TheVariants.{Check};
@@ -43,19 +42,14 @@ pub fn run_still<R: Source, W: Sink, E: Sink>(
         (streams_of R.Source W.Sink source.old out.old) (streams_of R.Source W.Sink source.new out.new)
         (error_of E.Sink err.old) (error_of E.Sink err.new) result }
 
-    // Done: `out` took exactly the text that the command writes for the bytes that the source gave.
-    ensures done { result ≡ Status.Done → (c : Command) × (command_of (map string_bytes words.now) ≡ Some c) × IsDone (output_of c) Done
+    // Done: `out` took exactly the text that the command writes for the bytes that the source gave, and what it tells of a set
+    // or of a tree is sound: a tree is a reduction tree of its set, and a schedule is valid.
+    ensures done { result ≡ Status.Done → (c : Command) × (command_of (map string_bytes words.now) ≡ Some c) × IsDoneSoundly (output_of c) Done
         (streams_of R.Source W.Sink source.old out.old) (streams_of R.Source W.Sink source.new out.new) }
 
     // Invalid: `check` read a trace whose rows aren't a valid schedule, and `out` took exactly the line that says where and why.
     ensures invalid { result ≡ Status.Invalid → (command_of (map string_bytes words.now) ≡ Some (Read Check)) × IsDone of_trace Invalid
         (streams_of R.Source W.Sink source.old out.old) (streams_of R.Source W.Sink source.new out.new) }
-
-    // What is told of a set is sound: a tree is a reduction tree of it, and a schedule is valid.
-    ensures sound { (what : SetText) → TellsTruth what }
-
-    // The tree that is followed is a reduction tree of its text's set, and its schedule is valid.
-    ensures followed { FollowsTrees }
 
     // Each status comes only for its reason, and `err` took its line.
     ensures ends { (c : Command) → command_of (map string_bytes words.now) ≡ Some c → Ends (output_of c)

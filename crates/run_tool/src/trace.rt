@@ -156,8 +156,8 @@ pub(crate) fn write_table<W: Sink>(
     }
 }
 
-// Whether `met` lines are asked for, or some task is first released after unit 0.
-fn wants_met(set: &TaskSet, met: bool) -> bool
+/// Whether `met` lines are asked for, or some task is first released after unit 0.
+pub(crate) fn wants_met(set: &TaskSet, met: bool) -> bool
     ensures { result ≡ (met || some_late set.now.tasks) }
 {
     met || is_late(set.tasks())

@@ -153,6 +153,7 @@ fn is_execution_named(execution: Execution, word: &str) -> bool
     match execution {
         Execution::Exec { window } => word == "exec" && window == USUAL_WINDOW,
         Execution::Jobs => word == "jobs",
+        Execution::Modes => word == "modes",
         Execution::ExecMet | Execution::Drill { .. } => false,
     }
 }
@@ -167,7 +168,7 @@ fn is_execution_with(execution: Execution, word: &str, option: &str) -> bool
         Execution::Drill { number } => {
             word == "drill" && drill_of(option.as_bytes()) == Some(number)
         }
-        Execution::Jobs => false,
+        Execution::Jobs | Execution::Modes => false,
     }
 }
 
@@ -235,7 +236,10 @@ pub(crate) fn asks_to_execute(words: &[String]) -> bool
 {
     match words.first() {
         Some(word) => {
-            word.as_str() == "exec" || word.as_str() == "drill" || word.as_str() == "jobs"
+            word.as_str() == "exec"
+                || word.as_str() == "drill"
+                || word.as_str() == "jobs"
+                || word.as_str() == "modes"
         }
         None => false,
     }

@@ -1,24 +1,30 @@
 //! The command `trace --by wrap`.
-ghost use Rattle.std.specs.Prelude.{◌≡◌, ◌≤◌, ◌*◌, length, OnOk, IfOk, IfErr};
+ghost use Rattle.std.specs.Prelude.{◌≡◌, ◌≤◌, ◌*◌, false, length, OnOk, IfOk, IfErr};
 ghost use Rattle.std.specs.List.{AllByRecursion};
 ghost use Rattle.sched_base.specs.Lanes.{NamesOneOf, lanes_of};
-ghost use Rattle.sched_base.specs.Tables.{row_limit, rounds_of};
+ghost use Rattle.sched_base.specs.Tables.{all_rows, row_limit, rounds_of};
+ghost use Rattle.sched_edges.specs.Causes.{HasCause};
+ghost use Rattle.sched_edges.specs.Streams.{Wrote};
+ghost use Rattle.merged_rows.specs.Sums.{totals_of as merged_totals};
 ghost use Rattle.trace_writer.specs.Conditions.{totals_of};
+ghost use Rattle.wrap_sched.specs.Merged.{AreMergedOf, AreLawful};
 ghost use Rattle.wrap_sched.specs.Wrapped.{wrapped, wrapped_rounds};
-ghost use Rattle.run_tool.specs.Commands.{wrapped_rows, set_limit, WritesSet, RefusesText};
+ghost use Rattle.run_tool.specs.Commands.{some_late, wrapped_rows, wrapped_text, set_limit, WritesSet, RefusesText};
 ghost use Rattle.run_tool.specs.Ends.{streams_of, IsTold, StopsAs};
 ghost use Rattle.run_tool.specs.Input.{IsRun, IsRefusedSet, WroteSet, StopsAtSet};
 ghost use Rattle.run_tool.specs.declared.status.Status.TheVariants.{Done};
 
 use crate::input::read_input;
 use crate::refusal::Refusal;
-use crate::trace::write_table;
+use crate::trace::{wants_met, write_table};
+use merged_rows::{MergedRows, totals_of as totals_of_merged};
 use rate_scale::{scale_of, total};
 use row_totals::totals_of;
 use sched_base::{NoMemory, RowTable, TaskSet, Totals};
-use sched_edges::{Sink, Source};
+use sched_edges::{Failed, Sink, Source};
 use std::alloc::Global;
-use wrap_sched::{names_law, wrap, wrap_rounds};
+use trace_writer::write_merged;
+use wrap_sched::{merged_wrap, names_law, wrap, wrap_rounds};
 
 /// Reads a task set, and writes its wrapped schedule; in version 2 where some task is released late.
 pub(crate) fn trace_by_wrapping<R: Source, W: Sink>(
@@ -43,8 +49,12 @@ fn write_set<W: Sink>(alloc: Global, set: &TaskSet, out: &mut W) -> Result<(), R
 {
     let scale = scale_to_run(set)?;
     let rounds = wrap_rounds(alloc, set, scale)?;
-    let (table, totals) = rows_of(alloc, set, scale, rounds)?;
-    Ok(write_table(set, scale, &table, totals.as_slice(), false, out)?)
+    if wants_met(set, false) {
+        let (table, totals) = rows_of(alloc, set, scale, rounds)?;
+        return Ok(write_table(set, scale, &table, totals.as_slice(), false, out)?);
+    }
+    let (rows, totals) = merged_rows_of(alloc, set, scale)?;
+    Ok(write_merged_rows(set, scale, &rows, &totals, out)?)
 }
 
 // The scale of a set that fits, in ticks per unit.
@@ -83,4 +93,39 @@ fn rows_of(
     let table = wrap(alloc, set, scale, rounds)?;
     let totals = totals_of(alloc, &table, set.count())?;
     Ok((table, totals))
+}
+
+// The merged rows of the wrapped schedule, in one pass over its rounds, and the ticks of each task in them.
+fn merged_rows_of(
+    alloc: Global,
+    set: &TaskSet,
+    scale: u128,
+) -> Result<(MergedRows, Vec<u128>), NoMemory>
+    requires run { IsRun set.now scale }
+    requires few { wrapped_rounds scale set.now * set.now.processors ≤ row_limit }
+    ensures rows { IfOk result (λ made. AreMergedOf scale set.now made.0.lanes) }
+    ensures lawful { IfOk result (λ made. AreLawful set.now made.0.lanes) }
+    ensures totals { IfOk result (λ made. made.1.items ≡ merged_totals (length set.now.tasks) (all_rows made.0.lanes)) }
+{
+    let rows = merged_wrap(alloc, set, scale)?;
+    let totals = totals_of_merged(alloc, &rows, set.count())?;
+    Ok((rows, totals))
+}
+
+// Writes the merged rows of the wrapped schedule, in version 1.
+fn write_merged_rows<W: Sink>(
+    set: &TaskSet,
+    scale: u128,
+    rows: &MergedRows,
+    totals: &[u128],
+    out: &mut W,
+) -> Result<(), Failed>
+    requires first_version { some_late set.now.tasks ≡ false }
+    requires rows { AreMergedOf scale set.now rows.now.lanes }
+    requires lawful { AreLawful set.now rows.now.lanes }
+    requires totals { totals.now ≡ merged_totals (length set.now.tasks) (all_rows rows.now.lanes) }
+    ensures wrote { Wrote (W.taken out.old) (W.taken out.new) (wrapped_text set.now scale) result }
+    ensures cause { HasCause (W.faults out.old) (W.faults out.new) result }
+{
+    write_merged(out, set, scale, rows, totals)
 }

@@ -73,3 +73,9 @@ returns-in-jobs c = λ used words spells e.
     let h : ◌≡◌ {A = Option (List ℕ)} (Some c.in_ok-name.name.now) (Some (name_of used)) =
     c.in_ok-name.ensures.name ∙ names c.args.matches.now used words spells e in
     ap Some (sym (called_as used (codes "jobs") (sym c.in-jobs.is ∙ cc)))
+
+pub returns-in-modes : goal.returns-in-modes
+returns-in-modes c = λ used words spells e.
+    let h : ◌≡◌ {A = Option (List ℕ)} (Some c.in_ok-name.name.now) (Some (name_of used)) =
+    c.in_ok-name.ensures.name ∙ names c.args.matches.now used words spells e in
+    ap Some (sym (called_as used (codes "modes") (sym c.in-modes.is ∙ cc)))

@@ -3,7 +3,7 @@ use Rattle.std.proofs.lemmas.Result.{IfOk-weaker}
 use Rattle.clap.specs.Words.{App, app_of, new_app, with_rule, with_subcommand}
 use Rattle.clap.specs.Simple.{app_of_fields, on_top}
 use Rattle.run_tool.specs.CommandLine.{met, by, window, number, program}
-use Rattle.run_tool.specs.CommandLine.{with_rate, with_tree, with_trace, with_check, with_follow, with_batch, with_exec, with_drill}
+use Rattle.run_tool.specs.CommandLine.{with_rate, with_tree, with_trace, with_check, with_follow, with_batch, with_exec, with_drill, with_jobs}
 use Rattle.run_tool.proofs.command_line.parser.Goals as goal
 
 pub returns : goal.returns
@@ -49,5 +49,7 @@ returns c =
     let drill_local = c.in_ok-drill.ensures.globals ∙ ap₂ (λ a b. a || b) c.new-3.ensures.local c.number.ensures.local in
     let drilled_is : app_of c.in_ok-subcommand-8.field-0 ≡ with_drill =
     c.in_ok-subcommand-8.ensures.shape drill_local ∙ ap₂ with_subcommand executed_is (ap (λ (a : App). a.top) drill_is) in
-    IfOk-weaker c.subcommand-9.result _ _
-    (λ p h. h.shape c.new-10.ensures.local ∙ ap₂ with_subcommand drilled_is (ap (λ (a : App). a.top) c.new-10.ensures.app)) c.subcommand-9.ensures
+    let jobs_is : app_of c.in_ok-subcommand-9.field-0 ≡ with_jobs =
+    c.in_ok-subcommand-9.ensures.shape c.new-10.ensures.local ∙ ap₂ with_subcommand drilled_is (ap (λ (a : App). a.top) c.new-10.ensures.app) in
+    IfOk-weaker c.subcommand-10.result _ _
+    (λ p h. h.shape c.new-11.ensures.local ∙ ap₂ with_subcommand jobs_is (ap (λ (a : App). a.top) c.new-11.ensures.app)) c.subcommand-10.ensures

@@ -1,7 +1,7 @@
 use Rattle.std.proofs.Common.{Err, ap, sym, ◌∙◌, subst}
 use Rattle.sched_base.specs.Sets.{SetContents}
 use Rattle.sched_base.specs.Lanes.{NamesOneOf}
-use Rattle.run_tool.specs.Executed.{name_at}
+use Rattle.run_tool.specs.Executions.{name_at}
 use Rattle.run_tool.proofs.CrewEndLemmas.{kits_filled, kit_empty, jobs_fresh, few_rows, back_by, all_by, rows_by, gate_by, gate_named, job_by, job_named}
 use Rattle.run_tool.proofs.exec.run_plan.Goals as goal
 

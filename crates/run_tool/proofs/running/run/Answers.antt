@@ -5,7 +5,14 @@ use Rattle.run_tool.proofs.AnswerLemmas.{done_answered, stops_answered, unread_a
 use Rattle.run_tool.proofs.CommandLineLemmas.{some_is}
 use Rattle.run_tool.proofs.WordLemmas.{batch_runs_none}
 use Rattle.run_tool.proofs.RunLemmas.{done_is, stop_is, none_failed, ends_still, ends_unread, ends_done, ends_stopped, unread_same, uncalled_by}
+use Rattle.run_tool.specs.Commands.{output_of}
+use Rattle.run_tool.proofs.SoundLemmas.{done_soundly}
 use Rattle.run_tool.proofs.running.run.Goals as goal
+
+pub returns-then-asks_for_batch-clause-done : goal.returns-then-asks_for_batch-clause-done
+returns-then-asks_for_batch-clause-done g c = λ is.
+    let (k, asked, done) = c.run_batch.ensures.done is in
+    (k, asked, done_soundly c.sound_law.ensures c.follow_law.ensures.trees (output_of k) _ _ _ done)
 
 pub returns-then-asks_for_batch-clause-ends : goal.returns-then-asks_for_batch-clause-ends
 returns-then-asks_for_batch-clause-ends g c k e =
@@ -20,7 +27,12 @@ returns-then-not-asks_to_execute-clause-ends g c k e =
 pub returns-in-Ok-clause-done : goal.returns-in-Ok-clause-done
 returns-in-Ok-clause-done g c =
     let asked : Some (Execute c.in-Ok-Some.execution) ≡ command_of (map string_bytes c.args.words.now) = search rules in
-    λ is. (Execute c.in-Ok-Some.execution, sym asked, done_is c.in-Ok-Some.execution _ _ _ _ c.in-Ok.ensures.done)
+    λ is. (
+      Execute c.in-Ok-Some.execution,
+      sym asked,
+      done_soundly c.sound_law.ensures c.follow_law.ensures.trees (output_of (Execute c.in-Ok-Some.execution)) _ _ _
+          (done_is c.in-Ok-Some.execution _ _ _ _ c.in-Ok.ensures.done),
+    )
 
 pub returns-in-Ok-clause-answered : goal.returns-in-Ok-clause-answered
 returns-in-Ok-clause-answered g c =

@@ -1,0 +1,104 @@
+-- What `modes` does with the gates and the jobs, what it writes then, and why it stops.
+use Rattle.std.specs.Prelude.{ℕ, ◌≡◌, ◌⊎◌, List, [], ◌∷◌, Some, slice_get, take}
+use Rattle.std.specs.List.{AllByRecursion}
+use Rattle.sched_base.specs.declared.rows.Leaf.TheVariants.{Task as OfTask}
+use Rattle.sched_base.specs.declared.rows.TaskId.{TaskId}
+use Rattle.sched_base.specs.declared.sets.Task.{Task}
+use Rattle.sched_base.specs.Tables.{all_rows}
+use Rattle.sched_base.specs.Valid.{IsValid}
+use Rattle.sched_edges.specs.Gates.{grown}
+use Rattle.sched_edges.specs.Streams.{GaveAll}
+use Rattle.job_vm.specs.Loading.{loaded}
+use Rattle.run_tree.specs.Plans.{PlanContents, stop_of}
+use Rattle.exec_book.specs.PlanRows.{plan_rows}
+use Rattle.mode_switch.specs.declared.mode.Mode.{Mode}
+use Rattle.mode_switch.specs.Modes.{ModesContents}
+use Rattle.mode_switch.specs.Runs.{rows_through, used_after}
+use Rattle.run_tool.specs.declared.mode_refusal.ModeRefusal.{ModeRefusal}
+use Rattle.run_tool.specs.declared.mode_refusal.ModeRefusal.TheVariants as mode
+use Rattle.run_tool.specs.declared.refusal.Refusal.{Refusal}
+use Rattle.run_tool.specs.declared.refusal.Refusal.TheVariants as why
+use Rattle.run_tool.specs.declared.status.Status.{Status}
+use Rattle.run_tool.specs.declared.status.Status.TheVariants.{Done}
+use Rattle.run_tool.specs.Commands.{set_limit}
+use Rattle.run_tool.specs.Ends.{Streams}
+use Rattle.run_tool.specs.Executions.{GateSeen, JobSeen, Crew, Holds, GateStopped, JobStopped, GateRose, JobRose, name_at}
+use Rattle.run_tool.specs.ModeTexts.{ReadsModes, RefusesMode, RefusesModes, modes_text}
+
+-- the gates and the jobs, once the jobs of these tasks began anew without a program
+abbrev pub begun_crew : List Task → Crew → Crew
+begun_crew tasks c = record c { jobs = loaded 1 [] tasks c.jobs }
+
+-- the rows of a mode are a valid schedule of its set over its whole horizon
+abbrev pub HasValidRows : Mode → Type 0
+HasValidRows m = IsValid m.plan.set m.plan.tree.scale (stop_of m.plan) (stop_of m.plan) (all_rows (plan_rows m.plan))
+
+-- modes were run whole, one after the other: each gate ran its processor's rows of them, and each job has worked the ticks of its
+-- task in the last mode that has one. Nothing failed
+pub record RanThrough (modes : List Mode) (old new : Crew) : Type 0 where
+  pub gates : (q : ℕ) (g : GateSeen) → Holds old.gates q g → Holds new.gates q (record { ran = grown g.ran (rows_through modes q); faults = g.faults })
+  pub jobs : (i : ℕ) (j : JobSeen) → Holds old.jobs i j
+      → (k : JobSeen) × Holds new.jobs i k × (k.id ≡ j.id) × (k.used ≡ used_after modes i j.used) × (k.faults ≡ j.faults)
+  pub valid : AllByRecursion HasValidRows modes
+
+-- why the rows of a plan weren't all run
+abbrev pub StopsInPlan : PlanContents → Crew → Crew → ModeRefusal → Type 0
+StopsInPlan p old new (mode.GateFault row name) = GateStopped p old new row × (name ≡ name_at p.set.tasks row.leaf)
+StopsInPlan p old new (mode.JobFault row name) = JobStopped p old new row × (name ≡ name_at p.set.tasks row.leaf)
+StopsInPlan p old new _ = ⊥
+
+-- the gate or the job that is named failed
+abbrev pub NamedRose : Crew → Crew → ModeRefusal → Type 0
+NamedRose old new (mode.GateFault row name) = GateRose old new row.processor
+NamedRose old new (mode.JobFault row name) = (task : TaskId) × (row.leaf ≡ OfTask task) × JobRose old new task.0
+NamedRose old new _ = ⊥
+
+-- the modes before mode j were run whole, the jobs of its tasks began anew, it stopped, and none after it was begun. So each gate's
+-- list grew by first rows of its processor's, mode after mode
+pub record StopsInMode (modes : List Mode) (j : ℕ) (old new : Crew) (refusal : ModeRefusal) : Type 0 where
+  pub mode : Mode
+  pub at : slice_get modes j ≡ Some mode
+  pub between : Crew
+  pub before : RanThrough (take j modes) old between
+  pub stopped : StopsInPlan mode.plan (begun_crew mode.plan.set.tasks between) new refusal
+  pub rose : NamedRose old new refusal
+
+-- some of the modes were run whole, and the jobs of the next one's tasks began anew
+pub record StopsBetween (modes : List Mode) (old new : Crew) : Type 0 where
+  pub number : ℕ
+  pub mode : Mode
+  pub at : slice_get modes number ≡ Some mode
+  pub between : Crew
+  pub before : RanThrough (take number modes) old between
+  pub begun : new ≡ begun_crew mode.plan.set.tasks between
+
+-- why modes weren't all run. Where memory was refused, nothing was begun, or it was between two modes
+abbrev pub StopsInModes : List Mode → Crew → Crew → Refusal → Type 0
+StopsInModes modes old new (why.OfMode j refusal) = StopsInMode modes j old new refusal
+StopsInModes modes old new why.NoMemory = (new ≡ old) ⊎ StopsBetween modes old new
+StopsInModes modes old new _ = ⊥
+
+-- this text is written for these bytes once the gates and the jobs have run the whole schedules of their modes
+abbrev pub WritesModesRun : Crew → Crew → List ℕ → Status → List ℕ → Type 0
+WritesModesRun old new bytes status text =
+    (status ≡ Done) × ((m : ModesContents) × ReadsModes bytes m × (text ≡ modes_text m.modes) × RanThrough m.modes old new)
+
+-- why mode j isn't told of: a gate or a job failed in it, or the bytes are refused for it
+abbrev pub RefusesModeRun : Crew → Crew → List ℕ → ℕ → ModeRefusal → Type 0
+RefusesModeRun old new bytes j (mode.GateFault row name) =
+    (m : ModesContents) × ReadsModes bytes m × StopsInMode m.modes j old new (mode.GateFault row name)
+RefusesModeRun old new bytes j (mode.JobFault row name) =
+    (m : ModesContents) × ReadsModes bytes m × StopsInMode m.modes j old new (mode.JobFault row name)
+RefusesModeRun old new bytes j refusal = RefusesMode bytes j refusal
+
+-- why no text is written for these bytes
+abbrev pub RefusesModesRun : Crew → Crew → List ℕ → Refusal → Type 0
+RefusesModesRun old new bytes (why.OfMode j refusal) = RefusesModeRun old new bytes j refusal
+RefusesModesRun old new bytes refusal = RefusesModes bytes refusal
+
+-- where memory was refused, nothing was begun, or some of the modes were run whole
+abbrev pub MayHaveRun : Streams → Streams → Crew → Crew → Refusal → Type 0
+MayHaveRun old new before now why.NoMemory =
+    (now ≡ before) ⊎ ((bytes : List ℕ) × (m : ModesContents) × GaveAll old.left new.left set_limit bytes × ReadsModes bytes m
+    × StopsBetween m.modes before now)
+MayHaveRun old new before now _ = Unit {0}

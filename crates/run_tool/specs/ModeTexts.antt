@@ -1,0 +1,84 @@
+-- What `modes` writes, and which bytes it refuses and why.
+use Rattle.std.specs.Prelude.{ℕ, ◌≡◌, ◌<◌, List, [], ◌∷◌, ◌++◌, Some, Ok, Err, codes, decimal, length, slice_get}
+use Rattle.std.specs.List.{AllByRecursion, AllZip}
+use Rattle.sched_base.specs.Lanes.{lanes_of}
+use Rattle.sched_base.specs.Sets.{SetContents}
+use Rattle.sched_edges.specs.Lines.{line_of, number_line}
+use Rattle.run_tree.specs.Plans.{PlanContents, schedule_of}
+use Rattle.task_reader.specs.declared.refusals.ReadSet.{ReadSet}
+use Rattle.task_reader.specs.Pieces.{pieces_of}
+use Rattle.task_reader.specs.Reading.{set_read_from}
+use Rattle.mode_switch.specs.declared.mode.Mode.{Mode}
+use Rattle.mode_switch.specs.Joining.{CanBeJoined, IsRefused}
+use Rattle.mode_switch.specs.Modes.{ModesContents, AreModes, PeriodsEndIn, sets_of}
+use Rattle.trace_lines.specs.declared.versions.Version.TheVariants.{One}
+use Rattle.trace_lines.specs.Merging.{merged_lanes}
+use Rattle.trace_lines.specs.Text.{trace_text}
+use Rattle.run_tool.specs.declared.mode_refusal.ModeRefusal.{ModeRefusal}
+use Rattle.run_tool.specs.declared.mode_refusal.ModeRefusal.TheVariants as mode
+use Rattle.run_tool.specs.declared.refusal.Refusal.{Refusal}
+use Rattle.run_tool.specs.declared.refusal.Refusal.TheVariants.{OfMode}
+use Rattle.run_tool.specs.declared.status.Status.{Status}
+use Rattle.run_tool.specs.Numbered.{numbered}
+use Rattle.run_tool.specs.declared.status.Status.TheVariants.{Done}
+
+-- ---- what is read
+
+-- the pieces of the bytes are these sets, one each
+abbrev pub ReadsSets : List ℕ → List SetContents → Type 0
+ReadsSets bytes sets = AllZip (λ piece s. set_read_from piece ≡ Ok s) (pieces_of bytes) sets
+
+-- the bytes are sets that can follow each other, and these are their modes. No period of a mode crosses its end
+pub record ReadsModes (bytes : List ℕ) (m : ModesContents) : Type 0 where
+  pub read : ReadsSets bytes (sets_of m.modes)
+  pub joined : CanBeJoined (sets_of m.modes)
+  pub lawful : AreModes m
+  pub no_crossing : AllByRecursion PeriodsEndIn m.modes
+
+-- ---- what is written
+
+-- the trace text of a mode, whose tasks are all released at its start
+abbrev pub mode_text : PlanContents → List ℕ
+mode_text p = trace_text One p.set p.tree.scale (merged_lanes (lanes_of p.tree.processors (schedule_of p)))
+
+-- the number of a mode, and its start and its horizon in units
+abbrev pub mode_head : ℕ → ℕ → ℕ → List ℕ
+mode_head j start horizon = line_of (codes "mode") (decimal j ∷ decimal start ∷ decimal horizon ∷ [])
+
+-- what is written of mode j
+abbrev pub mode_part : ℕ → Mode → List ℕ
+mode_part j m = mode_head j m.start m.plan.set.horizon ++ mode_text m.plan
+
+-- what is written of modes, of which the first has the number j
+abbrev pub mode_parts : ℕ → List Mode → List ℕ
+mode_parts j modes = numbered mode_part j modes
+
+-- the version and how many modes there are
+abbrev pub modes_head : ℕ → List ℕ
+modes_head count = number_line (codes "run-modes") 1 ++ number_line (codes "modes") count
+
+-- the text of modes
+abbrev pub modes_text : List Mode → List ℕ
+modes_text modes = modes_head (length modes) ++ mode_parts 0 modes
+
+-- this text is written for these bytes. The status is always `Done`
+abbrev pub WritesModes : List ℕ → Status → List ℕ → Type 0
+WritesModes bytes status text = (status ≡ Done) × ((m : ModesContents) × ReadsModes bytes m × (text ≡ modes_text m.modes))
+
+-- ---- what is refused
+
+-- piece j is the first that is no set, for this reason
+pub record IsFirstBad (bytes : List ℕ) (j : ℕ) (refusal : ReadSet) : Type 0 where
+  pub bad : (piece : List ℕ) × (slice_get (pieces_of bytes) j ≡ Some piece) × (set_read_from piece ≡ Err refusal)
+  pub lowest : (i : ℕ) (piece : List ℕ) → i < j → slice_get (pieces_of bytes) i ≡ Some piece → (s : SetContents) × (set_read_from piece ≡ Ok s)
+
+-- piece j is refused: it is the first that is no set; or all are sets, and that one is the first that can't be a mode
+abbrev pub RefusesMode : List ℕ → ℕ → ModeRefusal → Type 0
+RefusesMode bytes j (mode.BadSet refusal) = IsFirstBad bytes j refusal
+RefusesMode bytes j (mode.NotJoined kind) = (sets : List SetContents) × ReadsSets bytes sets × IsRefused sets j kind
+RefusesMode bytes j _ = ⊥
+
+-- these bytes are refused where sets are wanted that can be modes
+abbrev pub RefusesModes : List ℕ → Refusal → Type 0
+RefusesModes bytes (OfMode j refusal) = RefusesMode bytes j refusal
+RefusesModes bytes _ = ⊥

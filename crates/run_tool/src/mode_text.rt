@@ -1,0 +1,109 @@
+//! The text of modes that were run.
+ghost use Rattle.std.specs.Prelude.{◌≡◌, ◌≤◌, ◌<◌, ◌*◌, length, slice_get, Some};
+ghost use Rattle.std.specs.List.{AllZip};
+ghost use Rattle.sched_base.specs.Tables.{row_limit};
+ghost use Rattle.sched_edges.specs.Causes.{HasCause};
+ghost use Rattle.sched_edges.specs.Lines.{line_of};
+ghost use Rattle.sched_edges.specs.Streams.{Wrote};
+ghost use Rattle.exec_book.specs.PlanRows.{plan_rows};
+ghost use Rattle.mode_switch.specs.declared.mode.Mode.{Mode};
+ghost use Rattle.mode_switch.specs.Runs.{IsRunOf};
+ghost use Rattle.run_tree.specs.Plans.{rounds_of};
+ghost use Rattle.trace_lines.specs.Conditions.{AreOnTime};
+ghost use Rattle.trace_writer.specs.Conditions.{totals_of};
+ghost use Rattle.run_tool.specs.ModeTexts.{mode_head, mode_text, mode_part, mode_parts, modes_head, modes_text};
+
+use mode_switch::{Modes, ModesRun};
+use round_table::table_law;
+use run_tree::Plan;
+use sched_base::RowTable;
+use sched_edges::{Failed, Line, Sink, number_line, write_all, write_lines};
+use trace_writer::write_trace;
+
+/// The version of the text.
+const VERSION: u128 = 1;
+
+/// Writes modes that were run: how many there are, and of each when it starts, how long it lasts, and its rows.
+pub(crate) fn write_modes<W: Sink>(modes: &Modes, run: &ModesRun, out: &mut W) -> Result<(), Failed>
+    requires { AllZip IsRunOf modes.now.modes run.now }
+    ensures wrote { Wrote (W.taken out.old) (W.taken out.new) (modes_text modes.now.modes) result }
+    ensures cause { HasCause (W.faults out.old) (W.faults out.new) result }
+{
+    write_head(modes.count(), out)?;
+    write_each(modes, run, out)
+}
+
+// Writes the version, and how many modes there are.
+fn write_head<W: Sink>(count: u32, out: &mut W) -> Result<(), Failed>
+    ensures wrote { Wrote (W.taken out.old) (W.taken out.new) (modes_head count) result }
+    ensures cause { HasCause (W.faults out.old) (W.faults out.new) result }
+{
+    let lines = [
+        number_line(b"run-modes", VERSION),
+        number_line(b"modes", u128::from(count)),
+    ];
+    write_lines(out, &lines)
+}
+
+// Writes each mode.
+fn write_each<W: Sink>(modes: &Modes, run: &ModesRun, out: &mut W) -> Result<(), Failed>
+    requires { AllZip IsRunOf modes.now.modes run.now }
+    ensures wrote { Wrote (W.taken out.old) (W.taken out.new) (mode_parts 0 modes.now.modes) result }
+    ensures cause { HasCause (W.faults out.old) (W.faults out.new) result }
+{
+    for j in 0..modes.count() {
+        write_mode(modes, run, j, out)?;
+    }
+    Ok(())
+}
+
+// Writes mode j.
+fn write_mode<W: Sink>(modes: &Modes, run: &ModesRun, j: u32, out: &mut W) -> Result<(), Failed>
+    requires runs { AllZip IsRunOf modes.now.modes run.now }
+    requires within { j < length modes.now.modes }
+    ensures wrote { (m : Mode) → slice_get modes.now.modes j ≡ Some m →
+        Wrote (W.taken out.old) (W.taken out.new) (mode_part j m) result }
+    ensures cause { HasCause (W.faults out.old) (W.faults out.new) result }
+{
+    let plan = modes.plan(j);
+    write_all(
+        out,
+        mode_head(j, modes.start(j), plan.set().horizon()).as_slice(),
+    )?;
+    write_rows(plan, run.table(j), run.totals(j), out)
+}
+
+// Writes the rows of a mode.
+fn write_rows<W: Sink>(
+    plan: &Plan,
+    table: &RowTable,
+    totals: &[u128],
+    out: &mut W,
+) -> Result<(), Failed>
+    requires on_time { AreOnTime plan.now.set.tasks }
+    requires few { rounds_of plan.now * plan.now.tree.processors ≤ row_limit }
+    requires lanes { table.now.lanes ≡ plan_rows plan.now }
+    requires totals { totals.now ≡ totals_of plan.now.set.tasks (plan_rows plan.now) }
+    ensures wrote { Wrote (W.taken out.old) (W.taken out.new) (mode_text plan.now) result }
+    ensures cause { HasCause (W.faults out.old) (W.faults out.new) result }
+{
+    table_law();
+    write_trace(out, plan.set(), plan.scale(), table, totals)
+}
+
+// The number of a mode, and its start and its horizon in units.
+#[tactic(auto, unfolding(sched_edges::specs::Lines::line_of))]
+fn mode_head(j: u32, start: u64, horizon: u64) -> Line
+    ensures { result ≡ mode_head j start horizon }
+{
+    let mut line = Line::new();
+    line.text(b"mode");
+    line.space();
+    line.number(u128::from(j));
+    line.space();
+    line.number(u128::from(start));
+    line.space();
+    line.number(u128::from(horizon));
+    line.end();
+    line
+}
