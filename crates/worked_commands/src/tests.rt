@@ -8,6 +8,7 @@ mod ends;
 mod executions;
 mod follows;
 mod lanes;
+mod modes;
 mod programs;
 mod sets;
 mod stops;

@@ -2,7 +2,7 @@
 
 use super::calls::{Outside, SURE, assert_told, call};
 use super::texts::{THREE_RATES, THREE_TASKS};
-use run_tool::{Status, close_run};
+use run_tool::{Status, close_flushed};
 use sched_edges::{Failed, MemSink};
 use std::test::Fail;
 
@@ -69,7 +69,7 @@ fn a_text_kept_back_is_not_lost_silently(rt: HostRuntime) -> Result<(), Fail> {
     ];
     for (status, flushed, at_the_end, line) in rows {
         let mut err = MemSink::new(rt.alloc(), 64, &[])?;
-        let closed = close_run(status, flushed, &mut err);
+        let closed = close_flushed(status, flushed, &mut err);
         assert_eq!(rt; closed, at_the_end);
         assert_eq!(rt; err.taken(), line.as_bytes());
     }

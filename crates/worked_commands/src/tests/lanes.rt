@@ -34,6 +34,30 @@ pub(super) fn three_lanes() -> [[Row; 3]; 2] {
 /// The ticks that each of them works.
 pub(super) const THREE_TICKS: [u128; 3] = [6, 6, 6];
 
+/// The three tasks of rate 2/3, and then two of rate 1/2 and one of rate 1/4.
+pub(super) fn modes_lanes() -> [[Row; 7]; 2] {
+    [
+        [
+            row(0, 0, 3, B),
+            row(0, 3, 6, A),
+            row(0, 6, 9, A),
+            row(0, 0, 4, A),
+            row(0, 4, 8, B),
+            row(0, 8, 12, A),
+            row(0, 12, 16, B),
+        ],
+        [
+            row(1, 0, 3, C),
+            row(1, 3, 6, C),
+            row(1, 6, 9, B),
+            row(1, 0, 4, C),
+            row(1, 4, 8, Leaf::Idle(0)),
+            row(1, 8, 12, Leaf::Idle(0)),
+            row(1, 12, 16, Leaf::Idle(0)),
+        ],
+    ]
+}
+
 /// The two reductions.
 pub(super) fn two_lanes() -> [[Row; 4]; 3] {
     [
