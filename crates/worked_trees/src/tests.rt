@@ -3,3 +3,5 @@ mod answers;
 mod bad_lines;
 mod faults;
 mod trees;
+mod variants;
+mod worked_texts;
