@@ -2,11 +2,11 @@
 #![tactic(auto)]
 
 #[cfg(test)]
-mod compared;
-#[cfg(test)]
 mod drawn;
 #[cfg(test)]
 mod packed;
+#[cfg(test)]
+mod rounds;
 #[cfg(test)]
 mod tests;
 #[cfg(test)]

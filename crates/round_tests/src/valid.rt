@@ -1,6 +1,6 @@
-//! Plain schedules of drawn sets against the rules of the task model, tick by tick and period by period.
+//! Schedules of drawn sets against the rules of the task model, tick by tick and period by period.
 use crate::drawn::draw_small_plans;
-use run_plain::plain_schedule;
+use crate::rounds::rows_of;
 use run_tree::Plan;
 use sched_base::{Leaf, Row, Task, TaskId};
 use std::process::Abort;
@@ -83,14 +83,27 @@ fn check_rows(rt: &impl Abort, plan: &Plan, rows: &[Row]) {
     }
 }
 
+/// Whether some task is first released after unit 0.
+fn is_late(plan: &Plan) -> bool {
+    plan.set().tasks().iter().any(|task| task.offset > 0)
+}
+
+/// How many of the plans have a tree of at least so many levels.
+fn reduced(plans: &[Plan], levels: u32) -> usize {
+    plans
+        .iter()
+        .filter(|plan| plan.tree().levels() >= levels)
+        .count()
+}
+
 #[test]
 fn schedules_obey_the_task_model(rt: HostRuntime) -> Result<(), Fail> {
     let plans = draw_small_plans(&rt, rt.alloc())?;
-    assert!(rt; plans.len() >= 500);
+    let late = plans.iter().filter(|plan| is_late(plan)).count();
+    assert!(rt; plans.len() >= 500 && late >= 150);
+    assert!(rt; reduced(&plans, 2) >= 200 && reduced(&plans, 3) >= 10);
     for plan in &plans {
-        assert!(rt; plan.rounds_end() <= 1 << 32);
-        let rows = plain_schedule(rt.alloc(), plan)?;
-        check_rows(&rt, plan, &rows);
+        check_rows(&rt, plan, &rows_of(&rt, rt.alloc(), plan)?);
     }
     Ok(())
 }
