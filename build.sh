@@ -2,8 +2,13 @@
 # Proves and builds the program and the crates that it needs, as many at once as there are processors and memory for, each
 # as soon as those below it are done. It tells on standard error how far it is. What is done is kept: a build that was
 # stopped goes on where it was.
+#
+# rt locks a crate and all below it, and all crates stand on the same lowest one. So each of the builds that go on at once has
+# a copy of the sources of its own. What is proved in one copy is taken over by the others, and in the end by this checkout.
 top=$(dirname "$(readlink -f "$0")")
 program=furnacelime
+copies=$top/.git/build
+[ -d "$top/.git" ] || copies=${XDG_CACHE_HOME:-$HOME/.cache}/furnacelime-build
 
 say() { echo "furnacelime: $*" >&2; }
 
@@ -16,17 +21,19 @@ stop() { for it in $builds; do kill -- "-$it" 2>/dev/null; done; }
 trap 'rm -rf "$work"' EXIT
 trap 'echo >&2; say "stopped; what is done is kept, and the next call goes on"; stop; exit 130' INT TERM
 
-# Each crate of the repository that the program needs, lowest first, with those of them that it stands on.
+# Each crate of the repository that the program needs, with those of them that it stands on: first the one with the longest
+# chain of crates above it, since that chain decides how long the whole takes.
 awk -v program="$program" '
     /^[a-z]/ { name = $1; sub(":.*", "", name); line = $0; sub("^[^:]*:", "", line); below[name] = line }
-    function visit(crate,    names, n, i, own) {
-        if (crate in seen) return
-        seen[crate] = 1
+    function visit(crate, chain,    names, n, i) {
+        if (crate in above && above[crate] >= chain) return
+        above[crate] = chain
+        own[crate] = ""
         n = split(below[crate], names, " ")
-        for (i = 1; i <= n; i++) if (names[i] in below) { visit(names[i]); own = own " " names[i] }
-        print crate own
+        for (i = 1; i <= n; i++) if (names[i] in below) { own[crate] = own[crate] " " names[i]; visit(names[i], chain + 1) }
     }
-    END { visit(program) }' "$top/crates.txt" >"$work/crates"
+    END { visit(program, 0); for (crate in above) print above[crate] " " crate own[crate] }' "$top/crates.txt" |
+    sort -k 1,1nr -k 2,2 | cut -d ' ' -f 2- >"$work/crates"
 
 # The length of what is to be proved for a crate: the guess of the time that is left goes by it.
 size_of() { find "$top/crates/$1/src" "$top/crates/$1/specs" "$top/crates/$1/proofs" -type f -exec cat {} + 2>/dev/null | wc -c; }
@@ -46,6 +53,16 @@ jobs=$processors
 [ "$jobs" -lt 1 ] && jobs=1
 
 say "proving and building the program first: $count crates, $jobs at once; it takes 2 GB of memory for each of them and 5 GB of disk"
+
+# Brings a copy of the sources up to date; what was proved in it stays.
+copy_sources() {
+    mkdir -p "$1" && rm -rf "$1"/crates/*/src "$1"/crates/*/specs "$1"/crates/*/proofs &&
+        (cd "$top" && tar --exclude=out -cf - crates.txt HANDLES crates) | tar -C "$1" -xf -
+}
+
+for copy in $(seq "$jobs"); do
+    copy_sources "$copies/$copy" || { say "the sources could not be copied to $copies"; exit 126; }
+done
 
 began=$(date +%s)
 done_count=0
@@ -73,12 +90,21 @@ may_begin() {
     done
 }
 
-# Proves and builds one crate in a process group of its own, and notes how it ended. The program is built by running it: with
-# no words it answers at once, with status 2.
+# Proves and builds one crate in a process group of its own, in a copy that no other build is at work in, and notes how it
+# ended. The program is built in this checkout, by running it: with no words it answers at once, with status 2.
 build() {
     verb=lib
-    [ "$1" = "$program" ] && verb=run
-    setsid sh -c 'cd "$1" && rt "$2" </dev/null >"$3.log" 2>&1; echo $? >"$3.ended"' sh "$top/crates/$1" "$verb" "$work/$1" &
+    at=$top
+    if [ "$1" = "$program" ]; then
+        verb=run
+    else
+        copy=1
+        while [ -e "$work/copy$copy" ]; do copy=$((copy + 1)); done
+        : >"$work/copy$copy"
+        at=$copies/$copy
+    fi
+    setsid sh -c 'cd "$1" && rt "$2" </dev/null >"$3.log" 2>&1; ended=$?; rm -f "$4"; echo $ended >"$3.ended"' \
+        sh "$at/crates/$1" "$verb" "$work/$1" "$work/copy$copy" &
     builds="$builds $!"
 }
 
