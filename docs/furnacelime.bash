@@ -2,7 +2,7 @@
 _furnacelime() {
     local word=${COMP_WORDS[COMP_CWORD]} words=
     case $COMP_CWORD:${COMP_WORDS[1]} in
-        1:*) words='rate tree trace check follow batch exec drill jobs' ;;
+        1:*) words='rate tree trace check follow batch exec drill jobs modes' ;;
         2:trace) words='--met --by --by=wrap' ;;
         3:trace) [[ ${COMP_WORDS[2]} == --by ]] && words='wrap' ;;
         2:exec) words='--met --window' ;;
