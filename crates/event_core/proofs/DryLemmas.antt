@@ -154,6 +154,29 @@ drying_none t d ends s l v = drying_wide t d ends s (λ q. l + 1 ≤ level t q) 
     less q i (inl above) = above
     less q i (inr (k, m, e)) = absurd (none k m)
 
+-- packs that don't run dry at this tick are done as they are
+pub drying_skip : (t : Tree) (d : DueContents) (ends : List ℕ) (s : ServingContents) (l n m now : ℕ) → now ≡ d.tick → ((k : ℕ) → n ≤ k → k < m → get_or s.dry (get_or (packs_at t l) k 0) 0 ≢ now) →
+    IsDrying t d ends s (λ q. (l + 1 ≤ level t q) ⊎ ((k : ℕ) × (k < n) × (get_or (packs_at t l) k 0 ≡ q))) → IsDrying t d ends s (λ q. (l + 1 ≤ level t q) ⊎ ((k : ℕ) × (k < m) × (get_or (packs_at t l) k 0 ≡ q)))
+drying_skip t d ends s l n m now is_now wet v = record {
+  early = v.early;
+  but = v.but;
+  picks = λ q i w. v.picks q i (λ e. less q e (w e));
+  within = v.within;
+  at = v.at;
+  agree = v.agree;
+  rest = v.rest;
+  known = v.known;
+  led = v.led;
+  served = λ q i w off. v.served q i (λ e. less q e (w e)) off;
+}
+  where
+    less : (q : ℕ) → get_or s.dry q 0 ≡ d.tick → (l + 1 ≤ level t q) ⊎ ((k : ℕ) × (k < m) × (get_or (packs_at t l) k 0 ≡ q)) → (l + 1 ≤ level t q) ⊎ ((k : ℕ) × (k < n) × (get_or (packs_at t l) k 0 ≡ q))
+    less q e (inl above) = inl above
+    less q e (inr (k, b, at)) = elim (cases_lt k n) [
+      | inl low ↦ inr (k, low, at)
+      | inr high ↦ absurd (wet k (omega (arith, high)) b (ap (λ x. get_or s.dry x 0) at ∙ e ∙ sym is_now))
+    ]
+
 pub drying_level : (t : Tree) → IsTree t → (d : DueContents) (ends : List ℕ) (s : ServingContents) (l n : ℕ) → n ≡ length (packs_at t l) → IsDrying t d ends s (λ q. (l + 1 ≤ level t q) ⊎ ((k : ℕ) × (k < n) × (get_or (packs_at t l) k 0 ≡ q))) → IsDrying t d ends s (λ q. l ≤ level t q)
 drying_level t h d ends s l n e v = drying_wide t d ends s (λ q. (l + 1 ≤ level t q) ⊎ ((k : ℕ) × (k < n) × (get_or (packs_at t l) k 0 ≡ q))) (λ q. l ≤ level t q) in_level v
   where

@@ -16,6 +16,7 @@ use Rattle.run_tree.specs.Plans.{PlanContents, IsPlan}
 use Rattle.run_tree.proofs.TreeLemmas.{first_is_pack}
 use Rattle.run_tree.proofs.ScheduleLemmas.{running_is}
 use Rattle.sched_laws.proofs.PlacedPacks.{held_onto}
+use Rattle.tree_select.specs.Reselected.{AreFresh}
 use Rattle.tree_select.proofs.LevelLemmas.{pack_of_level}
 use Rattle.cpu_assign.specs.Changed.{ChangeLists, with_pack, AreChanged}
 use Rattle.cpu_assign.proofs.BackLemmas.{range_more}
@@ -26,10 +27,6 @@ use Rattle.event_core.specs.Steps.{packs_by}
 use Rattle.event_core.proofs.QuietRounds.{plan_leaves}
 
 -- ---- packs that go on
-
--- where nothing changes
-pub still_same : (t : Tree) (p : ℕ) (stale runs : List Bool) → AreStill t p stale runs stale runs
-still_same t p stale runs = record { unmarked = λ q i ne off. off; still = λ q i off. refl }
 
 module _ (t : Tree) (h : IsTree t) (onto : List (Option ℕ)) (stale runs stale' runs' : List Bool) (p : ℕ) (s : AreStill t p stale runs stale' runs') where
   -- a pack of another level is served
@@ -106,16 +103,49 @@ few_pass f (suc n) a =
       | inr off ↦ (let e = ap (λ (xs : List ℕ). length xs) (passing_off f a n off) in omega (arith, e, ih))
     ]
 
--- a pack that goes on isn't listed
-pub not_stopped : (xs : List ℕ) (i : ℕ) (r held : Bool) → held ≡ r → xs ≡ with_pack xs i (not r && held)
-not_stopped xs i true held e = sym (append-nil xs)
-not_stopped xs i false true e = cc
-not_stopped xs i false false e = sym (append-nil xs)
+-- numbers that don't pass
+pub none_listed : (f : ℕ → Bool) (n d : ℕ) → ((k : ℕ) → n ≤ k → k < n + d → f k ≡ false) → (xs : List ℕ) → xs ≡ filter f (range_with_len 0 n) → xs ≡ filter f (range_with_len 0 (n + d))
+none_listed f n zero off xs e = (let none : n ≡ n + zero = omega arith in e ∙ ap (λ m. filter f (range_with_len 0 m)) none)
+none_listed f n (suc d) off xs e =
+    let ih = none_listed f n d (λ k low high. off k low (omega (arith, high))) xs e in
+    let more : n + d + 1 ≡ n + suc d = omega arith in
+    listed_step f f xs xs (n + d) false (λ k m. refl) (off (n + d) (omega arith) (omega arith)) ih (sym (append-nil xs)) ∙ ap (λ m. filter f (range_with_len 0 m)) more
 
-pub not_begun : (xs : List ℕ) (i : ℕ) (r held : Bool) → held ≡ r → xs ≡ with_pack xs i (r && not held)
-not_begun xs i false held e = sym (append-nil xs)
-not_begun xs i true false e = cc
-not_begun xs i true true e = sym (append-nil xs)
+-- a pack that goes on isn't listed
+not_stopped : (r held : Bool) → held ≡ r → (not r && held) ≡ false
+not_stopped true held e = refl
+not_stopped false true e = e
+not_stopped false false e = refl
+
+not_begun : (r held : Bool) → held ≡ r → (r && not held) ≡ false
+not_begun false held e = refl
+not_begun true true e = refl
+not_begun true false e = sym e
+
+-- packs that aren't marked are passed over
+pub fresh_skip : (t : Tree) (stale : List Bool) (l n m : ℕ) → AreFresh t stale l n → ((k : ℕ) → n ≤ k → k < m → get_or stale (get_or (packs_at t l) k 0) false ≡ false) → AreFresh t stale l m
+fresh_skip t stale l n m fresh skipped p i (inl high) = fresh p i (inl high)
+fresh_skip t stale l n m fresh skipped p i (inr (k, b, e)) = elim (cases_lt k n) [
+  | inl low ↦ fresh p i (inr (k, low, e))
+  | inr high ↦ ap (λ x. get_or stale x false) (sym e) ∙ skipped k (omega (arith, high)) b
+]
+
+module _ (t : Tree) (onto : List (Option ℕ)) (stale runs : List Bool) (n m : ℕ) (after : n ≤ m) (within : m ≤ length (packs_at t 0))
+    (skipped : (k : ℕ) → n ≤ k → k < m → get_or stale (get_or (packs_at t 0) k 0) false ≡ false) (settled : AreSettledFrom t onto stale runs n) where
+  go_on : (k : ℕ) → n ≤ k → k < n + (m - n) → is_held onto k ≡ first_runs t runs k
+  go_on k low high = settled k low (omega (arith, high, after, within)) (skipped k low (omega (arith, high, after)))
+
+  total : n + (m - n) ≡ m
+  total = omega (arith, after)
+
+  pub settled_skip : AreSettledFrom t onto stale runs m
+  settled_skip k low b off = settled k (omega (arith, low, after)) b off
+
+  pub stops_skip : (xs : List ℕ) → xs ≡ stops_below t onto runs n → xs ≡ stops_below t onto runs m
+  stops_skip xs e = none_listed (λ i. not (first_runs t runs i) && is_held onto i) n (m - n) (λ k low high. not_stopped (first_runs t runs k) (is_held onto k) (go_on k low high)) xs e ∙ ap (λ j. stops_below t onto runs j) total
+
+  pub begins_skip : (xs : List ℕ) → xs ≡ begins_below t onto runs n → xs ≡ begins_below t onto runs m
+  begins_skip xs e = none_listed (λ i. first_runs t runs i && not (is_held onto i)) n (m - n) (λ k low high. not_begun (first_runs t runs k) (is_held onto k) (go_on k low high)) xs e ∙ ap (λ j. begins_below t onto runs j) total
 
 module _ (t : Tree) (onto : List (Option ℕ)) (runs : List Bool) (changes : ChangeLists) (n : ℕ) (all : n ≡ length (packs_at t 0)) where
   runs_by : (k : ℕ) → k < n → first_runs t runs k ≡ is_running (packs_by t runs) k

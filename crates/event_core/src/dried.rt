@@ -1,6 +1,7 @@
 //! What a member that ran dry leaves: it is ready no more, and its pack is to be looked at again.
-ghost use Rattle.std.specs.Prelude.{ℕ, [], ◌≡◌, ◌+◌, ◌<◌, ◌≤◌, length, true, None, Some, slice_index_or, slice_set};
+ghost use Rattle.std.specs.Prelude.{ℕ, [], ◌≡◌, ◌≢◌, ◌+◌, ◌<◌, ◌≤◌, length, true, None, Some, slice_index, slice_index_or, slice_set};
 ghost use Rattle.run_tree.specs.Tree.{IsTree, IsPack, level as level_of};
+ghost use Rattle.run_tree.specs.Schedule.{packs_at};
 ghost use Rattle.knockout.specs.Knockouts.{never};
 ghost use Rattle.event_core.specs.Serving.{lists, IsServing, IsDrying, IsDried};
 
@@ -57,6 +58,25 @@ fn dry_pack(
     }
 }
 
+// The first pack of a level from number `from` on whose member runs dry at tick `now`, or the number of its packs where there is none.
+fn next_dry(tree: &Tree, level: u32, dry: &[u128], now: u128, from: u32) -> u32
+    requires tree { IsTree tree.now }
+    requires level { level < tree.now.levels }
+    requires from { from ≤ length (packs_at tree.now level) }
+    requires dry { length dry.now ≡ length tree.now.nodes }
+    ensures after { from ≤ result }
+    ensures within { result ≤ length (packs_at tree.now level) }
+    ensures skipped { (k : ℕ) → from ≤ k → k < result → slice_index dry.now (slice_index (packs_at tree.now level) k) ≢ now }
+{
+    let count = tree.packs(level);
+    for i in from..count {
+        if dry[pack_of(tree, level, i).0 as usize] == now {
+            return i;
+        }
+    }
+    count
+}
+
 // Of one level's packs. The ends and who runs are only spoken of.
 fn dry_level(
     tree: &Tree,
@@ -81,9 +101,12 @@ fn dry_level(
     let _ends = ends.len();
     let _runs = runs.len();
     let now = dues.now();
-    for i in 0..tree.packs(level) {
+    let count = tree.packs(level);
+    let mut i = next_dry(tree, level, dry, now, 0);
+    'dried: while i < count {
         let p = pack_of(tree, level, i);
         dry_pack(p, now, serves, dry, ready, stale);
+        i = next_dry(tree, level, dry, now, i + 1);
     }
 }
 

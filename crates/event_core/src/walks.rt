@@ -7,7 +7,7 @@ ghost use Rattle.run_tree.specs.Schedule.{packs_at};
 ghost use Rattle.run_tree.specs.Runs.{runs_now};
 ghost use Rattle.cpu_assign.specs.Changed.{with_pack, AreChanged};
 ghost use Rattle.tree_select.specs.Reselected.{AreFresh, AreFreshFrom};
-ghost use Rattle.event_core.specs.Serving.{dry_by, first_runs, lists, AreFitting, AreSettledFrom, AreStill, IsServing, IsSettled};
+ghost use Rattle.event_core.specs.Serving.{dry_by, lists, AreFitting, AreSettledFrom, AreStill, IsServing};
 ghost use Rattle.event_core.specs.Steps.{packs_by};
 
 use crate::serving::{id_of, serve};
@@ -78,42 +78,6 @@ fn serve_pack(
     dry[p.0 as usize] = dry_of(tree, p, next, dues);
 }
 
-// The same, where the pack is marked.
-fn serve_marked(
-    tree: &Tree,
-    p: NodeId,
-    ends: &[u128],
-    ready: &[Knockout],
-    serves: &mut [Option<u32>],
-    dry: &mut [u128],
-    dues: &mut Dues,
-    stale: &mut [bool],
-    runs: &mut [bool],
-)
-    requires tree { IsTree tree.now }
-    requires pack { IsPack tree.now p.0 }
-    requires ready { length ready.now ≡ length tree.now.nodes }
-    requires serves { length serves.old ≡ length tree.now.nodes }
-    requires dry { length dry.old ≡ length tree.now.nodes }
-    requires nodes { length dues.old.runs ≡ length tree.now.nodes }
-    requires stale { length stale.old ≡ length tree.now.nodes }
-    requires runs { length runs.old ≡ length tree.now.nodes }
-    requires fits { AreFitting tree.now dues.old }
-    requires serving { IsServing tree.now dues.old ends.now (lists ready.now serves.old dry.old stale.old runs.old) }
-    ensures tick { dues.new.tick ≡ dues.old.tick }
-    ensures remains { dues.new.remains ≡ dues.old.remains }
-    ensures nodes { length dues.new.runs ≡ length dues.old.runs }
-    ensures serving { IsServing tree.now dues.new ends.now (lists ready.now serves.new dry.new stale.new runs.new) }
-    ensures own { slice_index_or stale.new p.0 false ≡ false }
-    ensures still { AreStill tree.now p.0 stale.old runs.old stale.new runs.new }
-    ensures marks { (q : ℕ) → IsPack tree.now q → q ≢ p.0 → level tree.now p.0 ≤ level tree.now q →
-        slice_index_or stale.new q false ≡ slice_index_or stale.old q false }
-{
-    if stale[p.0 as usize] {
-        serve_pack(tree, p, ends, ready, serves, dry, dues, stale, runs);
-    }
-}
-
 /// Pack i of a level.
 pub(crate) fn pack_of(tree: &Tree, level: u32, i: u32) -> NodeId
     requires tree { IsTree tree.now }
@@ -123,6 +87,25 @@ pub(crate) fn pack_of(tree: &Tree, level: u32, i: u32) -> NodeId
     ensures pack { IsPack tree.now result.0 }
 {
     tree.pack(level, i)
+}
+
+// The first marked pack of a level from number `from` on, or the number of its packs where there is none.
+fn next_marked(tree: &Tree, level: u32, stale: &[bool], from: u32) -> u32
+    requires tree { IsTree tree.now }
+    requires level { level < tree.now.levels }
+    requires from { from ≤ length (packs_at tree.now level) }
+    requires stale { length stale.now ≡ length tree.now.nodes }
+    ensures after { from ≤ result }
+    ensures within { result ≤ length (packs_at tree.now level) }
+    ensures skipped { (k : ℕ) → from ≤ k → k < result → slice_index_or stale.now (slice_index (packs_at tree.now level) k) false ≡ false }
+{
+    let count = tree.packs(level);
+    for i in from..count {
+        if stale[pack_of(tree, level, i).0 as usize] {
+            return i;
+        }
+    }
+    count
 }
 
 // The marked packs of one level above the first, once none above it is marked.
@@ -156,9 +139,12 @@ fn serve_level(
     ensures fresh { AreFreshFrom tree.now stale.new level }
     ensures settled { (onto : List (Option ℕ)) → AreSettledFrom tree.now onto stale.old runs.old 0 → AreSettledFrom tree.now onto stale.new runs.new 0 }
 {
-    for i in 0..tree.packs(level) {
+    let count = tree.packs(level);
+    let mut i = next_marked(tree, level, stale, 0);
+    'marked: while i < count {
         let p = pack_of(tree, level, i);
-        serve_marked(tree, p, ends, ready, serves, dry, dues, stale, runs);
+        serve_pack(tree, p, ends, ready, serves, dry, dues, stale, runs);
+        i = next_marked(tree, level, stale, i + 1);
     }
 }
 
@@ -206,54 +192,6 @@ fn serve_listed(
     changes.see(i, runs[p.0 as usize], places.holds(i));
 }
 
-// The same, where the pack is marked; else it goes on as it was.
-fn serve_first(
-    tree: &Tree,
-    p: NodeId,
-    i: u32,
-    ends: &[u128],
-    ready: &[Knockout],
-    serves: &mut [Option<u32>],
-    dry: &mut [u128],
-    dues: &mut Dues,
-    stale: &mut [bool],
-    runs: &mut [bool],
-    places: &Places,
-    changes: &mut Changes,
-)
-    requires tree { IsTree tree.now }
-    requires pack { IsPack tree.now p.0 }
-    requires held { i < length places.now.last }
-    requires ready { length ready.now ≡ length tree.now.nodes }
-    requires serves { length serves.old ≡ length tree.now.nodes }
-    requires dry { length dry.old ≡ length tree.now.nodes }
-    requires nodes { length dues.old.runs ≡ length tree.now.nodes }
-    requires stale { length stale.old ≡ length tree.now.nodes }
-    requires runs { length runs.old ≡ length tree.now.nodes }
-    requires fits { AreFitting tree.now dues.old }
-    requires serving { IsServing tree.now dues.old ends.now (lists ready.now serves.old dry.old stale.old runs.old) }
-    requires settled { slice_index_or stale.old p.0 false ≡ false → is_held places.now.onto i ≡ slice_index_or runs.old p.0 false }
-    requires stopped { length changes.old.stopped < changes.old.room }
-    requires begun { length changes.old.begun < changes.old.room }
-    ensures tick { dues.new.tick ≡ dues.old.tick }
-    ensures remains { dues.new.remains ≡ dues.old.remains }
-    ensures nodes { length dues.new.runs ≡ length dues.old.runs }
-    ensures serving { IsServing tree.now dues.new ends.now (lists ready.now serves.new dry.new stale.new runs.new) }
-    ensures own { slice_index_or stale.new p.0 false ≡ false }
-    ensures still { AreStill tree.now p.0 stale.old runs.old stale.new runs.new }
-    ensures marks { (q : ℕ) → IsPack tree.now q → q ≢ p.0 → level tree.now p.0 ≤ level tree.now q →
-        slice_index_or stale.new q false ≡ slice_index_or stale.old q false }
-    ensures stopped { changes.new.stopped ≡ with_pack changes.old.stopped i (not (slice_index_or runs.new p.0 false) && is_held places.now.onto i) }
-    ensures begun { changes.new.begun ≡ with_pack changes.old.begun i (slice_index_or runs.new p.0 false && not (is_held places.now.onto i)) }
-    ensures room { changes.new.room ≡ changes.old.room }
-{
-    if stale[p.0 as usize] {
-        serve_listed(
-            tree, p, i, ends, ready, serves, dry, dues, stale, runs, places, changes,
-        );
-    }
-}
-
 // The marked packs of level 0, once none above it is marked. Those that stop and begin are listed.
 fn serve_first_level(
     tree: &Tree,
@@ -290,11 +228,14 @@ fn serve_first_level(
     ensures room { changes.new.room ≡ changes.old.room }
 {
     changes.clear();
-    for i in 0..tree.packs(0) {
+    let count = tree.packs(0);
+    let mut i = next_marked(tree, 0, stale, 0);
+    'marked: while i < count {
         let p = pack_of(tree, 0, i);
-        serve_first(
+        serve_listed(
             tree, p, i, ends, ready, serves, dry, dues, stale, runs, places, changes,
         );
+        i = next_marked(tree, 0, stale, i + 1);
     }
 }
 

@@ -123,3 +123,23 @@ looked_on p start end q first kept told d node leaf here there done left now k l
       (subst (λ (a : Option NodeId). IsLooked p start end q (get_or first q None) a leaf) (sym (get_or-set_same kept q node None here))
       (subst (λ (b : Option NodeId). IsLooked p start end q b node leaf) before now))))
 ]
+
+-- past processors where the node that is kept goes on
+pub looked_past : (p : PlanContents) (start end n m : ℕ) (first kept : List (Option NodeId)) (told : List (Option Leaf))
+    → ((k : ℕ) → k < n → IsLooked p start end k (get_or first k None) (get_or kept k None) (get_or told k None))
+    → ((k : ℕ) → n ≤ k → get_or kept k None ≡ get_or first k None)
+    → ((k : ℕ) → n ≤ k → get_or told k None ≡ None)
+    → ((k : ℕ) → n ≤ k → k < m → IsLooked p start end k (get_or kept k None) (get_or kept k None) None)
+    → (k : ℕ) → k < m → IsLooked p start end k (get_or first k None) (get_or kept k None) (get_or told k None)
+looked_past p start end n m first kept told done left untold again k b = elim (cases_lt k n) [
+  | inl low ↦ done k low
+  | inr most ↦
+      (let high : n ≤ k = omega (arith, most) in
+      subst (λ (o : Option Leaf). IsLooked p start end k (get_or first k None) (get_or kept k None) o) (sym (untold k high))
+      (subst (λ (b : Option NodeId). IsLooked p start end k b (get_or kept k None) None) (left k high) (again k high b)))
+]
+
+-- what is read of the node that is kept
+pub looked_again : (p : PlanContents) (start end q : ℕ) (kept : List (Option NodeId)) (d : Option NodeId) → q < length kept → IsLooked p start end q (get_or kept q d) (get_or kept q d) None
+    → IsLooked p start end q (get_or kept q None) (get_or kept q None) None
+looked_again p start end q kept d l now = subst (λ (o : Option NodeId). IsLooked p start end q o o None) (same_there kept q d l) now

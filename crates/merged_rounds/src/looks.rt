@@ -1,5 +1,5 @@
 //! What each processor shows in a round, where that may be something else than in the one before.
-ghost use Rattle.std.specs.Prelude.{◌≡◌, ℕ, ◌<◌, ◌≤◌, length, None, Some, slice_index_or};
+ghost use Rattle.std.specs.Prelude.{◌≡◌, ℕ, ◌<◌, ◌≤◌, true, length, Option, None, Some, slice_index_or};
 ghost use Rattle.sched_base.specs.declared.rows.Leaf.{Leaf as DeclaredLeaf};
 ghost use Rattle.sched_base.specs.declared.rows.Leaf.TheVariants.{Wait as waiting_leaf};
 ghost use Rattle.sched_base.specs.declared.rows.NodeId.{NodeId as DeclaredNodeId};
@@ -23,44 +23,69 @@ fn node_to_keep(n: NodeId, leaf: Leaf) -> Option<NodeId>
     }
 }
 
-// What node n shows in a round that begins at tick `start`, or nothing where it is the one that is kept; and the node to keep.
-fn look_at(
-    plan: &Plan,
-    n: NodeId,
-    start: u128,
-    before: Option<NodeId>,
-) -> (Option<NodeId>, Option<Leaf>)
+// What node n shows in a round that begins at tick `start`, and the node to keep.
+fn look_at(plan: &Plan, n: NodeId, start: u128) -> (Option<NodeId>, Leaf)
     requires node { n.0 < length plan.now.tree.nodes }
-    ensures again { result.1 ≡ None → (before ≡ Some n) × (result.0 ≡ Some n) }
-    ensures other { (leaf : DeclaredLeaf) → result.1 ≡ Some leaf → shown_for plan.now n.0 start ≡ leaf }
-    ensures stays { (leaf : DeclaredLeaf) (k : DeclaredNodeId) (t : ℕ) → result.1 ≡ Some leaf → result.0 ≡ Some k → start ≤ t →
-        shown_for plan.now k.0 t ≡ leaf }
+    ensures leaf { shown_for plan.now n.0 start ≡ result.1 }
+    ensures stays { (k : DeclaredNodeId) (t : ℕ) → result.0 ≡ Some k → start ≤ t → shown_for plan.now k.0 t ≡ result.1 }
 {
-    if before == Some(n) {
-        (before, None)
-    } else {
-        let leaf = leaf_shown_for(plan, n, start);
-        (node_to_keep(n, leaf), Some(leaf))
-    }
+    let leaf = leaf_shown_for(plan, n, start);
+    (node_to_keep(n, leaf), leaf)
 }
 
-// What processor q shows in the round just gone, which began at tick `start`, or nothing where the node that is kept runs there
-// again; and the node to keep.
-fn look(
-    plan: &Plan,
-    core: &Core,
-    start: u128,
-    q: u32,
-    before: Option<NodeId>,
-) -> (Option<NodeId>, Option<Leaf>)
+// What processor q shows in the round just gone, which began at tick `start`, and the node to keep of it.
+fn look(plan: &Plan, core: &Core, start: u128, q: u32) -> (Option<NodeId>, Leaf)
     requires belongs { IsCoreOf plan.now core.now }
     requires round { IsRoundUpTo plan.now start core.now.tick }
     requires processor { q < plan.now.tree.processors }
-    ensures { IsLooked plan.now start core.now.tick q before result.0 result.1 }
+    ensures { (before : Option DeclaredNodeId) → IsLooked plan.now start core.now.tick q before result.0 (Some result.1) }
 {
     match core.node_on(plan, start, q) {
-        None => (None, Some(Leaf::Empty)),
-        Some(n) => look_at(plan, n, start, before),
+        None => (None, Leaf::Empty),
+        Some(n) => look_at(plan, n, start),
+    }
+}
+
+// Whether the node that is kept of processor q runs there again in the round just gone, which began at tick `start`.
+fn goes_on(plan: &Plan, core: &Core, start: u128, q: u32, before: Option<NodeId>) -> bool
+    requires belongs { IsCoreOf plan.now core.now }
+    requires round { IsRoundUpTo plan.now start core.now.tick }
+    requires processor { q < plan.now.tree.processors }
+    ensures { result ≡ true → IsLooked plan.now start core.now.tick q before before None }
+{
+    match core.node_on(plan, start, q) {
+        None => false,
+        Some(n) => before == Some(n),
+    }
+}
+
+// The first processor from number `from` on where another node runs than the one that is kept, or the number of processors where
+// there is none.
+fn next_other(plan: &Plan, core: &Core, start: u128, kept: &[Option<NodeId>], from: u32) -> u32
+    requires belongs { IsCoreOf plan.now core.now }
+    requires round { IsRoundUpTo plan.now start core.now.tick }
+    requires kept { length kept.now ≡ plan.now.tree.processors }
+    requires from { from ≤ plan.now.tree.processors }
+    ensures after { from ≤ result }
+    ensures within { result ≤ plan.now.tree.processors }
+    ensures skipped { (q : ℕ) → from ≤ q → q < result →
+        IsLooked plan.now start core.now.tick q (slice_index_or kept.now q None) (slice_index_or kept.now q None) None }
+{
+    let count = plan.tree().processors();
+    for q in from..count {
+        if !goes_on(plan, core, start, q, kept[q as usize]) {
+            return q;
+        }
+    }
+    count
+}
+
+// Nothing is told of any processor.
+fn forget(told: &mut [Option<Leaf>])
+    ensures { (q : ℕ) → slice_index_or told.new q None ≡ None }
+{
+    for q in 0..told.len() {
+        told[q] = None;
     }
 }
 
@@ -80,9 +105,13 @@ pub(crate) fn look_each(
     ensures { (q : ℕ) → q < plan.now.tree.processors → IsLooked plan.now start core.now.tick q (slice_index_or kept.old q None)
         (slice_index_or kept.new q None) (slice_index_or told.new q None) }
 {
-    for q in 0..plan.tree().processors() {
-        let (node, leaf) = look(plan, core, start, q, kept[q as usize]);
+    forget(told);
+    let count = plan.tree().processors();
+    let mut q = next_other(plan, core, start, kept, 0);
+    'others: while q < count {
+        let (node, leaf) = look(plan, core, start, q);
         kept[q as usize] = node;
-        told[q as usize] = leaf;
+        told[q as usize] = Some(leaf);
+        q = next_other(plan, core, start, kept, q + 1);
     }
 }

@@ -4,7 +4,8 @@ ghost use Rattle.sched_base.specs.Tables.{row_limit};
 ghost use Rattle.run_tree.specs.Plans.{rounds_of};
 ghost use Rattle.event_core.specs.Cores.{IsCoreOf};
 ghost use Rattle.event_core.specs.Counts.{IsCountFault};
-ghost use Rattle.merged_rounds.specs.Passes.{AreMergedOf, AreLawful};
+ghost use Rattle.merged_rows.specs.Lawful.{AreLawful};
+ghost use Rattle.merged_rounds.specs.Passes.{AreMergedOf};
 
 use crate::looks::look_each;
 use event_core::{Core, CountFault};
@@ -21,7 +22,7 @@ const ROW_LIMIT: u64 = 2_097_152;
 /// round without room, with the number of rows up to the end of that round.
 pub fn merged_of(alloc: Global, plan: &Plan) -> Result<MergedRows, CountFault>
     ensures rows { IfOk result (λ merged. AreMergedOf plan.now merged.lanes) }
-    ensures lawful { IfOk result (λ merged. AreLawful plan.now merged.lanes) }
+    ensures lawful { IfOk result (λ merged. AreLawful plan.now.set merged.lanes) }
     ensures few { IfOk result (λ _. rounds_of plan.now * plan.now.tree.processors ≤ row_limit) }
     ensures fault { IfErr result (λ fault. IsCountFault plan.now fault) }
 {
@@ -61,7 +62,7 @@ fn merge_rounds(
     requires none { none.lanes ≡ replicate plan.now.tree.processors [] }
     requires start { none.end ≡ 0 }
     ensures rows { IfOk result (λ merged. AreMergedOf plan.now merged.lanes) }
-    ensures lawful { IfOk result (λ merged. AreLawful plan.now merged.lanes) }
+    ensures lawful { IfOk result (λ merged. AreLawful plan.now.set merged.lanes) }
     ensures few { IfOk result (λ _. rounds_of plan.now * plan.now.tree.processors ≤ row_limit) }
     ensures fault { IfErr result (λ fault. IsCountFault plan.now fault) }
 {

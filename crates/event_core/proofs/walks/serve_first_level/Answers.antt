@@ -1,76 +1,110 @@
-use Rattle.std.proofs.Common.{arith, ap, refl, sym, length, get_or, false, not, le_refl, ℕ, List, Bool, ◌<◌, ◌≡◌, ◌∙◌, ◌&&◌, inr}
+use Rattle.std.proofs.Common.{arith, ap, refl, sym, length, get_or, false, not, ℕ, List, Bool, ◌+◌, ◌<◌, ◌≡◌, ◌∙◌, ◌&&◌, inr}
 use Rattle.sched_base.specs.Places.{is_held}
 use Rattle.run_tree.specs.Schedule.{packs_at}
 use Rattle.run_tree.proofs.TreeLemmas.{first_is_pack}
 use Rattle.tree_select.proofs.ReselectLemmas.{fresh_none, fresh_step, fresh_all}
-use Rattle.event_core.specs.Serving.{first_runs}
-use Rattle.event_core.proofs.SettledPacks.{changed_are, few_pass, listed_step, settled_rest}
+use Rattle.event_core.specs.Serving.{first_runs, stops_below, begins_below}
+use Rattle.event_core.proofs.SettledPacks.{begins_skip, changed_are, few_pass, fresh_skip, listed_step, settled_rest, settled_skip, stops_skip}
 use Rattle.event_core.proofs.WalkLemmas.{fitting_still}
 use Rattle.event_core.proofs.walks.serve_first_level.Goals as goal
 
-pub loop-i-init : goal.loop-i-init
-loop-i-init c = (refl, refl, refl, c.requires.serving, fresh_none c.args.tree.now c.requires.tree c.args.stale.now 0 c.requires.above, c.requires.settled, c.clear.ensures.room, c.clear.ensures.stopped, c.clear.ensures.begun)
-
-pub serve_first-requires-clause-held : goal.serve_first-requires-clause-held
-serve_first-requires-clause-held c = let n = c.packs-i-end.ensures in let b = c.loop-i-test.true in let last = c.requires.last in omega (arith, n, b, last)
-
-pub serve_first-requires-clause-fits : goal.serve_first-requires-clause-fits
-serve_first-requires-clause-fits c = fitting_still c.args.tree.now c.args.dues.now c.loop-i.dues c.loop-i.invariant.0 c.loop-i.invariant.1 c.requires.fits
-
-pub serve_first-requires-clause-settled : goal.serve_first-requires-clause-settled
-serve_first-requires-clause-settled c = λ off.
-    let n = c.packs-i-end.ensures in
-    let b = c.loop-i-test.true in
-    let at = c.pack_of-p.ensures.value in
-    c.loop-i.invariant.5 c.loop-i.i (le_refl c.loop-i.i) (omega (arith, n, b)) (ap (λ q. get_or c.loop-i.stale q false) (sym at) ∙ off) ∙ ap (λ q. get_or c.loop-i.runs q false) (sym at)
-
-pub serve_first-requires-clause-stopped : goal.serve_first-requires-clause-stopped
-serve_first-requires-clause-stopped c =
-    let n = c.packs-i-end.ensures in
-    let b = c.loop-i-test.true in
-    let room = c.requires.room in
-    let kept = c.loop-i.invariant.6 in
-    let few = few_pass (λ i. not (first_runs c.args.tree.now c.loop-i.runs i) && is_held c.args.places.now.onto i) c.loop-i.i 0 in
-    let long = ap (λ (xs : List ℕ). length xs) c.loop-i.invariant.7 in
-    omega (arith, n, b, room, kept, few, long)
-
-pub serve_first-requires-clause-begun : goal.serve_first-requires-clause-begun
-serve_first-requires-clause-begun c =
-    let n = c.packs-i-end.ensures in
-    let b = c.loop-i-test.true in
-    let room = c.requires.room in
-    let kept = c.loop-i.invariant.6 in
-    let few = few_pass (λ i. first_runs c.args.tree.now c.loop-i.runs i && not (is_held c.args.places.now.onto i)) c.loop-i.i 0 in
-    let long = ap (λ (xs : List ℕ). length xs) c.loop-i.invariant.8 in
-    omega (arith, n, b, room, kept, few, long)
-
-pub loop-i-preserved : goal.loop-i-preserved
-loop-i-preserved c =
+pub marked-init : goal.marked-init
+marked-init c =
     let t = c.args.tree.now in
-    let n = c.packs-i-end.ensures in
-    let b = c.loop-i-test.true in
-    let l : c.loop-i.i < length (packs_at t 0) = omega (arith, n, b) in
+    let onto = c.args.places.now.onto in
+    let stale = c.args.stale.now in
+    let runs = c.args.runs.now in
+    let i = c.next_marked-i.result in
+    let after = c.next_marked-i.ensures.after in
+    let within = c.next_marked-i.ensures.within in
+    let skipped = c.next_marked-i.ensures.skipped in
+    let settled = c.requires.settled in (
+      refl,
+      refl,
+      refl,
+      c.requires.serving,
+      fresh_skip t stale 0 0 i (fresh_none t c.requires.tree stale 0 c.requires.above) skipped,
+      settled_skip t onto stale runs 0 i after within skipped settled,
+      c.clear.ensures.room,
+      stops_skip t onto stale runs 0 i after within skipped settled c.clear.new.self.stopped c.clear.ensures.stopped,
+      begins_skip t onto stale runs 0 i after within skipped settled c.clear.new.self.begun c.clear.ensures.begun,
+      within,
+    )
+
+pub serve_listed-requires-clause-held : goal.serve_listed-requires-clause-held
+serve_listed-requires-clause-held c = let n = c.packs-count.ensures in let b = c.marked-test.true in let last = c.requires.last in omega (arith, n, b, last)
+
+pub serve_listed-requires-clause-fits : goal.serve_listed-requires-clause-fits
+serve_listed-requires-clause-fits c = fitting_still c.args.tree.now c.args.dues.now c.marked.dues c.marked.invariant.0 c.marked.invariant.1 c.requires.fits
+
+pub serve_listed-requires-clause-stopped : goal.serve_listed-requires-clause-stopped
+serve_listed-requires-clause-stopped c =
+    let n = c.packs-count.ensures in
+    let b = c.marked-test.true in
+    let room = c.requires.room in
+    let kept = c.marked.invariant.6 in
+    let few = few_pass (λ i. not (first_runs c.args.tree.now c.marked.runs i) && is_held c.args.places.now.onto i) c.marked.i 0 in
+    let long = ap (λ (xs : List ℕ). length xs) c.marked.invariant.7 in
+    omega (arith, n, b, room, kept, few, long)
+
+pub serve_listed-requires-clause-begun : goal.serve_listed-requires-clause-begun
+serve_listed-requires-clause-begun c =
+    let n = c.packs-count.ensures in
+    let b = c.marked-test.true in
+    let room = c.requires.room in
+    let kept = c.marked.invariant.6 in
+    let few = few_pass (λ i. first_runs c.args.tree.now c.marked.runs i && not (is_held c.args.places.now.onto i)) c.marked.i 0 in
+    let long = ap (λ (xs : List ℕ). length xs) c.marked.invariant.8 in
+    omega (arith, n, b, room, kept, few, long)
+
+pub marked-preserved : goal.marked-preserved
+marked-preserved c =
+    let t = c.args.tree.now in
+    let n = c.packs-count.ensures in
+    let b = c.marked-test.true in
+    let i = c.marked.i in
+    let l : i < length (packs_at t 0) = omega (arith, n, b) in
     let at = c.pack_of-p.ensures.value in
     let onto = c.args.places.now.onto in
-    let fresh = fresh_step t c.requires.tree c.loop-i.stale c.serve_first.new.stale 0 c.loop-i.i c.pack_of-p.result.0 l at c.loop-i.invariant.4 c.serve_first.ensures.own c.serve_first.ensures.marks in
-    let same : (k : ℕ) → k < c.loop-i.i → first_runs t c.serve_first.new.runs k ≡ first_runs t c.loop-i.runs k =
-    (λ k m. let is_pack = first_is_pack t c.requires.tree k (omega (arith, m, l)) in c.serve_first.ensures.still.still (get_or (packs_at t 0) k 0) is_pack (fresh (get_or (packs_at t 0) k 0) is_pack (inr (k, omega (arith, m), refl)))) in
-    let here : first_runs t c.serve_first.new.runs c.loop-i.i ≡ get_or c.serve_first.new.runs c.pack_of-p.result.0 false = ap (λ q. get_or c.serve_first.new.runs q false) (sym at) in (
-      c.serve_first.ensures.tick ∙ c.loop-i.invariant.0,
-      c.serve_first.ensures.remains ∙ c.loop-i.invariant.1,
-      c.serve_first.ensures.nodes ∙ c.loop-i.invariant.2,
-      c.serve_first.ensures.serving,
-      fresh,
-      settled_rest t c.requires.tree onto c.loop-i.stale c.loop-i.runs c.serve_first.new.stale c.serve_first.new.runs c.pack_of-p.result.0 c.loop-i.i l at c.serve_first.ensures.still c.loop-i.invariant.5,
-      c.serve_first.ensures.room ∙ c.loop-i.invariant.6,
-      listed_step (λ i. not (first_runs t c.loop-i.runs i) && is_held onto i) (λ i. not (first_runs t c.serve_first.new.runs i) && is_held onto i) c.loop-i.changes.stopped c.serve_first.new.changes.stopped c.loop-i.i _
-          (λ k m. ap (λ (r : Bool). not r && is_held onto k) (same k m)) (ap (λ (r : Bool). not r && is_held onto c.loop-i.i) here) c.loop-i.invariant.7 c.serve_first.ensures.stopped,
-      listed_step (λ i. first_runs t c.loop-i.runs i && not (is_held onto i)) (λ i. first_runs t c.serve_first.new.runs i && not (is_held onto i)) c.loop-i.changes.begun c.serve_first.new.changes.begun c.loop-i.i _
-          (λ k m. ap (λ (r : Bool). r && not (is_held onto k)) (same k m)) (ap (λ (r : Bool). r && not (is_held onto c.loop-i.i)) here) c.loop-i.invariant.8 c.serve_first.ensures.begun,
+    let stale = c.serve_listed.new.stale in
+    let runs = c.serve_listed.new.runs in
+    let next = c.next_marked-i-in-marked.result in
+    let after = c.next_marked-i-in-marked.ensures.after in
+    let within = c.next_marked-i-in-marked.ensures.within in
+    let skipped = c.next_marked-i-in-marked.ensures.skipped in
+    let fresh = fresh_step t c.requires.tree c.marked.stale stale 0 i c.pack_of-p.result.0 l at c.marked.invariant.4 c.serve_listed.ensures.own c.serve_listed.ensures.marks in
+    let settled = settled_rest t c.requires.tree onto c.marked.stale c.marked.runs stale runs c.pack_of-p.result.0 i l at c.serve_listed.ensures.still c.marked.invariant.5 in
+    let same : (k : ℕ) → k < i → first_runs t runs k ≡ first_runs t c.marked.runs k =
+    (λ k m. let is_pack = first_is_pack t c.requires.tree k (omega (arith, m, l)) in c.serve_listed.ensures.still.still (get_or (packs_at t 0) k 0) is_pack (fresh (get_or (packs_at t 0) k 0) is_pack (inr (k, omega (arith, m), refl)))) in
+    let here : first_runs t runs i ≡ get_or runs c.pack_of-p.result.0 false = ap (λ q. get_or runs q false) (sym at) in
+    let stops : c.serve_listed.new.changes.stopped ≡ stops_below t onto runs (i + 1) =
+    listed_step (λ k. not (first_runs t c.marked.runs k) && is_held onto k) (λ k. not (first_runs t runs k) && is_held onto k) c.marked.changes.stopped c.serve_listed.new.changes.stopped i _
+    (λ k m. ap (λ (r : Bool). not r && is_held onto k) (same k m)) (ap (λ (r : Bool). not r && is_held onto i) here) c.marked.invariant.7 c.serve_listed.ensures.stopped in
+    let begins : c.serve_listed.new.changes.begun ≡ begins_below t onto runs (i + 1) =
+    listed_step (λ k. first_runs t c.marked.runs k && not (is_held onto k)) (λ k. first_runs t runs k && not (is_held onto k)) c.marked.changes.begun c.serve_listed.new.changes.begun i _
+    (λ k m. ap (λ (r : Bool). r && not (is_held onto k)) (same k m)) (ap (λ (r : Bool). r && not (is_held onto i)) here) c.marked.invariant.8 c.serve_listed.ensures.begun in (
+      c.serve_listed.ensures.tick ∙ c.marked.invariant.0,
+      c.serve_listed.ensures.remains ∙ c.marked.invariant.1,
+      c.serve_listed.ensures.nodes ∙ c.marked.invariant.2,
+      c.serve_listed.ensures.serving,
+      fresh_skip t stale 0 (i + 1) next fresh skipped,
+      settled_skip t onto stale runs (i + 1) next after within skipped settled,
+      c.serve_listed.ensures.room ∙ c.marked.invariant.6,
+      stops_skip t onto stale runs (i + 1) next after within skipped settled c.serve_listed.new.changes.stopped stops,
+      begins_skip t onto stale runs (i + 1) next after within skipped settled c.serve_listed.new.changes.begun begins,
+      within,
     )
 
 pub returns-clause-fresh : goal.returns-clause-fresh
-returns-clause-fresh c = fresh_all c.args.tree.now c.requires.tree c.loop-i.stale 0 c.loop-i.i (omega (arith, c.packs-i-end.ensures)) c.loop-i.invariant.4
+returns-clause-fresh c =
+    let n = c.packs-count.ensures in
+    let off = c.marked-test.false in
+    let most = c.marked.invariant.9 in
+    fresh_all c.args.tree.now c.requires.tree c.marked.stale 0 c.marked.i (omega (arith, n, off, most)) c.marked.invariant.4
 
 pub returns-clause-changed : goal.returns-clause-changed
-returns-clause-changed c = changed_are c.args.tree.now c.args.places.now.onto c.loop-i.runs c.loop-i.changes c.loop-i.i (omega (arith, c.packs-i-end.ensures)) c.loop-i.invariant.7 c.loop-i.invariant.8
+returns-clause-changed c =
+    let n = c.packs-count.ensures in
+    let off = c.marked-test.false in
+    let most = c.marked.invariant.9 in
+    changed_are c.args.tree.now c.args.places.now.onto c.marked.runs c.marked.changes c.marked.i (omega (arith, n, off, most)) c.marked.invariant.7 c.marked.invariant.8

@@ -1,25 +1,44 @@
-use Rattle.std.proofs.Common.{arith, refl, ◌∙◌}
+use Rattle.std.proofs.Common.{arith, refl, length, ◌+◌, ◌<◌, ◌∙◌}
+use Rattle.run_tree.specs.Schedule.{packs_at}
 use Rattle.tree_select.proofs.ReselectLemmas.{fresh_none, fresh_step, fresh_all}
-use Rattle.event_core.proofs.SettledPacks.{settled_above}
+use Rattle.event_core.proofs.SettledPacks.{fresh_skip, settled_above}
 use Rattle.event_core.proofs.WalkLemmas.{fitting_still}
 use Rattle.event_core.proofs.walks.serve_level.Goals as goal
 
-pub loop-i-init : goal.loop-i-init
-loop-i-init c = (refl, refl, refl, c.requires.serving, fresh_none c.args.tree.now c.requires.tree c.args.stale.now c.args.level c.requires.above, λ onto s. s)
-
-pub serve_marked-requires-clause-fits : goal.serve_marked-requires-clause-fits
-serve_marked-requires-clause-fits c = fitting_still c.args.tree.now c.args.dues.now c.loop-i.dues c.loop-i.invariant.0 c.loop-i.invariant.1 c.requires.fits
-
-pub loop-i-preserved : goal.loop-i-preserved
-loop-i-preserved c = (
-  c.serve_marked.ensures.tick ∙ c.loop-i.invariant.0,
-  c.serve_marked.ensures.remains ∙ c.loop-i.invariant.1,
-  c.serve_marked.ensures.nodes ∙ c.loop-i.invariant.2,
-  c.serve_marked.ensures.serving,
-  fresh_step c.args.tree.now c.requires.tree c.loop-i.stale c.serve_marked.new.stale c.args.level c.loop-i.i c.pack_of-p.result.0 (let n = c.packs-i-end.ensures in let b = c.loop-i-test.true in omega (arith, n, b)) c.pack_of-p.ensures.value c.loop-i.invariant.4 c.serve_marked.ensures.own c.serve_marked.ensures.marks,
-  λ onto s. settled_above c.args.tree.now c.requires.tree onto c.loop-i.stale c.loop-i.runs c.serve_marked.new.stale c.serve_marked.new.runs c.pack_of-p.result.0 c.serve_marked.ensures.still c.args.level c.loop-i.i c.requires.above_first
-      (let n = c.packs-i-end.ensures in let b = c.loop-i-test.true in omega (arith, n, b)) c.pack_of-p.ensures.value (c.loop-i.invariant.5 onto s),
+pub marked-init : goal.marked-init
+marked-init c = (
+  refl,
+  refl,
+  refl,
+  c.requires.serving,
+  fresh_skip c.args.tree.now c.args.stale.now c.args.level 0 c.next_marked-i.result (fresh_none c.args.tree.now c.requires.tree c.args.stale.now c.args.level c.requires.above) c.next_marked-i.ensures.skipped,
+  λ onto s. s,
+  c.next_marked-i.ensures.within,
 )
 
+pub serve_pack-requires-clause-fits : goal.serve_pack-requires-clause-fits
+serve_pack-requires-clause-fits c = fitting_still c.args.tree.now c.args.dues.now c.marked.dues c.marked.invariant.0 c.marked.invariant.1 c.requires.fits
+
+pub marked-preserved : goal.marked-preserved
+marked-preserved c =
+    let n = c.packs-count.ensures in
+    let b = c.marked-test.true in
+    let here : c.marked.i < length (packs_at c.args.tree.now c.args.level) = omega (arith, n, b) in (
+      c.serve_pack.ensures.tick ∙ c.marked.invariant.0,
+      c.serve_pack.ensures.remains ∙ c.marked.invariant.1,
+      c.serve_pack.ensures.nodes ∙ c.marked.invariant.2,
+      c.serve_pack.ensures.serving,
+      fresh_skip c.args.tree.now c.serve_pack.new.stale c.args.level (c.marked.i + 1) c.next_marked-i-in-marked.result
+          (fresh_step c.args.tree.now c.requires.tree c.marked.stale c.serve_pack.new.stale c.args.level c.marked.i c.pack_of-p.result.0 here c.pack_of-p.ensures.value c.marked.invariant.4 c.serve_pack.ensures.own c.serve_pack.ensures.marks)
+          c.next_marked-i-in-marked.ensures.skipped,
+      λ onto s. settled_above c.args.tree.now c.requires.tree onto c.marked.stale c.marked.runs c.serve_pack.new.stale c.serve_pack.new.runs c.pack_of-p.result.0 c.serve_pack.ensures.still c.args.level c.marked.i c.requires.above_first
+          here c.pack_of-p.ensures.value (c.marked.invariant.5 onto s),
+      c.next_marked-i-in-marked.ensures.within,
+    )
+
 pub returns-clause-fresh : goal.returns-clause-fresh
-returns-clause-fresh c = fresh_all c.args.tree.now c.requires.tree c.loop-i.stale c.args.level c.loop-i.i (omega (arith, c.packs-i-end.ensures)) c.loop-i.invariant.4
+returns-clause-fresh c =
+    let n = c.packs-count.ensures in
+    let off = c.marked-test.false in
+    let most = c.marked.invariant.6 in
+    fresh_all c.args.tree.now c.requires.tree c.marked.stale c.args.level c.marked.i (omega (arith, n, off, most)) c.marked.invariant.4
