@@ -1,146 +1,22 @@
--- What is so of the merged rows of a table.
-use Rattle.std.proofs.Common.{ℕ, zero, suc, ◌+◌, ◌*◌, ◌^◌, ◌<◌, ◌≤◌, ◌≡◌, inl, inr, lit<, List, [], ◌∷◌, ◌++◌, Some, length, take, map, replicate, refl, sym, ap, ◌∙◌, subst, arith, length-append}
-use Rattle.std.specs.Prelude.{slice_get}
-use Rattle.std.specs.List.{AllByRecursion}
-use Rattle.std.proofs.lemmas.Bool.{cases_Bool, cond-true, cond-false}
-use Rattle.std.proofs.lemmas.List.{length-map, take_all}
-use Rattle.sched_base.specs.declared.rows.Leaf.{Leaf}
-use Rattle.sched_base.specs.declared.rows.Leaf.TheVariants.{Task, Wait, Idle, Empty}
+-- What is so of the merged rows of a plan's schedule.
+use Rattle.std.proofs.Common.{ℕ, ◌*◌, ◌≤◌, ◌≡◌, List, sym, subst, ◌∙◌}
 use Rattle.sched_base.specs.declared.rows.Row.{Row}
-use Rattle.sched_base.specs.declared.sets.Task as declared
 use Rattle.sched_base.specs.Lanes.{NamesOneOf, lanes_of}
-use Rattle.sched_base.specs.Tables.{IsTable, all_rows, end_after, end_of, lane_of, rounds_of as rounds_in, row_limit, ticks_before, ticks_in}
-use Rattle.sched_base.proofs.TableLemmas.{row_at, end_after-last}
-use Rattle.sched_base.proofs.TickLemmas.{ticks_before-le}
+use Rattle.sched_base.specs.Tables.{IsTable, rounds_of as rounds_in, row_limit}
 use Rattle.sched_base.proofs.ScheduleLanes.{lanes_of-all, length-lanes_of}
 use Rattle.run_tree.specs.Plans.{IsPlan, PlanContents, schedule_of}
-use Rattle.trace_lines.specs.Conditions.{IsAmong, RunForward}
-use Rattle.trace_lines.specs.Finishes.{ticks_of}
-use Rattle.trace_lines.specs.Merging.{lengthened, merge_onto, merged}
-use Rattle.trace_lines.proofs.MergeLemmas.{few_merged, forward_lanes, forward_merged, goes_on, ticks_merged_lanes}
 use Rattle.round_table.proofs.RowNames.{schedule_names}
-use Rattle.merged_rows.specs.Sums.{NamesAmong, TicksFit}
-use Rattle.merged_rows.proofs.PushLemmas.{all_merged}
-use Rattle.merged_rounds.specs.Passes.{AreMergedOf, AreLawful}
+use Rattle.merged_rows.specs.Lawful.{AreLawful}
+use Rattle.merged_rows.proofs.MergedTables.{lawful_rows}
+use Rattle.merged_rounds.specs.Passes.{AreMergedOf}
 
--- ---- names
-
-among : (tasks : List declared.Task) (leaf : Leaf) → NamesOneOf tasks leaf → IsAmong (length tasks) leaf
-among tasks (Task id) h = h
-among tasks (Wait id) h = tt
-among tasks (Idle number) h = tt
-among tasks Empty h = tt
-
-names_onto : (tasks : List declared.Task) (r : Row) (rows : List Row) → IsAmong (length tasks) r.leaf → NamesAmong (length tasks) rows → NamesAmong (length tasks) (merge_onto r rows)
-names_onto tasks r [] own rest = (own, tt)
-names_onto tasks r (q ∷ rows) own rest = elim (cases_Bool (goes_on r q)) [
-  | inl t ↦ (let e : merge_onto r (q ∷ rows) ≡ lengthened r q.end ∷ rows = cond-true _ _ _ t in subst (NamesAmong (length tasks)) (sym e) (own, rest.1))
-  | inr f ↦ (let e : merge_onto r (q ∷ rows) ≡ r ∷ (q ∷ rows) = cond-false _ _ _ f in subst (NamesAmong (length tasks)) (sym e) (own, rest))
-]
-
-names_merged : (tasks : List declared.Task) (rows : List Row) → AllByRecursion (λ r. NamesOneOf tasks r.leaf) rows → NamesAmong (length tasks) (merged rows)
-names_merged tasks [] names = tt
-names_merged tasks (r ∷ rows) names = names_onto tasks r (merged rows) (among tasks r.leaf names.0) (names_merged tasks rows names.1)
-
--- ---- of each lane, merged
-
-all_of : (P Q : List Row → Type 0) → ((rows : List Row) → P rows → Q (merged rows)) → (lanes : List (List Row)) → AllByRecursion P lanes → AllByRecursion Q (map merged lanes)
-all_of P Q f [] all = tt
-all_of P Q f (lane ∷ lanes) all = (f lane all.0, all_of P Q f lanes all.1)
-
--- ---- how many
-
-few_of_all : (lanes : List (List Row)) → length (all_rows (map merged lanes)) ≤ length (all_rows lanes)
-few_of_all [] = omega arith
-few_of_all (lane ∷ lanes) =
-    let one = few_merged lane in
-    let rest = few_of_all lanes in
-    let joined = length-append (merged lane) (all_rows (map merged lanes)) in
-    let all = length-append lane (all_rows lanes) in
-    omega (arith, one, rest, joined, all)
-
-count_of_all : (lanes : List (List Row)) (k : ℕ) → ((p : ℕ) → p < length lanes → length (lane_of lanes p) ≡ k) → length (all_rows lanes) ≡ k * length lanes
-count_of_all [] k whole = omega arith
-count_of_all (lane ∷ lanes) k whole =
-    let long : length lane ≡ k = whole 0 (omega arith) in
-    let rest = count_of_all lanes k (λ p within. whole (suc p) (omega (arith, within))) in
-    let all = length-append lane (all_rows lanes) in
-    omega (arith, long, rest, all)
-
--- ---- ticks
-
-ticks_in-append : (j : ℕ) (xs ys : List Row) → ticks_in j (xs ++ ys) ≡ ticks_in j xs + ticks_in j ys
-ticks_in-append j [] ys = omega arith
-ticks_in-append j (x ∷ xs) ys = let rest = ticks_in-append j xs ys in omega (arith, rest)
-
--- the ticks of all rounds are those of all rows
-ticks_before-all : (j k : ℕ) (lanes : List (List Row)) → ((p : ℕ) → p < length lanes → length (lane_of lanes p) ≡ k) → ticks_before j k lanes ≡ ticks_in j (all_rows lanes)
-ticks_before-all j k [] whole = refl
-ticks_before-all j k (lane ∷ lanes) whole =
-    let long : length lane ≡ k = whole 0 (omega arith) in
-    let here : ticks_in j (take k lane) ≡ ticks_in j lane = ap (ticks_in j) (take_all k lane (omega (arith, long))) in
-    let rest = ticks_before-all j k lanes (λ p within. whole (suc p) (omega (arith, within))) in
-    let all = ticks_in-append j lane (all_rows lanes) in
-    omega (arith, here, rest, all)
-
--- the last round of a table ends below 2^127
-end_fits : (lanes : List (List Row)) (k : ℕ) → IsTable lanes → rounds_in lanes ≡ k → 0 < length lanes → end_of lanes < 2 ^ 127
-end_fits lanes zero table rounds some =
-    let e : end_of lanes ≡ 0 = ap (end_after 0) (sym (take_all 0 (lane_of lanes 0) (omega (arith, rounds)))) in
-    omega (arith, e)
-end_fits lanes (suc k) table rounds some =
-    let last = row_at lanes table 0 k some (omega (arith, rounds)) in
-    let e : end_of lanes ≡ last.0.end = end_after-last (lane_of lanes 0) 0 k last.0 last.1 (omega (arith, rounds)) in
-    let f = (table.forward 0 k last.0 last.1).1 in
-    omega (arith, e, f)
-
--- a task stands at most once in a round, so it has no more ticks than passed
-ticks_fit : (j : ℕ) (lanes : List (List Row)) → IsTable lanes → ticks_in j (all_rows lanes) < 2 ^ 127
-ticks_fit j [] table = omega arith
-ticks_fit j (lane ∷ lanes) table =
-    let all = ticks_before-all j (rounds_in (lane ∷ lanes)) (lane ∷ lanes) table.whole in
-    let passed = ticks_before-le (lane ∷ lanes) table j (rounds_in (lane ∷ lanes)) (omega arith) in
-    let whole : end_after 0 (take (rounds_in (lane ∷ lanes)) lane) ≡ end_of (lane ∷ lanes) = ap (end_after 0) (take_all (rounds_in (lane ∷ lanes)) lane (omega arith)) in
-    let end = end_fits (lane ∷ lanes) (rounds_in (lane ∷ lanes)) table refl (omega arith) in
-    omega (arith, all, passed, whole, end)
-
-merged_fit : (lanes : List (List Row)) → IsTable lanes → TicksFit (all_rows (map merged lanes))
-merged_fit lanes table j =
-    let e : ticks_of (all_rows (map merged lanes)) j ≡ ticks_in j (all_rows lanes) = ap (λ rows. ticks_of rows j) (all_merged lanes) ∙ ticks_merged_lanes j lanes (forward_lanes lanes table) in
-    let f = ticks_fit j lanes table in
-    let wide : 2 ^ 127 < 2 ^ 128 = lit< tt in
-    omega (arith, e, f, wide)
-
--- ---- of a plan
-
-module _ (p : PlanContents) (h : IsPlan p) (lanes : List (List Row)) (is : AreMergedOf p lanes) where
-  -- the rows of the schedule's lanes are a table of so many rounds
-  pub lawful_rows : (rounds : ℕ) → IsTable (lanes_of p.tree.processors (schedule_of p)) → rounds_in (lanes_of p.tree.processors (schedule_of p)) ≡ rounds → rounds * p.tree.processors ≤ row_limit
-      → AreLawful p lanes
-  lawful_rows rounds table count few =
-      let m = p.tree.processors in
-      let raw = lanes_of m (schedule_of p) in
-      let many : length raw ≡ m = length-lanes_of m (schedule_of p) in
-      subst (AreLawful p) (sym is) (record {
-        processors = length-map raw merged ∙ many ∙ h.tree.processors;
-        names = all_of (λ rows. AllByRecursion (λ r. NamesOneOf p.set.tasks r.leaf) rows) (NamesAmong (length p.set.tasks)) (names_merged p.set.tasks) raw
-            (lanes_of-all (λ r. NamesOneOf p.set.tasks r.leaf) m (schedule_of p) (schedule_names p h));
-        forward = all_of RunForward RunForward forward_merged raw (forward_lanes raw table);
-        few = (let less = few_of_all raw in
-            let all = count_of_all raw (rounds_in raw) table.whole in
-            let same : rounds_in raw * length raw ≡ rounds * m = ap (λ n. n * length raw) count ∙ ap (λ n. rounds * n) many in
-            omega (arith, less, all, same, few));
-        fit = merged_fit raw table;
-      })
-
--- ---- rounds
-
--- rows that end at one tick end there
-pub end_of_all : (rows : List Row) (before end : ℕ) → 0 < length rows → ((k : ℕ) (r : Row) → slice_get rows k ≡ Some r → r.end ≡ end) → end_after before rows ≡ end
-end_of_all [] before end some all = absurd (omega (arith, some))
-end_of_all (r ∷ []) before end some all = all 0 r refl
-end_of_all (r ∷ (q ∷ rows)) before end some all = end_of_all (q ∷ rows) r.end end (omega arith) (λ k s at. all (suc k) s at)
-
-pub merged_none : (m : ℕ) → map merged (replicate m []) ≡ replicate m []
-merged_none zero = refl
-merged_none (suc m) = ap (λ lanes. [] ∷ lanes) (merged_none m)
+-- the rows of the schedule's lanes are a table of so many rounds
+pub lawful_merged : (p : PlanContents) → IsPlan p → (lanes : List (List Row)) → AreMergedOf p lanes → (rounds : ℕ) → IsTable (lanes_of p.tree.processors (schedule_of p))
+    → rounds_in (lanes_of p.tree.processors (schedule_of p)) ≡ rounds → rounds * p.tree.processors ≤ row_limit → AreLawful p.set lanes
+lawful_merged p h lanes is rounds table count few =
+    let m = p.tree.processors in
+    let same : m ≡ p.set.processors = h.tree.processors in
+    subst (AreLawful p.set) (sym is)
+    (lawful_rows p.set (lanes_of m (schedule_of p)) rounds (length-lanes_of m (schedule_of p) ∙ same)
+    (lanes_of-all (λ r. NamesOneOf p.set.tasks r.leaf) m (schedule_of p) (schedule_names p h)) table count
+    (subst (λ (n : ℕ). rounds * n ≤ row_limit) same few))

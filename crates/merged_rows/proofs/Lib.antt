@@ -1,3 +1,4 @@
 pub mod PushLemmas
 mod ColumnLemmas
 mod SumLemmas
+pub mod MergedTables

@@ -9,6 +9,5 @@ mod CountLemmas
 mod PatternLemmas
 mod TableLemmas
 mod RowNames
-mod MergedTables
 mod MergedLemmas
 mod Examples

@@ -1,24 +1,22 @@
 -- The merged rows of the first rounds of a wrapped schedule.
 use Rattle.std.proofs.Common.{[], add-zero, ap, arith, filter, length, List, map, refl, replicate, Some, subst, sym, ℕ, ◌*◌, ◌+◌, ◌++◌, ◌-◌, ◌<◌, ◌^◌, ◌∙◌, ◌≡◌, ◌≤◌, true}
 use Rattle.std.proofs.lemmas.List.{append-nil, append_assoc, length-map, take_all}
-use Rattle.std.specs.List.{AllByRecursion, flat_map, range_with_len}
+use Rattle.std.specs.List.{flat_map, range_with_len}
 use Rattle.sched_base.specs.declared.rows.Row.{Row}
-use Rattle.sched_base.specs.Lanes.{NamesOneOf, lanes_of}
+use Rattle.sched_base.specs.Lanes.{lanes_of}
 use Rattle.sched_base.specs.Scale.{Fits, IsScale}
 use Rattle.sched_base.specs.Sets.{IsLawful, SetContents}
 use Rattle.sched_base.specs.Tables.{IsRound, IsTable, end_after, end_of, rounds_of, row_limit, with_round}
 use Rattle.sched_base.proofs.ScheduleLanes.{lanes_of-none, length-lanes_of}
 use Rattle.sched_base.proofs.TableLemmas.{IsTable-none, IsTable-with_round}
-use Rattle.trace_lines.specs.Conditions.{RunForward}
 use Rattle.trace_lines.specs.Merging.{merged}
-use Rattle.trace_lines.proofs.MergeLemmas.{forward_lanes, forward_merged}
 use Rattle.merged_rows.specs.Columns.{MergedContents}
-use Rattle.merged_rows.specs.Sums.{NamesAmong}
-use Rattle.wrap_sched.specs.Merged.{AreLawful, AreMergedOf, AreMergedUpTo}
+use Rattle.merged_rows.specs.Lawful.{AreLawful}
+use Rattle.merged_rows.proofs.MergedTables.{end_of_all, lawful_rows, merged_none}
+use Rattle.wrap_sched.specs.Merged.{AreMergedOf, AreMergedUpTo}
 use Rattle.wrap_sched.specs.Spans.{spans}
 use Rattle.wrap_sched.specs.Steps.{HeldRound, IsNext, rates, unit_round, unit_rounds}
 use Rattle.wrap_sched.specs.Wrapped.{is_point, round_rows, rounds_in, slice_rows, wrapped, wrapped_rounds}
-use Rattle.wrap_sched.proofs.MergedTables.{all_of, count_of_all, end_of_all, few_of_all, merged_fit, merged_none, names_merged}
 use Rattle.wrap_sched.proofs.PatternLemmas.{spans_next}
 use Rattle.wrap_sched.proofs.RowNames.{lanes_name}
 use Rattle.wrap_sched.proofs.StepLemmas.{filter_next}
@@ -184,16 +182,7 @@ module _ (s : SetContents) (scale : ℕ) (lawful : IsLawful s) (is : IsScale s.t
     all_lawful few =
         let m = s.processors in
         let raw = lanes_of m (wrapped scale s) in
-        let many : length raw ≡ m = length-lanes_of m (wrapped scale s) in
         let table : IsTable raw = subst (λ (rows : List Row). IsTable (lanes_of m rows)) all_done before.so_far.table in
         let count : rounds_of raw ≡ wrapped_rounds scale s = ap (λ rows. rounds_of (lanes_of m rows)) (sym all_done) ∙ before.so_far.rounds ∙ all_counted in
-        subst (AreLawful s) (sym all_merged_rows) (record {
-          processors = length-map raw merged ∙ many;
-          names = all_of (λ rows. AllByRecursion (λ r. NamesOneOf s.tasks r.leaf) rows) (NamesAmong (length s.tasks)) (names_merged s.tasks) raw (lanes_name s scale lawful is fits);
-          forward = all_of RunForward RunForward forward_merged raw (forward_lanes raw table);
-          few = (let less = few_of_all raw in
-              let all = count_of_all raw (rounds_of raw) table.whole in
-              let same : rounds_of raw * length raw ≡ wrapped_rounds scale s * m = ap (λ n. n * length raw) count ∙ ap (λ n. wrapped_rounds scale s * n) many in
-              omega (arith, less, all, same, few));
-          fit = merged_fit raw table;
-        })
+        subst (AreLawful s) (sym all_merged_rows)
+        (lawful_rows s raw (wrapped_rounds scale s) (length-lanes_of m (wrapped scale s)) (lanes_name s scale lawful is fits) table count few)

@@ -17,7 +17,7 @@ use Rattle.sched_base.proofs.RowLemmas.{is_of_task_at}
 use Rattle.sched_base.proofs.TableLemmas.{length-lane_of-with_round, length-with_round}
 use Rattle.sched_base.specs.Lanes.{lanes_of}
 use Rattle.wrap_sched.specs.Spans.{Span, spans}
-use Rattle.wrap_sched.specs.Steps.{HeldRound, cuts, rates, unit_round, unit_rounds}
+use Rattle.wrap_sched.specs.Steps.{HeldRound, cuts, rates, stretched_rows, unit_round, unit_rounds}
 use Rattle.wrap_sched.specs.Wrapped.{holder, is_cut, is_point, leaf_of, round_rows, rounds_in, row_of, shares, slice_rows, units, wrapped, wrapped_rounds}
 use Rattle.wrap_sched.proofs.CountLemmas.{rounds_are, wrapped_rounds_are}
 use Rattle.sched_base.proofs.ScheduleLanes.{end_of-with_round, lane_of-lanes_of, lanes_of-round}
@@ -243,24 +243,33 @@ module _ (s : SetContents) (scale : ℕ) (lawful : IsLawful s) (is : IsScale s.t
           ∙ ap (λ rows. done ++ rows) (sym (flat_map-append f (map g (take i (rounds_in scale (rates scale s.tasks)))) (g it.round ∷ [])))
           ∙ ap (λ rs. done ++ flat_map f rs) (sym (ap (map g) it.before ∙ map-append g (take i (rounds_in scale (rates scale s.tasks))) (it.round ∷ [])))
 
--- all ticks of a slice fit
-pub slice_fits : (x y horizon scale q : ℕ) → x < y → y ≤ horizon → horizon < 2 ^ 32 → scale ≤ 2 ^ 94 → q ≤ scale → ((y - x) * q < 2 ^ 127) × (x * scale < 2 ^ 127)
-slice_fits x y horizon scale q l early fits small within =
-    (place_fits (y - x) q scale (omega (arith, early, fits)) within small, ticks_fit x horizon scale (omega (arith, early, l)) fits small)
+module _ (s : SetContents) (scale : ℕ) (lawful : IsLawful s) (is : IsScale s.tasks scale) (x y : ℕ) (forward : x < y) (i : ℕ) (item : HeldRound) (it : IsItem s.processors scale (rates scale s.tasks) i item) where
+  -- a holder for each processor
+  pub item_holders : length item.holders ≡ s.processors
+  item_holders =
+      ap length (ap (λ (z : HeldRound). z.holders) it.is)
+      ∙ length-map-range_with_len (λ p. holder (rates scale s.tasks) (p * scale + it.round.begin)) 0 s.processors
 
--- the rows that the code writes are the round's
-pub written_rows : (s : SetContents) (scale : ℕ) → IsLawful s → IsScale s.tasks scale → (x y : ℕ) → x < y → (i : ℕ) (item : HeldRound) (it : IsItem s.processors scale (rates scale s.tasks) i item)
-    (hs : List ℕ) → hs ≡ item.holders → (a u b e : ℕ) → a ≡ x → u ≡ y - x → b ≡ item.begin → e ≡ item.end
-    → map (λ p. record { processor = p; start = a * scale + u * b; end = a * scale + u * e; leaf = leaf_of s.tasks x p (get_or hs p 0) }) (range_with_len 0 s.processors)
-    ≡ round_rows scale s.tasks s.processors (slice_of x y) (stretch (y - x) it.round)
-written_rows s scale lawful is x y forward i item it hs held a u b e a_is u_is b_is e_is =
-    let r = it.round in
-    let b_at : b ≡ r.begin = b_is ∙ ap (λ (z : HeldRound). z.begin) it.is in
-    let e_at : e ≡ r.end = e_is ∙ ap (λ (z : HeldRound). z.end) it.is in
-    let begin_is : a * scale + u * b ≡ x * scale + (y - x) * r.begin = ap₂ (λ m n. m * scale + n) a_is (ap₂ (λ m n. m * n) u_is b_at) in
-    let end_is : a * scale + u * e ≡ x * scale + (y - x) * r.end = ap₂ (λ m n. m * scale + n) a_is (ap₂ (λ m n. m * n) u_is e_at) in
-    ap (λ (ns : List ℕ). map (λ p. record { processor = p; start = a * scale + u * b; end = a * scale + u * e; leaf = leaf_of s.tasks x p (get_or ns p 0) }) (range_with_len 0 s.processors)) (held ∙ ap (λ (z : HeldRound). z.holders) it.is)
-    ∙ written s scale lawful is (slice_of x y) forward r (a * scale + u * b) (a * scale + u * e) begin_is end_is
+  module _ (start : ℕ) (at : start ≡ x * scale) where
+    -- all ticks of a round fit
+    pub item_fits : y ≤ s.horizon → scale ≤ 2 ^ 94 → item.end ≤ scale → start + (y - x) * item.end < 2 ^ 128
+    item_fits early small within =
+        let room = lawful.horizon_fits in
+        let a = ticks_fit x s.horizon scale (omega (arith, early, forward)) room small in
+        let b = place_fits (y - x) item.end scale (omega (arith, early, room)) within small in
+        let two : 2 ^ 127 + 2 ^ 127 ≡ 2 ^ 128 = refl in
+        omega (arith, a, b, two, at)
+
+    -- the rows that the code writes are the round's
+    pub written_rows : stretched_rows s x y start item ≡ round_rows scale s.tasks s.processors (slice_of x y) (stretch (y - x) it.round)
+    written_rows =
+        let r = it.round in
+        let place : ℕ → ℕ → ℕ = λ n q. n + (y - x) * q in
+        let begin_is : start + (y - x) * item.begin ≡ x * scale + (y - x) * r.begin = ap₂ place at (ap (λ (z : HeldRound). z.begin) it.is) in
+        let end_is : start + (y - x) * item.end ≡ x * scale + (y - x) * r.end = ap₂ place at (ap (λ (z : HeldRound). z.end) it.is) in
+        ap (λ (ns : List ℕ). map (λ p. record { processor = p; start = start + (y - x) * item.begin; end = start + (y - x) * item.end; leaf = leaf_of s.tasks x p (get_or ns p 0) }) (range_with_len 0 s.processors))
+        (ap (λ (z : HeldRound). z.holders) it.is)
+        ∙ written s scale lawful is (slice_of x y) forward r (start + (y - x) * item.begin) (start + (y - x) * item.end) begin_is end_is
 
 -- ---- the slices, one after another
 

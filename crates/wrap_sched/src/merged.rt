@@ -4,7 +4,8 @@ ghost use Rattle.std.specs.Prelude.{List, [], ◌++◌, length, replicate};
 ghost use Rattle.sched_base.specs.Scale.{IsScale, Fits};
 ghost use Rattle.sched_base.specs.Tables.{row_limit};
 ghost use Rattle.sched_base.specs.declared.rows.Row.{Row as DeclaredRow};
-ghost use Rattle.wrap_sched.specs.Merged.{AreMergedOf, AreLawful, AreMergedUpTo};
+ghost use Rattle.merged_rows.specs.Lawful.{AreLawful};
+ghost use Rattle.wrap_sched.specs.Merged.{AreMergedOf, AreMergedUpTo};
 ghost use Rattle.wrap_sched.specs.Steps.{rates, unit_rounds};
 ghost use Rattle.wrap_sched.specs.Wrapped.{slice_rows, wrapped_rounds};
 
@@ -40,12 +41,9 @@ fn merge_slice(
 {
     let _lawful = set.processors();
     let start = u128::from(x) * scale;
-    let units = u128::from(y - x);
     let mut merged = before;
     for round in pattern {
-        let begin = start + units * round.begin();
-        let end = start + units * round.end();
-        write_rows(set, x, begin, end, round.holders(), rows);
+        write_rows(set, x, y, start, round, rows);
         merged = merged.with_rows(rows)?;
     }
     Ok(merged)

@@ -1,13 +1,12 @@
 //! The table of the wrapped schedule.
 ghost use Rattle.std.specs.Prelude.{ℕ, ◌≡◌, ◌<◌, ◌≤◌, ◌+◌, ◌*◌, ◌-◌, ◌^◌, IfOk, vec_len};
-ghost use Rattle.std.specs.Prelude.{List, [], ◌++◌, map, length, replicate, slice_index_or};
-ghost use Rattle.std.specs.List.{range_with_len};
+ghost use Rattle.std.specs.Prelude.{List, [], ◌++◌, length, replicate};
 ghost use Rattle.sched_base.specs.Scale.{IsScale, Fits};
 ghost use Rattle.sched_base.specs.Tables.{all_rows, end_of, rounds_of};
 ghost use Rattle.sched_base.specs.Valid.{IsValid};
 ghost use Rattle.sched_base.specs.declared.rows.Row.{Row as DeclaredRow};
 ghost use Rattle.sched_base.specs.Lanes.{lanes_of};
-ghost use Rattle.wrap_sched.specs.Steps.{rates, unit_rounds};
+ghost use Rattle.wrap_sched.specs.Steps.{rates, stretched_rows, unit_rounds};
 ghost use Rattle.wrap_sched.specs.Wrapped.{leaf_of, slice_rows, wrapped, wrapped_rounds};
 
 use crate::cuts::rates_of;
@@ -45,29 +44,31 @@ fn leaf_of(set: &TaskSet, x: u64, processor: u32, holder: u32) -> Leaf
     }
 }
 
-/// Writes the rows of a round of a slice from unit x on.
+/// Writes the rows of a round of the slice from unit x up to unit y, which starts at the tick `start`.
 pub(crate) fn write_rows(
     set: &TaskSet,
     x: u64,
+    y: u64,
     start: u128,
-    end: u128,
-    holders: &[u32],
+    round: &UnitRound,
     rows: &mut [Row],
 )
-    requires holders { length holders.now ≡ set.now.processors }
+    requires forward { x < y }
+    requires places { round.now.begin ≤ round.now.end }
+    requires fits { start + (y - x) * round.now.end < 2 ^ 128 }
+    requires holders { length round.now.holders ≡ set.now.processors }
     requires rows { length rows.old ≡ set.now.processors }
-    ensures { rows.new ≡ map (λ p. record {
-      processor = p;
-      start = start;
-      end = end;
-      leaf = leaf_of set.now.tasks x p (slice_index_or holders.now p 0);
-    }) (range_with_len 0 set.now.processors) }
+    ensures { rows.new ≡ stretched_rows set.now x y start round.now }
 {
     let _lawful = set.processors();
+    let units = u128::from(y - x);
+    let end = start + units * round.end();
+    let begin = start + units * round.begin();
+    let holders = round.holders();
     for p in 0..rows.len() {
         rows[p] = Row {
             processor: p as u32,
-            start,
+            start: begin,
             end,
             leaf: leaf_of(set, x, p as u32, holders[p]),
         };
@@ -103,11 +104,8 @@ fn push_slice(
 {
     let _lawful = set.processors();
     let start = u128::from(x) * scale;
-    let units = u128::from(y - x);
     for round in pattern {
-        let begin = start + units * round.begin();
-        let end = start + units * round.end();
-        write_rows(set, x, begin, end, round.holders(), rows);
+        write_rows(set, x, y, start, round, rows);
         table.push_round(rows);
     }
 }

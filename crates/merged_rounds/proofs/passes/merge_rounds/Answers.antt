@@ -1,9 +1,9 @@
-use Rattle.std.proofs.Common.{[], List, None, Option, Some, get_or, slice_get, ap, arith, length, map, subst, sym, ℕ, ◌*◌, ◌+◌, ◌/◌, ◌<◌, ◌∙◌, ◌≡◌}
+use Rattle.std.proofs.Common.{[], List, None, Option, Some, get_or, ap, arith, length, map, subst, sym, ℕ, ◌*◌, ◌+◌, ◌/◌, ◌<◌, ◌∙◌, ◌≡◌}
 use Rattle.sched_base.specs.declared.rows.Leaf.TheVariants.{Empty}
 use Rattle.sched_base.specs.declared.rows.NodeId.{NodeId}
 use Rattle.sched_base.specs.declared.rows.Row.{Row}
 use Rattle.sched_base.specs.Lanes.{lanes_of}
-use Rattle.sched_base.specs.Tables.{IsRound, IsTable, end_after, end_of, lane_of, row_limit, rounds_of as rounds_in, with_round}
+use Rattle.sched_base.specs.Tables.{IsRound, IsTable, end_after, end_of, lane_of, row_limit, rounds_of as rounds_in}
 use Rattle.sched_base.proofs.ScheduleLanes.{lanes_of-none, length-lanes_of}
 use Rattle.sched_base.proofs.TableLemmas.{IsTable-none, IsTable-with_round}
 use Rattle.std.proofs.lemmas.List.{get_or-replicate, length-map}
@@ -20,7 +20,8 @@ use Rattle.merged_rows.specs.Columns.{ends_showing}
 use Rattle.merged_rows.proofs.PushLemmas.{round_ends}
 use Rattle.merged_rounds.specs.Passes.{IsLooked}
 use Rattle.merged_rounds.proofs.LookLemmas.{are_told, kept_on}
-use Rattle.merged_rounds.proofs.ScheduleLemmas.{end_of_all, lawful_rows, merged_none}
+use Rattle.merged_rows.proofs.MergedTables.{end_of_all, merged_none}
+use Rattle.merged_rounds.proofs.ScheduleLemmas.{lawful_merged}
 use Rattle.merged_rounds.proofs.passes.merge_rounds.Goals as goal
 
 pub rounds-init : goal.rounds-init
@@ -122,7 +123,7 @@ returns-clause-lawful c =
     let same : c.from-processors.result ≡ m = c.from-processors.ensures ∙ c.processors.ensures.value ∙ ap (λ (t : Tree). t.processors) c.tree.ensures.value in
     let all : c.rounds.count * c.from-processors.result ≡ rounds_before p tick * m = ap (λ n. n * c.from-processors.result) c.rounds.invariant.count ∙ ap (λ n. rounds_before p tick * n) same in
     let few = c.rounds.invariant.few in
-    lawful_rows p h c.rounds.merged.lanes
+    lawful_merged p h c.rounds.merged.lanes
     (c.rounds.invariant.lanes ∙ ap (λ n. map merged (lanes_of m (rows_before p n))) here)
     (rounds_before p tick)
     (subst (λ (n : ℕ). IsTable (lanes_of m (rows_before p n))) here c.rounds.invariant.table)

@@ -1,14 +1,13 @@
 use Rattle.std.proofs.Common.{List, add-zero, ap, arith, length, map, subst, sym, ◌*◌, ◌+◌, ◌++◌, ◌-◌, ◌∙◌, ◌≡◌}
 use Rattle.std.proofs.lemmas.List.{append-nil, length-map, take_all}
-use Rattle.std.proofs.lemmas.List.FromFn.{length-map-range_with_len}
 use Rattle.std.specs.List.{flat_map}
 use Rattle.sched_base.specs.Tables.{IsRound, end_of, rounds_of, with_round}
 use Rattle.sched_base.specs.declared.rows.Row.{Row}
 use Rattle.sched_base.specs.Lanes.{lanes_of}
-use Rattle.wrap_sched.specs.Steps.{HeldRound, rates, unit_round}
-use Rattle.wrap_sched.specs.Wrapped.{holder, round_rows, rounds_in}
+use Rattle.wrap_sched.specs.Steps.{rates, unit_round}
+use Rattle.wrap_sched.specs.Wrapped.{round_rows, rounds_in}
 use Rattle.wrap_sched.proofs.StretchLemmas.{stretch}
-use Rattle.wrap_sched.proofs.TableLemmas.{IsItem, IsReached, first_reached, item_at, item_bounds, item_whole, last_reached, next_count, next_reached, next_rows, round_lanes, rows_up_to, slice_fits, slice_of, slice_rows_are, written_rows}
+use Rattle.wrap_sched.proofs.TableLemmas.{IsReached, first_reached, item_at, item_bounds, item_fits, item_holders, item_whole, last_reached, next_count, next_reached, next_rows, round_lanes, rows_up_to, slice_of, slice_rows_are, written_rows}
 use Rattle.wrap_sched.proofs.tables.push_slice.Goals as goal
 
 pub loop-round-init : goal.loop-round-init
@@ -21,66 +20,27 @@ loop-round-init c =
       room = add-zero c.args.table.now.room;
     }
 
--- the round that is taken
-item_begin : (c : goal.After-begin) → IsItem c.args.set.now.processors c.args.scale (rates c.args.scale c.args.set.now.tasks) c.loop-round.round-index c.round-item.result
-item_begin c = item_at c.args.set.now.processors c.args.scale (rates c.args.scale c.args.set.now.tasks) c.args.pattern.now c.loop-round.round-index c.round-item.result c.requires.pattern c.loop-round-test.true c.round-item.is
-
-pub overflow_mul-begin : goal.overflow_mul-begin
-overflow_mul-begin c =
+pub write_rows-requires : goal.write_rows-requires
+write_rows-requires c =
     let s = c.args.set.now in
-    let b = item_bounds s c.args.scale c.processors-lawful.ensures.lawful c.requires.scale c.args.x c.args.y c.requires.forward c.loop-round.table.lanes c.loop-round.round-index c.loop-round.invariant.reached c.round-item.result (item_begin c) in
-    let at = c.begin.ensures in
-    let p = slice_fits c.args.x c.args.y s.horizon c.args.scale c.begin.result c.requires.forward c.requires.early c.processors-lawful.ensures.lawful.horizon_fits c.requires.scale_fits (omega (arith, b.0, b.1, at)) in
-    let u = ap (λ n. n * c.begin.result) c.from-units.ensures in
-    omega (arith, p.0, u)
-
-pub overflow_add-begin : goal.overflow_add-begin
-overflow_add-begin c =
-    let s = c.args.set.now in
-    let b = item_bounds s c.args.scale c.processors-lawful.ensures.lawful c.requires.scale c.args.x c.args.y c.requires.forward c.loop-round.table.lanes c.loop-round.round-index c.loop-round.invariant.reached c.round-item.result (item_begin c) in
-    let at = c.begin.ensures in
-    let p = slice_fits c.args.x c.args.y s.horizon c.args.scale c.begin.result c.requires.forward c.requires.early c.processors-lawful.ensures.lawful.horizon_fits c.requires.scale_fits (omega (arith, b.0, b.1, at)) in
-    let u = ap (λ n. n * c.begin.result) c.from-units.ensures in
-    let x = ap (λ n. n * c.args.scale) c.from.ensures in
-    omega (arith, p.0, p.1, u, x)
-
--- the round that is taken
-item_end : (c : goal.After-end) → IsItem c.args.set.now.processors c.args.scale (rates c.args.scale c.args.set.now.tasks) c.loop-round.round-index c.round-item.result
-item_end c = item_at c.args.set.now.processors c.args.scale (rates c.args.scale c.args.set.now.tasks) c.args.pattern.now c.loop-round.round-index c.round-item.result c.requires.pattern c.loop-round-test.true c.round-item.is
-
-pub overflow_mul-end : goal.overflow_mul-end
-overflow_mul-end c =
-    let s = c.args.set.now in
-    let b = item_bounds s c.args.scale c.processors-lawful.ensures.lawful c.requires.scale c.args.x c.args.y c.requires.forward c.loop-round.table.lanes c.loop-round.round-index c.loop-round.invariant.reached c.round-item.result (item_end c) in
-    let at = c.end.ensures in
-    let p = slice_fits c.args.x c.args.y s.horizon c.args.scale c.end.result c.requires.forward c.requires.early c.processors-lawful.ensures.lawful.horizon_fits c.requires.scale_fits (omega (arith, b.0, b.1, at)) in
-    let u = ap (λ n. n * c.end.result) c.from-units.ensures in
-    omega (arith, p.0, u)
-
-pub overflow_add-end : goal.overflow_add-end
-overflow_add-end c =
-    let s = c.args.set.now in
-    let b = item_bounds s c.args.scale c.processors-lawful.ensures.lawful c.requires.scale c.args.x c.args.y c.requires.forward c.loop-round.table.lanes c.loop-round.round-index c.loop-round.invariant.reached c.round-item.result (item_end c) in
-    let at = c.end.ensures in
-    let p = slice_fits c.args.x c.args.y s.horizon c.args.scale c.end.result c.requires.forward c.requires.early c.processors-lawful.ensures.lawful.horizon_fits c.requires.scale_fits (omega (arith, b.0, b.1, at)) in
-    let u = ap (λ n. n * c.end.result) c.from-units.ensures in
-    let x = ap (λ n. n * c.args.scale) c.from.ensures in
-    omega (arith, p.0, p.1, u, x)
-
-pub write_rows-requires-clause-holders : goal.write_rows-requires-clause-holders
-write_rows-requires-clause-holders c =
-    let scale = c.args.scale in
-    let ns = rates scale c.args.set.now.tasks in
-    let it = item_at c.args.set.now.processors c.args.scale (rates c.args.scale c.args.set.now.tasks) c.args.pattern.now c.loop-round.round-index c.round-item.result c.requires.pattern c.loop-round-test.true c.round-item.is in
-    ap length (c.holders.ensures ∙ ap (λ (z : HeldRound). z.holders) it.is) ∙ length-map-range_with_len (λ p. holder ns (p * scale + it.round.begin)) 0 c.args.set.now.processors
+    let lawful = c.processors-lawful.ensures.lawful in
+    let it = item_at s.processors c.args.scale (rates c.args.scale s.tasks) c.args.pattern.now c.loop-round.round-index c.round-item.result c.requires.pattern c.loop-round-test.true c.round-item.is in
+    let b = item_bounds s c.args.scale lawful c.requires.scale c.args.x c.args.y c.requires.forward c.loop-round.table.lanes c.loop-round.round-index c.loop-round.invariant.reached c.round-item.result it in
+    let at = ap (λ n. n * c.args.scale) c.from.ensures in
+    record {
+      forward = c.requires.forward;
+      places = omega (arith, b.0);
+      fits = item_fits s c.args.scale lawful c.requires.scale c.args.x c.args.y c.requires.forward c.loop-round.round-index c.round-item.result it _ at c.requires.early c.requires.scale_fits b.1;
+      holders = item_holders s c.args.scale lawful c.requires.scale c.args.x c.args.y c.requires.forward c.loop-round.round-index c.round-item.result it;
+      rows = omega arith;
+    }
 
 pub push_round-requires-clause-round : goal.push_round-requires-clause-round
 push_round-requires-clause-round c =
     let s = c.args.set.now in
     let lawful = c.processors-lawful.ensures.lawful in
     let it = item_at c.args.set.now.processors c.args.scale (rates c.args.scale c.args.set.now.tasks) c.args.pattern.now c.loop-round.round-index c.round-item.result c.requires.pattern c.loop-round-test.true c.round-item.is in
-    let rows_are = c.write_rows.ensures ∙ written_rows s c.args.scale lawful c.requires.scale c.args.x c.args.y c.requires.forward c.loop-round.round-index c.round-item.result it c.holders.result.now c.holders.ensures
-    c.from.result c.from-units.result c.begin.result c.end.result c.from.ensures c.from-units.ensures c.begin.ensures c.end.ensures in
+    let rows_are = c.write_rows.ensures ∙ written_rows s c.args.scale lawful c.requires.scale c.args.x c.args.y c.requires.forward c.loop-round.round-index c.round-item.result it _ (ap (λ n. n * c.args.scale) c.from.ensures) in
     let F : List Row → Type 0 = λ rows. IsRound (end_of c.loop-round.table.lanes) rows in
     subst F (sym rows_are) (item_whole s c.args.scale lawful c.requires.scale c.args.x c.args.y c.requires.forward c.loop-round.table.lanes c.loop-round.round-index c.loop-round.invariant.reached c.round-item.result it c.requires.fits c.requires.early c.requires.scale_fits)
 
@@ -93,8 +53,7 @@ loop-round-preserved c =
     let it = item_at c.args.set.now.processors c.args.scale (rates c.args.scale c.args.set.now.tasks) c.args.pattern.now c.loop-round.round-index c.round-item.result c.requires.pattern c.loop-round-test.true c.round-item.is in
     let slice = slice_of c.args.x c.args.y in
     let round = round_rows c.args.scale s.tasks s.processors slice (stretch (c.args.y - c.args.x) it.round) in
-    let rows_are = c.write_rows.ensures ∙ written_rows s c.args.scale lawful c.requires.scale c.args.x c.args.y c.requires.forward c.loop-round.round-index c.round-item.result it c.holders.result.now c.holders.ensures
-    c.from.result c.from-units.result c.begin.result c.end.result c.from.ensures c.from-units.ensures c.begin.ensures c.end.ensures in
+    let rows_are = c.write_rows.ensures ∙ written_rows s c.args.scale lawful c.requires.scale c.args.x c.args.y c.requires.forward c.loop-round.round-index c.round-item.result it _ (ap (λ n. n * c.args.scale) c.from.ensures) in
     let lanes_are : c.push_round.new.self.lanes ≡ with_round lanes round = c.push_round.ensures.lanes ∙ ap (with_round lanes) rows_are in
     let R : List (List Row) → Type 0 = λ ls. IsReached s c.args.scale c.args.x c.args.y (c.loop-round.round-index + 1) ls in
     let less = c.push_round.ensures.room in
