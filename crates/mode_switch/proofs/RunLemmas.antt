@@ -306,6 +306,26 @@ pub ran_to_end : {G J : Type 0} (gate : GateTells G) (job : JobTells J) (modes :
     → length modes ≤ j → RanModes gate job (take j modes) runs old new → RanModes gate job modes runs old new
 ran_to_end gate job modes j runs old new past ran = subst (λ xs. RanModes gate job xs runs old new) (take_all j modes past) ran
 
+-- all modes were run whole
+pub record RunThrough {G J : Type 0} (gate : GateTells G) (job : JobTells J) (m : ℕ) (modes : List Mode) (runs : List Executed) (old new : Roster G J) : Type 0 where
+  pub gates : GatesGrewThrough gate.ran m modes old.kits new.kits
+  pub whole : AllZip IsRunOf modes runs
+  pub jobs : JobsUsedLast job modes old.places new.places
+  pub first : GatesGrewFirst gate.ran m modes old.kits new.kits
+  pub back : AreBack gate job old new
+
+pub run_through : {G J : Type 0} (gate : GateTells G) (job : JobTells J) (m : ℕ) (modes : List Mode) → AllByRecursion (IsMode m) modes → (j : ℕ) (runs : List Executed) (old new : Roster G J)
+    → length modes ≤ j → RanModes gate job (take j modes) runs old new → RunThrough gate job m modes runs old new
+run_through gate job m modes all j runs old new past some =
+    let ran = ran_to_end gate job modes j runs old new past some in
+    record {
+      gates = grew_through gate job m modes all runs old new ran;
+      whole = runs_whole gate job modes runs old new ran;
+      jobs = jobs_last gate job m modes all runs old new ran;
+      first = ran_first gate job m modes all old new (Ok runs) ran;
+      back = are_back gate job modes old new (Ok runs) ran;
+    }
+
 -- no mode was begun yet
 pub ran_none : {G J : Type 0} (gate : GateTells G) (job : JobTells J) (modes : List Mode) (runs : List Executed) (start : Roster G J) → runs ≡ []
     → RanModes gate job (take 0 modes) runs start start

@@ -1,9 +1,10 @@
 -- One leaf more of level 0, as the members of a pack come in their order.
-use Rattle.std.proofs.Common.{◌≡◌, ℕ, zero, suc, ◌+◌, ◌<◌, ◌≤◌, List, [], ◌∷◌, map, length, get_or, take, refl, ap, ap₂, arith, sym, subst, ◌∙◌}
+use Rattle.std.proofs.Common.{◌≡◌, ℕ, zero, suc, ◌+◌, ◌<◌, ◌≤◌, List, [], ◌∷◌, Option, map, length, get_or, take, refl, ap, ap₂, arith, sym, subst, ◌∙◌}
 use Rattle.std.proofs.lemmas.List.{get_or-map, get_or_default, length-append, length-map, take_all}
 use Rattle.std.proofs.lemmas.List.Concat.{get_or-flat_map}
 use Rattle.std.proofs.lemmas.List.Folds.{length-flat_map-take}
 use Rattle.sched_base.specs.declared.rows.Leaf.{Leaf}
+use Rattle.sched_base.specs.Sets.{SetContents}
 use Rattle.run_tree.specs.declared.kinds.Kind.TheVariants as kind
 use Rattle.run_tree.specs.Making.{Making, Item, started, put, put_items, lifted}
 use Rattle.run_tree.specs.Maker.{packs_named}
@@ -86,6 +87,21 @@ pub record IsAtLeaf (w : Written) (i j : ℕ) (ms : List Member) (rs : List ℕ)
   pub maker : m ≡ first_making w (before (level_at w 0) i + j)
   pub leaf : y ≡ leaf_named (leaf_number w.set.tasks x) x
   pub rate : r ≡ rate_in rs (named w 0 x)
+
+-- the same, from what the code looks up
+pub at_leaf : (w : Written) (i j : ℕ) (ms : List Member) (rs : List ℕ) (m : Making) (x : Member) (y : Leaf) (r : ℕ) (s : SetContents) (name : Option ℕ) → i < length (level_at w 0)
+    → ms ≡ (pack_at (level_at w 0) i).members → j < length ms → x ≡ get_or ms j x → rs ≡ to_place w 0 → m ≡ first_making w (before (level_at w 0) i + j)
+    → s ≡ w.set → y ≡ leaf_named (leaf_number s.tasks x) x → name ≡ named w 0 x → r ≡ rate_in rs name → IsAtLeaf w i j ms rs m x y r
+at_leaf w i j ms rs m x y r s name pack members place member rates maker set_is leaf name_is rate = record {
+  pack = pack;
+  members = members;
+  place = place;
+  member = member;
+  rates = rates;
+  maker = maker;
+  leaf = leaf ∙ ap (λ (z : SetContents). leaf_named (leaf_number z.tasks x) x) set_is;
+  rate = rate ∙ ap (rate_in rs) name_is;
+}
 
 module _ (w : Written) (iw : IsWritten w) (nf : HasNoFault w) (i j : ℕ) (ms : List Member) (rates : List ℕ) (maker : Making) (x : Member) (leaf : Leaf) (rate : ℕ) (a : IsAtLeaf w i j ms rates maker x leaf rate) where
   pub there : j < length (pack_at (level_at w 0) i).members

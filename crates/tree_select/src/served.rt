@@ -56,31 +56,11 @@ fn hand_on(
     requires runs { length runs.old ≡ length tree.now.nodes }
     ensures { IsHanded tree.now p.0 next stale.old runs.old stale.new runs.new }
 {
+    if was == next {
+        return;
+    }
     set_place(tree, p, was, false, stale, runs);
     set_place(tree, p, next, true, stale, runs);
-}
-
-// The same, and nothing where it is the same member.
-fn hand_if(
-    tree: &Tree,
-    p: NodeId,
-    was: Option<u32>,
-    next: Option<u32>,
-    stale: &mut [bool],
-    runs: &mut [bool],
-)
-    requires tree { IsTree tree.now }
-    requires pack { IsPack tree.now p.0 }
-    requires was { (j : ℕ) → j < length (members tree.now p.0) → slice_index_or runs.old (member tree.now p.0 j) false ≡ is_at was j }
-    requires before { (j : ℕ) → was ≡ Some j → j < length (members tree.now p.0) }
-    requires after { (j : ℕ) → next ≡ Some j → j < length (members tree.now p.0) }
-    requires stale { length stale.old ≡ length tree.now.nodes }
-    requires runs { length runs.old ≡ length tree.now.nodes }
-    ensures { IsHanded tree.now p.0 next stale.old runs.old stale.new runs.new }
-{
-    if was != next {
-        hand_on(tree, p, was, next, stale, runs);
-    }
 }
 
 /// Pack p, of whose members the one at `was` ran, loses its mark, and lets the one run that is picked now, where the pack
@@ -112,13 +92,13 @@ pub fn hand_over(
     ensures own { slice_index_or stale.new p.0 false ≡ false }
     ensures unmarked { (q : ℕ) → IsPack tree.now q → q ≢ p.0 → slice_index_or stale.new q false ≡ false →
         slice_index_or stale.old q false ≡ false }
-    ensures still { (q : ℕ) → IsPack tree.now q → slice_index_or stale.new q false ≡ false →
+    ensures unchanged { (q : ℕ) → IsPack tree.now q → slice_index_or stale.new q false ≡ false →
         slice_index_or runs.new q false ≡ slice_index_or runs.old q false }
     ensures marks { (q : ℕ) → IsPack tree.now q → q ≢ p.0 → level tree.now p.0 ≤ level tree.now q →
         slice_index_or stale.new q false ≡ slice_index_or stale.old q false }
 {
     stale[p.0 as usize] = false;
     let next = served_by(runs[p.0 as usize], chosen);
-    hand_if(tree, p, was, next, stale, runs);
+    hand_on(tree, p, was, next, stale, runs);
     next
 }

@@ -1,8 +1,8 @@
-use Rattle.std.proofs.Common.{◌≡◌, ◌+◌, ◌≤◌, ◌<◌, [], ◌∷◌, Ok, Err, length, length-append, take, sym, ap, subst, arith}
+use Rattle.std.proofs.Common.{◌≡◌, ◌+◌, ◌≤◌, ◌<◌, [], ◌∷◌, Err, length, length-append, take, sym, ap, subst, arith}
 use Rattle.sched_base.specs.Tables.{row_limit}
 use Rattle.run_tree.specs.Plans.{PlanContents}
 use Rattle.mode_switch.proofs.ModeLemmas.{few_modes}
-use Rattle.mode_switch.proofs.RunLemmas.{all_get, next_mode, modes_back, filled_after, own_after, stopped_in, ran_more, ran_to_end, ran_first, names_risen, are_back, grew_through, runs_whole, jobs_last}
+use Rattle.mode_switch.proofs.RunLemmas.{all_get, next_mode, modes_back, filled_after, own_after, stopped_in, ran_more, run_through, ran_first, names_risen, are_back}
 use Rattle.mode_switch.proofs.running.run_modes.Goals as goal
 
 pub run_mode-requires-clause-few : goal.run_mode-requires-clause-few
@@ -85,40 +85,25 @@ invariant_of-result g c =
 
 pub returns-clause-gates : goal.returns-clause-gates
 returns-clause-gates g c =
-    let value = c.count-j-end.ensures.value in
-    let end = c.loop-j-test.false in
-    let past : length c.args.modes.now.modes ≤ c.loop-j.j = omega (arith, value, end) in
-    let ran = ran_to_end _ _ c.args.modes.now.modes c.loop-j.j c.loop-j.runs.items _ _ past c.loop-j.invariant.ran in
-    grew_through _ _ c.args.modes.now.processors c.args.modes.now.modes c.count.ensures.lawful.each c.loop-j.runs.items _ _ ran
+    let past : length c.args.modes.now.modes ≤ c.loop-j.j = omega (arith, c.count-j-end.ensures.value, c.loop-j-test.false) in
+    (run_through _ _ c.args.modes.now.processors c.args.modes.now.modes c.count.ensures.lawful.each c.loop-j.j c.loop-j.runs.items _ _ past c.loop-j.invariant.ran).gates
 
 pub returns-clause-whole : goal.returns-clause-whole
 returns-clause-whole g c =
-    let value = c.count-j-end.ensures.value in
-    let end = c.loop-j-test.false in
-    let past : length c.args.modes.now.modes ≤ c.loop-j.j = omega (arith, value, end) in
-    let ran = ran_to_end _ _ c.args.modes.now.modes c.loop-j.j c.loop-j.runs.items _ _ past c.loop-j.invariant.ran in
-    runs_whole _ _ c.args.modes.now.modes c.loop-j.runs.items _ _ ran
+    let past : length c.args.modes.now.modes ≤ c.loop-j.j = omega (arith, c.count-j-end.ensures.value, c.loop-j-test.false) in
+    (run_through _ _ c.args.modes.now.processors c.args.modes.now.modes c.count.ensures.lawful.each c.loop-j.j c.loop-j.runs.items _ _ past c.loop-j.invariant.ran).whole
 
 pub returns-clause-jobs : goal.returns-clause-jobs
 returns-clause-jobs g c =
-    let value = c.count-j-end.ensures.value in
-    let end = c.loop-j-test.false in
-    let past : length c.args.modes.now.modes ≤ c.loop-j.j = omega (arith, value, end) in
-    let ran = ran_to_end _ _ c.args.modes.now.modes c.loop-j.j c.loop-j.runs.items _ _ past c.loop-j.invariant.ran in
-    jobs_last _ _ c.args.modes.now.processors c.args.modes.now.modes c.count.ensures.lawful.each c.loop-j.runs.items _ _ ran
+    let past : length c.args.modes.now.modes ≤ c.loop-j.j = omega (arith, c.count-j-end.ensures.value, c.loop-j-test.false) in
+    (run_through _ _ c.args.modes.now.processors c.args.modes.now.modes c.count.ensures.lawful.each c.loop-j.j c.loop-j.runs.items _ _ past c.loop-j.invariant.ran).jobs
 
 pub returns-clause-first : goal.returns-clause-first
 returns-clause-first g c =
-    let value = c.count-j-end.ensures.value in
-    let end = c.loop-j-test.false in
-    let past : length c.args.modes.now.modes ≤ c.loop-j.j = omega (arith, value, end) in
-    let ran = ran_to_end _ _ c.args.modes.now.modes c.loop-j.j c.loop-j.runs.items _ _ past c.loop-j.invariant.ran in
-    ran_first _ _ c.args.modes.now.processors c.args.modes.now.modes c.count.ensures.lawful.each _ _ (Ok c.loop-j.runs.items) ran
+    let past : length c.args.modes.now.modes ≤ c.loop-j.j = omega (arith, c.count-j-end.ensures.value, c.loop-j-test.false) in
+    (run_through _ _ c.args.modes.now.processors c.args.modes.now.modes c.count.ensures.lawful.each c.loop-j.j c.loop-j.runs.items _ _ past c.loop-j.invariant.ran).first
 
 pub returns-clause-back : goal.returns-clause-back
 returns-clause-back g c =
-    let value = c.count-j-end.ensures.value in
-    let end = c.loop-j-test.false in
-    let past : length c.args.modes.now.modes ≤ c.loop-j.j = omega (arith, value, end) in
-    let ran = ran_to_end _ _ c.args.modes.now.modes c.loop-j.j c.loop-j.runs.items _ _ past c.loop-j.invariant.ran in
-    are_back _ _ c.args.modes.now.modes _ _ (Ok c.loop-j.runs.items) ran
+    let past : length c.args.modes.now.modes ≤ c.loop-j.j = omega (arith, c.count-j-end.ensures.value, c.loop-j-test.false) in
+    (run_through _ _ c.args.modes.now.processors c.args.modes.now.modes c.count.ensures.lawful.each c.loop-j.j c.loop-j.runs.items _ _ past c.loop-j.invariant.ran).back

@@ -1,27 +1,18 @@
 use Rattle.std.proofs.Common.{◌≡◌, ◌+◌, suc, length, ap, ◌∙◌, arith}
-use Rattle.sched_base.specs.Sets.{SetContents}
 use Rattle.tree_check.specs.Written.{level_at, pack_at}
-use Rattle.tree_check.specs.Faults.{before, leaf_number}
-use Rattle.tree_check.specs.Scans.{rate_in}
-use Rattle.tree_check.specs.TextTree.{leaf_named}
+use Rattle.tree_check.specs.Faults.{before}
 use Rattle.tree_check.specs.FirstSteps.{first_making}
-use Rattle.tree_check.proofs.LeafSteps.{IsAtLeaf, leaf_asks, leaf_next, pack_done}
+use Rattle.tree_check.proofs.LeafSteps.{at_leaf, leaf_asks, leaf_next, pack_done}
 use Rattle.tree_check.proofs.plan.add_leaves.Goals as goal
 
 pub leaf-requires : goal.leaf-requires
 leaf-requires c =
     let w = c.args.tree.now in
     let x = c.member-item.result in
-    let at : IsAtLeaf w c.args.i c.loop-member.member-index c.args.members.now c.args.rates.now c.loop-member.maker x c.leaf_of-leaf.result c.rate_named-rate.result = record {
-      pack = c.requires.pack;
-      members = c.requires.members;
-      place = c.loop-member-test.true;
-      member = c.member-item.is;
-      rates = c.requires.rates;
-      maker = c.loop-member.invariant;
-      leaf = c.leaf_of-leaf.ensures ∙ ap (λ (s : SetContents). leaf_named (leaf_number s.tasks x) x) c.set.ensures.value;
-      rate = c.rate_named-rate.ensures ∙ ap (rate_in c.args.rates.now) c.named.ensures;
-    } in
+    let at =
+    at_leaf w c.args.i c.loop-member.member-index c.args.members.now c.args.rates.now c.loop-member.maker x c.leaf_of-leaf.result c.rate_named-rate.result c.set.result.now c.named.result
+    c.requires.pack c.requires.members c.loop-member-test.true c.member-item.is c.requires.rates c.loop-member.invariant
+    c.set.ensures.value c.leaf_of-leaf.ensures c.named.ensures c.rate_named-rate.ensures in
     let may = leaf_asks w c.scale-scale.ensures.lawful c.requires.no_fault c.args.i c.loop-member.member-index c.args.members.now c.args.rates.now c.loop-member.maker x c.leaf_of-leaf.result c.rate_named-rate.result at in
     record { first_level = may.first_level; few = may.few; pack = may.pack; some_rate = may.some_rate; rate_fits = may.rate_fits; within = may.within }
 
@@ -29,16 +20,10 @@ pub loop-member-preserved : goal.loop-member-preserved
 loop-member-preserved c =
     let w = c.args.tree.now in
     let x = c.member-item.result in
-    let at : IsAtLeaf w c.args.i c.loop-member.member-index c.args.members.now c.args.rates.now c.loop-member.maker x c.leaf_of-leaf.result c.rate_named-rate.result = record {
-      pack = c.requires.pack;
-      members = c.requires.members;
-      place = c.loop-member-test.true;
-      member = c.member-item.is;
-      rates = c.requires.rates;
-      maker = c.loop-member.invariant;
-      leaf = c.leaf_of-leaf.ensures ∙ ap (λ (s : SetContents). leaf_named (leaf_number s.tasks x) x) c.set.ensures.value;
-      rate = c.rate_named-rate.ensures ∙ ap (rate_in c.args.rates.now) c.named.ensures;
-    } in
+    let at =
+    at_leaf w c.args.i c.loop-member.member-index c.args.members.now c.args.rates.now c.loop-member.maker x c.leaf_of-leaf.result c.rate_named-rate.result c.set.result.now c.named.result
+    c.requires.pack c.requires.members c.loop-member-test.true c.member-item.is c.requires.rates c.loop-member.invariant
+    c.set.ensures.value c.leaf_of-leaf.ensures c.named.ensures c.rate_named-rate.ensures in
     c.in_ok-leaf.ensures.ok
     ∙ leaf_next w c.scale-scale.ensures.lawful c.requires.no_fault c.args.i c.loop-member.member-index c.args.members.now c.args.rates.now c.loop-member.maker x c.leaf_of-leaf.result c.rate_named-rate.result at
 
