@@ -15,6 +15,7 @@ ghost use Rattle.exec_book.specs.Jobs.{AllAtHome, posted_ticks};
 ghost use Rattle.exec_book.specs.Books.{IsDismissed, AreParts};
 ghost use Rattle.exec_book.specs.Laws.{FollowsPlan};
 
+use crate::held::Held;
 use crate::jobs::{JobDesk, no_notes};
 use crate::rounds::Rounds;
 use book_machine::{Event, LaneState, MachineState};
@@ -36,14 +37,6 @@ pub struct Book<Q: PostLedger, J: Job> {
     pub(crate) state: MachineState,
     pub(crate) log: Vec<Event>,
     pub(crate) held: Option<Held<Q, J>>,
-}
-
-/// What a book holds until it is dismissed.
-#[derive(Drop)]
-pub(crate) struct Held<Q: PostLedger, J: Job> {
-    pub(crate) rounds: Rounds,
-    pub(crate) desk: JobDesk<J>,
-    pub(crate) side: BookSide<Q>,
 }
 
 impl<Q: PostLedger, J: Job> Model for Book<Q, J> {
