@@ -1,6 +1,6 @@
 //! Whether the rows of a task give each of its periods its due: few divisions, however many periods a row covers.
 ghost use Rattle.std.specs.Prelude.{◌≡◌, ◌+◌, ◌-◌, ◌*◌, ◌<◌, ◌≤◌, ◌^◌, ℕ, [], IsTrue, ◌↔◌};
-ghost use Rattle.trace_rows.specs.Supply.{ended_by, bound_at, gap_holds, row_holds, holds_from, Follows, IsSupplied};
+ghost use Rattle.trace_rows.specs.Supply.{bound_at, gap_holds, row_holds, holds_from, IsCounted, Follows, IsSupplied};
 
 use crate::clock::Clock;
 use crate::entries::Entry;
@@ -15,55 +15,41 @@ pub struct Periods {
     pub stop: u128,
 }
 
+/// The ticks from one up to another, and how many of a task's periods have ended by the first and by the second.
+#[derive(Clone, Copy, Debug)]
+pub(crate) struct Stretch {
+    pub from: u128,
+    pub to: u128,
+    pub before: u128,
+    pub after: u128,
+}
+
 // Where a period ends between two rows, what was done by then is its due and those before. Two ends would need a due of 0.
-// Beside the ticks stand the numbers of periods that have ended by them.
-pub(crate) fn gap_holds(
-    periods: &Periods,
-    done: u128,
-    from: u128,
-    to: u128,
-    before: u128,
-    after: u128,
-) -> bool
+pub(crate) fn gap_holds(periods: &Periods, done: u128, gap: &Stretch) -> bool
     requires some { 0 < periods.now.period }
     requires within { periods.now.due ≤ periods.now.period }
-    requires begun { periods.now.base ≤ from }
-    requires ordered { from ≤ to }
-    requires fits { to < 2 ^ 127 }
-    requires before { before ≡ ended_by periods.now from }
-    requires after { after ≡ ended_by periods.now to }
-    ensures { result ≡ gap_holds periods.now done from to }
+    requires counted { IsCounted periods.now gap.now }
+    ensures { result ≡ gap_holds periods.now done gap.now.from gap.now.to }
 {
-    before == after || (before + 1 == after && done == after * periods.due)
+    gap.before == gap.after || (gap.before + 1 == gap.after && done == gap.after * periods.due)
 }
 
 // The ticks done and the dues are both lines: where they meet at the first and at the last end of a period within the row,
 // they meet at each between.
-pub(crate) fn row_holds(
-    periods: &Periods,
-    done: u128,
-    from: u128,
-    to: u128,
-    before: u128,
-    after: u128,
-) -> bool
+pub(crate) fn row_holds(periods: &Periods, done: u128, row: &Stretch) -> bool
     requires some { 0 < periods.now.period }
     requires within { periods.now.due ≤ periods.now.period }
-    requires begun { periods.now.base ≤ from }
-    requires ordered { from ≤ to }
-    requires fits { to < 2 ^ 127 }
-    requires small { done ≤ from }
-    requires before { before ≡ ended_by periods.now from }
-    requires after { after ≡ ended_by periods.now to }
-    ensures { result ≡ row_holds periods.now done from to }
+    requires counted { IsCounted periods.now row.now }
+    requires small { done ≤ row.now.from }
+    ensures { result ≡ row_holds periods.now done row.now.from row.now.to }
 {
-    if before == after {
+    if row.before == row.after {
         return true;
     }
-    let first = periods.base + (before + 1) * periods.period;
-    let last = periods.base + after * periods.period;
-    done + (first - from) == (before + 1) * periods.due
-        && done + (last - from) == after * periods.due
+    let first = periods.base + (row.before + 1) * periods.period;
+    let last = periods.base + row.after * periods.period;
+    done + (first - row.from) == (row.before + 1) * periods.due
+        && done + (last - row.from) == row.after * periods.due
 }
 
 // The same of all gaps and rows from the first period on.
@@ -83,9 +69,19 @@ fn holds_from_base(periods: &Periods, rows: &[Entry]) -> bool
     for row in rows {
         let before = clock.seek(row.start);
         let after = clock.seek(row.end);
-        if !gap_holds(periods, done, tick, row.start, ended, before)
-            || !row_holds(periods, done, row.start, row.end, before, after)
-        {
+        let gap = Stretch {
+            from: tick,
+            to: row.start,
+            before: ended,
+            after: before,
+        };
+        let ticks = Stretch {
+            from: row.start,
+            to: row.end,
+            before,
+            after,
+        };
+        if !gap_holds(periods, done, &gap) || !row_holds(periods, done, &ticks) {
             return false;
         }
         done += row.end - row.start;
@@ -93,7 +89,13 @@ fn holds_from_base(periods: &Periods, rows: &[Entry]) -> bool
         ended = after;
     }
     let last = clock.seek(periods.stop);
-    gap_holds(periods, done, tick, periods.stop, ended, last) && done <= (last + 1) * periods.due
+    let gap = Stretch {
+        from: tick,
+        to: periods.stop,
+        before: ended,
+        after: last,
+    };
+    gap_holds(periods, done, &gap) && done <= (last + 1) * periods.due
 }
 
 /// Whether each period that ends by `stop` has exactly its due, and each other at most that.

@@ -8,7 +8,7 @@ ghost use Rattle.trace_rows.specs.Supplied.{IsPlaceOf, entry_for, entries_at, Go
 use crate::clock::Clock;
 use crate::fetching::{PART, are_within, fetch, no_rows};
 use crate::orders::task_key;
-use crate::supply::{Periods, gap_holds, row_holds};
+use crate::supply::{Periods, Stretch, gap_holds, row_holds};
 use sched_base::Row;
 
 /// The tick that a walk has come to, the ticks that were done by then, and a clock at the period of that tick.
@@ -53,11 +53,23 @@ impl Walk {
         }
         let ended = self.clock.number();
         let before = self.clock.seek(row.start);
-        if !gap_holds(periods, self.done, self.tick, row.start, ended, before) {
+        let gap = Stretch {
+            from: self.tick,
+            to: row.start,
+            before: ended,
+            after: before,
+        };
+        if !gap_holds(periods, self.done, &gap) {
             return false;
         }
         let after = self.clock.seek(row.end);
-        if !row_holds(periods, self.done, row.start, row.end, before, after) {
+        let ticks = Stretch {
+            from: row.start,
+            to: row.end,
+            before,
+            after,
+        };
+        if !row_holds(periods, self.done, &ticks) {
             return false;
         }
         self.done += row.end - row.start;
@@ -106,8 +118,13 @@ impl Walk {
     {
         let ended = self.clock.number();
         let last = self.clock.seek(periods.stop);
-        gap_holds(periods, self.done, self.tick, periods.stop, ended, last)
-            && self.done <= (last + 1) * periods.due
+        let gap = Stretch {
+            from: self.tick,
+            to: periods.stop,
+            before: ended,
+            after: last,
+        };
+        gap_holds(periods, self.done, &gap) && self.done <= (last + 1) * periods.due
     }
 }
 
