@@ -1,0 +1,18 @@
+use Rattle.std.specs.List.{flat_map}
+use Rattle.sched_base.specs.Tables.{lane_of}
+use Rattle.sched_edges.proofs.Wrote.{wrote_then, wrote_cut}
+use Rattle.table_text.specs.Lines.{lane_line, row_line}
+use Rattle.table_text.specs.Table.{rows_end}
+use Rattle.table_text.proofs.lanes.write_lane.Goals as goal
+
+pub returns-in_err-write_rows-clause-wrote : goal.returns-in_err-write_rows-clause-wrote
+returns-in_err-write_rows-clause-wrote g c =
+    let line = rw (c.as_slice.ensures.bytes, c.lane_line.ensures) at c.in_ok-write_all.ensures.wrote in
+    wrote_then _ _ _ (lane_line c.args.p) _ _ _ line
+    (wrote_cut _ _ (flat_map row_line (lane_of c.args.rows.now.lanes c.args.p)) rows_end _ _ c.in_err-write_rows.ensures.wrote c.from_residual-in_err-write_rows.ensures.0)
+
+pub returns-clause-wrote : goal.returns-clause-wrote
+returns-clause-wrote g c =
+    let line = rw (c.as_slice.ensures.bytes, c.lane_line.ensures) at c.in_ok-write_all.ensures.wrote in
+    wrote_then _ _ _ (lane_line c.args.p) _ _ _ line
+    (wrote_then _ _ _ (flat_map row_line (lane_of c.args.rows.now.lanes c.args.p)) rows_end _ _ c.in_ok-write_rows.ensures.wrote c.write_rows_end.ensures.wrote)

@@ -1,0 +1,27 @@
+use Rattle.std.proofs.Common.{ℕ, ◌<◌, ◌≡◌, length, arith}
+use Rattle.sched_base.specs.Tables.{lane_of}
+use Rattle.sched_edges.proofs.Wrote.{number_written, wrote_number}
+use Rattle.table_text.specs.Lines.{processor_line}
+use Rattle.table_text.proofs.lanes.write_processor_lines.Goals as goal
+
+pub returns-in_err-write_all-clause-wrote : goal.returns-in_err-write_all-clause-wrote
+returns-in_err-write_all-clause-wrote g c =
+    let lanes = c.args.rows.now.lanes in
+    let many = c.processors-p-end.ensures in
+    let below : c.loop-p.p < length lanes = omega (arith, many, c.loop-p-test.true) in
+    let wrote = rw (c.as_slice.ensures.bytes, c.processor_line-line.ensures, c.count.ensures) at c.in_err-write_all.ensures.wrote in
+    wrote_number (λ (p : ℕ). processor_line p (length (lane_of lanes p))) (length lanes) c.loop-p.p _ _ _ _ _ below c.loop-p.invariant.0 wrote c.from_residual.ensures.0
+
+pub loop-p-preserved : goal.loop-p-preserved
+loop-p-preserved g c =
+    let lanes = c.args.rows.now.lanes in
+    let wrote = rw (c.as_slice.ensures.bytes, c.processor_line-line.ensures, c.count.ensures) at c.in_ok-write_all.ensures.wrote in
+    let before = c.loop-p.invariant.1 in
+    let later = c.write_all.ensures.cause.later in
+    (number_written (λ (p : ℕ). processor_line p (length (lane_of lanes p))) c.loop-p.p _ _ _ c.loop-p.invariant.0 wrote.ok, omega (arith, before, later))
+
+pub returns-clause-wrote : goal.returns-clause-wrote
+returns-clause-wrote g c =
+    let many = c.processors-p-end.ensures in
+    let all : c.loop-p.p ≡ length c.args.rows.now.lanes = omega (arith, c.loop-p-test.false, c.loop-p.auto.p-end, many) in
+    record { ok = rw all at c.loop-p.invariant.0; err = tt }

@@ -1,0 +1,42 @@
+-- The lines of a table in C, each with its line feed. Names are lawful ones, in which nothing needs escaping.
+use Rattle.std.specs.Prelude.{ℕ, ◌^◌, nat_lt, if◌then◌else◌, List, ◌++◌, codes, decimal}
+use Rattle.sched_base.specs.declared.rows.Leaf.{Leaf}
+use Rattle.sched_base.specs.declared.rows.Leaf.TheVariants as leaves
+use Rattle.sched_base.specs.declared.rows.Row.{Row}
+use Rattle.sched_base.specs.declared.sets.Task.{Task}
+
+-- how many bits the narrowest unsigned type of C has that holds this number, which is below 2^64
+abbrev pub width_of : ℕ → ℕ
+width_of n = if nat_lt n (2 ^ 8) then 8 else (if nat_lt n (2 ^ 16) then 16 else (if nat_lt n (2 ^ 32) then 32 else 64))
+
+-- the start and the end of a row, of so many bits each
+unfoldable pub ticks_line : ℕ → List ℕ
+ticks_line width = codes "  uint" ++ (decimal width ++ codes "_t start, end;\n")
+
+-- a task: its name, work, period and offset
+unfoldable pub task_line : Task → List ℕ
+task_line t =
+    codes "  {\"" ++ (t.name ++ (codes "\", " ++ (decimal t.work ++ (codes "u, " ++ (decimal t.period ++ (codes "u, " ++ (decimal t.offset ++ codes "u},\n")))))))
+
+-- the number of the task that runs, or -1 where none does
+abbrev pub task_number : Leaf → List ℕ
+task_number (leaves.Task id) = decimal id.0
+task_number (leaves.Wait id) = codes "-1"
+task_number (leaves.Idle number) = codes "-1"
+task_number leaves.Empty = codes "-1"
+
+-- a row: its start, its end and its task
+unfoldable pub row_line : Row → List ℕ
+row_line r = codes "  {" ++ (decimal r.start ++ (codes "u, " ++ (decimal r.end ++ (codes "u, " ++ (task_number r.leaf ++ codes "},\n")))))
+
+-- the line before the rows of processor p
+unfoldable pub lane_line : ℕ → List ℕ
+lane_line p = codes "static const struct furnacelime_row furnacelime_rows_" ++ (decimal p ++ codes "[] = {\n")
+
+-- processor p: how many rows it has, and where they are
+unfoldable pub processor_line : ℕ → ℕ → List ℕ
+processor_line p count = codes "  {" ++ (decimal count ++ (codes "u, furnacelime_rows_" ++ (decimal p ++ codes "},\n")))
+
+-- a number under its name
+unfoldable pub field_line : List ℕ → ℕ → List ℕ
+field_line name n = codes "  ." ++ (name ++ (codes " = " ++ (decimal n ++ codes "u,\n")))

@@ -1,0 +1,109 @@
+-- The schedule of a set as a file of C99 that includes nothing but stdint.h, and that a compiler takes without a warning.
+use Rattle.std.specs.Prelude.{ℕ, ◌*◌, List, [], ◌∷◌, ◌++◌, length, codes}
+use Rattle.std.specs.List.{flat_map, concat, range_with_len}
+use Rattle.sched_base.specs.declared.rows.Row.{Row}
+use Rattle.sched_base.specs.Sets.{SetContents}
+use Rattle.sched_base.specs.Tables.{lane_of}
+use Rattle.table_text.specs.Lines.{width_of, ticks_line, task_line, row_line, lane_line, processor_line, field_line}
+
+-- these lines, each with its line feed
+abbrev pub lines_text : List (List ℕ) → List ℕ
+lines_text lines = flat_map (λ line. line ++ 10 ∷ []) lines
+
+-- what the file is, and what a task is
+unfoldable pub opening_text : List ℕ
+opening_text =
+    lines_text (codes "/* The schedule of a set of periodic tasks, written by furnacelime."
+    ∷ codes "   A row {start, end, task}: the processor runs this task of the table, or"
+    ∷ codes "   none where it is -1, from tick start up to tick end. The first row begins"
+    ∷ codes "   at 0, each other where the one before ends, and the last ends at ticks."
+    ∷ codes "   Each array of tasks or rows has one element more, which is not counted. */"
+    ∷ codes "#include <stdint.h>"
+    ∷ []
+    ∷ codes "struct furnacelime_task {"
+    ∷ codes "  const char *name;"
+    ∷ codes "  uint32_t work, period, offset; /* in units */"
+    ∷ codes "};"
+    ∷ []
+    ∷ codes "struct furnacelime_row {" ∷ [])
+
+-- what a row, a processor and a table are, up to the tasks
+unfoldable pub shapes_text : List ℕ
+shapes_text =
+    lines_text (codes "  int16_t task;"
+    ∷ codes "};"
+    ∷ []
+    ∷ codes "struct furnacelime_processor {"
+    ∷ codes "  uint32_t row_count;"
+    ∷ codes "  const struct furnacelime_row *rows;"
+    ∷ codes "};"
+    ∷ []
+    ∷ codes "struct furnacelime_table {"
+    ∷ codes "  uint64_t scale;   /* the ticks of a unit */"
+    ∷ codes "  uint64_t ticks;   /* the ticks up to the horizon */"
+    ∷ codes "  uint32_t horizon; /* in units */"
+    ∷ codes "  uint32_t processor_count, task_count;"
+    ∷ codes "  const struct furnacelime_processor *processors;"
+    ∷ codes "  const struct furnacelime_task *tasks;"
+    ∷ codes "};"
+    ∷ []
+    ∷ codes "static const struct furnacelime_task furnacelime_tasks[] = {" ∷ [])
+
+-- the task that isn't counted
+unfoldable pub tasks_end : List ℕ
+tasks_end = lines_text (codes "  {\"\", 0u, 0u, 0u}" ∷ codes "};" ∷ [] ∷ [])
+
+-- the row that isn't counted
+unfoldable pub rows_end : List ℕ
+rows_end = lines_text (codes "  {0u, 0u, -1}" ∷ codes "};" ∷ [] ∷ [])
+
+-- the line before the processors
+unfoldable pub processors_line : List ℕ
+processors_line = lines_text (codes "static const struct furnacelime_processor furnacelime_processors[] = {" ∷ [])
+
+-- the end of the processors, and the line before the table itself
+unfoldable pub processors_end : List ℕ
+processors_end = lines_text (codes "};" ∷ [] ∷ codes "const struct furnacelime_table furnacelime_table = {" ∷ [])
+
+-- the numbers of the table
+abbrev pub field_lines : SetContents → ℕ → List (List ℕ)
+field_lines s scale =
+    field_line (codes "scale") scale ∷ field_line (codes "ticks") (s.horizon * scale) ∷ field_line (codes "horizon") s.horizon
+    ∷ field_line (codes "processor_count") s.processors ∷ field_line (codes "task_count") (length s.tasks) ∷ []
+
+-- where its arrays are
+unfoldable pub closing_text : List ℕ
+closing_text = lines_text (codes "  .processors = furnacelime_processors," ∷ codes "  .tasks = furnacelime_tasks" ∷ codes "};" ∷ [])
+
+-- the shapes of what the table has, whose ticks are of so many bits
+abbrev pub head_text : ℕ → List ℕ
+head_text width = opening_text ++ (ticks_line width ++ shapes_text)
+
+-- the tasks
+abbrev pub tasks_text : SetContents → List ℕ
+tasks_text s = flat_map task_line s.tasks ++ tasks_end
+
+-- the rows of processor p
+abbrev pub lane_text : ℕ → List Row → List ℕ
+lane_text p rows = lane_line p ++ (flat_map row_line rows ++ rows_end)
+
+-- the rows of all processors
+abbrev pub lanes_text : List (List Row) → List ℕ
+lanes_text lanes = flat_map (λ p. lane_text p (lane_of lanes p)) (range_with_len 0 (length lanes))
+
+-- the lines of the processors, each with the number of its rows
+abbrev pub processor_lines : List (List Row) → List ℕ
+processor_lines lanes = flat_map (λ p. processor_line p (length (lane_of lanes p))) (range_with_len 0 (length lanes))
+
+-- the processors
+abbrev pub processors_text : List (List Row) → List ℕ
+processors_text lanes = processors_line ++ (processor_lines lanes ++ processors_end)
+
+-- the numbers of the table, and where its arrays are
+abbrev pub fields_text : SetContents → ℕ → List ℕ
+fields_text s scale = concat (field_lines s scale) ++ closing_text
+
+-- the table of a set and of the rows of its processors
+unfoldable pub table_text : SetContents → ℕ → List (List Row) → List ℕ
+table_text s scale lanes =
+    head_text (width_of (s.horizon * scale)) ++ (tasks_text s ++ (lanes_text lanes ++ (processors_text lanes ++ fields_text s scale)))

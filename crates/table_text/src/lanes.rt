@@ -1,0 +1,70 @@
+//! The rows of the processors, and the processors.
+ghost use Rattle.std.specs.Prelude.{◌≡◌, ◌<◌, length};
+ghost use Rattle.std.specs.List.{flat_map};
+ghost use Rattle.sched_base.specs.Tables.{lane_of};
+ghost use Rattle.sched_edges.specs.Causes.{HasCause};
+ghost use Rattle.sched_edges.specs.Streams.{Wrote};
+ghost use Rattle.table_text.specs.Lines.{row_line};
+ghost use Rattle.table_text.specs.Table.{lane_text, lanes_text, processor_lines, processors_text};
+
+use crate::head::{write_processors_end, write_processors_line, write_rows_end};
+use crate::lines::{lane_line, processor_line, row_line};
+use merged_rows::MergedRows;
+use sched_edges::{Failed, Sink, write_all};
+
+/// Writes the rows of all processors.
+pub(crate) fn write_lanes<W: Sink>(sink: &mut W, rows: &MergedRows) -> Result<(), Failed>
+    ensures wrote { Wrote (W.taken sink.old) (W.taken sink.new) (lanes_text rows.now.lanes) result }
+    ensures cause { HasCause (W.faults sink.old) (W.faults sink.new) result }
+{
+    for p in 0..rows.processors() {
+        write_lane(sink, rows, p)?;
+    }
+    Ok(())
+}
+
+// Writes the array of the rows of processor p.
+fn write_lane<W: Sink>(sink: &mut W, rows: &MergedRows, p: u32) -> Result<(), Failed>
+    requires { p < length rows.now.lanes }
+    ensures wrote { Wrote (W.taken sink.old) (W.taken sink.new) (lane_text p (lane_of rows.now.lanes p)) result }
+    ensures cause { HasCause (W.faults sink.old) (W.faults sink.new) result }
+{
+    write_all(sink, lane_line(p).as_slice())?;
+    write_rows(sink, rows, p)?;
+    write_rows_end(sink)
+}
+
+// Writes the rows of processor p.
+fn write_rows<W: Sink>(sink: &mut W, rows: &MergedRows, p: u32) -> Result<(), Failed>
+    requires { p < length rows.now.lanes }
+    ensures wrote { Wrote (W.taken sink.old) (W.taken sink.new) (flat_map row_line (lane_of rows.now.lanes p)) result }
+    ensures cause { HasCause (W.faults sink.old) (W.faults sink.new) result }
+{
+    for i in 0..rows.count(p) {
+        let row = rows.row(p, i);
+        write_all(sink, row_line(&row).as_slice())?;
+    }
+    Ok(())
+}
+
+/// Writes the processors.
+pub(crate) fn write_processors<W: Sink>(sink: &mut W, rows: &MergedRows) -> Result<(), Failed>
+    ensures wrote { Wrote (W.taken sink.old) (W.taken sink.new) (processors_text rows.now.lanes) result }
+    ensures cause { HasCause (W.faults sink.old) (W.faults sink.new) result }
+{
+    write_processors_line(sink)?;
+    write_processor_lines(sink, rows)?;
+    write_processors_end(sink)
+}
+
+// Writes the lines of the processors, each with the number of its rows.
+fn write_processor_lines<W: Sink>(sink: &mut W, rows: &MergedRows) -> Result<(), Failed>
+    ensures wrote { Wrote (W.taken sink.old) (W.taken sink.new) (processor_lines rows.now.lanes) result }
+    ensures cause { HasCause (W.faults sink.old) (W.faults sink.new) result }
+{
+    for p in 0..rows.processors() {
+        let line = processor_line(p, rows.count(p));
+        write_all(sink, line.as_slice())?;
+    }
+    Ok(())
+}

@@ -1,0 +1,124 @@
+//! The lines of a table in C.
+ghost use Rattle.std.specs.Prelude.{◌≡◌, ◌≤◌, ◌<◌, ◌^◌, ◌/◌, ◌⊎◌, length};
+ghost use Rattle.table_text.specs.Lines.{width_of, ticks_line, task_line, task_number, row_line, lane_line, processor_line, field_line};
+
+use sched_base::{Leaf, Row, Task};
+use sched_edges::Line;
+
+/// How many bits the narrowest unsigned type of C has that holds the number.
+pub(crate) fn width_of(number: u128) -> u128
+    requires { number < 2 ^ 64 }
+    ensures value { result ≡ width_of number }
+    ensures holds { number < 2 ^ result }
+    ensures narrowest { (result ≡ 8) ⊎ (2 ^ (result / 2) ≤ number) }
+{
+    if number < 1 << 8 {
+        8
+    } else if number < 1 << 16 {
+        16
+    } else if number < 1 << 32 {
+        32
+    } else {
+        64
+    }
+}
+
+/// The start and the end of a row, of so many bits each.
+#[tactic(auto, unfolding(crate::specs::Lines::ticks_line))]
+pub(crate) fn ticks_line(width: u128) -> Line
+    ensures { result ≡ ticks_line width }
+{
+    let mut line = Line::new();
+    line.text(b"  uint");
+    line.number(width);
+    line.text(b"_t start, end;\n");
+    line
+}
+
+/// A task: its name, work, period and offset.
+#[tactic(auto, unfolding(crate::specs::Lines::task_line))]
+pub(crate) fn task_line(task: &Task) -> Line
+    ensures { result ≡ task_line task.now }
+{
+    let mut line = Line::new();
+    line.text(b"  {\"");
+    line.text(task.name.as_slice());
+    line.text(b"\", ");
+    line.number(u128::from(task.work));
+    line.text(b"u, ");
+    line.number(u128::from(task.period));
+    line.text(b"u, ");
+    line.number(u128::from(task.offset));
+    line.text(b"u},\n");
+    line
+}
+
+// The number of the task that runs, or -1 where none does.
+fn task_number(leaf: Leaf) -> Line
+    ensures text { result ≡ task_number leaf }
+    ensures short { length result ≤ 40 }
+{
+    let mut text = Line::new();
+    match leaf {
+        Leaf::Task(id) => text.number(u128::from(id.0)),
+        Leaf::Idle(_) | Leaf::Wait(_) | Leaf::Empty => text.text(b"-1"),
+    }
+    text
+}
+
+/// A row: its start, its end and its task.
+#[tactic(auto, unfolding(crate::specs::Lines::row_line))]
+pub(crate) fn row_line(row: &Row) -> Line
+    ensures { result ≡ row_line row.now }
+{
+    let mut line = Line::new();
+    line.text(b"  {");
+    line.number(row.start);
+    line.text(b"u, ");
+    line.number(row.end);
+    line.text(b"u, ");
+    line.text(task_number(row.leaf).as_slice());
+    line.text(b"},\n");
+    line
+}
+
+/// The line before the rows of processor p.
+#[tactic(auto, unfolding(crate::specs::Lines::lane_line))]
+pub(crate) fn lane_line(p: u32) -> Line
+    ensures { result ≡ lane_line p }
+{
+    let mut line = Line::new();
+    line.text(b"static const struct furnacelime_row furnacelime_rows_");
+    line.number(u128::from(p));
+    line.text(b"[] = {\n");
+    line
+}
+
+/// Processor p: how many rows it has, and where they are.
+#[tactic(auto, unfolding(crate::specs::Lines::processor_line))]
+pub(crate) fn processor_line(p: u32, count: usize) -> Line
+    ensures { result ≡ processor_line p count }
+{
+    let mut line = Line::new();
+    line.text(b"  {");
+    line.number(count as u128);
+    line.text(b"u, furnacelime_rows_");
+    line.number(u128::from(p));
+    line.text(b"},\n");
+    line
+}
+
+/// A number under its name.
+#[tactic(auto, unfolding(crate::specs::Lines::field_line))]
+pub(crate) fn field_line(name: &[u8], number: u128) -> Line
+    requires { length name.now ≤ 32 }
+    ensures { result ≡ field_line name.now number }
+{
+    let mut line = Line::new();
+    line.text(b"  .");
+    line.text(name);
+    line.text(b" = ");
+    line.number(number);
+    line.text(b"u,\n");
+    line
+}
