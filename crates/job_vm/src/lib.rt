@@ -9,8 +9,6 @@ mod operations;
 mod programs;
 mod results;
 mod strays;
-#[cfg(test)]
-mod tests;
 mod vm;
 mod vm_job;
 

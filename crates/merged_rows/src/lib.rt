@@ -8,6 +8,3 @@ mod totals;
 
 pub use merging::MergedRows;
 pub use totals::totals_of;
-
-#[cfg(test)]
-mod tests;

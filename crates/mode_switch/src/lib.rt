@@ -7,8 +7,6 @@ mod joins;
 mod mode;
 mod modes;
 mod running;
-#[cfg(test)]
-mod tests;
 
 pub use answers::{ModesFault, ModesRun};
 pub use faults::{ModeFault, ModeKind};

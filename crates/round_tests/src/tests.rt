@@ -3,51 +3,14 @@ ghost use Rattle.std.specs.Prelude.{◌≡◌, ◌<◌, ◌≤◌, ◌^◌, leng
 ghost use Rattle.release_calendar.specs.Calendars.{BelongsTo};
 
 use release_calendar::Calendar;
-use run_compile::compile;
+use run_plain::{NamedTask, plan_of};
 use run_tree::{Kind, Plan};
-use sched_base::{Leaf, NodeId, TaskSet, lawful_name};
+use sched_base::{Leaf, NodeId};
 use server_budget::Budgets;
 use std::alloc::Global;
 use std::process::Abort;
 use std::test::Fail;
 use tree_select::select;
-
-/// A task's name, work, period and offset.
-type Told<'a> = (&'a str, u64, u64, u64);
-
-/// The plan of these tasks.
-fn plan_of(
-    rt: &impl Abort,
-    alloc: Global,
-    processors: u32,
-    horizon: u64,
-    tasks: &[Told],
-) -> Result<Plan, Fail> {
-    assert!(rt; 1 <= processors && processors <= 32);
-    assert!(rt; 1 <= horizon && horizon < 1 << 32);
-    let mut set = TaskSet::start(alloc, processors, horizon);
-    for (name, work, period, offset) in tasks {
-        add(rt, &mut set, name.as_bytes(), *work, *period, *offset)?;
-    }
-    Ok(compile(alloc, set)?)
-}
-
-fn add(
-    rt: &impl Abort,
-    set: &mut TaskSet,
-    name: &[u8],
-    work: u64,
-    period: u64,
-    offset: u64,
-) -> Result<(), Fail> {
-    assert!(rt; lawful_name(name));
-    assert!(rt; set.find(name).is_none());
-    assert!(rt; set.count() < 256);
-    assert!(rt; 1 <= work && work <= period && period < 1 << 32);
-    assert!(rt; offset < 1 << 32);
-    set.add_late(name, work, period, offset)?;
-    Ok(())
-}
 
 /// How long the window of a leaf or dual is, in units.
 fn length_of_window(rt: &impl Abort, calendar: &Calendar, n: NodeId) -> u64
@@ -99,16 +62,16 @@ fn first_tasks(rt: &impl Abort, alloc: Global, plan: &Plan) -> Result<Vec<u32>, 
 
 #[test]
 fn chooses_who_runs_first(rt: HostRuntime) -> Result<(), Fail> {
-    let three_tasks: &[Told] = &[("a", 2, 3, 0), ("b", 2, 3, 0), ("c", 2, 3, 0)];
-    let two_reductions: &[Told] = &[
+    let three_tasks: &[NamedTask] = &[("a", 2, 3, 0), ("b", 2, 3, 0), ("c", 2, 3, 0)];
+    let two_reductions: &[NamedTask] = &[
         ("a", 3, 5, 0),
         ("b", 3, 5, 0),
         ("c", 3, 5, 0),
         ("d", 3, 5, 0),
         ("e", 3, 5, 0),
     ];
-    let offset_of_one: &[Told] = &[("a", 1, 2, 1), ("b", 1, 2, 0)];
-    let no_tasks: &[Told] = &[];
+    let offset_of_one: &[NamedTask] = &[("a", 1, 2, 1), ("b", 1, 2, 0)];
+    let no_tasks: &[NamedTask] = &[];
     let b_and_c: &[u32] = &[1, 2];
     let a_b_and_d: &[u32] = &[0, 1, 3];
     let a: &[u32] = &[0];
@@ -118,7 +81,7 @@ fn chooses_who_runs_first(rt: HostRuntime) -> Result<(), Fail> {
         (1, offset_of_one, a),
         (2, no_tasks, &[]),
     ] {
-        let plan = plan_of(&rt, rt.alloc(), processors, 5, tasks)?;
+        let plan = plan_of(rt.alloc(), processors, 5, tasks)?;
         assert_eq!(rt; first_tasks(&rt, rt.alloc(), &plan)?.as_slice(), running);
     }
     Ok(())
@@ -144,7 +107,7 @@ fn window(rt: &impl Abort, plan: &Plan, calendar: &Calendar, x: u32) -> (u64, u6
 
 #[test]
 fn turns_windows_with_an_offset(rt: HostRuntime) -> Result<(), Fail> {
-    let made = plan_of(&rt, rt.alloc(), 1, 5, &[("a", 1, 2, 1), ("b", 1, 2, 0)])?;
+    let made = plan_of(rt.alloc(), 1, 5, &[("a", 1, 2, 1), ("b", 1, 2, 0)])?;
     let plan = &made;
     let mut calendar = Calendar::new(rt.alloc(), plan)?;
     // node 0 is the pack of a, which is node 1, and b, which is node 2
@@ -169,8 +132,8 @@ fn turns_windows_with_an_offset(rt: HostRuntime) -> Result<(), Fail> {
 
 #[test]
 fn turns_the_windows_of_duals(rt: HostRuntime) -> Result<(), Fail> {
-    let three_tasks: &[Told] = &[("a", 2, 3, 0), ("b", 2, 3, 0), ("c", 2, 3, 0)];
-    let plan = plan_of(&rt, rt.alloc(), 2, 3, three_tasks)?;
+    let three_tasks: &[NamedTask] = &[("a", 2, 3, 0), ("b", 2, 3, 0), ("c", 2, 3, 0)];
+    let plan = plan_of(rt.alloc(), 2, 3, three_tasks)?;
     let mut calendar = Calendar::new(rt.alloc(), &plan)?;
     let mut due = [false; 10];
     assert_eq!(rt; calendar.next(), 3);
@@ -194,8 +157,8 @@ fn turns_the_windows_of_duals(rt: HostRuntime) -> Result<(), Fail> {
 
 #[test]
 fn refills_the_due_of_a_window(rt: HostRuntime) -> Result<(), Fail> {
-    let three_tasks: &[Told] = &[("a", 2, 3, 0), ("b", 2, 3, 0), ("c", 2, 3, 0)];
-    let plan = plan_of(&rt, rt.alloc(), 2, 3, three_tasks)?;
+    let three_tasks: &[NamedTask] = &[("a", 2, 3, 0), ("b", 2, 3, 0), ("c", 2, 3, 0)];
+    let plan = plan_of(rt.alloc(), 2, 3, three_tasks)?;
     let calendar = Calendar::new(rt.alloc(), &plan)?;
     let mut budgets = Budgets::new(rt.alloc(), plan.tree())?;
     assert!(rt; plan.tree().nodes() == 10);

@@ -10,7 +10,7 @@ use Rattle.run_tree.specs.Runs.{runs, next_tick}
 use Rattle.run_tree.specs.Rounds.{is_event, runs_dry, task_begins}
 use Rattle.run_tree.specs.Plans.{PlanContents, stop_of}
 use Rattle.run_tree.proofs.RunLemmas.{length-ticks, take-ticks}
-use Rattle.run_plain.specs.Plain.{AreTicks, left_of, ticks_of, event_of, events_of}
+use Rattle.run_plain.specs.Plain.{AreTicks, left_of, past_of, event_of, events_of}
 
 any_from : (f : ℕ → Bool) (n a k : ℕ) → k < n → f (a + k) ≡ true → list_any f (range_with_len a n) ≡ true
 any_from f zero a k l e = absurd (omega (arith, l))
@@ -38,16 +38,16 @@ pub any_nowhere : (f : ℕ → Bool) (n : ℕ) → ((k : ℕ) → k < n → f k 
 any_nowhere f n none = sym (none_from f n 0 (λ k l. ap f (zero-add k) ∙ none k l))
 
 -- the last of some ticks
-pub last_tick : (p : PlanContents) (past : List (List Bool)) → AreTicks p past → (m : ℕ) → length past ≡ suc m → get_or past m [] ≡ next_tick (set_boundary p.set.tasks) p.tree (ticks_of p m)
+pub last_tick : (p : PlanContents) (past : List (List Bool)) → AreTicks p past → (m : ℕ) → length past ≡ suc m → get_or past m [] ≡ next_tick (set_boundary p.set.tasks) p.tree (past_of p m)
 last_tick p past are m long =
-    ap (λ xs. get_or xs m []) (are.told ∙ ap (ticks_of p) long)
-    ∙ get_or_push (ticks_of p m) (next_tick (set_boundary p.set.tasks) p.tree (ticks_of p m)) [] m (length-ticks (set_boundary p.set.tasks) p.tree m)
+    ap (λ xs. get_or xs m []) (are.told ∙ ap (past_of p) long)
+    ∙ get_or_push (past_of p m) (next_tick (set_boundary p.set.tasks) p.tree (past_of p m)) [] m (length-ticks (set_boundary p.set.tasks) p.tree m)
 
 dry_after : (p : PlanContents) (past : List (List Bool)) → AreTicks p past → (m x : ℕ) → length past ≡ suc m →
     (not (is_pack (kind_at p.tree x)) && get_or (get_or past m []) x false && eqb (left_of p past x) 0) ≡ runs_dry (set_boundary p.set.tasks) p.tree m x
 unfolding runs
 dry_after p past are m x long =
-    ap₂ (λ (b : Bool) (n : ℕ). not (is_pack (kind_at p.tree x)) && b && eqb n 0) (ap (λ tick. get_or tick x false) (last_tick p past are m long)) (ap (λ ts. left_of p ts x) (are.told ∙ ap (ticks_of p) long))
+    ap₂ (λ (b : Bool) (n : ℕ). not (is_pack (kind_at p.tree x)) && b && eqb n 0) (ap (λ tick. get_or tick x false) (last_tick p past are m long)) (ap (λ ts. left_of p ts x) (are.told ∙ ap (past_of p) long))
 
 pub dry_is : (p : PlanContents) (past : List (List Bool)) → AreTicks p past → (x : ℕ) → 0 < length past →
     (not (is_pack (kind_at p.tree x)) && get_or (get_or past (length past - 1) []) x false && eqb (left_of p past x) 0) ≡ runs_dry (set_boundary p.set.tasks) p.tree (length past - 1) x
@@ -68,11 +68,11 @@ later_event p (suc n) l =
     ap (λ m. (eqb (suc n % p.tree.scale) 0 && list_any (λ x. task_begins (set_boundary p.set.tasks) p.tree (suc n) x) (range_with_len 0 (length p.tree.nodes))) || list_any (λ x. runs_dry (set_boundary p.set.tasks) p.tree m x) (range_with_len 0 (length p.tree.nodes))) e
 
 -- ticks up to an earlier one
-pub are_first : (p : PlanContents) (past : List (List Bool)) (n : ℕ) → past ≡ ticks_of p (stop_of p) → n ≤ stop_of p → (length (take n past) ≡ n) × AreTicks p (take n past)
+pub are_first : (p : PlanContents) (past : List (List Bool)) (n : ℕ) → past ≡ past_of p (stop_of p) → n ≤ stop_of p → (length (take n past) ≡ n) × AreTicks p (take n past)
 are_first p past n told l =
-    let first : take n past ≡ ticks_of p n = ap (take n) told ∙ take-ticks (set_boundary p.set.tasks) p.tree n (stop_of p) l in
+    let first : take n past ≡ past_of p n = ap (take n) told ∙ take-ticks (set_boundary p.set.tasks) p.tree n (stop_of p) l in
     let long : length (take n past) ≡ n = ap length first ∙ length-ticks (set_boundary p.set.tasks) p.tree n in
-    (long, record { few = omega (arith, long, l); told = first ∙ ap (ticks_of p) (sym long) })
+    (long, record { few = omega (arith, long, l); told = first ∙ ap (past_of p) (sym long) })
 
 range_more : (a n : ℕ) → range_with_len a (n + 1) ≡ range_with_len a n ++ (a + n) ∷ []
 range_more a n = ap (range_with_len a) (add-one n) ∙ go a n

@@ -15,7 +15,7 @@ use Rattle.run_tree.specs.Runs.{runs, next_tick}
 use Rattle.run_tree.specs.Schedule.{packs_at}
 use Rattle.run_tree.specs.Plans.{PlanContents, stop_of}
 use Rattle.run_tree.proofs.RunLemmas.{length-ticks, take-ticks}
-use Rattle.run_plain.specs.Plain.{ticks_of, places_of}
+use Rattle.run_plain.specs.Plain.{past_of, places_of}
 
 -- a tree has a level
 some_term : (n : ℕ) (f : ℕ → ℕ) → 0 < sum_to n f → (k : ℕ) × (k < n) × (0 < f k)
@@ -79,14 +79,14 @@ place_is runs p k b o l w k_is b_is w_is o_is l_is =
 
 -- ---- tick by tick
 
-pub tick_at : (p : PlanContents) (n : ℕ) → n < stop_of p → get_or (ticks_of p (stop_of p)) n [] ≡ next_tick (set_boundary p.set.tasks) p.tree (ticks_of p n)
+pub tick_at : (p : PlanContents) (n : ℕ) → n < stop_of p → get_or (past_of p (stop_of p)) n [] ≡ next_tick (set_boundary p.set.tasks) p.tree (past_of p n)
 tick_at p n l =
-    sym (get_or-take (suc n) (ticks_of p (stop_of p)) n [] (le_refl (suc n)))
+    sym (get_or-take (suc n) (past_of p (stop_of p)) n [] (le_refl (suc n)))
     ∙ ap (λ xs. get_or xs n []) (take-ticks (set_boundary p.set.tasks) p.tree (suc n) (stop_of p) l)
-    ∙ get_or_push (ticks_of p n) (next_tick (set_boundary p.set.tasks) p.tree (ticks_of p n)) [] n (length-ticks (set_boundary p.set.tasks) p.tree n)
+    ∙ get_or_push (past_of p n) (next_tick (set_boundary p.set.tasks) p.tree (past_of p n)) [] n (length-ticks (set_boundary p.set.tasks) p.tree n)
 
 -- the nodes that run at a tick are those of its list
-pub runs_at : (p : PlanContents) (n x : ℕ) → n < stop_of p → get_or (get_or (ticks_of p (stop_of p)) n []) x false ≡ runs (set_boundary p.set.tasks) p.tree x n
+pub runs_at : (p : PlanContents) (n x : ℕ) → n < stop_of p → get_or (get_or (past_of p (stop_of p)) n []) x false ≡ runs (set_boundary p.set.tasks) p.tree x n
 unfolding runs
 runs_at p n x l = ap (λ tick. get_or tick x false) (tick_at p n l)
 
@@ -95,7 +95,7 @@ map-same f g [] same = refl
 map-same f g (x ∷ xs) same = ap₂ (λ y ys. y ∷ ys) (same x) (map-same f g xs same)
 
 -- one tick more
-pub places_next : (p : PlanContents) (n : ℕ) (tick : List Bool) (running : List Bool) (before : Placing) → n < stop_of p → tick ≡ get_or (ticks_of p (stop_of p)) n [] → running ≡ map (λ x. get_or tick x false) (packs_at p.tree 0) → before ≡ places_of p n →
+pub places_next : (p : PlanContents) (n : ℕ) (tick : List Bool) (running : List Bool) (before : Placing) → n < stop_of p → tick ≡ get_or (past_of p (stop_of p)) n [] → running ≡ map (λ x. get_or tick x false) (packs_at p.tree 0) → before ≡ places_of p n →
     place running before ≡ places_of p (suc n)
 places_next p n tick running before l tick_is running_is before_is =
     ap₂ place (running_is ∙ ap (λ ts. map (λ x. get_or ts x false) (packs_at p.tree 0)) tick_is ∙ map-same _ _ (packs_at p.tree 0) (λ x. runs_at p n x l)) before_is

@@ -11,7 +11,7 @@ use Rattle.run_tree.specs.Boundaries.{set_boundary}
 use Rattle.run_tree.specs.Runs.{runs}
 use Rattle.run_tree.specs.Schedule.{leaf_among, packs_at, round_rows, rows_from, rows_of_events, onto_at, schedule}
 use Rattle.run_tree.specs.Plans.{PlanContents, stop_of, schedule_of}
-use Rattle.run_plain.specs.Plain.{ticks_of, events_of, places_of, event_of}
+use Rattle.run_plain.specs.Plain.{past_of, events_of, places_of, event_of}
 use Rattle.run_plain.proofs.PlainPlaces.{runs_at}
 
 drop_past : (xs : List ℕ) (i : ℕ) → length xs ≤ i → drop i xs ≡ []
@@ -38,7 +38,7 @@ module _ (p : PlanContents) (tick : ℕ) (members rest : List NodeId) (first : N
   unfolding among
   among_rest off = sym (ap among off) ∙ sym (ap (λ ms. leaf_among (set_boundary p.set.tasks) p.tree tick (numbers ms)) cons)
 
-pub ran : (p : PlanContents) (past : List (List Bool)) (tick x : ℕ) (t : List Bool) → past ≡ ticks_of p (stop_of p) → tick < stop_of p → t ≡ get_or past tick [] → get_or t x false ≡ runs (set_boundary p.set.tasks) p.tree x tick
+pub ran : (p : PlanContents) (past : List (List Bool)) (tick x : ℕ) (t : List Bool) → past ≡ past_of p (stop_of p) → tick < stop_of p → t ≡ get_or past tick [] → get_or t x false ≡ runs (set_boundary p.set.tasks) p.tree x tick
 ran p past tick x t told l read = ap (λ ts. get_or ts x false) (read ∙ ap (λ xs. get_or xs tick []) told) ∙ runs_at p tick x l
 
 -- ---- rounds

@@ -7,7 +7,7 @@ use Rattle.run_tree.specs.Runs.{pack_runs, unless_dual, node_runs, runs_now, nex
 use Rattle.run_tree.specs.Plans.{PlanContents}
 use Rattle.run_tree.proofs.KindLemmas.{not_pack}
 use Rattle.run_tree.proofs.RunLemmas.{node_runs_member}
-use Rattle.run_plain.specs.Plain.{picked_of, runs_of, ticks_of}
+use Rattle.run_plain.specs.Plain.{picked_of, runs_of, past_of}
 
 pub runs_pack : (p : PlanContents) (past : List (List Bool)) (x l : ℕ) → kind_at p.tree x ≡ kind.Pack l → pack_runs p.tree (picked_of p past) (p.tree.levels - 1 - l) x ≡ runs_of p past x
 unfolding runs_now
@@ -32,8 +32,8 @@ runs_unless t picked (suc above) p d ne e =
 pub dual_member : (t : Tree) → IsTree t → (p d : ℕ) → IsPack t p → dual t p ≡ Some d → IsMember t d × IsPack t (home t d)
 dual_member t h p d i e = let x = (h.has_dual p d i e).0 in let m : IsMember t d = (x.0, not_pack (kind_at t d) x.1) in (m, (h.homes_are d m).0)
 
-pub next_ticks : (p : PlanContents) (n : ℕ) → ticks_of p (n + 1) ≡ ticks_of p n ++ next_tick (set_boundary p.set.tasks) p.tree (ticks_of p n) ∷ []
-next_ticks p n = ap (ticks_of p) (add-one n)
+pub next_ticks : (p : PlanContents) (n : ℕ) → past_of p (n + 1) ≡ past_of p n ++ next_tick (set_boundary p.set.tasks) p.tree (past_of p n) ∷ []
+next_ticks p n = ap (past_of p) (add-one n)
 
 -- a member runs where its home does and picks it
 pub runs_by_home : (p : PlanContents) (past : List (List Bool)) (x h top l : ℕ) (home_runs : Bool) → is_pack (kind_at p.tree x) ≡ false → h ≡ home p.tree x → top ≡ p.tree.levels - 1 → l ≡ level p.tree h →

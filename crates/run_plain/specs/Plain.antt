@@ -28,8 +28,8 @@ abbrev pub runs_of : PlanContents → List (List Bool) → ℕ → Bool
 runs_of p past x = definition.runs_now p.tree (left_of p past) (end_of p past) x
 
 -- which nodes run at all ticks below n
-abbrev pub ticks_of : PlanContents → ℕ → List (List Bool)
-ticks_of p n = definition.ticks_below (set_boundary p.set.tasks) p.tree n
+abbrev pub past_of : PlanContents → ℕ → List (List Bool)
+past_of p n = definition.ticks_below (set_boundary p.set.tasks) p.tree n
 
 -- whether tick n is an event
 abbrev pub event_of : PlanContents → ℕ → Bool
@@ -46,4 +46,4 @@ places_of p n = schedule.places_below (set_boundary p.set.tasks) p.tree n
 -- these are the nodes that run at the first ticks
 pub record AreTicks (p : PlanContents) (past : List (List Bool)) : Type 0 where
   pub few : length past ≤ stop_of p
-  pub told : past ≡ ticks_of p (length past)
+  pub told : past ≡ past_of p (length past)

@@ -6,7 +6,7 @@ ghost use Rattle.run_tree.specs.Tree.{kind_at, is_pack};
 ghost use Rattle.run_tree.specs.Boundaries.{set_boundary};
 ghost use Rattle.run_tree.specs.Rounds.{task_begins as task_begins_at, runs_dry as runs_dry_at};
 ghost use Rattle.run_tree.specs.Plans.{stop_of, rounds_of};
-ghost use Rattle.run_plain.specs.Plain.{IsSmall, AreTicks, left_of, ticks_of, event_of, events_of};
+ghost use Rattle.run_plain.specs.Plain.{IsSmall, AreTicks, left_of, past_of, event_of, events_of};
 
 use crate::dues::{due_left, unit_after};
 use crate::running::plain_running;
@@ -106,7 +106,7 @@ fn is_event(plan: &Plan, past: &[Tick]) -> bool
 /// The events up to the end of the schedule, where these are all its ticks.
 pub(crate) fn events(alloc: Global, plan: &Plan, past: &[Tick]) -> Result<Vec<usize>, NoMemory>
     requires small { IsSmall plan.now }
-    requires past { past.now ≡ ticks_of plan.now (stop_of plan.now) }
+    requires past { past.now ≡ past_of plan.now (stop_of plan.now) }
     ensures { IfOk result (λ events. events.items ≡ events_of plan.now (stop_of plan.now)) }
 {
     let mut events = Vec::new(alloc);

@@ -7,7 +7,7 @@ ghost use Rattle.sched_base.specs.Places.{last_next};
 ghost use Rattle.run_tree.specs.Boundaries.{set_boundary};
 ghost use Rattle.run_tree.specs.Schedule.{packs_at};
 ghost use Rattle.run_tree.specs.Plans.{stop_of};
-ghost use Rattle.run_plain.specs.Plain.{IsSmall, ticks_of, places_of};
+ghost use Rattle.run_plain.specs.Plain.{IsSmall, past_of, places_of};
 
 use crate::running::plain_running;
 use crate::ticks::Tick;
@@ -243,7 +243,7 @@ pub(crate) fn placed_after(
     plan: &Plan,
     past: &[Tick],
 ) -> Result<Vec<Places>, NoMemory>
-    requires past { past.now ≡ ticks_of plan.now (stop_of plan.now) }
+    requires past { past.now ≡ past_of plan.now (stop_of plan.now) }
     ensures { IfOk result (λ placed. placed.items ≡ map (places_of plan.now) (range_with_len 0 (stop_of plan.now + 1))) }
 {
     let mut placed = Vec::new(alloc);

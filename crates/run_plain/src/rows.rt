@@ -5,7 +5,7 @@ ghost use Rattle.run_tree.specs.Tree.{leaf, numbers};
 ghost use Rattle.run_tree.specs.Boundaries.{set_boundary};
 ghost use Rattle.run_tree.specs.Schedule.{leaf_among as leaf_among_at, leaf_on as leaf_on_at, shown as shown_at, rows_from, packs_at};
 ghost use Rattle.run_tree.specs.Plans.{stop_of, schedule_of};
-ghost use Rattle.run_plain.specs.Plain.{IsSmall, ticks_of};
+ghost use Rattle.run_plain.specs.Plain.{IsSmall, past_of};
 
 use crate::events::events;
 use crate::places::placed_after;
@@ -17,7 +17,7 @@ use std::alloc::Global;
 
 /// The leaf that runs among these members at a tick.
 fn leaf_among(plan: &Plan, past: &[Tick], tick: usize, members: &[NodeId]) -> Leaf
-    requires past { past.now ≡ ticks_of plan.now (stop_of plan.now) }
+    requires past { past.now ≡ past_of plan.now (stop_of plan.now) }
     requires tick { tick < length past.now }
     ensures { result ≡ leaf_among_at (set_boundary plan.now.set.tasks) plan.now.tree tick (numbers members.now) }
 {
@@ -87,7 +87,7 @@ fn pack_of(plan: &Plan, i: usize) -> NodeId
 
 /// The leaf that runs in the pack on a processor at a tick.
 fn leaf_on(plan: &Plan, past: &[Tick], tick: usize, pack: Option<usize>) -> Leaf
-    requires past { past.now ≡ ticks_of plan.now (stop_of plan.now) }
+    requires past { past.now ≡ past_of plan.now (stop_of plan.now) }
     requires tick { tick < length past.now }
     ensures { result ≡ leaf_on_at (set_boundary plan.now.set.tasks) plan.now.tree tick pack }
 {
@@ -107,7 +107,7 @@ fn push_round(
     rows: &mut Vec<Row>,
 ) -> Result<(), NoMemory>
     requires small { IsSmall plan.now }
-    requires past { past.now ≡ ticks_of plan.now (stop_of plan.now) }
+    requires past { past.now ≡ past_of plan.now (stop_of plan.now) }
     requires start { start < length past.now }
     requires few { length onto.now < 2 ^ 32 }
     ensures { OnOk result (rows.new.items ≡ rows.old.items ++ rows_from plan.now.set.tasks plan.now.tree start end 0 onto.now) }

@@ -4,7 +4,7 @@ ghost use Rattle.run_tree.specs.Tree.{IsPack, level};
 ghost use Rattle.run_tree.specs.Boundaries.{set_boundary};
 ghost use Rattle.run_tree.specs.Runs.{pack_runs as pack_runs_of, next_tick as next_tick_of};
 ghost use Rattle.run_tree.specs.Plans.{stop_of};
-ghost use Rattle.run_plain.specs.Plain.{IsSmall, picked_of, runs_of, ticks_of};
+ghost use Rattle.run_plain.specs.Plain.{IsSmall, picked_of, runs_of, past_of};
 
 use crate::dues::is_picked;
 use crate::ticks::Tick;
@@ -77,7 +77,7 @@ fn next_tick(alloc: Global, plan: &Plan, past: &[Tick]) -> Result<Tick, NoMemory
 /// Which nodes run at each tick up to the end of the schedule.
 pub fn plain_running(alloc: Global, plan: &Plan) -> Result<Vec<Tick>, NoMemory>
     requires { IsSmall plan.now }
-    ensures { IfOk result (λ past. past.items ≡ ticks_of plan.now (stop_of plan.now)) }
+    ensures { IfOk result (λ past. past.items ≡ past_of plan.now (stop_of plan.now)) }
 {
     let mut past = Vec::new(alloc);
     for tick in 0..plan.rounds_end() as usize {

@@ -21,6 +21,3 @@ pub use reading::read_trace;
 pub use task_lines::{is_scale, read_tasks};
 pub use trace_rows::{FaultKind, Verdict};
 pub use traces::{ReadTrace, check_trace};
-
-#[cfg(test)]
-mod tests;

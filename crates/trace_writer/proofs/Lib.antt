@@ -4,7 +4,6 @@ pub mod TextLemmas
 pub mod FinishLemmas
 pub mod EndLemmas
 pub mod ReachLemmas
-pub mod LongTableLemmas
 pub mod MergedLemmas
 pub mod DigitLemmas
 pub mod PageLemmas

@@ -2,5 +2,4 @@ pub mod Conditions
 pub mod Parts
 pub mod Ends
 pub mod Reaches
-pub mod LongTables
 pub mod Digits

@@ -13,6 +13,3 @@ mod rows;
 mod text;
 
 pub use text::{write_merged, write_met, write_trace};
-
-#[cfg(test)]
-mod tests;

@@ -9,6 +9,7 @@ ghost use Rattle.sched_edges.specs.Jobs.{JobAt};
 ghost use Rattle.exec_book.specs.PlanRows.{IsCompiled};
 
 mod halts;
+mod machines;
 mod worker_calls;
 
 use event_core::count_rounds;

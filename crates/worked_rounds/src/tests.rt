@@ -3,7 +3,7 @@ ghost use Rattle.std.specs.Prelude.{◌≡◌, [], ◌∷◌, ◌++◌, length, 
 ghost use Rattle.event_core.specs.Cores.{IsCoreOf};
 
 use event_core::{Core, CountFault, count_rounds};
-use run_compile::compile;
+use run_plain::plan_of;
 use run_tree::Plan;
 use sched_base::{Leaf, Row, TaskSet, lawful_name};
 use std::alloc::{AllocError, Global};
@@ -12,25 +12,10 @@ use std::test::Fail;
 
 mod by_hand;
 mod merged;
+mod plain;
 mod tables;
 
-/// The plan of a set of tasks, each told by its name, work, period and offset.
-fn plan_of(
-    rt: &impl Abort,
-    alloc: Global,
-    processors: u32,
-    horizon: u64,
-    tasks: &[(&str, u64, u64, u64)],
-) -> Result<Plan, Fail> {
-    assert!(rt; 1 <= processors && processors <= 32);
-    assert!(rt; 1 <= horizon && horizon < 1 << 32);
-    let mut set = TaskSet::start(alloc, processors, horizon);
-    for (name, work, period, offset) in tasks {
-        add(rt, &mut set, name.as_bytes(), *work, *period, *offset)?;
-    }
-    Ok(compile(alloc, set)?)
-}
-
+/// Adds a task, once it is seen that it may be added.
 fn add(
     rt: &impl Abort,
     set: &mut TaskSet,
@@ -157,7 +142,7 @@ fn runs_worked_sets(rt: HostRuntime) -> Result<(), Fail> {
         (2, 1, &[], 1, &[0, 1], &[".", "."]),
     ];
     for (processors, horizon, tasks, count, starts, lanes) in rows {
-        let plan = plan_of(&rt, rt.alloc(), processors, horizon, tasks)?;
+        let plan = plan_of(rt.alloc(), processors, horizon, tasks)?;
         let mut rows = blank_rows(rt.alloc(), plan.tree().processors() as usize)?;
         let mut core = Core::new(rt.alloc(), &plan)?;
         run_rounds(&rt, &plan, &mut core, &mut rows, starts, lanes);
@@ -173,7 +158,7 @@ fn counts_up_to_the_limit(rt: HostRuntime) -> Result<(), Fail> {
         (65_536, Ok(65_536)),
         (65_537, Err(CountFault::TooLong { rows: 2_097_184 })),
     ] {
-        let plan = plan_of(&rt, rt.alloc(), 32, horizon, &[("a", 1, 1, 0)])?;
+        let plan = plan_of(rt.alloc(), 32, horizon, &[("a", 1, 1, 0)])?;
         assert_eq!(rt; count_rounds(rt.alloc(), &plan), count);
     }
     Ok(())

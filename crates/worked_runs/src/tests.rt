@@ -7,6 +7,7 @@ ghost use Rattle.exec_workers.specs.Kits.{KitAt};
 
 mod faults;
 mod many_workers;
+mod modes;
 mod paced_gate;
 mod whole_runs;
 

@@ -1,9 +1,9 @@
 //! The merged rows of worked sets.
 
-use super::plan_of;
 use event_core::CountFault;
 use merged_rounds::merged_of;
 use merged_rows::{MergedRows, totals_of};
+use run_plain::plan_of;
 use sched_base::{Leaf, Row, TaskId};
 use std::alloc::{AllocError, Global};
 use std::test::Fail;
@@ -71,7 +71,7 @@ fn merges_the_rounds_of_worked_sets(rt: HostRuntime) -> Result<(), Fail> {
         (1, 3, &[], &[row(0, 0, 3, Leaf::Idle(0))], &[]),
     ];
     for (processors, horizon, tasks, rows, ticks) in cases {
-        let plan = plan_of(&rt, rt.alloc(), processors, horizon, tasks)?;
+        let plan = plan_of(rt.alloc(), processors, horizon, tasks)?;
         let merged = merged_of(rt.alloc(), &plan)?;
         assert_eq!(rt; all_rows(rt.alloc(), &merged)?.as_slice(), rows);
         let totals = totals_of(rt.alloc(), &merged, plan.set().count())?;
@@ -88,7 +88,7 @@ fn merges_up_to_the_limit(rt: HostRuntime) -> Result<(), Fail> {
         (65_536, Ok(32)),
         (65_537, Err(CountFault::TooLong { rows: 2_097_184 })),
     ] {
-        let plan = plan_of(&rt, rt.alloc(), 32, horizon, &[("a", 1, 1, 0)])?;
+        let plan = plan_of(rt.alloc(), 32, horizon, &[("a", 1, 1, 0)])?;
         let count = merged_of(rt.alloc(), &plan).map(|merged| merged.processors());
         assert_eq!(rt; count, lanes);
     }

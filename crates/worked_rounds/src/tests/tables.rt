@@ -1,8 +1,8 @@
 //! The tables of worked sets.
 
-use super::plan_of;
 use event_core::count_rounds;
 use round_table::table_of;
+use run_plain::plan_of;
 use run_tree::Plan;
 use sched_base::{Leaf, Row, RowTable, TaskId};
 use std::alloc::Global;
@@ -32,7 +32,7 @@ fn whole_table(alloc: Global, plan: &Plan) -> Result<RowTable, Fail> {
 #[test]
 fn holds_the_rounds_of_three_tasks(rt: HostRuntime) -> Result<(), Fail> {
     let three_tasks: &[(&str, u64, u64, u64)] = &[("a", 2, 3, 0), ("b", 2, 3, 0), ("c", 2, 3, 0)];
-    let plan = plan_of(&rt, rt.alloc(), 2, 3, three_tasks)?;
+    let plan = plan_of(rt.alloc(), 2, 3, three_tasks)?;
     let table = whole_table(rt.alloc(), &plan)?;
     let first = [row(0, 0, 3, B), row(0, 3, 6, A), row(0, 6, 9, A)];
     let second = [row(1, 0, 3, C), row(1, 3, 6, C), row(1, 6, 9, B)];
@@ -53,7 +53,7 @@ fn holds_rows_of_idle_and_of_waiting(rt: HostRuntime) -> Result<(), Fail> {
         (1, &[], &[row(0, 0, 1, idle)]),
     ];
     for (horizon, tasks, lane) in cases {
-        let plan = plan_of(&rt, rt.alloc(), 1, horizon, tasks)?;
+        let plan = plan_of(rt.alloc(), 1, horizon, tasks)?;
         let table = whole_table(rt.alloc(), &plan)?;
         assert!(rt; table.processors() == 1);
         assert_eq!(rt; table.lane(0), lane);

@@ -4,7 +4,7 @@ use Rattle.std.proofs.lemmas.List.{get_or_read}
 use Rattle.run_tree.specs.Boundaries.{set_boundary}
 use Rattle.run_tree.specs.Plans.{stop_of}
 use Rattle.run_tree.proofs.RunLemmas.{length-ticks}
-use Rattle.run_plain.specs.Plain.{ticks_of, places_of}
+use Rattle.run_plain.specs.Plain.{past_of, places_of}
 use Rattle.run_plain.proofs.PlainPlaces.{places_next, placed_more, placed_at, length-placed}
 use Rattle.run_plain.proofs.places.placed_after.Goals as goal
 
@@ -15,7 +15,7 @@ pub loop-n-preserved : goal.loop-n-preserved
 loop-n-preserved c =
     let n : ℕ = c.loop-n.n in
     let early : n < stop_of c.args.plan.now = omega (arith, c.loop-n-test.true, ap length c.requires.past, length-ticks (set_boundary c.args.plan.now.set.tasks) c.args.plan.now.tree (stop_of c.args.plan.now)) in
-    let tick : c.index-past-n.result ≡ get_or (ticks_of c.args.plan.now (stop_of c.args.plan.now)) n [] = get_or_read c.args.past.now n c.index-past-n.result c.loop-n-test.true c.index-past-n.is [] ∙ ap (λ xs. get_or xs n []) c.requires.past in
+    let tick : c.index-past-n.result ≡ get_or (past_of c.args.plan.now (stop_of c.args.plan.now)) n [] = get_or_read c.args.past.now n c.index-past-n.result c.loop-n-test.true c.index-past-n.is [] ∙ ap (λ xs. get_or xs n []) c.requires.past in
     let before = placed_at c.args.plan.now n c.loop-n.placed.items c.index.result.now c.loop-n.invariant c.index.ensures in
     let r = c.in_ok-running.ensures in
     let d = c.deref.ensures.value in

@@ -6,7 +6,7 @@ use Rattle.run_tree.specs.Plans.{stop_of}
 use Rattle.run_tree.specs.Schedule.{rows_from, rows_of_events}
 use Rattle.run_tree.proofs.RunLemmas.{length-ticks}
 use Rattle.run_tree.proofs.ScheduleLemmas.{length-places}
-use Rattle.run_plain.specs.Plain.{ticks_of, events_of, places_of}
+use Rattle.run_plain.specs.Plain.{past_of, events_of, places_of}
 use Rattle.run_plain.proofs.PlainPlaces.{placed_by, length-placed}
 use Rattle.run_plain.proofs.PlainRows.{rows_more, rows_whole, event_early, round_is}
 use Rattle.run_plain.proofs.rows.plain_schedule.Goals as goal
@@ -29,7 +29,7 @@ push_round-requires-clause-start c =
     let told : c.deref-start-items.result.now ≡ events_of c.args.plan.now (stop_of c.args.plan.now) = c.deref-start-items.ensures.value ∙ c.in_ok-events.ensures in
     let early = event_early c.args.plan.now c.loop-i.i (omega (arith, c.loop-i-test.true, ap length told)) in
     let start = ap (λ xs. get_or xs c.loop-i.i 0) told in
-    let past : c.deref-in-loop-i-2.result.now ≡ ticks_of c.args.plan.now (stop_of c.args.plan.now) = c.deref-in-loop-i-2.ensures.value ∙ c.in_ok-past.ensures in
+    let past : c.deref-in-loop-i-2.result.now ≡ past_of c.args.plan.now (stop_of c.args.plan.now) = c.deref-in-loop-i-2.ensures.value ∙ c.in_ok-past.ensures in
     omega (arith, start, early, ap length past, length-ticks (set_boundary c.args.plan.now.set.tasks) c.args.plan.now.tree (stop_of c.args.plan.now))
 
 pub push_round-requires-clause-few : goal.push_round-requires-clause-few
@@ -47,7 +47,7 @@ loop-i-preserved c =
     let told : c.deref-start-items.result.now ≡ events_of c.args.plan.now (stop_of c.args.plan.now) = c.deref-start-items.ensures.value ∙ c.in_ok-events.ensures in
     let early = event_early c.args.plan.now c.loop-i.i (omega (arith, c.loop-i-test.true, ap length told)) in
     let start = ap (λ xs. get_or xs c.loop-i.i 0) told in
-    let past : c.deref-in-loop-i-2.result.now ≡ ticks_of c.args.plan.now (stop_of c.args.plan.now) = c.deref-in-loop-i-2.ensures.value ∙ c.in_ok-past.ensures in
+    let past : c.deref-in-loop-i-2.result.now ≡ past_of c.args.plan.now (stop_of c.args.plan.now) = c.deref-in-loop-i-2.ensures.value ∙ c.in_ok-past.ensures in
     let places : c.index-places.result.now ≡ places_of c.args.plan.now (get_or c.deref-start-items.result.now c.loop-i.i 0 + 1) = placed_by c.args.plan.now (stop_of c.args.plan.now) (get_or c.deref-start-items.result.now c.loop-i.i 0 + 1) c.in_ok-placed.placed.items c.index-places.result.now (omega (arith, start, early)) c.in_ok-placed.ensures c.index-places.ensures in
     let es : List ℕ = events_of c.args.plan.now (stop_of c.args.plan.now) in
     let events : c.deref-in-loop-i.result.now ≡ es = c.deref-in-loop-i.ensures.value ∙ c.in_ok-events.ensures in

@@ -1,0 +1,91 @@
+//! Lists of sets, and what joining them answers: values from outside.
+
+mod runs;
+
+use mode_switch::{ModeFault, ModeKind, Modes};
+use sched_base::{TaskSet, lawful_name};
+use std::alloc::Global;
+use std::process::Abort;
+use std::test::Fail;
+
+/// A set: its processors, its horizon, and its tasks, each with work, period and offset.
+type Row<'a> = (u32, u64, &'a [(u64, u64, u64)]);
+
+const NAMES: [&str; 3] = ["a", "b", "c"];
+
+fn set_of(rt: &impl Abort, alloc: Global, row: &Row) -> Result<TaskSet, Fail> {
+    assert!(rt; 1 <= row.0 && row.0 <= 32 && 1 <= row.1 && row.1 <= 4_294_967_295);
+    let mut set = TaskSet::start(alloc, row.0, row.1);
+    for (i, (work, period, offset)) in row.2.iter().enumerate() {
+        assert!(rt; i < NAMES.len());
+        let name = NAMES[i].as_bytes();
+        assert!(rt; set.count() < 256 && lawful_name(name) && set.find(name).is_none());
+        assert!(rt;
+            1 <= *work && work <= period && *period <= 4_294_967_295 && *offset <= 4_294_967_295
+        );
+        set.add_late(name, *work, *period, *offset)?;
+    }
+    Ok(set)
+}
+
+fn joined(rt: &impl Abort, alloc: Global, rows: &[Row]) -> Result<Result<Modes, ModeFault>, Fail> {
+    let mut sets = Vec::new(alloc);
+    for row in rows {
+        sets.push(set_of(rt, alloc, row)?)?;
+    }
+    assert!(rt; !sets.is_empty());
+    Ok(Modes::join(alloc, sets))
+}
+
+#[test]
+fn two_modes_follow_each_other(rt: HostRuntime) -> Result<(), Fail> {
+    let thirds: Row = (2, 3, &[(2, 3, 0), (2, 3, 0), (2, 3, 0)]);
+    let halves: Row = (2, 4, &[(1, 2, 0), (1, 4, 0), (1, 4, 0)]);
+    let modes = joined(&rt, rt.alloc(), &[thirds, halves, thirds])?;
+    let Ok(modes) = modes else {
+        return rt.abort();
+    };
+    assert_eq!(rt; modes.count(), 3);
+    assert_eq!(rt; (modes.start(0), modes.start(1), modes.start(2)), (0, 3, 7));
+    assert_eq!(rt; (modes.plan(0).scale(), modes.plan(1).scale()), (3, 4));
+    assert_eq!(rt; (modes.rounds(0), modes.rounds(2)), (3, 3));
+    Ok(())
+}
+
+#[test]
+fn the_first_fault_of_the_first_set_is_told(rt: HostRuntime) -> Result<(), Fail> {
+    let good: Row = (2, 3, &[(2, 3, 0), (2, 3, 0), (2, 3, 0)]);
+    let other: Row = (1, 3, &[(1, 2, 1)]);
+    let late: Row = (2, 3, &[(1, 3, 0), (1, 2, 1), (1, 3, 2)]);
+    let open: Row = (2, 3, &[(1, 2, 0)]);
+    let over: Row = (2, 3, &[(3, 3, 0), (3, 3, 0), (1, 3, 0)]);
+    let rows: [(&[Row], u32, ModeKind); 6] = [
+        (&[open], 0, ModeKind::Period { task: 0 }),
+        (&[good, other, late], 1, ModeKind::Processors),
+        (&[good, late, other], 1, ModeKind::Offset { task: 1 }),
+        (&[good, good, open, over], 2, ModeKind::Period { task: 0 }),
+        (&[over, other], 0, ModeKind::Overload { total: 7, room: 6 }),
+        // on 32 processors 65,536 rounds are within the limit; here each unit is a round
+        (
+            &[
+                (32, 65_535, &[(1, 1, 0)]),
+                (32, 1, &[(1, 1, 0)]),
+                (32, 1, &[(1, 1, 0)]),
+                other,
+            ],
+            2,
+            ModeKind::TooLong { rows: 2_097_184 },
+        ),
+    ];
+    for (sets, mode, kind) in rows.iter() {
+        let fault = joined(&rt, rt.alloc(), sets)?.err();
+        assert_eq!(rt;
+            fault,
+            Some(ModeFault::Refused {
+                mode: *mode,
+                kind: *kind
+            })
+        );
+    }
+    Ok(())
+}

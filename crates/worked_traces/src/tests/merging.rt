@@ -1,0 +1,39 @@
+//! The merged rows of a worked set.
+ghost use Rattle.std.specs.Prelude.{◌≡◌};
+
+use merged_rows::MergedRows;
+use sched_base::{Leaf, NoMemory, Row, TaskId};
+
+const A: Leaf = Leaf::Task(TaskId(0));
+
+const B: Leaf = Leaf::Task(TaskId(1));
+
+const C: Leaf = Leaf::Task(TaskId(2));
+
+fn row(processor: u32, start: u128, end: u128, leaf: Leaf) -> Row
+    ensures { result ≡ record { processor = processor; start = start; end = end; leaf = leaf } }
+{
+    Row {
+        processor,
+        leaf,
+        start,
+        end,
+    }
+}
+
+/// Three tasks of rate 2/3 on two processors, over one period of 9 ticks: on each processor two rounds of one name are one row.
+#[test]
+fn three_tasks(rt: HostRuntime) -> Result<(), NoMemory> {
+    let rows = MergedRows::new(rt.alloc(), 2)?;
+    let rows = rows.with_round(3, &[Some(B), Some(C)])?;
+    let rows = rows.with_round(6, &[Some(A), Some(C)])?;
+    let rows = rows.with_round(9, &[None, Some(B)])?;
+    assert_eq!(rt; rows.processors(), 2);
+    assert_eq!(rt; rows.count(0), 2);
+    assert_eq!(rt; rows.row(0, 0), row(0, 0, 3, B));
+    assert_eq!(rt; rows.row(0, 1), row(0, 3, 9, A));
+    assert_eq!(rt; rows.count(1), 2);
+    assert_eq!(rt; rows.row(1, 0), row(1, 0, 6, C));
+    assert_eq!(rt; rows.row(1, 1), row(1, 6, 9, B));
+    Ok(())
+}

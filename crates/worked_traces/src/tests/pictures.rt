@@ -1,0 +1,373 @@
+//! Pictures of worked traces, byte for byte, and a sink that fails. The pictures were made by a plain
+//! program of its own, and looked at.
+ghost use Rattle.std.specs.Prelude.{◌≤◌, IfSome};
+
+use sched_base::NoMemory;
+use sched_edges::{Failed, MemSink};
+use std::alloc::Global;
+use std::test::Fail;
+use trace_check::{TraceFault, check_trace, read_trace};
+use trace_draw::{Asked, shown_window, write_picture};
+
+/// Why there is no picture.
+#[derive(Debug, Drop)]
+enum NoPicture {
+    NotRead,
+    NotWritten,
+    NoMemory,
+}
+
+impl From<TraceFault> for NoPicture {
+    fn from(_: TraceFault) -> NoPicture {
+        NoPicture::NotRead
+    }
+}
+
+impl From<Failed> for NoPicture {
+    fn from(_: Failed) -> NoPicture {
+        NoPicture::NotWritten
+    }
+}
+
+impl From<NoMemory> for NoPicture {
+    fn from(_: NoMemory) -> NoPicture {
+        NoPicture::NoMemory
+    }
+}
+
+// ---- parts that several worked pictures share
+
+// The style sheet.
+const STYLE: &str =
+    "<style>text{font:125px ui-monospace,DejaVu Sans Mono,monospace}.h{font-size:180px;font-weight:bold}
+.n,.a,.u,.s{fill:#444}.l,.s,.e,.u,.ok,.bad{text-anchor:end}.m,.a,.k{text-anchor:middle}.l,.e{font-size:115px}
+.ok,.bad{font-size:160px;fill:#00603f}.e{font-weight:bold}.e,.bad{fill:#b00000}.q,.s{font-size:85px}
+.k{font-size:95px}.p{fill:#f2f2f2}.g,.b,.r,.f,.o{fill:none;stroke:#bbb;stroke-width:6}.b{stroke:#999}
+.r,.o{stroke:#000;stroke-width:14}.o{fill:#fff}.f{stroke:#b00000;stroke-width:24}.w{fill:#b00000}
+.c0{fill:#0072b2}.c1{fill:#e69f00}.c2{fill:#009e73}.c3{fill:#cc79a7}
+.c4{fill:#56b4e9}.c5{fill:#d55e00}.c6{fill:#f0e442}.c7{fill:#595959}.i0,.i7{fill:#fff}
+.v1,.v2,.v3{stroke:#000;stroke-width:12}.v2{stroke-dasharray:40}.v3{stroke-dasharray:160 60}
+@media(max-width:700px){.h{font-size:300px}.n,.u{font-size:190px}.ok,.bad{font-size:260px}}</style>
+";
+
+// How each picture begins, up to its height.
+const SVG: &str = "<svg xmlns='http://www.w3.org/2000/svg' role='img' aria-labelledby='t d'
+ viewBox='0 0 12000 ";
+
+// The height and the words of a picture of three tasks on two processors, up to the verdict.
+const TITLE: &str = "3330'>
+<title id='t'>Schedule of 3 tasks on 2 processors</title>
+<desc id='d'>A lane for each processor, and below them one for each task;
+units 0 to 3 of 3; ";
+
+// What stands behind the verdict.
+const DESCRIBED: &str = "</desc>
+";
+
+// The first lines that are drawn of three tasks, up to the verdict.
+const CAPTION: &str = "<rect width='12000' height='3330' fill='#fff'/>
+<text class='h' x='250' y='330'>3 tasks on 2 processors</text>
+<text class='n' x='250' y='560'>units 0 to 3 of 3</text>
+<text class='u' x='11600' y='560'>one unit is 3 ticks</text>
+";
+
+// The lanes of the processors, the axis, and the first row, which is task b's.
+const LANES: &str = "<text class='l' x='1780' y='1115'>cpu 0</text>
+<rect class='p' x='1900' y='900' width='9700' height='340'/>
+<text class='l' x='1780' y='1535'>cpu 1</text>
+<rect class='p' x='1900' y='1320' width='9700' height='340'/>
+<path class='g' d='M1900 780V2930'/>
+<text class='a' x='1900' y='730'>0</text>
+<path class='g' d='M5133 780V2930'/>
+<text class='a' x='5133' y='730'>1</text>
+<path class='g' d='M8366 780V2930'/>
+<text class='a' x='8366' y='730'>2</text>
+<path class='g' d='M11600 780V2930'/>
+<text class='a' x='11600' y='730'>3</text>
+<rect class='c1 v0' x='1900' y='900' width='3233' height='340'/>
+<text class='m i1' x='3516' y='1115'>b</text>
+<rect class='c1 v0' x='1900' y='2350' width='3233' height='170'/>
+<text class='k i1' x='3516' y='2470'>0</text>
+";
+
+// The third row and the fourth.
+const OTHER_ROWS: &str = "<rect class='c2 v0' x='1900' y='1320' width='6466' height='340'/>
+<text class='m i2' x='5133' y='1535'>c</text>
+<rect class='c2 v0' x='1900' y='2670' width='6466' height='170'/>
+<text class='k i2' x='5133' y='2790'>1</text>
+<rect class='c1 v0' x='8366' y='1320' width='3234' height='340'/>
+<text class='m i1' x='9983' y='1535'>b</text>
+<rect class='c1 v0' x='8366' y='2350' width='3234' height='170'/>
+<text class='k i1' x='9983' y='2470'>1</text>
+";
+
+// The lane of task a, from its work and period up to its first release.
+const LANE_OF_A: &str = "<text class='s' x='1780' y='2185'>2/3</text>
+<path class='b' d='M1900 2200H11600'/>
+<path class='r' d='M1900 2200v-230m-45 70l45-70l45 70'/>
+";
+
+// From the end of task a's period up to the first release of task c.
+const LANES_OF_B_AND_C: &str = "<path class='r' d='M11600 2200v-230m-45 70l45-70l45 70'/>
+<text class='l' x='1780' y='2395'>b</text>
+<text class='s' x='1780' y='2505'>2/3</text>
+<path class='b' d='M1900 2520H11600'/>
+<path class='r' d='M1900 2520v-230m-45 70l45-70l45 70'/>
+<circle class='o' cx='11600' cy='2520' r='40'/>
+<path class='r' d='M11600 2520v-230m-45 70l45-70l45 70'/>
+<text class='l' x='1780' y='2715'>c</text>
+<text class='s' x='1780' y='2825'>2/3</text>
+<path class='b' d='M1900 2840H11600'/>
+<path class='r' d='M1900 2840v-230m-45 70l45-70l45 70'/>
+";
+
+// The end of task c's period.
+const LAST_RELEASE: &str = "<path class='r' d='M11600 2840v-230m-45 70l45-70l45 70'/>
+";
+
+// The last lines.
+const LEGEND: &str =
+    "<text class='n' x='250' y='3130'>arrow: release, and deadline of the job before; ring: the period has its work; red: at fault</text>
+</svg>
+";
+
+// ---- worked pictures
+
+// Three tasks of rate 2/3 on two processors.
+const THREE_TASKS: &str =
+    "run-trace 1\nprocessors 2\nhorizon 3\nscale 3\ntasks 3\ntask a 2 3\ntask b 2 3\ntask c 2 3\nrow 0 0 3 b\n\
+        row 0 3 9 a\nrow 1 0 6 c\nrow 1 6 9 b\ntotal a 6\ntotal b 6\ntotal c 6\nrows 4\n";
+
+const THREE_TASKS_PICTURE: [&str; 17] = [
+    SVG,
+    TITLE,
+    "valid",
+    DESCRIBED,
+    STYLE,
+    CAPTION,
+    "<text class='ok' x='11600' y='330'>valid</text>\n",
+    LANES,
+    "<rect class='c0 v0' x='5133' y='900' width='6467' height='340'/>
+<text class='m i0' x='8366' y='1115'>a</text>
+<rect class='c0 v0' x='5133' y='2030' width='6467' height='170'/>
+<text class='k i0' x='8366' y='2150'>0</text>
+",
+    OTHER_ROWS,
+    "<text class='l' x='1780' y='2075'>a</text>\n",
+    LANE_OF_A,
+    "<circle class='o' cx='11600' cy='2200' r='40'/>\n",
+    LANES_OF_B_AND_C,
+    "<circle class='o' cx='8366' cy='2840' r='40'/>\n",
+    LAST_RELEASE,
+    LEGEND,
+];
+
+// An offset of one and an idle row, from unit 1 for three units.
+const OFFSET: &str =
+    "run-trace 2\nprocessors 1\nhorizon 5\nscale 2\ntasks 2\ntask a 1 2 1\ntask b 1 2 0\nrow 0 0 1 -\nrow 0 1 3 b\n\
+        row 0 3 5 a\nrow 0 5 7 b\nrow 0 7 9 a\nrow 0 9 10 b\ntotal a 4\ntotal b 5\nmet a 0 5\nmet a 1 9\nmet b 0 3\n\
+        met b 1 7\nrows 6\n";
+
+const OFFSET_ABOVE: &str = "2590'>
+<title id='t'>Schedule of 2 tasks on 1 processor</title>
+<desc id='d'>A lane for each processor, and below them one for each task;
+units 1 to 4 of 5; valid</desc>
+";
+
+const OFFSET_BELOW: &str = "<rect width='12000' height='2590' fill='#fff'/>
+<text class='h' x='250' y='330'>2 tasks on 1 processor</text>
+<text class='n' x='250' y='560'>units 1 to 4 of 5</text>
+<text class='u' x='11600' y='560'>one unit is 2 ticks</text>
+<text class='ok' x='11600' y='330'>valid</text>
+<text class='l' x='1780' y='1115'>cpu 0</text>
+<rect class='p' x='1900' y='900' width='9700' height='340'/>
+<path class='g' d='M1900 780V2190'/>
+<text class='a' x='1900' y='730'>1</text>
+<path class='g' d='M5133 780V2190'/>
+<text class='a' x='5133' y='730'>2</text>
+<path class='g' d='M8366 780V2190'/>
+<text class='a' x='8366' y='730'>3</text>
+<path class='g' d='M11600 780V2190'/>
+<text class='a' x='11600' y='730'>4</text>
+<rect class='c1 v0' x='1900' y='900' width='1616' height='340'/>
+<text class='m i1' x='2708' y='1115'>b</text>
+<rect class='c1 v0' x='1900' y='1930' width='1616' height='170'/>
+<text class='k i1' x='2708' y='2050'>0</text>
+<rect class='c0 v0' x='3516' y='900' width='3234' height='340'/>
+<text class='m i0' x='5133' y='1115'>a</text>
+<rect class='c0 v0' x='3516' y='1610' width='3234' height='170'/>
+<text class='k i0' x='5133' y='1730'>0</text>
+<rect class='c1 v0' x='6750' y='900' width='3233' height='340'/>
+<text class='m i1' x='8366' y='1115'>b</text>
+<rect class='c1 v0' x='6750' y='1930' width='3233' height='170'/>
+<text class='k i1' x='8366' y='2050'>0</text>
+<rect class='c0 v0' x='9983' y='900' width='1617' height='340'/>
+<text class='m i0' x='10791' y='1115'>a</text>
+<rect class='c0 v0' x='9983' y='1610' width='1617' height='170'/>
+<text class='k i0' x='10791' y='1730'>0</text>
+<text class='l' x='1780' y='1655'>a</text>
+<text class='s' x='1780' y='1765'>1/2 @1</text>
+<path class='b' d='M1900 1780H11600'/>
+<path class='r' d='M1900 1780v-230m-45 70l45-70l45 70'/>
+<circle class='o' cx='6750' cy='1780' r='40'/>
+<path class='r' d='M8366 1780v-230m-45 70l45-70l45 70'/>
+<text class='l' x='1780' y='1975'>b</text>
+<text class='s' x='1780' y='2085'>1/2</text>
+<path class='b' d='M1900 2100H11600'/>
+<circle class='o' cx='3516' cy='2100' r='40'/>
+<path class='r' d='M5133 2100v-230m-45 70l45-70l45 70'/>
+<circle class='o' cx='9983' cy='2100' r='40'/>
+<path class='r' d='M11600 2100v-230m-45 70l45-70l45 70'/>
+<text class='n' x='250' y='2390'>arrow: release, and deadline of the job before; ring: the period has its work; red: at fault</text>
+</svg>
+";
+
+// The period of task a has a tick too few.
+const SHORT: &str =
+    "run-trace 1\nprocessors 2\nhorizon 3\nscale 3\ntasks 3\ntask a 2 3\ntask b 2 3\ntask c 2 3\nrow 0 0 3 b\n\
+        row 0 3 8 a\nrow 1 0 6 c\nrow 1 6 9 b\ntotal a 5\ntotal b 6\ntotal c 6\nrows 4\n";
+
+const SHORT_PICTURE: [&str; 17] = [
+    SVG,
+    TITLE,
+    "line 13: supply",
+    DESCRIBED,
+    STYLE,
+    CAPTION,
+    "<text class='bad' x='11600' y='330'>line 13: supply</text>\n",
+    LANES,
+    "<rect class='c0 v0' x='5133' y='900' width='5389' height='340'/>
+<text class='m i0' x='7827' y='1115'>a</text>
+<rect class='c0 v0' x='5133' y='2030' width='5389' height='170'/>
+<text class='k i0' x='7827' y='2150'>0</text>
+",
+    OTHER_ROWS,
+    "<text class='e' x='1780' y='2075'>a</text>\n",
+    LANE_OF_A,
+    "<rect class='w' x='1900' y='2180' width='9700' height='40'/>\n",
+    LANES_OF_B_AND_C,
+    "<circle class='o' cx='8366' cy='2840' r='40'/>\n",
+    LAST_RELEASE,
+    LEGEND,
+];
+
+// Task c runs on two processors at once.
+const OVERLAP: &str =
+    "run-trace 1\nprocessors 2\nhorizon 3\nscale 3\ntasks 3\ntask a 2 3\ntask b 2 3\ntask c 2 3\nrow 0 0 3 b\n\
+        row 0 3 9 c\nrow 1 0 6 c\nrow 1 6 9 b\ntotal a 0\ntotal b 6\ntotal c 12\nrows 4\n";
+
+const OVERLAP_PICTURE: [&str; 18] = [
+    SVG,
+    TITLE,
+    "line 11: task-overlap",
+    DESCRIBED,
+    STYLE,
+    CAPTION,
+    "<text class='bad' x='11600' y='330'>line 11: task-overlap</text>\n",
+    LANES,
+    "<rect class='c2 v0' x='5133' y='900' width='6467' height='340'/>
+<text class='m i2' x='8366' y='1115'>c</text>
+<rect class='c2 v0' x='5133' y='2670' width='6467' height='170'/>
+<text class='k i2' x='8366' y='2790'>0</text>
+",
+    OTHER_ROWS,
+    "<text class='l' x='1780' y='2075'>a</text>\n",
+    LANE_OF_A,
+    "<rect class='w' x='1900' y='2180' width='9700' height='40'/>\n",
+    LANES_OF_B_AND_C,
+    "<rect class='w' x='1900' y='2820' width='9700' height='40'/>\n",
+    LAST_RELEASE,
+    "<rect class='f' x='1900' y='1320' width='6466' height='340'/>
+<rect class='f' x='1900' y='2670' width='6466' height='170'/>
+",
+    LEGEND,
+];
+
+// What a sink takes of the picture of a trace text.
+fn picture_of(alloc: Global, text: &str, asked: &Asked) -> Result<MemSink, NoPicture>
+    requires { IfSome asked.now.units (λ n. 1 ≤ n) }
+{
+    let trace = read_trace(alloc, text.as_bytes())?;
+    let window = shown_window(&trace, asked);
+    let mut sink = MemSink::new(alloc, 16_384, &[])?;
+    write_picture(&mut sink, &trace, &window, check_trace(&trace))?;
+    Ok(sink)
+}
+
+fn is_picture(taken: &[u8], parts: &[&str]) -> bool {
+    let mut left = taken;
+    for part in parts {
+        match left.strip_prefix(part.as_bytes()) {
+            Some(rest) => left = rest,
+            None => return false,
+        }
+    }
+    left.is_empty()
+}
+
+// Whether these bytes are a first part of the picture.
+fn begins_picture(taken: &[u8], parts: &[&str]) -> bool {
+    let mut left = taken;
+    for part in parts {
+        match left.strip_prefix(part.as_bytes()) {
+            Some(rest) => left = rest,
+            None => return part.as_bytes().starts_with(left),
+        }
+    }
+    left.is_empty()
+}
+
+const ALL: Asked = Asked {
+    from: 0,
+    units: None,
+};
+
+#[test]
+fn pictures(rt: HostRuntime) -> Result<(), Fail> {
+    let alloc = rt.alloc();
+    let middle = Asked {
+        from: 1,
+        units: Some(3),
+    };
+    let offset: [&str; 4] = [SVG, OFFSET_ABOVE, STYLE, OFFSET_BELOW];
+    let sink = picture_of(alloc, THREE_TASKS, &ALL)?;
+    assert!(rt; is_picture(sink.taken(), &THREE_TASKS_PICTURE));
+    let sink = picture_of(alloc, OFFSET, &middle)?;
+    assert!(rt; is_picture(sink.taken(), &offset));
+    let sink = picture_of(alloc, SHORT, &ALL)?;
+    assert!(rt; is_picture(sink.taken(), &SHORT_PICTURE));
+    let sink = picture_of(alloc, OVERLAP, &ALL)?;
+    assert!(rt; is_picture(sink.taken(), &OVERLAP_PICTURE));
+    Ok(())
+}
+
+/// A window past the horizon is its last unit, and one never has no unit.
+#[test]
+fn windows(rt: HostRuntime) -> Result<(), Fail> {
+    let trace = read_trace(rt.alloc(), OFFSET.as_bytes())?;
+    let table: [(u64, Option<u64>, u64, u64); 5] = [
+        (0, None, 0, 5),
+        (2, None, 2, 3),
+        (4, Some(9), 4, 1),
+        (5, None, 4, 1),
+        (4_294_967_296, Some(1), 4, 1),
+    ];
+    for (from, units, first, count) in table {
+        let window = shown_window(&trace, &Asked { from, units });
+        assert_eq!(rt;
+            (window.scale, window.from, window.units),
+            (2, first, count)
+        );
+    }
+    Ok(())
+}
+
+#[test]
+fn a_sink_that_fails_takes_a_first_part(rt: HostRuntime) -> Result<(), Fail> {
+    let trace = read_trace(rt.alloc(), THREE_TASKS.as_bytes())?;
+    let window = shown_window(&trace, &ALL);
+    let mut sink = MemSink::new(rt.alloc(), 16_384, &[3])?;
+    assert!(rt; write_picture(&mut sink, &trace, &window, check_trace(&trace)) == Err(Failed));
+    assert!(rt; begins_picture(sink.taken(), &THREE_TASKS_PICTURE));
+    Ok(())
+}

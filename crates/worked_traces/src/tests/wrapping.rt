@@ -1,0 +1,186 @@
+//! Worked sets, wrapped.
+ghost use Rattle.std.specs.Prelude.{◌≡◌, ◌∷◌, [], ◌++◌, ◌≤◌, ◌^◌, OnOk, IfOk};
+ghost use Rattle.sched_base.specs.Scale.{Fits, IsScale};
+
+use rate_scale::{fits, scale_of};
+use sched_base::{Leaf, Row, RowTable, TaskSet, lawful_name};
+use std::alloc::Global;
+use std::process::Abort;
+use std::test::Fail;
+use wrap_sched::{WrapFault, merged_wrap, wrap, wrap_rounds};
+
+fn add(
+    rt: &impl Abort,
+    set: &mut TaskSet,
+    name: &[u8],
+    work: u64,
+    period: u64,
+    offset: u64,
+) -> Result<(), Fail>
+    ensures { OnOk result (set.new ≡ record set.old {
+      tasks = set.old.tasks ++ (record { name = name.now; work = work; period = period; offset = offset }) ∷ [];
+    }) }
+{
+    assert!(rt; lawful_name(name));
+    assert!(rt; set.find(name).is_none());
+    assert!(rt; set.count() < 256);
+    assert!(rt; 1 <= work && work <= period && period < 1 << 32 && offset < 1 << 32);
+    set.add_late(name, work, period, offset)?;
+    Ok(())
+}
+
+/// A set of groups of equal tasks, each told by the number of its tasks, their work, period and offset.
+fn set_of(
+    rt: &impl Abort,
+    alloc: Global,
+    processors: u32,
+    horizon: u64,
+    groups: &[(u32, u64, u64, u64)],
+) -> Result<TaskSet, Fail> {
+    assert!(rt; 1 <= processors && processors <= 32);
+    assert!(rt; 1 <= horizon && horizon < 1 << 32);
+    let mut set = TaskSet::start(alloc, processors, horizon);
+    for (count, work, period, offset) in groups {
+        for _task in 0..*count {
+            let name = name_of(set.count());
+            add(rt, &mut set, &name, *work, *period, *offset)?;
+        }
+    }
+    Ok(set)
+}
+
+/// The name of a task by its place, of which at most a hundred are told apart.
+fn name_of(place: u32) -> [u8; 3] {
+    [
+        b't',
+        b'0' + (place / 10 % 10) as u8,
+        b'0' + (place % 10) as u8,
+    ]
+}
+
+/// The scale of a set that fits.
+fn scale_that_fits(rt: &impl Abort, set: &TaskSet) -> u128
+    ensures scale { IsScale set.now.tasks result }
+    ensures small { result ≤ 2 ^ 94 }
+    ensures fits { Fits result set.now }
+{
+    match scale_of(set) {
+        Ok(scale) => {
+            assert!(rt; fits(set, scale));
+            scale
+        }
+        Err(_) => panic!(rt; "no scale"),
+    }
+}
+
+/// A leaf as one letter: a task by its small letter, one that waits by its capital, an idle leaf by a dot.
+fn letter(leaf: Leaf) -> u8 {
+    match leaf {
+        Leaf::Task(id) => b'a' + (id.0 % 26) as u8,
+        Leaf::Wait(id) => b'A' + (id.0 % 26) as u8,
+        Leaf::Idle(_) => b'.',
+        Leaf::Empty => b'?',
+    }
+}
+
+/// Compares a lane with letters, one for each round, and with the ticks at which the rounds start.
+fn compare(rt: &impl Abort, lane: &[Row], starts: &[u128], letters: &str) {
+    assert_eq!(rt; lane.len(), letters.len());
+    assert_eq!(rt; lane.len() + 1, starts.len());
+    for k in 0..lane.len() {
+        assert_eq!(rt; Some(lane[k].start), starts.get(k).copied());
+        assert_eq!(rt; Some(lane[k].end), starts.get(k + 1).copied());
+        assert_eq!(rt;
+            Some(letter(lane[k].leaf)),
+            letters.as_bytes().get(k).copied()
+        );
+    }
+}
+
+#[test]
+fn wraps_worked_sets(rt: HostRuntime) -> Result<(), Fail> {
+    let two_thirds: &[(u32, u64, u64, u64)] = &[(3, 2, 3, 0)];
+    let halves: &[(u32, u64, u64, u64)] = &[(2, 1, 2, 0), (1, 1, 4, 0)];
+    let full_rate: &[(u32, u64, u64, u64)] = &[(1, 2, 2, 0)];
+    let late: &[(u32, u64, u64, u64)] = &[(1, 1, 2, 1)];
+    let one_is_late: &[(u32, u64, u64, u64)] = &[(1, 1, 2, 0), (1, 1, 2, 1)];
+    let never_released: &[(u32, u64, u64, u64)] = &[(1, 1, 2, 5)];
+    let filled: &[(u32, u64, u64, u64)] = &[(3, 2, 3, 0), (30, 1, 1, 0)];
+    // processors, horizon, tasks, the ticks at which the rounds start with the end, and the leaves of the first processors
+    let rows: [(u32, u64, &[(u32, u64, u64, u64)], &[u128], &[&str]); 8] = [
+        (2, 3, two_thirds, &[0, 3, 6, 9], &["aab", "bcc"]),
+        (
+            2,
+            4,
+            halves,
+            &[0, 2, 4, 8, 10, 12, 16],
+            &["aabaab", "c..c.."],
+        ),
+        (2, 4, full_rate, &[0, 4, 8], &["aa", ".."]),
+        (1, 3, late, &[0, 1, 2, 4, 6], &["A.a."]),
+        (
+            1,
+            4,
+            one_is_late,
+            &[0, 1, 2, 3, 4, 5, 6, 7, 8],
+            &["aBababab"],
+        ),
+        (1, 1, never_released, &[0, 1, 2], &["A."]),
+        (2, 1, &[], &[0, 1], &[".", "."]),
+        (
+            32,
+            2,
+            filled,
+            &[0, 1, 2, 3, 4, 5, 6],
+            &["aabaab", "bccbcc", "dddddd", "eeeeee"],
+        ),
+    ];
+    for (processors, horizon, tasks, starts, lanes) in rows {
+        let set = set_of(&rt, rt.alloc(), processors, horizon, tasks)?;
+        let scale = scale_that_fits(&rt, &set);
+        let rounds = wrap_rounds(rt.alloc(), &set, scale)?;
+        assert_eq!(rt; rounds + 1, starts.len() as u64);
+        let table = wrap(rt.alloc(), &set, scale, rounds)?;
+        assert_eq!(rt; table.processors(), processors);
+        assert!(rt; lanes.len() <= processors as usize);
+        for p in 0..lanes.len() {
+            compare(&rt, table.lane(p as u32), starts, lanes[p]);
+        }
+    }
+    Ok(())
+}
+
+// Three tasks of rate 2/3 on two processors: on each of them two rounds under one name are one row.
+#[test]
+fn merges_the_rows_of_a_worked_set(rt: HostRuntime) -> Result<(), Fail> {
+    let set = set_of(&rt, rt.alloc(), 2, 3, &[(3, 2, 3, 0)])?;
+    let scale = scale_that_fits(&rt, &set);
+    assert_eq!(rt; wrap_rounds(rt.alloc(), &set, scale)?, 3);
+    let rows = merged_wrap(rt.alloc(), &set, scale)?;
+    assert_eq!(rt; rows.processors(), 2);
+    for (processor, want) in [
+        (0, [(0, 6, b'a'), (6, 9, b'b')]),
+        (1, [(0, 3, b'b'), (3, 9, b'c')]),
+    ] {
+        assert_eq!(rt; rows.count(processor), 2);
+        for i in 0..2 {
+            let row = rows.row(processor, i);
+            assert_eq!(rt; (row.start, row.end, letter(row.leaf)), want[i]);
+        }
+    }
+    Ok(())
+}
+
+// With 32 processors as many as 65536 rounds are within the limit of rows.
+#[test]
+fn counts_up_to_the_limit(rt: HostRuntime) -> Result<(), Fail> {
+    for (horizon, count) in [
+        (65_536, Ok(65_536)),
+        (65_537, Err(WrapFault::TooLong { rows: 2_097_184 })),
+    ] {
+        let set = set_of(&rt, rt.alloc(), 32, horizon, &[(1, 1, 1, 0)])?;
+        let scale = scale_that_fits(&rt, &set);
+        assert_eq!(rt; wrap_rounds(rt.alloc(), &set, scale), count);
+    }
+    Ok(())
+}
