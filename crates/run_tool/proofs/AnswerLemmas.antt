@@ -17,23 +17,25 @@ use Rattle.run_tool.specs.declared.refusal.Refusal.{Refusal}
 use Rattle.run_tool.specs.declared.refusal.Refusal.TheVariants as why
 use Rattle.run_tool.specs.declared.status.Status.{Status}
 use Rattle.run_tool.specs.declared.status.Status.TheVariants.{Done, Invalid, Usage, ReadFault, WriteFault, NoMemory, BadInput, Overload}
-use Rattle.run_tool.specs.declared.status.Status.TheVariants.{ScaleTooLarge, TooLong, GateFault, JobFault, InputTooLong, ModeFault, BadTree}
+use Rattle.run_tool.specs.declared.status.Status.TheVariants.{ScaleTooLarge, TooLong, GateFault, JobFault, InputTooLong, ModeFault, BadTree, TooWide}
 use Rattle.sched_base.specs.Tables.{row_limit}
-use Rattle.run_tool.specs.Commands.{SetText, rates, server_tree, schedule_rows, wrapped_rows, Output, of_set, of_trace, of_tree, of_batch, of_jobs, of_modes, of_drill}
+use Rattle.run_tree.specs.Plans.{stop_of}
+use Rattle.run_tool.specs.Commands.{SetText, rates, server_tree, schedule_rows, wrapped_rows, c_table, Output, of_set, of_trace, of_picture, of_tree, of_batch, of_jobs, of_modes, of_drill}
 use Rattle.run_tool.specs.Commands.{output_of, limit_of, ReadsSet, text_of}
-use Rattle.run_tool.specs.Commands.{plan_of, rows_of, wrapped_rows_of, HasRoom, HasTooManyRows, HasTooManyWrapped, HasNoRoom, WritesSet, Writes, CallsFor, RefusesSet}
+use Rattle.run_tool.specs.Commands.{plan_of, rows_of, wrapped_rows_of, HasRoom, HasTooManyRows, HasTooManyWrapped, HasTooManyTicks, HasNoRoom, HasNoType, WritesSet, Writes, CallsFor, RefusesSet}
 use Rattle.run_tool.specs.Commands.{RefusesText}
 use Rattle.run_tool.specs.Commands.{Refuses}
 use Rattle.run_tool.proofs.FollowLemmas.{followed_or_refused, one_follow_status}
 use Rattle.run_tool.proofs.ModeTextLemmas.{modes_or_refused, one_modes_status}
 use Rattle.run_tool.specs.Checks.{TellsTrace, Judges, RefusesTrace}
+use Rattle.run_tool.specs.Draws.{AreDrawn}
 use Rattle.run_tool.specs.Refusals.{status_of, set_status}
 use Rattle.run_tool.specs.Ends.{Streams, ErrorStream, IsTold, IsDone, StopsAs, StopsDrill, Stops, IsAnswer, AnswersBytes, Answers, IsAnswered}
 use Rattle.run_tool.specs.Refuse.{IsRefused}
 use Rattle.job_vm.specs.Programs.{JobTextHeld, reading as job_reading}
 use Rattle.job_vm.specs.Seen.{JobSeen}
 use Rattle.job_vm.specs.Strays.{first_stray}
-use Rattle.run_tool.specs.JobPrograms.{ReadsJobs, IsJobsToRun, set_bytes, WritesResult, HasBadProgram, RefusesJobs}
+use Rattle.run_tool.specs.JobPrograms.{ReadsJobs, set_bytes, WritesResult, HasBadProgram, RefusesJobs}
 
 -- a source that tells its bytes gave just these
 same_bytes : (bytes given : List ℕ) (left : Option (List ℕ)) (n : ℕ) → GaveAll (Some bytes) left n given → given ≡ bytes
@@ -89,6 +91,7 @@ fits_not_refused bytes s scale why.WriteFault reads fits refuses = refuses
 fits_not_refused bytes s scale why.NoMemory reads fits refuses = refuses
 fits_not_refused bytes s scale (why.TooLong rows) reads fits refuses = refuses
 fits_not_refused bytes s scale (why.InputTooLong count) reads fits refuses = refuses
+fits_not_refused bytes s scale (why.TooWide ticks) reads fits refuses = refuses
 
 -- a schedule that has room hasn't too many rows
 not_too_many : (bytes : List ℕ) (s : SetContents) (scale rows : ℕ) → ReadsSet bytes s scale → rows_of (plan_of s scale) ≤ row_limit
@@ -113,12 +116,34 @@ not_too_many_wrapped bytes s scale rows reads room many =
     subst (λ (n : ℕ). row_limit < wrapped_rows_of s n) one (subst (λ (x : SetContents). row_limit < wrapped_rows_of x other) same over) in
     absurd (omega (arith, room, over'))
 
+-- a schedule with few ticks hasn't too many
+not_too_wide : (bytes : List ℕ) (s : SetContents) (scale ticks : ℕ) → ReadsSet bytes s scale → stop_of (plan_of s scale) < 2 ^ 64
+    → HasTooManyTicks bytes ticks → ⊥
+not_too_wide bytes s scale ticks reads few many =
+    let (t, other, reads', fits, wide, is) = many in
+    let same : t ≡ s = same_set bytes t s reads'.read reads.read in
+    let scale' : IsScale s.tasks other = subst (λ (x : SetContents). IsScale x.tasks other) same reads'.is_scale in
+    let one : other ≡ scale = same_scale s.tasks other scale scale' reads.is_scale in
+    let is' : ticks ≡ stop_of (plan_of s scale) =
+    subst (λ (n : ℕ). ticks ≡ stop_of (plan_of s n)) one (subst (λ (x : SetContents). ticks ≡ stop_of (plan_of x other)) same is) in
+    let few' : ticks < 2 ^ 64 = subst (λ (n : ℕ). n < 2 ^ 64) (sym is') few in
+    absurd (omega (arith, wide, few'))
+
+not_without_type : (what : SetText) (bytes : List ℕ) (s : SetContents) (scale ticks : ℕ) → ReadsSet bytes s scale → HasRoom what s scale
+    → HasNoType what bytes ticks → ⊥
+not_without_type c_table bytes s scale ticks reads room none = not_too_wide bytes s scale ticks reads room.0 none
+not_without_type rates bytes s scale ticks reads room none = none
+not_without_type server_tree bytes s scale ticks reads room none = none
+not_without_type (schedule_rows met) bytes s scale ticks reads room none = none
+not_without_type wrapped_rows bytes s scale ticks reads room none = none
+
 not_without_room : (what : SetText) (bytes : List ℕ) (s : SetContents) (scale rows : ℕ) → ReadsSet bytes s scale → HasRoom what s scale
     → HasNoRoom what bytes rows → ⊥
 not_without_room rates bytes s scale rows reads room none = none
 not_without_room server_tree bytes s scale rows reads room none = none
 not_without_room (schedule_rows met) bytes s scale rows reads room none = not_too_many bytes s scale rows reads room none
 not_without_room wrapped_rows bytes s scale rows reads room none = not_too_many_wrapped bytes s scale rows reads room none
+not_without_room c_table bytes s scale rows reads room none = not_too_many bytes s scale rows reads room.1 none.1
 
 -- a set whose text has no room fits
 fits_without_room : (what : SetText) (bytes : List ℕ) (rows : ℕ) → HasNoRoom what bytes rows
@@ -127,10 +152,32 @@ fits_without_room rates bytes rows none = absurd none
 fits_without_room server_tree bytes rows none = absurd none
 fits_without_room (schedule_rows met) bytes rows none = let (s, scale, reads, fits, over, is_rows) = none in (s, scale, reads, fits)
 fits_without_room wrapped_rows bytes rows none = let (s, scale, reads, fits, over, is_rows) = none in (s, scale, reads, fits)
+fits_without_room c_table bytes rows none = let (s, scale, reads, fits, over, is_rows) = none.1 in (s, scale, reads, fits)
 
--- bytes are refused as a set, or their schedule has too many rows
+-- so does one whose text has no type
+fits_without_type : (what : SetText) (bytes : List ℕ) (ticks : ℕ) → HasNoType what bytes ticks
+    → (s : SetContents) × (scale : ℕ) × ReadsSet bytes s scale × Fits scale s
+fits_without_type c_table bytes ticks none = let (s, scale, reads, fits, wide, is) = none in (s, scale, reads, fits)
+fits_without_type rates bytes ticks none = absurd none
+fits_without_type server_tree bytes ticks none = absurd none
+fits_without_type (schedule_rows met) bytes ticks none = absurd none
+fits_without_type wrapped_rows bytes ticks none = absurd none
+
+-- a text that has no room has its type
+not_long_and_wide : (what : SetText) (bytes : List ℕ) (rows ticks : ℕ) → HasNoRoom what bytes rows → HasNoType what bytes ticks → ⊥
+not_long_and_wide c_table bytes rows ticks long wide =
+    let (s, scale, reads, few) = long.0 in
+    not_too_wide bytes s scale ticks reads few wide
+not_long_and_wide rates bytes rows ticks long wide = wide
+not_long_and_wide server_tree bytes rows ticks long wide = wide
+not_long_and_wide (schedule_rows met) bytes rows ticks long wide = wide
+not_long_and_wide wrapped_rows bytes rows ticks long wide = wide
+
+-- bytes are refused as a set, or their schedule has too many rows, or too many ticks
 abbrev AsSet : SetText → List ℕ → Refusal → Type 0
-AsSet what bytes r = RefusesSet bytes r ⊎ ((rows : ℕ) × HasNoRoom what bytes rows × (status_of r ≡ TooLong))
+AsSet what bytes r =
+    RefusesSet bytes r
+    ⊎ (((rows : ℕ) × HasNoRoom what bytes rows × (status_of r ≡ TooLong)) ⊎ ((ticks : ℕ) × HasNoType what bytes ticks × (status_of r ≡ TooWide)))
 
 as_set : (what : SetText) (bytes : List ℕ) (r : Refusal) → RefusesText what bytes r → AsSet what bytes r
 as_set what bytes (why.BadSet r) refuses = inl refuses
@@ -146,7 +193,8 @@ as_set what bytes why.Usage refuses = absurd refuses
 as_set what bytes why.ReadFault refuses = absurd refuses
 as_set what bytes why.WriteFault refuses = absurd refuses
 as_set what bytes why.NoMemory refuses = absurd refuses
-as_set what bytes (why.TooLong rows) refuses = inr (rows, refuses, refl)
+as_set what bytes (why.TooLong rows) refuses = inr (inl (rows, refuses, refl))
+as_set what bytes (why.TooWide ticks) refuses = inr (inr (ticks, refuses, refl))
 as_set what bytes (why.InputTooLong count) refuses = absurd refuses
 
 -- no text of a set is written for bytes that are refused where it is wanted
@@ -155,7 +203,8 @@ set_writes_or_refuses what bytes text status r writes refuses =
     let (s, scale, reads, fits, room, is_text) = writes.1 in
     elim (as_set what bytes r refuses) [
       | inl set ↦ fits_not_refused bytes s scale r reads fits set
-      | inr long ↦ not_without_room what bytes s scale long.0 reads room long.1
+      | inr (inl long) ↦ not_without_room what bytes s scale long.0 reads room long.1
+      | inr (inr wide) ↦ not_without_type what bytes s scale wide.0 reads room wide.1
     ]
 
 -- bytes where a set is wanted are refused with one status
@@ -181,6 +230,7 @@ one_set_status bytes why.WriteFault q a b = absurd a
 one_set_status bytes why.NoMemory q a b = absurd a
 one_set_status bytes (why.TooLong rows) q a b = absurd a
 one_set_status bytes (why.InputTooLong count) q a b = absurd a
+one_set_status bytes (why.TooWide ticks) q a b = absurd a
 one_set_status bytes r (why.BadLine line) a b = absurd b
 one_set_status bytes r (why.BadProgram line) a b = absurd b
 one_set_status bytes r (why.BadTree line kind) a b = absurd b
@@ -193,11 +243,18 @@ one_set_status bytes r why.WriteFault a b = absurd b
 one_set_status bytes r why.NoMemory a b = absurd b
 one_set_status bytes r (why.TooLong rows) a b = absurd b
 one_set_status bytes r (why.InputTooLong count) a b = absurd b
+one_set_status bytes r (why.TooWide ticks) a b = absurd b
 
 -- a set whose schedule has too many rows isn't refused as a set
 long_not_refused : (what : SetText) (bytes : List ℕ) (rows : ℕ) (r : Refusal) → HasNoRoom what bytes rows → RefusesSet bytes r → ⊥
 long_not_refused what bytes rows r none refuses =
     let (s, scale, reads, fits) = fits_without_room what bytes rows none in
+    fits_not_refused bytes s scale r reads fits refuses
+
+-- neither is one whose schedule has too many ticks
+wide_not_refused : (what : SetText) (bytes : List ℕ) (ticks : ℕ) (r : Refusal) → HasNoType what bytes ticks → RefusesSet bytes r → ⊥
+wide_not_refused what bytes ticks r none refuses =
+    let (s, scale, reads, fits) = fits_without_type what bytes ticks none in
     fits_not_refused bytes s scale r reads fits refuses
 
 -- bytes where a text of a set is wanted are refused with one status
@@ -206,11 +263,18 @@ one_text_status what bytes r q a b =
     elim (as_set what bytes r a) [
       | inl set ↦ elim (as_set what bytes q b) [
         | inl other ↦ one_set_status bytes r q set other
-        | inr long ↦ absurd (long_not_refused what bytes long.0 r long.1 set)
+        | inr (inl long) ↦ absurd (long_not_refused what bytes long.0 r long.1 set)
+        | inr (inr wide) ↦ absurd (wide_not_refused what bytes wide.0 r wide.1 set)
       ]
-      | inr long ↦ elim (as_set what bytes q b) [
+      | inr (inl long) ↦ elim (as_set what bytes q b) [
         | inl set ↦ absurd (long_not_refused what bytes long.0 q long.1 set)
-        | inr other ↦ long.2 ∙ sym other.2
+        | inr (inl other) ↦ long.2 ∙ sym other.2
+        | inr (inr wide) ↦ absurd (not_long_and_wide what bytes long.0 wide.0 long.1 wide.1)
+      ]
+      | inr (inr wide) ↦ elim (as_set what bytes q b) [
+        | inl set ↦ absurd (wide_not_refused what bytes wide.0 q wide.1 set)
+        | inr (inl long) ↦ absurd (not_long_and_wide what bytes long.0 wide.0 long.1 wide.1)
+        | inr (inr other) ↦ wide.2 ∙ sym other.2
       ]
     ]
 
@@ -252,6 +316,12 @@ told_trace : (bytes text : List ℕ) (status : Status) (t : TraceRead) → readi
 told_trace bytes text Done t read told = (t, read, told.0)
 told_trace bytes text Invalid t read told = (t, read, told.0)
 told_trace bytes text _ t read told = absurd told
+
+-- a trace that is drawn isn't refused
+drawn_or_refused : (bytes : List ℕ) (status : Status) (r : Refusal) → AreDrawn bytes status → RefusesTrace bytes r → ⊥
+drawn_or_refused bytes status r is refuses =
+    let line = refused_line bytes r refuses in
+    not_both_traces bytes is.1.0 line.0.0 is.1.1 line.0.1
 
 -- ---- job texts
 
@@ -348,6 +418,7 @@ one_jobs_status bytes r q a b =
 told_or_refused : (o : Output) (bytes : List ℕ) (status : Status) (r : Refusal) → CallsFor o bytes status → Refuses o bytes r → ⊥
 told_or_refused (of_set what) bytes status r is refuses = set_writes_or_refuses what bytes is.0 status r is.1 refuses
 told_or_refused of_trace bytes status r is refuses = judged_or_refused bytes status r is refuses
+told_or_refused (of_picture asked) bytes status r is refuses = drawn_or_refused bytes status r is refuses
 told_or_refused of_tree bytes status r is refuses = followed_or_refused bytes is.0 status r is.1 refuses
 told_or_refused of_batch bytes status r is refuses = refuses
 told_or_refused of_jobs bytes status r is refuses = jobs_or_refused bytes is.0 is.1.0 status r is.1.1 refuses
@@ -358,6 +429,7 @@ told_or_refused (of_drill number) bytes status r is refuses = refuses
 one_telling : (o : Output) (bytes : List ℕ) (a b : Status) → CallsFor o bytes a → CallsFor o bytes b → a ≡ b
 one_telling (of_set what) bytes a b x y = x.1.0 ∙ sym y.1.0
 one_telling of_trace bytes a b x y = one_judgment bytes a b x y
+one_telling (of_picture asked) bytes a b x y = x.0 ∙ sym y.0
 one_telling of_tree bytes a b x y = x.1.0 ∙ sym y.1.0
 one_telling of_batch bytes a b x y = x ∙ sym y
 one_telling of_jobs bytes a b x y = x.1.1.0 ∙ sym y.1.1.0
@@ -372,12 +444,14 @@ one_status of_batch bytes r q a b = absurd a
 one_status of_jobs bytes r q a b = one_jobs_status bytes r q a b
 one_status of_modes bytes r q a b = one_modes_status bytes r q a b
 one_status of_trace bytes r q a b = (refused_line bytes r a).1 ∙ sym (refused_line bytes q b).1
+one_status (of_picture asked) bytes r q a b = (refused_line bytes r a).1 ∙ sym (refused_line bytes q b).1
 one_status (of_drill number) bytes r q a b = absurd a
 
 -- bytes call for the status with which their text is written
 called_for : (o : Output) (bytes text : List ℕ) (status : Status) → Writes o bytes status text → CallsFor o bytes status
 called_for (of_set what) bytes text status writes = (text, writes)
 called_for of_trace bytes text status writes = told_trace bytes text status writes.0 writes.1 writes.2
+called_for (of_picture asked) bytes text status writes = (writes.0, (writes.1.0, writes.1.1))
 called_for of_tree bytes text status writes = (text, writes)
 called_for of_batch bytes text status writes = writes.0
 called_for of_jobs bytes text status writes = (text, writes)
@@ -395,6 +469,7 @@ answer_called_for o bytes status Overload within called is = absurd (told_or_ref
 answer_called_for o bytes status ScaleTooLarge within called is = absurd (told_or_refused o bytes status is.1.0 called is.1.2)
 answer_called_for o bytes status TooLong within called is = absurd (told_or_refused o bytes status is.1.0 called is.1.2)
 answer_called_for o bytes status BadTree within called is = absurd (told_or_refused o bytes status is.1.0 called is.1.2)
+answer_called_for o bytes status TooWide within called is = absurd (told_or_refused o bytes status is.1.0 called is.1.2)
 answer_called_for o bytes status ModeFault within called is = absurd (told_or_refused o bytes status is.1.0 called is.1.2)
 answer_called_for o bytes status Usage within called is = absurd is
 answer_called_for o bytes status ReadFault within called is = absurd is
@@ -414,6 +489,7 @@ answer_refuses o bytes r Overload within refuses is = one_status o bytes r is.1.
 answer_refuses o bytes r ScaleTooLarge within refuses is = one_status o bytes r is.1.0 refuses is.1.2 ∙ is.1.1
 answer_refuses o bytes r TooLong within refuses is = one_status o bytes r is.1.0 refuses is.1.2 ∙ is.1.1
 answer_refuses o bytes r BadTree within refuses is = one_status o bytes r is.1.0 refuses is.1.2 ∙ is.1.1
+answer_refuses o bytes r TooWide within refuses is = one_status o bytes r is.1.0 refuses is.1.2 ∙ is.1.1
 answer_refuses o bytes r ModeFault within refuses is = one_status o bytes r is.1.0 refuses is.1.2 ∙ is.1.1
 answer_refuses o bytes r Usage within refuses is = absurd is
 answer_refuses o bytes r ReadFault within refuses is = absurd is
@@ -432,6 +508,7 @@ answer_too_long o bytes Overload over is = let within = is.0 in absurd (omega (a
 answer_too_long o bytes ScaleTooLarge over is = let within = is.0 in absurd (omega (arith, within, over))
 answer_too_long o bytes TooLong over is = let within = is.0 in absurd (omega (arith, within, over))
 answer_too_long o bytes BadTree over is = let within = is.0 in absurd (omega (arith, within, over))
+answer_too_long o bytes TooWide over is = let within = is.0 in absurd (omega (arith, within, over))
 answer_too_long o bytes ModeFault over is = let within = is.0 in absurd (omega (arith, within, over))
 answer_too_long o bytes Usage over is = absurd is
 answer_too_long o bytes ReadFault over is = absurd is
@@ -454,6 +531,7 @@ done_asked o status (Some bytes) old new e h = λ unread unwritten answer is.
 done_by : (o : Output) (status : Status) (old new : Streams) → IsDone o status old new → Answers o old.left old new status
 done_by (of_set what) status old new h = done_asked (of_set what) status old.left old new refl h
 done_by of_trace status old new h = done_asked of_trace status old.left old new refl h
+done_by (of_picture asked) status old new h = done_asked (of_picture asked) status old.left old new refl h
 done_by of_tree status old new h = done_asked of_tree status old.left old new refl h
 done_by of_batch status old new h = done_asked of_batch status old.left old new refl h
 done_by of_jobs status old new h = done_asked of_jobs status old.left old new refl h
@@ -516,6 +594,9 @@ stop_answered o bytes old new (why.TooLong rows) answer e stops unread unwritten
 stop_answered o bytes old new (why.ScaleTooLarge task) answer e stops unread unwritten is =
     inl (refused_by o bytes stops.0 new.left (why.ScaleTooLarge task) answer
     (subst (λ (l : Option (List ℕ)). GaveAll l new.left (limit_of o) stops.0) e stops.1) stops.2 is)
+stop_answered o bytes old new (why.TooWide ticks) answer e stops unread unwritten is =
+    inl (refused_by o bytes stops.0 new.left (why.TooWide ticks) answer
+    (subst (λ (l : Option (List ℕ)). GaveAll l new.left (limit_of o) stops.0) e stops.1) stops.2 is)
 
 stops_asked : (o : Output) (left : Option (List ℕ)) (old new : Streams) (err err' : ErrorStream) (r : Refusal) (status : Status) → old.left ≡ left
     → StopsAs (limit_of o) (Writes o) (Refuses o) old new r → IsRefused r err err' status → AnswersBytes o left old new status
@@ -536,6 +617,7 @@ stops_by : (o : Output) (old new : Streams) (err err' : ErrorStream) (r : Refusa
     → Answers o old.left old new status
 stops_by (of_set what) old new err err' r status stops told = stops_asked (of_set what) old.left old new err err' r status refl stops told
 stops_by of_trace old new err err' r status stops told = stops_asked of_trace old.left old new err err' r status refl stops told
+stops_by (of_picture asked) old new err err' r status stops told = stops_asked (of_picture asked) old.left old new err err' r status refl stops told
 stops_by of_tree old new err err' r status stops told = stops_asked of_tree old.left old new err err' r status refl stops told
 stops_by of_batch old new err err' r status stops told = stops_asked of_batch old.left old new err err' r status refl stops told
 stops_by of_jobs old new err err' r status stops told = stops_asked of_jobs old.left old new err err' r status refl stops told
@@ -555,6 +637,7 @@ wanting_asked o (Some bytes) old new status wanting = λ unread unwritten answer
 wanting_by : (o : Output) (old new : Streams) (status : Status) → status ≡ NoMemory → Answers o old.left old new status
 wanting_by (of_set what) old new status wanting = wanting_asked (of_set what) old.left old new status wanting
 wanting_by of_trace old new status wanting = wanting_asked of_trace old.left old new status wanting
+wanting_by (of_picture asked) old new status wanting = wanting_asked (of_picture asked) old.left old new status wanting
 wanting_by of_tree old new status wanting = wanting_asked of_tree old.left old new status wanting
 wanting_by of_batch old new status wanting = wanting_asked of_batch old.left old new status wanting
 wanting_by of_jobs old new status wanting = wanting_asked of_jobs old.left old new status wanting

@@ -1,23 +1,25 @@
 -- What `clap` makes of each command line.
 use Rattle.std.proofs.Common.{◌≡◌, ◌≢◌, ◌⊎◌, inl, inr, ℕ, zero, suc, ◌+◌, ◌-◌, if◌then◌else◌, ◌≤◌, ◌<◌, List, [], ◌∷◌, ◌++◌, codes, take, drop}
 use Rattle.std.proofs.Common.{Option, Some, None, Bool, true, false, ◌&&◌, option_map, option_and_then, length, refl, sym, ap, ap₂}
-use Rattle.std.proofs.Common.{subst, ◌∙◌, arith, rules, tests}
+use Rattle.std.proofs.Common.{subst, ◌∙◌, arith, rules, tests, append-nil, IfSome}
 use Rattle.std.specs.Char.{is_ascii_digit}
 use Rattle.std.specs.Str.{bytes_eq}
 use Rattle.clap.specs.Words.{Row, Text, is_simple, first_of, one_of, subcommand_of, subcommand_rows_of, subcommand_name_of, takes}
 use Rattle.clap.specs.declared.parser.matches.ArgMatches.{ArgMatches}
 use Rattle.clap.specs.declared.parser.matches.ArgMatches.TheViews.{out-ArgMatches}
 use Rattle.clap.proofs.OnLiterals.{clap_on_literals}
+use Rattle.trace_draw.specs.declared.asking.Asked.{Asked}
 use Rattle.run_tool.specs.declared.command.Command.{Command}
 use Rattle.run_tool.specs.declared.command.Command.TheVariants.{Read, Batch, Execute}
 use Rattle.run_tool.specs.declared.command.Reading.{Reading}
-use Rattle.run_tool.specs.declared.command.Reading.TheVariants.{Rate, Tree, Trace, TraceMet, TraceWrap, Check, Follow}
+use Rattle.run_tool.specs.declared.command.Reading.TheVariants.{Rate, Tree, Trace, TraceMet, TraceWrap, Table, Check, Follow, Draw}
 use Rattle.run_tool.specs.declared.command.Execution.{Execution}
 use Rattle.run_tool.specs.declared.command.Execution.TheVariants.{Exec, ExecMet, Drill, Jobs, Modes}
 use Rattle.run_tool.specs.Words.{window_of, exec_with, exec_by, drill_of, drill_with, after_text, HasWindow}
-use Rattle.run_tool.specs.Words.{reading_of, reading_named, reading_with, reading_with_value, batch_of, execution_of, execution_named, execution_with, execution_with_value}
+use Rattle.run_tool.specs.Words.{reading_of, reading_by, reading_named, reading_with, reading_with_value, batch_of, execution_of, execution_named, execution_with, execution_with_value}
+use Rattle.run_tool.specs.Words.{value_in, met_at, front, unit_of, units_of, asked_from, asked_units, draw_from, drawn, draw_at_end, draw_of, ShowsSome}
 use Rattle.run_tool.specs.Words.{asks_to_execute, asks_for_batch, asks_for_threads, command_of}
-use Rattle.run_tool.specs.CommandLine.{parser, Spells, SpellsWrap, SpellsExec}
+use Rattle.run_tool.specs.CommandLine.{parser, Spells, SpellsWrap, SpellsExec, SpellsOption, SpellsDraw}
 use Rattle.run_tool.proofs.WordLemmas.{executes, reads, batches, only_batch, if_is, same_text}
 
 pub simple : is_simple parser ≡ true
@@ -118,6 +120,188 @@ taken_wrap : (words : List Text) → SpellsWrap words → takes parser words ≡
 unfolding clap_on_literals
 taken_wrap words spells = elim spells [ inl own ↦ ap (takes parser) own | inr behind ↦ ap (takes parser) behind ]
 
+pub some_is : {A : Type 0} (a b : A) → Some a ≡ Some b → a ≡ b
+some_is a b e = cc
+
+no_some : {A : Type 0} (a : A) → ◌≡◌ {A = Option A} None (Some a) → ⊥
+no_some a e = cc
+
+pub mapped : {A B : Type 0} (f : A → B) (o : Option A) (b : B) → option_map f o ≡ Some b → (a : A) × (o ≡ Some a) × (f a ≡ b)
+mapped f None b e = absurd (no_some b e)
+mapped f (Some a) b e = (a, refl, some_is (f a) b e)
+
+-- ---- the options of `draw`
+
+-- the words of `draw` with these options
+abbrev drawing : List Text → List Text
+drawing options = codes "draw" ∷ options
+
+-- `clap` makes the same of these words
+record IsSame (a b : List Text) : Type 0 where
+  taken : takes parser a ≡ takes parser b
+  read : subcommand_of parser a ≡ subcommand_of parser b
+
+same_words : (a b : List Text) → a ≡ b → IsSame a b
+same_words a b e = record { taken = ap (takes parser) e; read = ap (subcommand_of parser) e }
+
+same_through : (a b c : List Text) → IsSame a b → IsSame b c → IsSame a c
+same_through a b c x y = record { taken = x.taken ∙ y.taken; read = x.read ∙ y.read }
+
+-- a value as a word of its own is read as the one behind `=`, as long as it doesn't begin with a hyphen
+record IsFrom (v : Text) : Type 0 where
+  alone : IsSame (drawing (codes "--from" ∷ v ∷ [])) (drawing ((codes "--from=" ++ v) ∷ []))
+  apart : (w : Text) → IsSame (drawing (codes "--from" ∷ v ∷ codes "--units" ∷ w ∷ [])) (drawing ((codes "--from=" ++ v) ∷ codes "--units" ∷ w ∷ []))
+  joined : (w : Text) → IsSame (drawing (codes "--from" ∷ v ∷ (codes "--units=" ++ w) ∷ [])) (drawing ((codes "--from=" ++ v) ∷ (codes "--units=" ++ w) ∷ []))
+
+record IsUnits (w : Text) : Type 0 where
+  alone : IsSame (drawing (codes "--units" ∷ w ∷ [])) (drawing ((codes "--units=" ++ w) ∷ []))
+  behind : (v : Text) → IsSame (drawing ((codes "--from=" ++ v) ∷ codes "--units" ∷ w ∷ [])) (drawing ((codes "--from=" ++ v) ∷ (codes "--units=" ++ w) ∷ []))
+
+from_digit : (k : ℕ) (ds : List ℕ) → k < 10 → IsFrom ((48 + k) ∷ ds)
+unfolding clap_on_literals
+from_digit zero ds low = record { alone = record { taken = refl; read = refl }; apart = λ w. record { taken = refl; read = refl }; joined = λ w. record { taken = refl; read = refl } }
+from_digit (suc zero) ds low = record { alone = record { taken = refl; read = refl }; apart = λ w. record { taken = refl; read = refl }; joined = λ w. record { taken = refl; read = refl } }
+from_digit (suc (suc zero)) ds low = record { alone = record { taken = refl; read = refl }; apart = λ w. record { taken = refl; read = refl }; joined = λ w. record { taken = refl; read = refl } }
+from_digit (suc (suc (suc zero))) ds low = record { alone = record { taken = refl; read = refl }; apart = λ w. record { taken = refl; read = refl }; joined = λ w. record { taken = refl; read = refl } }
+from_digit (suc (suc (suc (suc zero)))) ds low = record { alone = record { taken = refl; read = refl }; apart = λ w. record { taken = refl; read = refl }; joined = λ w. record { taken = refl; read = refl } }
+from_digit (suc (suc (suc (suc (suc zero))))) ds low = record { alone = record { taken = refl; read = refl }; apart = λ w. record { taken = refl; read = refl }; joined = λ w. record { taken = refl; read = refl } }
+from_digit (suc (suc (suc (suc (suc (suc zero)))))) ds low = record { alone = record { taken = refl; read = refl }; apart = λ w. record { taken = refl; read = refl }; joined = λ w. record { taken = refl; read = refl } }
+from_digit (suc (suc (suc (suc (suc (suc (suc zero))))))) ds low = record { alone = record { taken = refl; read = refl }; apart = λ w. record { taken = refl; read = refl }; joined = λ w. record { taken = refl; read = refl } }
+from_digit (suc (suc (suc (suc (suc (suc (suc (suc zero)))))))) ds low = record { alone = record { taken = refl; read = refl }; apart = λ w. record { taken = refl; read = refl }; joined = λ w. record { taken = refl; read = refl } }
+from_digit (suc (suc (suc (suc (suc (suc (suc (suc (suc zero))))))))) ds low = record { alone = record { taken = refl; read = refl }; apart = λ w. record { taken = refl; read = refl }; joined = λ w. record { taken = refl; read = refl } }
+from_digit (suc (suc (suc (suc (suc (suc (suc (suc (suc (suc k)))))))))) ds low = absurd (omega (arith, low))
+
+units_digit : (k : ℕ) (ds : List ℕ) → k < 10 → IsUnits ((48 + k) ∷ ds)
+unfolding clap_on_literals
+units_digit zero ds low = record { alone = record { taken = refl; read = refl }; behind = λ v. record { taken = refl; read = refl } }
+units_digit (suc zero) ds low = record { alone = record { taken = refl; read = refl }; behind = λ v. record { taken = refl; read = refl } }
+units_digit (suc (suc zero)) ds low = record { alone = record { taken = refl; read = refl }; behind = λ v. record { taken = refl; read = refl } }
+units_digit (suc (suc (suc zero))) ds low = record { alone = record { taken = refl; read = refl }; behind = λ v. record { taken = refl; read = refl } }
+units_digit (suc (suc (suc (suc zero)))) ds low = record { alone = record { taken = refl; read = refl }; behind = λ v. record { taken = refl; read = refl } }
+units_digit (suc (suc (suc (suc (suc zero))))) ds low = record { alone = record { taken = refl; read = refl }; behind = λ v. record { taken = refl; read = refl } }
+units_digit (suc (suc (suc (suc (suc (suc zero)))))) ds low = record { alone = record { taken = refl; read = refl }; behind = λ v. record { taken = refl; read = refl } }
+units_digit (suc (suc (suc (suc (suc (suc (suc zero))))))) ds low = record { alone = record { taken = refl; read = refl }; behind = λ v. record { taken = refl; read = refl } }
+units_digit (suc (suc (suc (suc (suc (suc (suc (suc zero)))))))) ds low = record { alone = record { taken = refl; read = refl }; behind = λ v. record { taken = refl; read = refl } }
+units_digit (suc (suc (suc (suc (suc (suc (suc (suc (suc zero))))))))) ds low = record { alone = record { taken = refl; read = refl }; behind = λ v. record { taken = refl; read = refl } }
+units_digit (suc (suc (suc (suc (suc (suc (suc (suc (suc (suc k)))))))))) ds low = absurd (omega (arith, low))
+
+from_begins : (d : ℕ) (ds : List ℕ) (n : ℕ) → unit_of (d ∷ ds) ≡ Some n → is_ascii_digit d ≡ true
+from_begins d ds n e = search (rules, tests)
+
+units_begins : (d : ℕ) (ds : List ℕ) (n : ℕ) → units_of (d ∷ ds) ≡ Some n → is_ascii_digit d ≡ true
+units_begins d ds n e = search (rules, tests)
+
+read_from : (v : Text) (n : ℕ) → unit_of v ≡ Some n → IsFrom v
+read_from [] n e = absurd (let h : ◌≡◌ {A = Option ℕ} None (Some n) = e in cc)
+read_from (d ∷ ds) n e =
+    let (k, low, is) = digit_is d (from_begins d ds n e) in
+    subst (λ (b : ℕ). IsFrom (b ∷ ds)) (sym is) (from_digit k ds low)
+
+read_units : (v : Text) (n : ℕ) → units_of v ≡ Some n → IsUnits v
+read_units [] n e = absurd (let h : ◌≡◌ {A = Option ℕ} None (Some n) = e in cc)
+read_units (d ∷ ds) n e =
+    let (k, low, is) = digit_is d (units_begins d ds n e) in
+    subst (λ (b : ℕ). IsUnits (b ∷ ds)) (sym is) (units_digit k ds low)
+
+and_then_some : {A B : Type 0} (f : A → Option B) (o : Option A) (b : B) → option_and_then f o ≡ Some b → (a : A) × (o ≡ Some a) × (f a ≡ Some b)
+and_then_some f None b e = absurd (no_some b e)
+and_then_some f (Some a) b e = (a, refl, e)
+
+-- what is asked for by the values of the options
+record IsAskedBy (from units : Option Text) (x : Reading) : Type 0 where
+  asks : (u : ℕ) × (n : Option ℕ) × (asked_from from ≡ Some u) × (asked_units units ≡ Some n) × (draw_from u n ≡ x)
+
+asked_by : (from units : Option Text) (x : Reading) → drawn from units ≡ Some x → IsAskedBy from units x
+asked_by from units x e =
+    let (u, is, rest) = and_then_some (λ u. option_map (draw_from u) (asked_units units)) (asked_from from) x e in
+    let (n, are, same) = mapped (draw_from u) (asked_units units) x rest in
+    record { asks = (u, n, is, are, same) }
+
+-- the values, where they are given, are read so
+abbrev IsFromIn : Option Text → Type 0
+IsFromIn None = Unit {0}
+IsFromIn (Some v) = IsFrom v
+
+abbrev IsUnitsIn : Option Text → Type 0
+IsUnitsIn None = Unit {0}
+IsUnitsIn (Some w) = IsUnits w
+
+from_in : (from : Option Text) (u : ℕ) → asked_from from ≡ Some u → IsFromIn from
+from_in None u e = tt
+from_in (Some v) u e = read_from v u e
+
+units_in : (units : Option Text) (n : Option ℕ) → asked_units units ≡ Some n → IsUnitsIn units
+units_in None n e = tt
+units_in (Some w) n e = let (m, is, same) = mapped (λ m. Some m) (units_of w) n e in read_units w m is
+
+-- the option with its value behind `=`
+abbrev option_word : Text → Option Text → List Text
+option_word name None = []
+option_word name (Some v) = (name ++ (codes "=" ++ v)) ∷ []
+
+abbrev drawing_of : Option Text → Option Text → List Text
+drawing_of from units = drawing (option_word (codes "--from") from ++ option_word (codes "--units") units)
+
+drawing_is : (a b c d : List Text) → a ≡ b → c ≡ d → IsSame (drawing (a ++ c)) (drawing (b ++ d))
+drawing_is a b c d e f = same_words _ _ (ap₂ (λ x y. drawing (x ++ y)) e f)
+
+-- all spellings of the options are read as that with `=`
+same_drawing : (from units : Option Text) (first second : List Text) → IsFromIn from → IsUnitsIn units → SpellsOption (codes "--from") from first
+    → SpellsOption (codes "--units") units second → IsSame (drawing (first ++ second)) (drawing_of from units)
+same_drawing None None first second f u e g = drawing_is first _ second _ e g
+same_drawing None (Some w) first second f u e (inl own) = same_through _ _ _ (drawing_is first _ second _ e own) u.alone
+same_drawing None (Some w) first second f u e (inr behind) = drawing_is first _ second _ e behind
+same_drawing (Some v) None first second f u (inl own) g = same_through _ _ _ (drawing_is first _ second _ own g) f.alone
+same_drawing (Some v) None first second f u (inr behind) g = drawing_is first _ second _ behind g
+same_drawing (Some v) (Some w) first second f u (inl own) (inl next) =
+    same_through _ _ _ (drawing_is first _ second _ own next) (same_through _ _ _ (f.apart w) (u.behind v))
+same_drawing (Some v) (Some w) first second f u (inl own) (inr next) = same_through _ _ _ (drawing_is first _ second _ own next) (f.joined w)
+same_drawing (Some v) (Some w) first second f u (inr behind) (inl next) = same_through _ _ _ (drawing_is first _ second _ behind next) (u.behind v)
+same_drawing (Some v) (Some w) first second f u (inr behind) (inr next) = drawing_is first _ second _ behind next
+
+-- what `clap` makes of the words of `draw`
+record IsDrawn (from units : Option Text) (words : List Text) : Type 0 where
+  taken : takes parser words ≡ true
+  named : option_map (λ p. p.0) (subcommand_of parser words) ≡ Some (codes "draw")
+  from_is : option_and_then (first_of (codes "from")) (option_map (λ p. p.1) (subcommand_of parser words)) ≡ from
+  units_is : option_and_then (first_of (codes "units")) (option_map (λ p. p.1) (subcommand_of parser words)) ≡ units
+
+drawn_of : (from units : Option Text) → IsDrawn from units (drawing_of from units)
+unfolding clap_on_literals
+drawn_of None None = record { taken = refl; named = refl; from_is = refl; units_is = refl }
+drawn_of None (Some w) = record { taken = refl; named = refl; from_is = refl; units_is = refl }
+drawn_of (Some v) None = record { taken = refl; named = refl; from_is = refl; units_is = refl }
+drawn_of (Some v) (Some w) = record { taken = refl; named = refl; from_is = refl; units_is = refl }
+
+drawn_as : (from units : Option Text) (a b : List Text) → IsSame a b → IsDrawn from units b → IsDrawn from units a
+drawn_as from units a b same is = record {
+  taken = same.taken ∙ is.taken;
+  named = ap (option_map (λ p. p.0)) same.read ∙ is.named;
+  from_is = ap (λ o. option_and_then (first_of (codes "from")) (option_map (λ p. p.1) o)) same.read ∙ is.from_is;
+  units_is = ap (λ o. option_and_then (first_of (codes "units")) (option_map (λ p. p.1) o)) same.read ∙ is.units_is;
+}
+
+-- the words of `draw` are read as its values
+record ReadsDraw (asked : Asked) (words : List Text) : Type 0 where
+  reads : (from units : Option Text) × (drawn from units ≡ Some (Draw asked)) × IsDrawn from units words
+
+reads_draw : (asked : Asked) (words : List Text) → SpellsDraw asked words → ReadsDraw asked words
+reads_draw asked words spells =
+    let (from, units, first, second, is, front_is, back_is, words_are) = spells in
+    let (u, n, from_given, units_given, same) = (asked_by from units (Draw asked) is).asks in
+    let whole = same_drawing from units first second (from_in from u from_given) (units_in units n units_given) front_is back_is in
+    record {
+      reads = (
+        from,
+        units,
+        is,
+        drawn_as from units words (drawing_of from units)
+            (same_through _ _ _ (same_words words (drawing (first ++ second)) words_are) whole) (drawn_of from units),
+      );
+    }
+
+-- ---- all command lines
+
 -- no command line is refused
 pub taken : (c : Command) (words : List Text) → Spells c words → takes parser words ≡ true
 unfolding clap_on_literals
@@ -126,8 +310,10 @@ taken (Read Tree) words e = ap (takes parser) e
 taken (Read Trace) words e = ap (takes parser) e
 taken (Read TraceMet) words e = ap (takes parser) e
 taken (Read TraceWrap) words e = taken_wrap words e
+taken (Read Table) words e = ap (takes parser) e
 taken (Read Check) words e = ap (takes parser) e
 taken (Read Follow) words e = ap (takes parser) e
+taken (Read (Draw asked)) words e = (reads_draw asked words e).reads.3.taken
 taken Batch words e = ap (takes parser) e
 taken (Execute (Exec window)) words e = taken_exec window words e
 taken (Execute ExecMet) words e = ap (takes parser) e
@@ -142,8 +328,10 @@ name_of (Read Tree) = codes "tree"
 name_of (Read Trace) = codes "trace"
 name_of (Read TraceMet) = codes "trace"
 name_of (Read TraceWrap) = codes "trace"
+name_of (Read Table) = codes "table"
 name_of (Read Check) = codes "check"
 name_of (Read Follow) = codes "follow"
+name_of (Read (Draw asked)) = codes "draw"
 name_of Batch = codes "batch"
 name_of (Execute (Exec window)) = codes "exec"
 name_of (Execute ExecMet) = codes "exec"
@@ -161,13 +349,15 @@ IsCalled name c =
     Either (bytes_eq name (codes "rate")) (c ≡ Read Rate)
     (Either (bytes_eq name (codes "tree")) (c ≡ Read Tree)
     (Either (bytes_eq name (codes "trace")) ((c ≡ Read Trace) ⊎ ((c ≡ Read TraceMet) ⊎ (c ≡ Read TraceWrap)))
+    (Either (bytes_eq name (codes "table")) (c ≡ Read Table)
     (Either (bytes_eq name (codes "check")) (c ≡ Read Check)
     (Either (bytes_eq name (codes "follow")) (c ≡ Read Follow)
+    (Either (bytes_eq name (codes "draw")) ((asked : Asked) × (c ≡ Read (Draw asked)))
     (Either (bytes_eq name (codes "batch")) (c ≡ Batch)
     (Either (bytes_eq name (codes "exec")) (((window : ℕ) × (c ≡ Execute (Exec window))) ⊎ (c ≡ Execute ExecMet))
     (Either (bytes_eq name (codes "drill")) ((number : ℕ) × (c ≡ Execute (Drill number)))
     (Either (bytes_eq name (codes "jobs")) (c ≡ Execute Jobs)
-    (Either (bytes_eq name (codes "modes")) (c ≡ Execute Modes) ⊥)))))))))
+    (Either (bytes_eq name (codes "modes")) (c ≡ Execute Modes) ⊥)))))))))))
 
 called : (c : Command) → IsCalled (name_of c) c
 called (Read Rate) = refl
@@ -175,8 +365,10 @@ called (Read Tree) = refl
 called (Read Trace) = inl refl
 called (Read TraceMet) = inr (inl refl)
 called (Read TraceWrap) = inr (inr refl)
+called (Read Table) = refl
 called (Read Check) = refl
 called (Read Follow) = refl
+called (Read (Draw asked)) = (asked, refl)
 called Batch = refl
 called (Execute (Exec window)) = inl (window, refl)
 called (Execute ExecMet) = inr refl
@@ -220,8 +412,10 @@ named (Read Tree) words e = ap named_by e
 named (Read Trace) words e = ap named_by e
 named (Read TraceMet) words e = ap named_by e
 named (Read TraceWrap) words e = named_wrap words e
+named (Read Table) words e = ap named_by e
 named (Read Check) words e = ap named_by e
 named (Read Follow) words e = ap named_by e
+named (Read (Draw asked)) words e = (reads_draw asked words e).reads.3.named
 named Batch words e = ap named_by e
 named (Execute (Exec window)) words e = named_exec window words e
 named (Execute ExecMet) words e = ap named_by e
@@ -373,6 +567,16 @@ exec_used c words rows spells name is = elim name [
       (ExecMet, told, ap met_in (is ∙ ap matches_by spelled) ∙ exec_met)
 ]
 
+-- what the matches of `draw` say of its options
+pub draw_used : (c : Command) (words : List Text) (rows : List Row) → Spells c words → IsCalled (codes "draw") c → Some rows ≡ matches_by words
+    → option_map Read (drawn (first_of (codes "from") rows) (first_of (codes "units") rows)) ≡ Some c
+draw_used c words rows spells name is =
+    let (asked, own) = name in
+    let (from, units, given, read) = (reads_draw asked words (subst (λ (x : Command). Spells x words) own spells)).reads in
+    let from_is = ap (option_and_then (first_of (codes "from"))) is ∙ read.from_is in
+    let units_is = ap (option_and_then (first_of (codes "units"))) is ∙ read.units_is in
+    ap (option_map Read) (ap₂ drawn from_is units_is ∙ given) ∙ ap Some (sym own)
+
 -- what the matches of `drill` say of its number
 pub drill_used : (c : Command) (words : List Text) (rows : List Row) → Spells c words → IsCalled (codes "drill") c → Some rows ≡ matches_by words
     → (value : Text) × (first_of (codes "number") rows ≡ Some value) × (option_map Execute (drill_with value) ≡ Some c)
@@ -389,12 +593,6 @@ both true true e = (refl, refl)
 both true false e = absurd (let h : false ≡ true = e in cc)
 both false b e = absurd (let h : false ≡ true = e in cc)
 
-pub some_is : {A : Type 0} (a b : A) → Some a ≡ Some b → a ≡ b
-some_is a b e = cc
-
-no_some : {A : Type 0} (a : A) → ◌≡◌ {A = Option A} None (Some a) → ⊥
-no_some a e = cc
-
 take_drop : (n : ℕ) (xs : Text) → xs ≡ take n xs ++ drop n xs
 take_drop zero xs = refl
 take_drop (suc n) [] = refl
@@ -407,10 +605,6 @@ after_in false text word v begins e = absurd (no_some v e)
 
 after_is : (text word v : Text) → after_text text word ≡ Some v → word ≡ text ++ v
 after_is text word v e = after_in (bytes_eq (take (length text) word) text) text word v (same_text (take (length text) word) text) e
-
-pub mapped : {A B : Type 0} (f : A → B) (o : Option A) (b : B) → option_map f o ≡ Some b → (a : A) × (o ≡ Some a) × (f a ≡ b)
-mapped f None b e = absurd (no_some b e)
-mapped f (Some a) b e = (a, refl, some_is (f a) b e)
 
 followed : (o : Option Text) (x : Execution) → option_and_then exec_with o ≡ Some x → (v : Text) × (o ≡ Some v) × (exec_with v ≡ Some x)
 followed None x e = absurd (no_some x e)
@@ -450,11 +644,14 @@ reading_named_spelled w x e = elim (if_is (bytes_eq w (codes "rate")) _ _ _ e) [
     | inl is ↦ reading_word w (codes "tree") Tree x refl is
     | inr other ↦ elim (if_is (bytes_eq w (codes "trace")) _ _ _ other.1) [
       | inl is ↦ reading_word w (codes "trace") Trace x refl is
-      | inr other ↦ elim (if_is (bytes_eq w (codes "check")) _ _ _ other.1) [
-        | inl is ↦ reading_word w (codes "check") Check x refl is
-        | inr other ↦ elim (if_is (bytes_eq w (codes "follow")) _ _ _ other.1) [
-          | inl is ↦ reading_word w (codes "follow") Follow x refl is
-          | inr other ↦ absurd (no_some x other.1)
+      | inr other ↦ elim (if_is (bytes_eq w (codes "table")) _ _ _ other.1) [
+        | inl is ↦ reading_word w (codes "table") Table x refl is
+        | inr other ↦ elim (if_is (bytes_eq w (codes "check")) _ _ _ other.1) [
+          | inl is ↦ reading_word w (codes "check") Check x refl is
+          | inr other ↦ elim (if_is (bytes_eq w (codes "follow")) _ _ _ other.1) [
+            | inl is ↦ reading_word w (codes "follow") Follow x refl is
+            | inr other ↦ absurd (no_some x other.1)
+          ]
         ]
       ]
     ]
@@ -488,12 +685,85 @@ reading_value_spelled w o v x e =
       | inr other ↦ absurd (no_some x other.1)
     ]
 
+reading_by_spelled : (w : Text) (options : List Text) (x : Reading) → reading_by w options ≡ Some x → Spells (Read x) (w ∷ options)
+reading_by_spelled w [] x e = reading_named_spelled w x e
+reading_by_spelled w (o ∷ []) x e = reading_with_spelled w o x e
+reading_by_spelled w (o ∷ v ∷ []) x e = reading_value_spelled w o v x e
+reading_by_spelled w (o ∷ v ∷ u ∷ xs) x e = absurd (no_some x e)
+
+value_is : (name w v : Text) → value_in name w ≡ Some v → w ≡ name ++ (codes "=" ++ v)
+value_is name w v e =
+    let (u, after, behind) = and_then_some (after_text (codes "=")) (after_text name w) v e in
+    after_is name w u after ∙ ap (λ r. name ++ r) (after_is (codes "=") u v behind)
+
+-- what was met at the front of the words is spelled there
+record IsFront (name : Text) (p : Option Text × List Text) (words : List Text) : Type 0 where
+  first : (first : List Text) × SpellsOption name p.0 first × (words ≡ first ++ p.1)
+
+met_spelled : (o : Option Text) (name w : Text) (rest : List Text) → ((v : Text) → o ≡ Some v → w ≡ name ++ (codes "=" ++ v))
+    → IsFront name (met_at o w rest) (w ∷ rest)
+met_spelled None name w rest is = record { first = ([], refl, refl) }
+met_spelled (Some v) name w rest is = record { first = ((name ++ (codes "=" ++ v)) ∷ [], inr refl, ap (λ a. a ∷ rest) (is v refl)) }
+
+front_by : (b : Bool) (name w n : Text) (rest : List Text) → (b ≡ true → w ≡ name)
+    → IsFront name (if b then (Some n, rest) else met_at (value_in name w) w (n ∷ rest)) (w ∷ n ∷ rest)
+front_by true name w n rest same = record { first = (name ∷ n ∷ [], inl refl, ap (λ a. a ∷ n ∷ rest) (same refl)) }
+front_by false name w n rest same = met_spelled (value_in name w) name w (n ∷ rest) (value_is name w)
+
+front_spelled : (name : Text) (words : List Text) → IsFront name (front name words) words
+front_spelled name [] = record { first = ([], refl, refl) }
+front_spelled name (w ∷ []) = met_spelled (value_in name w) name w [] (value_is name w)
+front_spelled name (w ∷ n ∷ rest) = front_by (bytes_eq w name) name w n rest (same_text w name)
+
+at_end : (from units : Option Text) (rest : List Text) (x : Reading) → draw_at_end from units rest ≡ Some x → (rest ≡ []) × (drawn from units ≡ Some x)
+at_end from units [] x e = (refl, e)
+at_end from units (w ∷ rest) x e = absurd (no_some x e)
+
+draw_spelled : (w : Text) (options : List Text) (x : Reading) → w ≡ codes "draw" → draw_of options ≡ Some x → Spells (Read x) (w ∷ options)
+draw_spelled w options x we e =
+    let p = front (codes "--from") options in
+    let q = front (codes "--units") p.1 in
+    let (none, is) = at_end p.0 q.0 q.1 x e in
+    let (u, n, from_given, units_given, same) = (asked_by p.0 q.0 x is).asks in
+    let (first, first_is, options_are) = (front_spelled (codes "--from") options).first in
+    let (second, second_is, behind_are) = (front_spelled (codes "--units") p.1).first in
+    let behind = behind_are ∙ (ap (λ r. second ++ r) none ∙ append-nil second) in
+    let words_are = ap₂ (λ a b. a ∷ b) we (options_are ∙ ap (λ r. first ++ r) behind) in
+    subst (λ (y : Reading). Spells (Read y) (w ∷ options)) same
+    (p.0, q.0, first, second, is ∙ ap Some (sym same), first_is, second_is, words_are)
+
 reading_spelled : (words : List Text) (x : Reading) → reading_of words ≡ Some x → Spells (Read x) words
 reading_spelled [] x e = absurd (no_some x e)
-reading_spelled (w ∷ []) x e = reading_named_spelled w x e
-reading_spelled (w ∷ o ∷ []) x e = reading_with_spelled w o x e
-reading_spelled (w ∷ o ∷ v ∷ []) x e = reading_value_spelled w o v x e
-reading_spelled (w ∷ o ∷ v ∷ u ∷ xs) x e = absurd (no_some x e)
+reading_spelled (w ∷ options) x e = elim (if_is (bytes_eq w (codes "draw")) _ _ _ e) [
+  | inl is ↦ draw_spelled w options x (same_text w _ is.0) is.1
+  | inr other ↦ reading_by_spelled w options x other.1
+]
+
+-- a picture that is asked for shows one unit at least
+units_bound : (v : Text) (n : ℕ) → units_of v ≡ Some n → 1 ≤ n
+units_bound v n e = search (rules, tests)
+
+units_some : (units : Option Text) (n : Option ℕ) → asked_units units ≡ Some n → IfSome n (λ m. 1 ≤ m)
+units_some None n e = subst (λ (o : Option ℕ). IfSome o (λ m. 1 ≤ m)) (some_is None n e) tt
+units_some (Some w) n e =
+    let (m, is, same) = mapped (λ m. Some m) (units_of w) n e in
+    subst (λ (o : Option ℕ). IfSome o (λ k. 1 ≤ k)) same (units_bound w m is)
+
+some_by : (x : Reading) (words : List Text) → Spells (Read x) words → ShowsSome x
+some_by (Draw asked) words spells =
+    let (u, n, from_given, units_given, same) = (asked_by spells.0 spells.1 (Draw asked) spells.4).asks in
+    subst ShowsSome same (units_some spells.1 n units_given)
+some_by Rate words spells = tt
+some_by Tree words spells = tt
+some_by Trace words spells = tt
+some_by TraceMet words spells = tt
+some_by TraceWrap words spells = tt
+some_by Table words spells = tt
+some_by Check words spells = tt
+some_by Follow words spells = tt
+
+pub shows_some : (words : List Text) (x : Reading) → reading_of words ≡ Some x → ShowsSome x
+shows_some words x e = some_by x words (reading_spelled words x e)
 
 execution_named_spelled : (w : Text) (x : Execution) → execution_named w ≡ Some x → Spells (Execute x) (w ∷ [])
 execution_named_spelled w x e = elim (if_is (bytes_eq w (codes "exec")) _ _ _ e) [
@@ -557,12 +827,12 @@ spelled words c e = elim (if_is (asks_to_execute words) _ _ _ e) [
 ]
 
 -- words of another number are no command line
-pub no_reading : (words : List Text) (x : Reading) → length words ≢ 1 → length words ≢ 2 → length words ≢ 3 → reading_of words ≡ Some x → ⊥
-no_reading [] x one two three e = no_some x e
-no_reading (w ∷ []) x one two three e = one refl
-no_reading (w ∷ o ∷ []) x one two three e = two refl
-no_reading (w ∷ o ∷ v ∷ []) x one two three e = three refl
-no_reading (w ∷ o ∷ v ∷ u ∷ xs) x one two three e = no_some x e
+pub no_reading : (w : Text) (options : List Text) (x : Reading) → length options ≢ 0 → length options ≢ 1 → length options ≢ 2
+    → reading_by w options ≡ Some x → ⊥
+no_reading w [] x none one two e = none refl
+no_reading w (o ∷ []) x none one two e = one refl
+no_reading w (o ∷ v ∷ []) x none one two e = two refl
+no_reading w (o ∷ v ∷ u ∷ xs) x none one two e = no_some x e
 
 pub no_execution : (words : List Text) (x : Execution) → length words ≢ 1 → length words ≢ 2 → length words ≢ 3 → execution_of words ≡ Some x → ⊥
 no_execution [] x one two three e = no_some x e

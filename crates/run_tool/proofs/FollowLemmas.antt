@@ -1,5 +1,5 @@
 -- What `follow` tells of a tree text, and that it tells nothing of one that it refuses.
-use Rattle.std.proofs.Common.{◌≡◌, ◌⊎◌, inl, inr, ℕ, ◌+◌, ◌*◌, ◌/◌, ◌≤◌, ◌<◌, List, Result, Ok, Err, Option, Some, None, refl, sym, ap, ap₂, subst, arith, ◌∙◌}
+use Rattle.std.proofs.Common.{◌≡◌, ◌⊎◌, inl, inr, ℕ, ◌+◌, ◌*◌, ◌/◌, ◌<◌, List, Result, Ok, Err, Option, Some, None, refl, sym, ap, ap₂, subst, arith, ◌∙◌}
 use Rattle.std.specs.Io.KnownBytes.{Keeps}
 use Rattle.sched_base.specs.Lanes.{lanes_of}
 use Rattle.sched_base.specs.Sets.{SetContents, IsLawful}
@@ -16,7 +16,7 @@ use Rattle.run_tree.specs.TreeOfSet.{IsTreeOf}
 use Rattle.trace_lines.specs.declared.versions.Version.TheVariants.{One}
 use Rattle.trace_lines.specs.Merging.{merged_lanes}
 use Rattle.trace_lines.specs.Text.{trace_text}
-use Rattle.tree_check.specs.Written.{Written, written_of}
+use Rattle.tree_check.specs.Written.{Written}
 use Rattle.tree_check.specs.Faults.{HasNoFault, IsFirstFault}
 use Rattle.tree_check.specs.Refusals as trees
 use Rattle.tree_check.specs.TextTree.{text_tree, IsTextOfTree}
@@ -31,7 +31,7 @@ use Rattle.run_tool.specs.declared.refusal.Refusal.TheVariants as why
 use Rattle.run_tool.specs.declared.status.Status.{Status}
 use Rattle.run_tool.specs.declared.status.Status.TheVariants.{BadInput, BadTree, TooLong}
 use Rattle.run_tool.specs.Faults.{of_check_tree, of_count}
-use Rattle.run_tool.specs.Follow.{plan_told, rows_told, followed_text, TellsPlan, WritesFollow, RefusesPlan, RefusesFollow, StopsAtPlan, ReadsTree, IsFollowed, FollowsTrees}
+use Rattle.run_tool.specs.Follow.{plan_told, rows_told, followed_text, TellsPlan, WritesFollow, RefusesFollow, StopsAtPlan, FollowsTrees}
 use Rattle.run_tool.specs.Refusals.{status_of}
 
 -- ---- a text is that of a tree, or has a fault

@@ -1,5 +1,5 @@
 -- `follow` of what `tree` writes is what `trace` writes.
-use Rattle.std.proofs.Common.{◌≡◌, ℕ, ◌+◌, ◌*◌, ◌^◌, ◌≤◌, ◌||◌, not, eqb, Bool, true, false, cond, List, [], ◌∷◌, Ok, refl, ap, ap₂, arith, sym, subst, ◌∙◌, eq-eqb}
+use Rattle.std.proofs.Common.{◌≡◌, ℕ, ◌*◌, ◌^◌, ◌≤◌, ◌||◌, not, false, cond, List, [], ◌∷◌, Ok, refl, ap, ap₂, sym, subst, ◌∙◌, eq-eqb}
 use Rattle.sched_base.specs.declared.sets.Task as declared
 use Rattle.sched_base.specs.Lanes.{lanes_of}
 use Rattle.sched_base.specs.Scale.{IsScale, Fits}
@@ -16,7 +16,7 @@ use Rattle.trace_lines.specs.declared.versions.Version.TheVariants.{One, Two}
 use Rattle.tree_check.specs.Written.{Written, written_of}
 use Rattle.tree_check.specs.TextTree.{text_tree}
 use Rattle.reading_laws.specs.Again.{IsReadAgain}
-use Rattle.run_tool.specs.Commands.{ReadsSet, plan_of, some_late, version_of, schedule_text, rows_of}
+use Rattle.run_tool.specs.Commands.{plan_of, some_late, schedule_text}
 use Rattle.run_tool.specs.Follow.{plan_told, rows_told, followed_text}
 use Rattle.run_tool.specs.Followed.{FollowsAsTraced}
 

@@ -1,5 +1,5 @@
 -- How `jobs` ends, part by part: reading the text, loading the programs, running the schedule, and writing what was computed.
-use Rattle.std.proofs.Common.{◌≡◌, ◌≢◌, ◌⊎◌, inl, inr, ℕ, ◌+◌, ◌*◌, ◌/◌, ◌≤◌, ◌<◌, true, false, List, length, take, Option, Some, None, Result, Ok, Err, refl, sym, ◌∙◌, ap, subst, arith}
+use Rattle.std.proofs.Common.{◌≡◌, ◌≢◌, inl, inr, ℕ, ◌+◌, ◌*◌, ◌/◌, ◌≤◌, ◌<◌, true, false, List, length, take, Option, Some, None, Ok, Err, refl, sym, ◌∙◌, ap, subst, arith}
 use Rattle.std.proofs.lemmas.List.{take_all}
 use Rattle.std.specs.Io.KnownBytes.{Appends, Keeps}
 use Rattle.sched_base.specs.Sets.{SetContents}
@@ -17,24 +17,23 @@ use Rattle.job_vm.specs.declared.faults.JobTextFault.{JobTextFault}
 use Rattle.job_vm.specs.declared.faults.JobTextFault.TheVariants as job_text
 use Rattle.job_vm.specs.Faults.{Stops}
 use Rattle.job_vm.specs.Programs.{JobTextHeld, reading}
-use Rattle.job_vm.specs.Strays.{first_stray}
 use Rattle.job_vm.specs.Loading.{loaded}
 use Rattle.job_vm.specs.Results.{told_at, jobs_text}
 use Rattle.run_tool.specs.declared.command.Execution.TheVariants.{Jobs}
 use Rattle.run_tool.specs.declared.refusal.Refusal.{Refusal}
 use Rattle.run_tool.specs.declared.refusal.Refusal.TheVariants as why
 use Rattle.run_tool.specs.declared.status.Status.TheVariants.{Done}
-use Rattle.run_tool.specs.Commands.{set_limit, schedule_rows, plan_of, rows_of, HasRoom, ReadsSet}
+use Rattle.run_tool.specs.Commands.{set_limit, schedule_rows, plan_of, rows_of, HasRoom}
 use Rattle.event_core.specs.declared.counts.CountFault.{CountFault}
 use Rattle.event_core.specs.declared.counts.CountFault.TheVariants as count_fault
 use Rattle.event_core.specs.Counts.{IsCountFault}
 use Rattle.run_tool.specs.Faults.{of_take, of_read_set, of_read_jobs, of_count}
-use Rattle.run_tool.specs.Input.{IsRun, IsRefusedSet, IsTooLongSet}
+use Rattle.run_tool.specs.Input.{IsRun, IsRefusedSet}
 use Rattle.run_tool.specs.JobPrograms.{ReadsJobs, IsJobsToRun, set_bytes, result_text}
-use Rattle.run_tool.specs.Ends.{Streams, IsTold}
+use Rattle.run_tool.specs.Ends.{Streams}
 use Rattle.run_tool.specs.Executions.{GateSeen, JobSeen, Crew, crew, IsReady, RanAll}
 use Rattle.run_tool.proofs.LoadedLemmas.{results_are}
-use Rattle.run_tool.specs.Executed.{StopsInRun, loaded_crew, HasLoaded, WritesJobsRun, ToldRun, StopsRun, may_have_run}
+use Rattle.run_tool.specs.Executed.{StopsInRun, loaded_crew, ToldRun, StopsRun, may_have_run}
 use Rattle.run_tool.specs.Refusals.{status_of}
 use Rattle.run_tool.specs.declared.command.Command.TheVariants.{Execute}
 use Rattle.run_tool.specs.JobInput.{GaveJobs, GaveNoJobs, RanJobs, StopsAtJobs}

@@ -9,6 +9,7 @@ pub mod TraceLemmas
 pub mod SoundLemmas
 pub mod WordLemmas
 pub mod CommandLineLemmas
+pub mod DrawLemmas
 pub mod RunLemmas
 pub mod CrewLemmas
 pub mod CrewEndLemmas

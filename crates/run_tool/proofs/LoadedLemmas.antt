@@ -1,12 +1,12 @@
 -- Gates and jobs whose programs were loaded, and what is told of them after a run.
-use Rattle.std.proofs.Common.{ℕ, zero, suc, ◌+◌, ◌*◌, ◌/◌, ◌<◌, ◌≤◌, ◌≡◌, List, [], ◌∷◌, ◌++◌, length, get_or, take, Option, Some, None, option_map, refl, sym, ap, ◌∙◌, subst, arith}
-use Rattle.std.specs.Prelude.{slice_get, codes}
+use Rattle.std.proofs.Common.{ℕ, zero, suc, ◌+◌, ◌/◌, ◌<◌, ◌≤◌, ◌≡◌, List, [], ◌∷◌, ◌++◌, length, Option, Some, None, option_map, refl, sym, ap, ◌∙◌, subst, arith}
+use Rattle.std.specs.Prelude.{codes}
 use Rattle.sched_edges.specs.Lines.{word_line}
 use Rattle.std.specs.List.{flat_map, range_with_len}
 use Rattle.sched_base.specs.declared.rows.Row.{Row}
 use Rattle.exec_workers.specs.declared.kits.Kit.{Kit}
 use Rattle.sched_base.specs.declared.sets.Task.{Task}
-use Rattle.sched_base.specs.Sets.{SetContents, task_at}
+use Rattle.sched_base.specs.Sets.{task_at}
 use Rattle.sched_base.specs.Tables.{all_rows, ticks_in}
 use Rattle.sched_edges.specs.Jobs.{JobAt, reloaded, computed}
 use Rattle.exec_book.specs.Jobs.{Made}

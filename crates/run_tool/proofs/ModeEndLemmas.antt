@@ -1,5 +1,5 @@
 -- How `modes` ends, part by part: reading the sets, running them, and writing their text.
-use Rattle.std.proofs.Common.{◌≡◌, ◌≢◌, ◌⊎◌, inl, inr, ℕ, zero, suc, ◌+◌, ◌<◌, ◌≤◌, List, [], ◌∷◌, ◌++◌, Option, Some, None, Result, Ok, Err, option_map, map, length, take}
+use Rattle.std.proofs.Common.{◌≡◌, inl, inr, ℕ, zero, suc, ◌+◌, ◌<◌, ◌≤◌, List, [], ◌∷◌, ◌++◌, Option, Some, None, Ok, Err, option_map, map, length, take}
 use Rattle.std.proofs.Common.{true, false, refl, sym, ◌∙◌, ap, subst, arith, add-one}
 use Rattle.std.specs.Prelude.{slice_get}
 use Rattle.std.specs.Io.KnownBytes.{Appends, Keeps}
@@ -12,7 +12,6 @@ use Rattle.sched_edges.specs.declared.read.TakeFault.{TakeFault}
 use Rattle.sched_edges.specs.declared.read.TakeFault.TheVariants as take_fault
 use Rattle.task_reader.specs.Pieces.{pieces_of, bytes_in}
 use Rattle.task_reader.specs.Reading.{set_read_from}
-use Rattle.task_reader.specs.declared.refusals.ReadSet.{ReadSet}
 use Rattle.mode_switch.specs.declared.mode.Mode.{Mode}
 use Rattle.mode_switch.specs.declared.faults.ModeFault.{ModeFault}
 use Rattle.mode_switch.specs.declared.faults.ModeFault.TheVariants as join
@@ -20,20 +19,19 @@ use Rattle.mode_switch.specs.Joining.{CanBeJoined, SaysOf}
 use Rattle.mode_switch.specs.Modes.{ModesContents, AreModes, PeriodsEndIn, sets_of}
 use Rattle.run_tool.specs.declared.command.Command.TheVariants.{Execute}
 use Rattle.run_tool.specs.declared.command.Execution.TheVariants.{Modes}
-use Rattle.run_tool.specs.declared.mode_refusal.ModeRefusal.{ModeRefusal}
 use Rattle.run_tool.specs.declared.mode_refusal.ModeRefusal.TheVariants as mode
 use Rattle.run_tool.specs.declared.refusal.Refusal.{Refusal}
 use Rattle.run_tool.specs.declared.refusal.Refusal.TheVariants as why
 use Rattle.run_tool.specs.declared.status.Status.TheVariants.{Done}
 use Rattle.run_tool.specs.Commands.{set_limit}
-use Rattle.run_tool.specs.Ends.{Streams, IsTold}
+use Rattle.run_tool.specs.Ends.{Streams}
 use Rattle.run_tool.specs.Executions.{Crew}
 use Rattle.run_tool.specs.Executed.{ToldRun, StopsRun, may_have_run}
 use Rattle.run_tool.specs.Faults.{of_take, of_join}
 use Rattle.run_tool.specs.Refusals.{status_of}
 use Rattle.run_tool.specs.ModeInput.{RefusesPiece, RefusesPieces, GaveModes, GaveNoModes}
 use Rattle.run_tool.specs.ModeRuns.{RanThrough, StopsInModes}
-use Rattle.run_tool.specs.ModeTexts.{ReadsSets, ReadsModes, IsFirstBad, RefusesMode, modes_text}
+use Rattle.run_tool.specs.ModeTexts.{ReadsSets, IsFirstBad, modes_text}
 use Rattle.run_tool.proofs.ModeTextLemmas.{read_at}
 
 -- ---- the pieces

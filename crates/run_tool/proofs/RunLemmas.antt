@@ -25,7 +25,7 @@ use Rattle.run_tool.specs.ModeRuns.{WritesModesRun, RefusesModesRun}
 use Rattle.run_tool.specs.ModeTexts.{WritesModes, RefusesModes}
 use Rattle.run_tool.proofs.LoadedLemmas.{rose_loaded}
 use Rattle.run_tool.specs.Executed.{WritesJobsRun, RefusesJobsRun}
-use Rattle.run_tool.specs.Executed.{WritesRun, RefusesRun, RanDrill, StopsAtDrill, ToldRun, StopsRun, EndsWith, EndsRun, NoneFailed, may_have_run}
+use Rattle.run_tool.specs.Executed.{WritesRun, RefusesRun, RanDrill, StopsAtDrill, ToldRun, StopsRun, EndsWith, NoneFailed, may_have_run}
 
 pub back_same : (c : Crew) → AreBack c c
 back_same c = record { gates = λ p g at. (g, at, omega arith); jobs = λ i j at. (j, at, refl, omega arith) }
@@ -90,6 +90,7 @@ weaker_stops met old new b n (why.OfMode j q) quiet s = s
 weaker_stops met old new b n (why.Overload total room) quiet s = s
 weaker_stops met old new b n (why.ScaleTooLarge task) quiet s = s
 weaker_stops met old new b n (why.TooLong rows) quiet s = s
+weaker_stops met old new b n (why.TooWide ticks) quiet s = s
 weaker_stops met old new b n (why.GateFault row name) quiet s = absurd (quiet.gates row.processor s.2.3.rose)
 weaker_stops met old new b n (why.JobFault row name) quiet s = absurd (quiet.jobs s.2.3.task.0.0 s.2.3.task.2)
 weaker_stops met old new b n (why.InputTooLong count) quiet s = s

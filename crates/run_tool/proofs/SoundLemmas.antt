@@ -9,7 +9,7 @@ use Rattle.run_tree.specs.Compiled.{tree_of}
 use Rattle.run_tree.specs.Plans.{schedule_of}
 use Rattle.run_tree.specs.Schedule.{schedule}
 use Rattle.task_reader.specs.Reading.{set_read_from}
-use Rattle.run_tool.specs.Commands.{SetText, rates, server_tree, schedule_rows, wrapped_rows, plan_of}
+use Rattle.run_tool.specs.Commands.{SetText, rates, server_tree, schedule_rows, wrapped_rows, c_table, plan_of}
 use Rattle.run_tool.specs.Commands.{Output, of_set, of_tree}
 use Rattle.run_tool.specs.declared.status.Status.{Status}
 use Rattle.run_tool.specs.declared.status.Status.TheVariants.{Done}
@@ -36,6 +36,7 @@ module _
   tells_truth server_tree bytes s scale reads fits = is_tree s scale (lawful bytes s reads.read) reads.is_scale fits
   tells_truth (schedule_rows met) bytes s scale reads fits = schedule_valid s scale (lawful bytes s reads.read) reads.is_scale fits
   tells_truth wrapped_rows bytes s scale reads fits = wraps s scale (lawful bytes s reads.read) reads.is_scale fits
+  tells_truth c_table bytes s scale reads fits = schedule_valid s scale (lawful bytes s reads.read) reads.is_scale fits
 
 module _ (truth : (what : SetText) → TellsTruth what) (follows : FollowsTrees) where
   -- what was told is sound

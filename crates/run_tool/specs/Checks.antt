@@ -2,26 +2,17 @@
 use Rattle.std.specs.Prelude.{ℕ, ◌≡◌, List, [], ◌∷◌, codes, decimal, Ok, Err}
 use Rattle.sched_edges.specs.Lines.{line_of}
 use Rattle.trace_rows.specs.declared.faults.FaultKind.{FaultKind}
-use Rattle.trace_rows.specs.declared.faults.FaultKind.TheVariants.{Processor, End, ProcessorOverlap, TaskOverlap, Early, Supply}
 use Rattle.trace_rows.specs.declared.faults.Verdict.TheVariants.{Fault}
 use Rattle.trace_rows.specs.Faults.{IsVerdict}
 use Rattle.trace_check.specs.Traces.{Trace}
 use Rattle.trace_check.specs.Reading.{reading}
+use Rattle.trace_draw.specs.Head.{kind_text}
 use Rattle.stat_report.specs.Report.{IsValidTrace}
 use Rattle.stat_report.specs.Text.{report_text}
 use Rattle.run_tool.specs.declared.refusal.Refusal.{Refusal}
 use Rattle.run_tool.specs.declared.refusal.Refusal.TheVariants.{BadLine}
 use Rattle.run_tool.specs.declared.status.Status.{Status}
 use Rattle.run_tool.specs.declared.status.Status.TheVariants.{Done, Invalid}
-
--- the kind of a fault, as it is printed
-abbrev pub kind_text : FaultKind → List ℕ
-kind_text Processor = codes "processor"
-kind_text End = codes "end"
-kind_text ProcessorOverlap = codes "processor-overlap"
-kind_text TaskOverlap = codes "task-overlap"
-kind_text Early = codes "early"
-kind_text Supply = codes "supply"
 
 -- the line that tells the first fault of a trace: where it is, and of which kind
 unfoldable pub invalid_line : ℕ → FaultKind → List ℕ

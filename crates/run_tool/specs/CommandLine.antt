@@ -1,13 +1,14 @@
 -- Command lines, as `clap` reads them.
-use Rattle.std.specs.Prelude.{◌≡◌, ◌⊎◌, ℕ, true, List, [], ◌∷◌, ◌++◌, Some, codes}
+use Rattle.std.specs.Prelude.{◌≡◌, ◌⊎◌, ℕ, true, List, [], ◌∷◌, ◌++◌, Option, Some, None, codes}
 use Rattle.clap.specs.Words.{App, Rule, new_app, new_rule, with_rule, with_subcommand}
 use Rattle.clap.specs.Simple.{on_top}
+use Rattle.trace_draw.specs.declared.asking.Asked.{Asked}
 use Rattle.clap.specs.declared.builder.action.ArgAction.TheVariants.{Set, SetTrue}
 use Rattle.run_tool.specs.declared.command.Command.{Command}
 use Rattle.run_tool.specs.declared.command.Command.TheVariants.{Read, Batch, Execute}
-use Rattle.run_tool.specs.declared.command.Reading.TheVariants.{Rate, Tree, Trace, TraceMet, TraceWrap, Check, Follow}
+use Rattle.run_tool.specs.declared.command.Reading.TheVariants.{Rate, Tree, Trace, TraceMet, TraceWrap, Table, Check, Follow, Draw}
 use Rattle.run_tool.specs.declared.command.Execution.TheVariants.{Exec, ExecMet, Drill, Jobs, Modes}
-use Rattle.run_tool.specs.Words.{window_of, drill_of}
+use Rattle.run_tool.specs.Words.{drawn, window_of, drill_of}
 
 -- the words are `exec` with a window: the usual one where none is written, as a value of its own or behind `=`
 abbrev pub SpellsExec : ℕ → List (List ℕ) → Type 0
@@ -25,6 +26,17 @@ abbrev pub SpellsWrap : List (List ℕ) → Type 0
 SpellsWrap words =
     (words ≡ codes "trace" ∷ codes "--by" ∷ codes "wrap" ∷ []) ⊎ (words ≡ codes "trace" ∷ codes "--by=wrap" ∷ [])
 
+-- the words of an option with this value, if it has one: as a word of its own or behind `=`
+abbrev pub SpellsOption : List ℕ → Option (List ℕ) → List (List ℕ) → Type 0
+SpellsOption name None words = words ≡ []
+SpellsOption name (Some value) words = (words ≡ name ∷ value ∷ []) ⊎ (words ≡ (name ++ (codes "=" ++ value)) ∷ [])
+
+-- the words are `draw` with the options that ask for this
+abbrev pub SpellsDraw : Asked → List (List ℕ) → Type 0
+SpellsDraw asked words =
+    (from units : Option (List ℕ)) × (first second : List (List ℕ)) × (drawn from units ≡ Some (Draw asked))
+    × SpellsOption (codes "--from") from first × SpellsOption (codes "--units") units second × (words ≡ codes "draw" ∷ (first ++ second))
+
 -- the words of a command
 abbrev pub Spells : Command → List (List ℕ) → Type 0
 Spells (Read Rate) words = words ≡ codes "rate" ∷ []
@@ -32,8 +44,10 @@ Spells (Read Tree) words = words ≡ codes "tree" ∷ []
 Spells (Read Trace) words = words ≡ codes "trace" ∷ []
 Spells (Read TraceMet) words = words ≡ codes "trace" ∷ codes "--met" ∷ []
 Spells (Read TraceWrap) words = SpellsWrap words
+Spells (Read Table) words = words ≡ codes "table" ∷ []
 Spells (Read Check) words = words ≡ codes "check" ∷ []
 Spells (Read Follow) words = words ≡ codes "follow" ∷ []
+Spells (Read (Draw asked)) words = SpellsDraw asked words
 Spells Batch words = words ≡ codes "batch" ∷ []
 Spells (Execute (Exec window)) words = SpellsExec window words
 Spells (Execute ExecMet) words = words ≡ codes "exec" ∷ codes "--met" ∷ []
@@ -48,6 +62,14 @@ met = record (new_rule (codes "met")) { long = Some (codes "met"); action = Some
 -- the option `--by`, with a value
 abbrev pub by : Rule
 by = record (new_rule (codes "by")) { long = Some (codes "by"); action = Some Set }
+
+-- the option `--from`, with a value
+abbrev pub from_option : Rule
+from_option = record (new_rule (codes "from")) { long = Some (codes "from"); action = Some Set }
+
+-- the option `--units`, with a value
+abbrev pub units_option : Rule
+units_option = record (new_rule (codes "units")) { long = Some (codes "units"); action = Some Set }
 
 -- the option `--window`, with a value
 abbrev pub window : Rule
@@ -81,14 +103,20 @@ with_tree = with_command with_rate (new_app (codes "tree"))
 abbrev pub with_trace : App
 with_trace = with_command with_tree (with_rule (with_rule (new_app (codes "trace")) met) by)
 
+abbrev pub with_table : App
+with_table = with_command with_trace (new_app (codes "table"))
+
 abbrev pub with_check : App
-with_check = with_command with_trace (new_app (codes "check"))
+with_check = with_command with_table (new_app (codes "check"))
 
 abbrev pub with_follow : App
 with_follow = with_command with_check (new_app (codes "follow"))
 
+abbrev pub with_draw : App
+with_draw = with_command with_follow (with_rule (with_rule (new_app (codes "draw")) from_option) units_option)
+
 abbrev pub with_batch : App
-with_batch = with_command with_follow (new_app (codes "batch"))
+with_batch = with_command with_draw (new_app (codes "batch"))
 
 abbrev pub with_exec : App
 with_exec = with_command with_batch (with_rule (with_rule (new_app (codes "exec")) met) window)

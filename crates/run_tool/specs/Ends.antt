@@ -11,7 +11,7 @@ use Rattle.run_tool.specs.declared.refusal.Refusal.{Refusal}
 use Rattle.run_tool.specs.declared.refusal.Refusal.TheVariants as why
 use Rattle.run_tool.specs.declared.status.Status.{Status}
 use Rattle.run_tool.specs.declared.status.Status.TheVariants.{Done, Invalid, Usage, NoMemory, BadInput, Overload, ScaleTooLarge, TooLong, InputTooLong}
-use Rattle.run_tool.specs.declared.status.Status.TheVariants.{ModeFault, BadTree}
+use Rattle.run_tool.specs.declared.status.Status.TheVariants.{ModeFault, BadTree, TooWide}
 use Rattle.sched_base.specs.Sets.{SetContents}
 use Rattle.sched_base.specs.Scale.{Fits}
 use Rattle.run_tool.specs.Drill.{WritesDrill}
@@ -150,6 +150,7 @@ IsAnswer output bytes ScaleTooLarge = Refused output bytes ScaleTooLarge
 IsAnswer output bytes TooLong = Refused output bytes TooLong
 IsAnswer output bytes ModeFault = Refused output bytes ModeFault
 IsAnswer output bytes BadTree = Refused output bytes BadTree
+IsAnswer output bytes TooWide = Refused output bytes TooWide
 IsAnswer output bytes _ = ⊥
 
 -- where the source tells its bytes and nothing fails, their answer is given, or memory was refused

@@ -11,9 +11,10 @@ use Rattle.trace_check.specs.Traces.{Trace}
 use Rattle.trace_check.specs.Reading.{reading}
 use Rattle.run_tool.specs.declared.refusal.Refusal.{Refusal}
 use Rattle.run_tool.specs.declared.refusal.Refusal.TheVariants.{ReadFault, WriteFault, NoMemory, BadSet, BadLine, Overload, ScaleTooLarge, TooLong}
-use Rattle.run_tool.specs.declared.refusal.Refusal.TheVariants.{InputTooLong}
+use Rattle.run_tool.specs.declared.refusal.Refusal.TheVariants.{InputTooLong, TooWide}
+use Rattle.run_tree.specs.Plans.{stop_of}
 use Rattle.sched_base.specs.Tables.{row_limit}
-use Rattle.run_tool.specs.Commands.{SetText, rates, server_tree, schedule_rows, wrapped_rows, text_of, plan_of, rows_of, wrapped_rows_of, HasRoom}
+use Rattle.run_tool.specs.Commands.{SetText, rates, server_tree, schedule_rows, wrapped_rows, c_table, text_of, plan_of, rows_of, wrapped_rows_of, HasRoom}
 
 -- the source gave all its bytes, at most the limit, and they are this set
 pub record GaveSet (left left' : Option (List ℕ)) (limit : ℕ) (s : SetContents) : Type 0 where
@@ -64,18 +65,33 @@ abbrev pub IsTooLongWrap : SetContents → ℕ → Type 0
 IsTooLongWrap s rows =
     (scale : ℕ) × IsRun s scale × (row_limit < wrapped_rows_of s scale) × (rows ≡ (row_limit / s.processors + 1) * s.processors)
 
+-- the schedule of a set that fits has 2 ^ 64 ticks or more
+abbrev pub IsTooWidePlan : SetContents → ℕ → Type 0
+IsTooWidePlan s ticks = (scale : ℕ) × IsRun s scale × (2 ^ 64 ≤ ticks) × (ticks ≡ stop_of (plan_of s scale))
+
+-- that of a set with a scale has fewer
+abbrev pub IsNarrowPlan : SetContents → Type 0
+IsNarrowPlan s = (scale : ℕ) × IsRun s scale × (stop_of (plan_of s scale) < 2 ^ 64)
+
 -- the set doesn't have this text for its many rows
 abbrev pub IsTooLongSet : SetText → SetContents → ℕ → Type 0
 IsTooLongSet rates s rows = ⊥
 IsTooLongSet server_tree s rows = ⊥
 IsTooLongSet (schedule_rows met) s rows = IsTooLongPlan s rows
 IsTooLongSet wrapped_rows s rows = IsTooLongWrap s rows
+IsTooLongSet c_table s rows = IsNarrowPlan s × IsTooLongPlan s rows
+
+-- the set doesn't have this text for its many ticks
+abbrev pub IsTooWideSet : SetText → SetContents → ℕ → Type 0
+IsTooWideSet c_table s ticks = IsTooWidePlan s ticks
+IsTooWideSet _ s ticks = ⊥
 
 -- why a set's text wasn't written, or not all of it
 abbrev pub StopsAtSet : SetText → Option (List ℕ) → Option (List ℕ) → ℕ → ℕ → SetContents → Refusal → Type 0
 StopsAtSet what out out' faults faults' s WriteFault = (scale : ℕ) × IsRun s scale × HasRoom what s scale × TookPart out out' (text_of what s scale)
     × Rose faults faults'
 StopsAtSet what out out' faults faults' s (TooLong rows) = IsTooLongSet what s rows × Keeps out out'
+StopsAtSet what out out' faults faults' s (TooWide ticks) = IsTooWideSet what s ticks × Keeps out out'
 StopsAtSet what out out' faults faults' s refusal = IsRefusedSet s refusal × Keeps out out'
 
 -- a set's text was written

@@ -5,6 +5,7 @@ pub mod Refusals
 pub mod RateText
 pub mod Faults
 pub mod Checks
+pub mod Draws
 pub mod Drill
 pub mod Numbered
 pub mod Batch

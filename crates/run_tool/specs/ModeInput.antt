@@ -1,5 +1,5 @@
 -- The parts of `modes`: reading sets that can be modes, and writing what was run.
-use Rattle.std.specs.Prelude.{◌≡◌, ℕ, ◌+◌, List, Ok, Err}
+use Rattle.std.specs.Prelude.{◌≡◌, ℕ, ◌+◌, List, Err}
 use Rattle.std.specs.declared.option.Option.{Option}
 use Rattle.sched_edges.specs.Causes.{Rose}
 use Rattle.sched_edges.specs.Streams.{GaveAll, GaveAtMost, GaveCount}

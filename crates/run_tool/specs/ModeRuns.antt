@@ -1,5 +1,5 @@
 -- What `modes` does with the gates and the jobs, what it writes then, and why it stops.
-use Rattle.std.specs.Prelude.{ℕ, ◌≡◌, ◌⊎◌, List, [], ◌∷◌, Some, slice_get, take}
+use Rattle.std.specs.Prelude.{ℕ, ◌≡◌, ◌⊎◌, List, [], Some, slice_get, take}
 use Rattle.std.specs.List.{AllByRecursion}
 use Rattle.sched_base.specs.declared.rows.Leaf.TheVariants.{Task as OfTask}
 use Rattle.sched_base.specs.declared.rows.TaskId.{TaskId}

@@ -14,7 +14,7 @@ use Rattle.tree_check.specs.declared.faults.TreeKind.{TreeKind}
 use Rattle.tree_check.specs.declared.faults.TreeKind.TheVariants.{Total, Unplaced, Member, Rate, Pair, Unfinished}
 use Rattle.run_tool.specs.declared.refusal.Refusal.{Refusal}
 use Rattle.run_tool.specs.declared.refusal.Refusal.TheVariants.{Usage, ReadFault, WriteFault, NoMemory, BadSet, BadLine, Overload, ScaleTooLarge}
-use Rattle.run_tool.specs.declared.refusal.Refusal.TheVariants.{TooLong, GateFault, JobFault, InputTooLong, BadProgram, BadTree, OfMode}
+use Rattle.run_tool.specs.declared.refusal.Refusal.TheVariants.{TooLong, GateFault, JobFault, InputTooLong, BadProgram, BadTree, OfMode, TooWide}
 use Rattle.run_tool.specs.declared.mode_refusal.ModeRefusal.{ModeRefusal}
 use Rattle.run_tool.specs.declared.mode_refusal.ModeRefusal.TheVariants as mode
 use Rattle.run_tool.specs.declared.status.Status.{Status}
@@ -57,6 +57,7 @@ status_of (GateFault row name) = status.GateFault
 status_of (JobFault row name) = status.JobFault
 status_of (InputTooLong count) = status.InputTooLong
 status_of (BadTree line kind) = status.BadTree
+status_of (TooWide ticks) = status.TooWide
 status_of (OfMode j refusal) = mode_status refusal
 
 -- a byte of an unknown key as it is printed: `?` for one that isn't from 33 to 126
@@ -154,6 +155,7 @@ refusal_words (GateFault row name) = gate_words row name
 refusal_words (JobFault row name) = job_words row name
 refusal_words (InputTooLong count) = codes "InputTooLong" ∷ decimal count ∷ []
 refusal_words (BadTree line kind) = codes "BadTree" ∷ codes "line" ∷ decimal line ∷ tree_kind_text kind ∷ []
+refusal_words (TooWide ticks) = codes "TooWide" ∷ codes "ticks" ∷ decimal ticks ∷ []
 refusal_words (OfMode j refusal) = mode_words refusal
 
 -- `set`, the number of a set of several, and a space

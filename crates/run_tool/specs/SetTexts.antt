@@ -1,35 +1,38 @@
 -- The texts of a set that fits, and which bytes are refused where one is wanted.
-use Rattle.std.specs.Prelude.{◌≡◌, ℕ, ◌+◌, ◌*◌, ◌/◌, ◌^◌, ◌≤◌, ◌<◌, ◌||◌, not, nat_eq, Bool, true, false}
-use Rattle.std.specs.Prelude.{if◌then◌else◌, List, Ok, Err}
+use Rattle.std.specs.Prelude.{◌≡◌, ℕ, ◌+◌, ◌*◌, ◌/◌, ◌^◌, ◌≤◌, ◌<◌, ◌||◌, not, nat_eq, Bool, false}
+use Rattle.std.specs.Prelude.{if◌then◌else◌, List, map, Ok, Err}
 use Rattle.std.specs.List.{list_any}
 use Rattle.sched_base.specs.declared.sets.Task.{Task}
 use Rattle.sched_base.specs.Sets.{SetContents}
 use Rattle.sched_base.specs.Scale.{IsScale, PassesAt, total_of, room_of, Fits}
 use Rattle.task_reader.specs.Reading.{set_read_from}
 use Rattle.run_tool.specs.declared.refusal.Refusal.{Refusal}
-use Rattle.run_tool.specs.declared.refusal.Refusal.TheVariants.{BadSet, Overload, ScaleTooLarge, TooLong}
+use Rattle.run_tool.specs.declared.refusal.Refusal.TheVariants.{BadSet, Overload, ScaleTooLarge, TooLong, TooWide}
 use Rattle.sched_base.specs.Valid.{IsValid}
 use Rattle.run_tree.specs.Compiled.{tree_of}
 use Rattle.run_tree.specs.TreeOfSet.{IsTreeOf}
-use Rattle.run_tree.specs.Plans.{PlanContents, schedule_of, rounds_of}
+use Rattle.run_tree.specs.Plans.{PlanContents, schedule_of, rounds_of, stop_of}
 use Rattle.sched_base.specs.Tables.{row_limit}
 use Rattle.sched_base.specs.Lanes.{lanes_of}
 use Rattle.trace_lines.specs.declared.versions.Version.{Version}
 use Rattle.trace_lines.specs.declared.versions.Version.TheVariants.{One, Two}
-use Rattle.trace_lines.specs.Merging.{merged_lanes}
+use Rattle.trace_lines.specs.Merging.{merged, merged_lanes}
 use Rattle.trace_lines.specs.Text.{trace_text}
+use Rattle.table_text.specs.Table.{table_text}
 use Rattle.tree_text.specs.Text.{tree_text}
 use Rattle.wrap_sched.specs.Wrapped.{wrapped, wrapped_rounds}
 use Rattle.run_tool.specs.RateText.{rate_text}
 use Rattle.run_tool.specs.declared.status.Status.{Status}
 use Rattle.run_tool.specs.declared.status.Status.TheVariants.{Done}
 
--- a text of a set that fits: its rates, its tree, its schedule, with or without when each period was done, or its wrapped schedule
+-- a text of a set that fits: its rates, its tree, its schedule, with or without when each period was done, its wrapped schedule, or its
+-- schedule as C source
 pub data SetText : Type 0 where
   rates : SetText
   server_tree : SetText
   schedule_rows : Bool → SetText
   wrapped_rows : SetText
+  c_table : SetText
 
 -- the bytes are this set, with this scale within 2 ^ 94
 pub record ReadsSet (bytes : List ℕ) (s : SetContents) (scale : ℕ) : Type 0 where
@@ -58,12 +61,17 @@ schedule_text met p =
 abbrev pub wrapped_text : SetContents → ℕ → List ℕ
 wrapped_text s scale = trace_text (version_of false s.tasks) s scale (merged_lanes (lanes_of s.processors (wrapped scale s)))
 
+-- the schedule of a plan as C source, each processor's rows merged
+abbrev pub plan_table : PlanContents → List ℕ
+plan_table p = table_text p.set p.tree.scale (map merged (lanes_of p.tree.processors (schedule_of p)))
+
 -- the text of a set that fits, with this scale
 abbrev pub text_of : SetText → SetContents → ℕ → List ℕ
 text_of rates s scale = rate_text scale s
 text_of server_tree s scale = tree_text (plan_of s scale)
 text_of (schedule_rows met) s scale = schedule_text met (plan_of s scale)
 text_of wrapped_rows s scale = wrapped_text s scale
+text_of c_table s scale = plan_table (plan_of s scale)
 
 -- how many rows the schedule of a plan has, one for each processor and round
 abbrev pub rows_of : PlanContents → ℕ
@@ -73,12 +81,13 @@ rows_of p = rounds_of p * p.tree.processors
 abbrev pub wrapped_rows_of : SetContents → ℕ → ℕ
 wrapped_rows_of s scale = wrapped_rounds scale s * s.processors
 
--- a set that fits has this text: a schedule that is told has at most 2,097,152 rows
+-- a set that fits has this text: a schedule that is told has at most 2,097,152 rows, and in C its ticks are below 2 ^ 64
 abbrev pub HasRoom : SetText → SetContents → ℕ → Type 0
 HasRoom rates s scale = Unit {0}
 HasRoom server_tree s scale = Unit {0}
 HasRoom (schedule_rows met) s scale = rows_of (plan_of s scale) ≤ row_limit
 HasRoom wrapped_rows s scale = wrapped_rows_of s scale ≤ row_limit
+HasRoom c_table s scale = (stop_of (plan_of s scale) < 2 ^ 64) × (rows_of (plan_of s scale) ≤ row_limit)
 
 -- this text is written for these bytes, which are a set that fits; the status is always `Done`
 abbrev pub WritesSet : SetText → List ℕ → Status → List ℕ → Type 0
@@ -92,6 +101,7 @@ IsSound rates s scale = Unit {0}
 IsSound server_tree s scale = IsTreeOf s (tree_of scale s)
 IsSound (schedule_rows met) s scale = IsValid s scale (s.horizon * scale) (s.horizon * scale) (schedule_of (plan_of s scale))
 IsSound wrapped_rows s scale = IsValid s scale (s.horizon * scale) (s.horizon * scale) (wrapped scale s)
+IsSound c_table s scale = IsValid s scale (s.horizon * scale) (s.horizon * scale) (schedule_of (plan_of s scale))
 
 -- the same text is written, and what it tells of the set is sound
 abbrev pub WritesSoundly : SetText → List ℕ → Status → List ℕ → Type 0
@@ -119,14 +129,30 @@ HasTooManyWrapped bytes rows =
     (s : SetContents) × (scale : ℕ) × ReadsSet bytes s scale × Fits scale s × (row_limit < wrapped_rows_of s scale)
     × (rows ≡ (row_limit / s.processors + 1) * s.processors)
 
+-- a set that fits whose schedule has 2 ^ 64 ticks or more
+abbrev pub HasTooManyTicks : List ℕ → ℕ → Type 0
+HasTooManyTicks bytes ticks =
+    (s : SetContents) × (scale : ℕ) × ReadsSet bytes s scale × Fits scale s × (2 ^ 64 ≤ ticks) × (ticks ≡ stop_of (plan_of s scale))
+
+-- a set whose schedule has fewer
+abbrev pub HasFewTicks : List ℕ → Type 0
+HasFewTicks bytes = (s : SetContents) × (scale : ℕ) × ReadsSet bytes s scale × (stop_of (plan_of s scale) < 2 ^ 64)
+
 -- a set of these bytes fits, and doesn't have this text for its many rows
 abbrev pub HasNoRoom : SetText → List ℕ → ℕ → Type 0
 HasNoRoom rates bytes rows = ⊥
 HasNoRoom server_tree bytes rows = ⊥
 HasNoRoom (schedule_rows met) bytes rows = HasTooManyRows bytes rows
 HasNoRoom wrapped_rows bytes rows = HasTooManyWrapped bytes rows
+HasNoRoom c_table bytes rows = HasFewTicks bytes × HasTooManyRows bytes rows
+
+-- a set of these bytes fits, and doesn't have this text for its many ticks
+abbrev pub HasNoType : SetText → List ℕ → ℕ → Type 0
+HasNoType c_table bytes ticks = HasTooManyTicks bytes ticks
+HasNoType _ bytes ticks = ⊥
 
 -- these bytes are refused where this text of a set is wanted
 abbrev pub RefusesText : SetText → List ℕ → Refusal → Type 0
 RefusesText what bytes (TooLong rows) = HasNoRoom what bytes rows
+RefusesText what bytes (TooWide ticks) = HasNoType what bytes ticks
 RefusesText what bytes refusal = RefusesSet bytes refusal

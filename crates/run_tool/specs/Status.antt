@@ -2,7 +2,7 @@
 use Rattle.std.specs.Prelude.{ℕ}
 use Rattle.run_tool.specs.declared.status.Status.{Status}
 use Rattle.run_tool.specs.declared.status.Status.TheVariants.{Done, Invalid, Usage, ReadFault, WriteFault, NoMemory, BadInput, Overload}
-use Rattle.run_tool.specs.declared.status.Status.TheVariants.{ScaleTooLarge, TooLong, GateFault, JobFault, InputTooLong, ModeFault, BadTree}
+use Rattle.run_tool.specs.declared.status.Status.TheVariants.{ScaleTooLarge, TooLong, GateFault, JobFault, InputTooLong, ModeFault, BadTree, TooWide}
 
 -- the exit status of the program
 abbrev pub code_of : Status → ℕ
@@ -21,3 +21,4 @@ code_of JobFault = 11
 code_of InputTooLong = 12
 code_of ModeFault = 15
 code_of BadTree = 16
+code_of TooWide = 17

@@ -1,10 +1,10 @@
 //! The command `check`.
-ghost use Rattle.std.specs.Prelude.{ℕ, List, ◌≡◌, ◌≤◌, length, IfOk, IfErr, OnErr};
+ghost use Rattle.std.specs.Prelude.{ℕ, List, ◌≡◌, ◌≤◌, IfOk, IfErr, OnErr};
 ghost use Rattle.std.specs.Io.KnownBytes.{Appends};
 ghost use Rattle.sched_edges.specs.Causes.{HasCause};
 ghost use Rattle.sched_edges.specs.Streams.{TookPart};
 ghost use Rattle.run_tool.specs.Commands.{trace_limit};
-ghost use Rattle.run_tool.specs.Checks.{kind_text, invalid_line, TellsTrace, WritesVerdict, RefusesTrace};
+ghost use Rattle.run_tool.specs.Checks.{invalid_line, TellsTrace, WritesVerdict, RefusesTrace};
 ghost use Rattle.run_tool.specs.Ends.{streams_of, IsTold, StopsAs};
 ghost use Rattle.run_tool.specs.declared.status.Status.{Status};
 
@@ -15,6 +15,7 @@ use sched_edges::{Failed, Line, Sink, Source, write_all};
 use stat_report::write_report;
 use std::alloc::Global;
 use trace_check::{FaultKind, ReadTrace, Verdict, check_trace};
+use trace_draw::kind_text;
 
 /// Reads a trace text, and tells whether its rows are a valid schedule of its set: the report of a valid one, with the status
 /// `Done`, or the first line at fault and why, with the status `Invalid`.
@@ -67,19 +68,4 @@ fn invalid_line(line: u64, kind: FaultKind) -> Line
     told.text(kind_text(kind));
     told.end();
     told
-}
-
-// The kind of a fault, as it is printed.
-fn kind_text(kind: FaultKind) -> &'static [u8]
-    ensures text { result.now ≡ kind_text kind }
-    ensures short { length result.now ≤ 32 }
-{
-    match kind {
-        FaultKind::Processor => b"processor",
-        FaultKind::End => b"end",
-        FaultKind::ProcessorOverlap => b"processor-overlap",
-        FaultKind::TaskOverlap => b"task-overlap",
-        FaultKind::Early => b"early",
-        FaultKind::Supply => b"supply",
-    }
 }

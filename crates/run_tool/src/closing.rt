@@ -1,5 +1,6 @@
 //! The end of a run over an `out` that keeps bytes back.
 ghost use Rattle.std.specs.Prelude.{◌≡◌, ◌≢◌};
+ghost use Rattle.std.specs.Io.KnownBytes.{Keeps};
 ghost use Rattle.sched_edges.specs.Causes.{Rose};
 ghost use Rattle.sched_edges.specs.StdStreams.{sink_faults};
 ghost use Rattle.run_tool.specs.Ends.{error_of, IsQuiet, Tells};
@@ -24,6 +25,9 @@ pub fn close_run<W: Write + Drop, E: Sink>(
     ensures fault { result ≢ status → (result ≡ Status.WriteFault) × Rose (sink_faults out.old) (sink_faults out.new)
         × Tells (error_of E.Sink err.old) (error_of E.Sink err.new) (refusal_line why.WriteFault) }
     ensures quiet { result ≡ status → IsQuiet (error_of E.Sink err.old) (error_of E.Sink err.new) }
+
+    // `out` keeps the bytes that it took, and takes no further one.
+    ensures kept { Keeps (⟦<StdSink<W> as Sink>⟧.taken out.old) (⟦<StdSink<W> as Sink>⟧.taken out.new) }
 {
     let flushed = out.flush();
     close_flushed(status, flushed, err)

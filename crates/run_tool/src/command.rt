@@ -1,5 +1,7 @@
 //! What a command line asks for.
 
+use trace_draw::Asked;
+
 /// What a command line asks for.
 #[derive(Clone, Copy, Debug, PartialEq, Eq)]
 pub enum Command {
@@ -24,10 +26,14 @@ pub enum Reading {
     TraceMet,
     /// `trace --by wrap`: read a task set, and tell its wrapped schedule.
     TraceWrap,
+    /// `table`: read a task set, and tell its schedule as C99 source.
+    Table,
     /// `check`: read a trace text, and tell whether its rows are a valid schedule of its set.
     Check,
     /// `follow`: read a tree text, and tell the schedule of its tree.
     Follow,
+    /// `draw`: read a trace text, and draw the units that are asked for.
+    Draw(Asked),
 }
 
 /// A command that executes.

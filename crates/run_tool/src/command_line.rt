@@ -1,15 +1,15 @@
 //! Command lines, as `clap` reads them.
 ghost use Rattle.std.specs.Prelude.{◌≡◌, ℕ, false, List, map, string_bytes, codes, Some, None, IfOk, option_map};
 ghost use Rattle.clap.specs.Words.{app_of, rule_of, subcommand_of, subcommand_rows_of, first_of, found_of, one_of, rows_of};
-ghost use Rattle.run_tool.specs.Words.{command_of, exec_with, drill_with};
-ghost use Rattle.run_tool.specs.CommandLine.{met, by, window, number, parser, Spells};
+ghost use Rattle.run_tool.specs.Words.{command_of, drawn, exec_with, drill_with};
+ghost use Rattle.run_tool.specs.CommandLine.{met, by, from_option, units_option, window, number, parser, Spells};
 ghost use Rattle.run_tool.specs.declared.command.Command.{Command};
 ghost use Rattle.run_tool.specs.declared.command.Command.TheVariants.{Read, Execute};
 ghost use Rattle.run_tool.specs.declared.command.Reading.TheVariants.{Trace, TraceMet, TraceWrap};
 ghost use Rattle.run_tool.specs.declared.command.Execution.TheVariants.{Exec, ExecMet};
 
 use crate::command::{Command, Execution, Reading};
-use crate::words::{USUAL_WINDOW, drill_with, exec_with};
+use crate::words::{USUAL_WINDOW, drawn, drill_with, exec_with};
 use clap::error::ErrorKind;
 use clap::{Arg, ArgAction, ArgMatches};
 use sched_base::NoMemory;
@@ -34,6 +34,9 @@ fn parser<'a>(alloc: Global) -> Result<clap::Command<'a>, AllocError>
     let trace = clap::Command::new(alloc, "trace")
         .arg(met(alloc))?
         .arg(by(alloc))?;
+    let draw = clap::Command::new(alloc, "draw")
+        .arg(from_option(alloc))?
+        .arg(units_option(alloc))?;
     let exec = clap::Command::new(alloc, "exec")
         .arg(met(alloc))?
         .arg(window(alloc))?;
@@ -46,8 +49,10 @@ fn parser<'a>(alloc: Global) -> Result<clap::Command<'a>, AllocError>
         .subcommand(clap::Command::new(alloc, "rate"))?
         .subcommand(clap::Command::new(alloc, "tree"))?
         .subcommand(trace)?
+        .subcommand(clap::Command::new(alloc, "table"))?
         .subcommand(clap::Command::new(alloc, "check"))?
         .subcommand(clap::Command::new(alloc, "follow"))?
+        .subcommand(draw)?
         .subcommand(clap::Command::new(alloc, "batch"))?
         .subcommand(exec)?
         .subcommand(drill)?
@@ -71,6 +76,24 @@ fn by<'a>(alloc: Global) -> Arg<'a>
     ensures local { result.global ≡ false }
 {
     Arg::new(alloc, "by").long("by").action(ArgAction::Set)
+}
+
+// The option `--from`, with a value.
+fn from_option<'a>(alloc: Global) -> Arg<'a>
+    ensures rule { rule_of result ≡ from_option }
+    ensures local { result.global ≡ false }
+{
+    Arg::new(alloc, "from").long("from").action(ArgAction::Set)
+}
+
+// The option `--units`, with a value.
+fn units_option<'a>(alloc: Global) -> Arg<'a>
+    ensures rule { rule_of result ≡ units_option }
+    ensures local { result.global ≡ false }
+{
+    Arg::new(alloc, "units")
+        .long("units")
+        .action(ArgAction::Set)
 }
 
 // The option `--window`, with a value.
@@ -101,8 +124,10 @@ fn command_in(matches: &ArgMatches<'_>) -> Option<Command>
         "rate" => Some(Command::Read(Reading::Rate)),
         "tree" => Some(Command::Read(Reading::Tree)),
         "trace" => read(trace_in(options)),
+        "table" => Some(Command::Read(Reading::Table)),
         "check" => Some(Command::Read(Reading::Check)),
         "follow" => Some(Command::Read(Reading::Follow)),
+        "draw" => read(draw_in(options)),
         "batch" => Some(Command::Batch),
         "exec" => executed(exec_in(options)),
         "drill" => executed(drill_in(options)),
@@ -144,6 +169,25 @@ fn by_with(word: &str) -> Option<Reading>
         Some(Reading::TraceWrap)
     } else {
         None
+    }
+}
+
+// `draw` with its options.
+fn draw_in(options: &ArgMatches<'_>) -> Option<Reading>
+    ensures { result ≡ drawn (first_of (codes "from") (rows_of (found_of options.now))) (first_of (codes "units") (rows_of (found_of options.now))) }
+{
+    let from = bytes_of(options.get_str("from"));
+    let units = bytes_of(options.get_str("units"));
+    drawn(from, units)
+}
+
+// The bytes of a value, where there is one.
+fn bytes_of(value: Option<&str>) -> Option<&[u8]>
+    ensures { option_map (λ bytes. bytes.now) result ≡ option_map (λ text. text.now) value.entry }
+{
+    match value {
+        Some(text) => Some(text.as_bytes()),
+        None => None,
     }
 }
 

@@ -39,6 +39,8 @@ pub enum Refusal {
     InputTooLong { count: u64 },
     /// The tree text is that of no reduction tree of its set: this line is the first at fault, counted from 1, and this is why.
     BadTree { line: u64, kind: TreeKind },
+    /// The schedule has this many ticks, which no type of C holds.
+    TooWide { ticks: u128 },
     /// Of several sets that follow each other as modes, this mode, counted from 0, wasn't done, for this reason.
     OfMode { mode: u32, refusal: ModeRefusal },
 }
@@ -64,6 +66,7 @@ impl Refusal {
             Refusal::JobFault { .. } => Status::JobFault,
             Refusal::InputTooLong { .. } => Status::InputTooLong,
             Refusal::BadTree { .. } => Status::BadTree,
+            Refusal::TooWide { .. } => Status::TooWide,
             Refusal::OfMode { mode: _, refusal } => refusal.status(),
         }
     }

@@ -10,7 +10,7 @@ ghost use Rattle.run_tool.specs.Status.{code_of};
 ghost use Rattle.run_tool.specs.Ends.{error_of};
 ghost use Rattle.run_tool.specs.Refuse.{IsRefused};
 ghost use Rattle.run_tool.specs.declared.status.Status.TheVariants.{BadInput};
-ghost use Rattle.run_tool.specs.declared.refusal.Refusal.TheVariants.{BadSet, Overload, ScaleTooLarge, TooLong, GateFault, JobFault, BadTree};
+ghost use Rattle.run_tool.specs.declared.refusal.Refusal.TheVariants.{BadSet, Overload, ScaleTooLarge, TooLong, GateFault, JobFault, BadTree, TooWide};
 ghost use Rattle.task_reader.specs.declared.refusals.ReadSet.TheVariants.{UnknownKey};
 
 use crate::mode_line::write_mode_refusal;
@@ -83,6 +83,7 @@ fn line_of(refusal: &Refusal) -> Line
             number_line(Status::InputTooLong, b"InputTooLong", u128::from(*count))
         }
         Refusal::BadTree { line, kind } => tree_line(*line, *kind),
+        Refusal::TooWide { ticks } => ticks_line(*ticks),
         Refusal::OfMode { .. } => unreachable!(),
     }
 }
@@ -265,6 +266,17 @@ fn scale_line(task: u32) -> Line
 {
     let mut line = begin(Status::ScaleTooLarge, b"ScaleTooLarge");
     add_number(&mut line, b"task", u128::from(task));
+    line.end();
+    line
+}
+
+// The line of a schedule with too many ticks.
+#[tactic(auto, unfolding(crate::specs::Refusals::refusal_line, sched_edges::specs::Lines::line_of))]
+fn ticks_line(ticks: u128) -> Line
+    ensures { result ≡ refusal_line (TooWide ticks) }
+{
+    let mut line = begin(Status::TooWide, b"TooWide");
+    add_number(&mut line, b"ticks", ticks);
     line.end();
     line
 }

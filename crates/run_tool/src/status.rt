@@ -35,6 +35,8 @@ pub enum Status {
     ModeFault,
     /// The tree text is that of no reduction tree of its set.
     BadTree,
+    /// The schedule has 2^64 ticks or more.
+    TooWide,
 }
 
 impl Status {
@@ -58,6 +60,7 @@ impl Status {
             Status::InputTooLong => 12,
             Status::ModeFault => 15,
             Status::BadTree => 16,
+            Status::TooWide => 17,
         }
     }
 }

@@ -1,6 +1,6 @@
 //! The top call for all commands but executions and `batch`.
 ghost use Rattle.std.specs.Prelude.{◌≡◌, ◌≢◌, ◌↔◌, false, map, string_bytes, None, Some, IfOk, IfErr};
-ghost use Rattle.run_tool.specs.Words.{command_of, asks_for_threads};
+ghost use Rattle.run_tool.specs.Words.{command_of, asks_for_threads, ShowsSome};
 ghost use Rattle.run_tool.specs.Ends.{streams_of, error_of, IsDone, IsDoneSoundly, IsUsage, Stops, Ends, IsAnswered};
 ghost use Rattle.run_tool.specs.Commands.{of_trace, output_of};
 ghost use Rattle.run_tool.specs.declared.command.Command.{Command};
@@ -10,12 +10,14 @@ ghost use Rattle.run_tool.specs.declared.status.Status.TheVariants.{Done, Invali
 
 use crate::check::check;
 use crate::command::Reading;
+use crate::draw::draw;
 use crate::follow::follow;
 use crate::rate::rate;
 use crate::refusal::Refusal;
 use crate::refusal_line::refuse;
 use crate::sound::{follow_law, sound_law};
 use crate::status::Status;
+use crate::table::table;
 use crate::trace::trace;
 use crate::tree::tree;
 use crate::words::reading_of;
@@ -79,6 +81,7 @@ fn read<R: Source, W: Sink>(
     source: &mut R,
     out: &mut W,
 ) -> Result<Status, Refusal>
+    requires some { ShowsSome reading }
     ensures done { IfOk result (λ status. IsDone (output_of (Read reading)) status
         (streams_of R.Source W.Sink source.old out.old) (streams_of R.Source W.Sink source.new out.new)) }
     ensures stops { IfErr result (Stops (output_of (Read reading)) (streams_of R.Source W.Sink source.old out.old)
@@ -91,6 +94,8 @@ fn read<R: Source, W: Sink>(
         Reading::TraceMet => trace(alloc, source, true, out).map(|()| Status::Done),
         Reading::Check => check(alloc, source, out),
         Reading::TraceWrap => trace_by_wrapping(alloc, source, out).map(|()| Status::Done),
+        Reading::Table => table(alloc, source, out).map(|()| Status::Done),
         Reading::Follow => follow(alloc, source, out).map(|()| Status::Done),
+        Reading::Draw(asked) => draw(alloc, asked, source, out).map(|()| Status::Done),
     }
 }

@@ -8,7 +8,8 @@ ghost use Rattle.sched_edges.specs.Streams.{Wrote};
 ghost use Rattle.run_tree.specs.Plans.{rounds_of, schedule_of};
 ghost use Rattle.event_core.specs.Counts.{IsCountFault};
 ghost use Rattle.merged_rows.specs.Sums.{totals_of as merged_totals};
-ghost use Rattle.merged_rounds.specs.Passes.{AreMergedOf, AreLawful};
+ghost use Rattle.merged_rows.specs.Lawful.{AreLawful};
+ghost use Rattle.merged_rounds.specs.Passes.{AreMergedOf};
 ghost use Rattle.trace_lines.specs.Merging.{merged_lanes};
 ghost use Rattle.trace_lines.specs.Text.{trace_text};
 ghost use Rattle.trace_writer.specs.Conditions.{totals_of};
@@ -67,7 +68,7 @@ fn write_set<W: Sink>(alloc: Global, set: TaskSet, met: bool, out: &mut W) -> Re
 // The merged rows of a plan, in one pass over its rounds, and the ticks of each task in them.
 fn merged_rows_of(alloc: Global, plan: &Plan) -> Result<(MergedRows, Vec<u128>), CountFault>
     ensures rows { IfOk result (λ made. AreMergedOf plan.now made.0.lanes) }
-    ensures lawful { IfOk result (λ made. AreLawful plan.now made.0.lanes) }
+    ensures lawful { IfOk result (λ made. AreLawful plan.now.set made.0.lanes) }
     ensures totals { IfOk result (λ made. made.1.items ≡ merged_totals (length plan.now.set.tasks) (all_rows made.0.lanes)) }
     ensures few { IfOk result (λ _. rounds_of plan.now * plan.now.tree.processors ≤ row_limit) }
     ensures fault { IfErr result (λ fault. IsCountFault plan.now fault) }
@@ -87,7 +88,7 @@ fn write_merged_rows<W: Sink>(
 ) -> Result<(), Failed>
     requires first_version { (met || some_late plan.now.set.tasks) ≡ false }
     requires rows { AreMergedOf plan.now rows.now.lanes }
-    requires lawful { AreLawful plan.now rows.now.lanes }
+    requires lawful { AreLawful plan.now.set rows.now.lanes }
     requires totals { totals.now ≡ merged_totals (length plan.now.set.tasks) (all_rows rows.now.lanes) }
     ensures wrote { Wrote (W.taken out.old) (W.taken out.new) (schedule_text met plan.now) result }
     ensures cause { HasCause (W.faults out.old) (W.faults out.new) result }

@@ -1,9 +1,10 @@
 //! Command lines.
-ghost use Rattle.std.specs.Prelude.{◌≡◌, ◌↔◌, true, false, map, string_bytes, Some, None, IfOk, IfSome, IsTrue, option_map};
+ghost use Rattle.std.specs.Prelude.{◌≡◌, ◌↔◌, true, false, codes, map, string_bytes, Some, None, IfOk, IfSome, IsTrue, option_map};
 ghost use Rattle.run_tool.specs.declared.command.Command.TheVariants.{Read, Batch, Execute};
 ghost use Rattle.run_tool.specs.declared.command.Execution.TheVariants.{Exec, Drill};
 ghost use Rattle.run_tool.specs.Words.{window_of, exec_with, exec_by, drill_of, drill_with, HasWindow};
-ghost use Rattle.run_tool.specs.Words.{reading_of, reading_named, reading_with, reading_with_value};
+ghost use Rattle.run_tool.specs.Words.{reading_of, reading_by, reading_named, reading_with, reading_with_value};
+ghost use Rattle.run_tool.specs.Words.{value_in, front, unit_of, units_of, asked_from, asked_units, drawn, draw_of, ShowsSome};
 ghost use Rattle.run_tool.specs.Words.{execution_of, execution_named, execution_with, execution_with_value};
 ghost use Rattle.run_tool.specs.Words.{asks_to_execute, asks_for_batch, asks_for_threads, command_of};
 
@@ -11,6 +12,7 @@ use crate::command::{Command, Execution, Reading};
 use crate::command_line::read_line;
 use sched_base::NoMemory;
 use std::alloc::Global;
+use trace_draw::Asked;
 use trace_text::read_number;
 
 /// Where no window is asked for, a lane may run up to that many rounds ahead.
@@ -22,6 +24,9 @@ const WINDOW_LIMIT: u128 = 1024;
 /// The largest number of a drill.
 const DRILL_LIMIT: u128 = 18_446_744_073_709_551_615;
 
+/// The largest number of a unit, and of units: horizons are no larger.
+const UNIT_LIMIT: u128 = 4_294_967_295;
+
 /// The command that reads that these words are, the words after the program's name; none where they are no command line. The
 /// words don't ask for what takes threads.
 ///
@@ -29,7 +34,8 @@ const DRILL_LIMIT: u128 = 18_446_744_073_709_551_615;
 /// lines, and words that aren't this spelling are no command line.
 pub(crate) fn reading_of(alloc: Global, words: &[String]) -> Result<Option<Reading>, NoMemory>
     requires still { asks_for_threads (map string_bytes words.now) ≡ false }
-    ensures { IfOk result (λ reading. option_map Read reading ≡ command_of (map string_bytes words.now)) }
+    ensures line { IfOk result (λ reading. option_map Read reading ≡ command_of (map string_bytes words.now)) }
+    ensures some { IfOk result (λ reading. IfSome reading ShowsSome) }
 {
     match read_line(alloc, words)? {
         Some(Command::Read(reading)) if is_reading(reading, words) => Ok(Some(reading)),
@@ -73,18 +79,34 @@ pub(crate) fn execution_of(alloc: Global, words: &[String]) -> Result<Option<Exe
 fn is_reading(reading: Reading, words: &[String]) -> bool
     ensures { IsTrue result ↔ (reading_of (map string_bytes words.now) ≡ Some reading) }
 {
-    let count = words.len();
-    if count == 1 {
-        is_reading_named(reading, words[0].as_str())
+    match words.split_first() {
+        Some((word, options)) if word.as_str() == "draw" => is_drawing(reading, options),
+        Some((word, options)) => is_reading_by(reading, word.as_str(), options),
+        None => false,
+    }
+}
+
+// Whether `draw` with these options is the line of this command.
+fn is_drawing(reading: Reading, options: &[String]) -> bool
+    ensures { IsTrue result ↔ (draw_of (map string_bytes options.now) ≡ Some reading) }
+{
+    match draw_of(options) {
+        Some(drawn) => drawn == reading,
+        None => false,
+    }
+}
+
+// Whether this word with these options is the line of this command.
+fn is_reading_by(reading: Reading, word: &str, options: &[String]) -> bool
+    ensures { IsTrue result ↔ (reading_by word.now (map string_bytes options.now) ≡ Some reading) }
+{
+    let count = options.len();
+    if count == 0 {
+        is_reading_named(reading, word)
+    } else if count == 1 {
+        is_reading_with(reading, word, options[0].as_str())
     } else if count == 2 {
-        is_reading_with(reading, words[0].as_str(), words[1].as_str())
-    } else if count == 3 {
-        is_reading_with_value(
-            reading,
-            words[0].as_str(),
-            words[1].as_str(),
-            words[2].as_str(),
-        )
+        is_reading_with_value(reading, word, options[0].as_str(), options[1].as_str())
     } else {
         false
     }
@@ -98,9 +120,10 @@ fn is_reading_named(reading: Reading, word: &str) -> bool
         Reading::Rate => word == "rate",
         Reading::Tree => word == "tree",
         Reading::Trace => word == "trace",
+        Reading::Table => word == "table",
         Reading::Check => word == "check",
         Reading::Follow => word == "follow",
-        Reading::TraceMet | Reading::TraceWrap => false,
+        Reading::TraceMet | Reading::TraceWrap | Reading::Draw(_) => false,
     }
 }
 
@@ -122,6 +145,92 @@ fn is_reading_with_value(reading: Reading, word: &str, option: &str, value: &str
     match reading {
         Reading::TraceWrap => word == "trace" && option == "--by" && value == "wrap",
         _ => false,
+    }
+}
+
+// `draw` with these options.
+fn draw_of(words: &[String]) -> Option<Reading>
+    ensures { result ≡ draw_of (map string_bytes words.now) }
+{
+    let (from, behind) = front("--from", words);
+    let (units, rest) = front("--units", behind);
+    if rest.is_empty() {
+        drawn(from, units)
+    } else {
+        None
+    }
+}
+
+// The value of this option at the front of the words, if it stands there, and the words behind it.
+fn front<'a>(name: &str, words: &'a [String]) -> (Option<&'a [u8]>, &'a [String])
+    ensures value { option_map (λ value. value.now) result.0 ≡ (front name.now (map string_bytes words.now)).0 }
+    ensures rest { map string_bytes result.1.now ≡ (front name.now (map string_bytes words.now)).1 }
+{
+    match words {
+        [word, value, rest @ ..] if word.as_str() == name => (Some(value.as_bytes()), rest),
+        [word, rest @ ..] => match value_in(name, word.as_str()) {
+            Some(value) => (Some(value), rest),
+            None => (None, words),
+        },
+        [] => (None, words),
+    }
+}
+
+// The value of this option that stands behind `=` in the same word.
+fn value_in<'a>(name: &str, word: &'a str) -> Option<&'a [u8]>
+    ensures { option_map (λ value. value.now) result ≡ value_in name.now word.now }
+{
+    word.as_bytes()
+        .strip_prefix(name.as_bytes())?
+        .strip_prefix(b"=".as_slice())
+}
+
+/// `draw` with the values of its options, where they stand there.
+pub(crate) fn drawn(from: Option<&[u8]>, units: Option<&[u8]>) -> Option<Reading>
+    ensures { result ≡ drawn (option_map (λ word. word.now) from.entry) (option_map (λ word. word.now) units.entry) }
+{
+    let from = asked_from(from)?;
+    let units = asked_units(units)?;
+    Some(Reading::Draw(Asked { from, units }))
+}
+
+// The first unit of a picture.
+fn asked_from(word: Option<&[u8]>) -> Option<u64>
+    ensures { result ≡ asked_from (option_map (λ w. w.now) word.entry) }
+{
+    match word {
+        Some(word) => unit_of(word),
+        None => Some(0),
+    }
+}
+
+// How many units a picture shows, where that is asked for.
+fn asked_units(word: Option<&[u8]>) -> Option<Option<u64>>
+    ensures { result ≡ asked_units (option_map (λ w. w.now) word.entry) }
+{
+    match word {
+        Some(word) => units_of(word).map(Some),
+        None => Some(None),
+    }
+}
+
+// The unit that a word writes.
+fn unit_of(word: &[u8]) -> Option<u64>
+    ensures { result ≡ unit_of word.now }
+{
+    match read_number(word) {
+        Some(number) if number <= UNIT_LIMIT => Some(number as u64),
+        _ => None,
+    }
+}
+
+// The number of units that a word writes.
+fn units_of(word: &[u8]) -> Option<u64>
+    ensures { result ≡ units_of word.now }
+{
+    match read_number(word) {
+        Some(number) if 1 <= number && number <= UNIT_LIMIT => Some(number as u64),
+        _ => None,
     }
 }
 

@@ -25,7 +25,9 @@ plural n = if n == 1 then [] else codes "s"
 
 -- how many tasks and processors there are
 unfoldable pub size_text : SetContents → List ℕ
-size_text s = decimal (length s.tasks) ++ (codes " task" ++ (plural (length s.tasks) ++ (codes " on " ++ (decimal s.processors ++ (codes " processor" ++ plural s.processors)))))
+size_text s =
+    decimal (length s.tasks) ++ (codes " task" ++ (plural (length s.tasks)
+    ++ (codes " on " ++ (decimal s.processors ++ (codes " processor" ++ plural s.processors)))))
 
 -- which units of the schedule are shown
 unfoldable pub units_text : SetContents → Window → List ℕ
@@ -35,7 +37,7 @@ units_text s w = codes "units " ++ (decimal w.from ++ (codes " to " ++ (decimal 
 unfoldable pub scale_text : ℕ → List ℕ
 scale_text scale = codes "one unit is " ++ (decimal scale ++ (codes " tick" ++ plural scale))
 
--- the kind of a fault
+-- the kind of a fault, as it is printed
 abbrev pub kind_text : FaultKind → List ℕ
 kind_text Processor = codes "processor"
 kind_text End = codes "end"
@@ -67,7 +69,8 @@ description_line s w v = units_text s w ++ (codes "; " ++ (verdict_text v ++ (co
 unfoldable pub paper_line : SetContents → List ℕ
 paper_line s = codes "<rect width='12000' height='" ++ (decimal (height s) ++ (codes "' fill='#fff'/>" ++ 10 ∷ []))
 
--- how the shapes look: the colours are told apart by colour-blind people, and each text by its contrast
+-- how the shapes look: the colours are told apart by colour-blind people, and each text by its contrast; on a narrow page the words above the plot
+-- are larger
 abbrev pub style_lines : List (List ℕ)
 style_lines =
     word_line (codes "<style>text{font:125px ui-monospace,DejaVu Sans Mono,monospace}.h{font-size:180px;font-weight:bold}")
@@ -77,7 +80,8 @@ style_lines =
     ∷ word_line (codes ".r,.o{stroke:#000;stroke-width:14}.o{fill:#fff}.f{stroke:#b00000;stroke-width:24}.w{fill:#b00000}")
     ∷ word_line (codes ".c0{fill:#0072b2}.c1{fill:#e69f00}.c2{fill:#009e73}.c3{fill:#cc79a7}")
     ∷ word_line (codes ".c4{fill:#56b4e9}.c5{fill:#d55e00}.c6{fill:#f0e442}.c7{fill:#595959}.i0,.i7{fill:#fff}")
-    ∷ word_line (codes ".v1,.v2,.v3{stroke:#000;stroke-width:12}.v2{stroke-dasharray:40}.v3{stroke-dasharray:160 60}</style>") ∷ []
+    ∷ word_line (codes ".v1,.v2,.v3{stroke:#000;stroke-width:12}.v2{stroke-dasharray:40}.v3{stroke-dasharray:160 60}")
+    ∷ word_line (codes "@media(max-width:700px){.h{font-size:300px}.n,.u{font-size:190px}.ok,.bad{font-size:260px}}</style>") ∷ []
 
 -- what comes before the lanes
 abbrev pub opening_lines : SetContents → Window → Verdict → List (List ℕ)

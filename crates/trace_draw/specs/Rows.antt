@@ -24,7 +24,8 @@ row_lines s j r x width =
     ∷ line_if (nat_lt r.processor s.processors && has_room (task_at s.tasks j).name width)
     (label_line (name_look j) (x + width / 2) (lane_top r.processor + 215) (task_at s.tasks j).name)
     ∷ box_line (task_look j) x (task_top s.processors j + 60) width 170
-    ∷ line_if (nat_lt r.processor 100 && nat_le 130 width) (label_line (number_look j) (x + width / 2) (task_top s.processors j + 180) (decimal r.processor)) ∷ []
+    ∷ line_if (nat_lt r.processor 100 && nat_le 130 width)
+    (label_line (number_look j) (x + width / 2) (task_top s.processors j + 180) (decimal r.processor)) ∷ []
 
 -- what is drawn of a row of task j
 abbrev pub task_row_text : SetContents → Window → ℕ → Row → List ℕ

@@ -10,7 +10,8 @@ box_line look x y width height =
 -- a text
 unfoldable pub label_line : List ℕ → ℕ → ℕ → List ℕ → List ℕ
 label_line look x y text =
-    codes "<text class='" ++ (look ++ (codes "' x='" ++ (decimal x ++ (codes "' y='" ++ (decimal y ++ (codes "'>" ++ (text ++ (codes "</text>" ++ 10 ∷ []))))))))
+    codes "<text class='" ++ (look ++ (codes "' x='" ++ (decimal x ++ (codes "' y='" ++ (decimal y
+    ++ (codes "'>" ++ (text ++ (codes "</text>" ++ 10 ∷ []))))))))
 
 -- an upright line from the axis down to y
 unfoldable pub grid_line : ℕ → ℕ → List ℕ

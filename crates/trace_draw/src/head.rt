@@ -80,8 +80,8 @@ fn scale_text(scale: u128) -> Line
     text
 }
 
-// The kind of a fault.
-fn kind_text(kind: FaultKind) -> &'static [u8]
+/// The kind of a fault, as it is printed.
+pub fn kind_text(kind: FaultKind) -> &'static [u8]
     ensures text { result.now ≡ kind_text kind }
     ensures short { length result.now ≤ 32 }
 {
@@ -238,7 +238,10 @@ fn write_style<W: Sink>(sink: &mut W) -> Result<(), Failed>
             b".c4{fill:#56b4e9}.c5{fill:#d55e00}.c6{fill:#f0e442}.c7{fill:#595959}.i0,.i7{fill:#fff}",
         ),
         word_line(
-            b".v1,.v2,.v3{stroke:#000;stroke-width:12}.v2{stroke-dasharray:40}.v3{stroke-dasharray:160 60}</style>",
+            b".v1,.v2,.v3{stroke:#000;stroke-width:12}.v2{stroke-dasharray:40}.v3{stroke-dasharray:160 60}",
+        ),
+        word_line(
+            b"@media(max-width:700px){.h{font-size:300px}.n,.u{font-size:190px}.ok,.bad{font-size:260px}}</style>",
         ),
     ];
     write_lines(sink, &lines)

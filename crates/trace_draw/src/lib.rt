@@ -9,11 +9,10 @@ mod picture;
 mod rows;
 mod served;
 mod shapes;
-#[cfg(test)]
-mod tests;
 mod windows;
 
 pub use asking::{Asked, shown_window};
 pub use drawing::draw_trace;
+pub use head::kind_text;
 pub use picture::write_picture;
 pub use windows::Window;

@@ -3,6 +3,7 @@
 mod batches;
 mod calls;
 mod checks;
+mod draws;
 mod drills;
 mod ends;
 mod executions;
@@ -13,6 +14,7 @@ mod programs;
 mod sets;
 mod stops;
 mod streams;
+mod tables;
 mod texts;
 mod traces;
 mod usage;

@@ -1,7 +1,7 @@
 use Rattle.std.proofs.Common.{◌≡◌, Option, Some, None, List, ℕ, codes, sym, ap, option_map, ◌∙◌}
 use Rattle.clap.specs.Words.{found_of, rows_of}
 use Rattle.run_tool.specs.declared.command.Command.TheVariants.{Read, Execute}
-use Rattle.run_tool.proofs.CommandLineLemmas.{names, name_of, called_as, trace_used, trace_told, exec_used, exec_told, drill_used}
+use Rattle.run_tool.proofs.CommandLineLemmas.{names, name_of, called_as, trace_used, trace_told, draw_used, exec_used, exec_told, drill_used}
 use Rattle.run_tool.proofs.command_line.command_in.Goals as goal
 
 pub returns-in_err-name : goal.returns-in_err-name
@@ -31,6 +31,12 @@ returns-in-trace c = λ used words spells e.
     let read = trace_told x rows c.trace_in.result tells c.trace_in.ensures.met c.trace_in.ensures.plain c.trace_in.ensures.wrap in
     c.read.ensures ∙ ap (option_map Read) read ∙ ap Some (sym is)
 
+pub returns-in-table : goal.returns-in-table
+returns-in-table c = λ used words spells e.
+    let h : ◌≡◌ {A = Option (List ℕ)} (Some c.in_ok-name.name.now) (Some (name_of used)) =
+    c.in_ok-name.ensures.name ∙ names c.args.matches.now used words spells e in
+    ap Some (sym (called_as used (codes "table") (sym c.in-table.is ∙ cc)))
+
 pub returns-in-check : goal.returns-in-check
 returns-in-check c = λ used words spells e.
     let h : ◌≡◌ {A = Option (List ℕ)} (Some c.in_ok-name.name.now) (Some (name_of used)) =
@@ -42,6 +48,15 @@ returns-in-follow c = λ used words spells e.
     let h : ◌≡◌ {A = Option (List ℕ)} (Some c.in_ok-name.name.now) (Some (name_of used)) =
     c.in_ok-name.ensures.name ∙ names c.args.matches.now used words spells e in
     ap Some (sym (called_as used (codes "follow") (sym c.in-follow.is ∙ cc)))
+
+pub returns-in-draw : goal.returns-in-draw
+returns-in-draw c = λ used words spells e.
+    let h : ◌≡◌ {A = Option (List ℕ)} (Some c.in_ok-name.name.now) (Some (name_of used)) =
+    c.in_ok-name.ensures.name ∙ names c.args.matches.now used words spells e in
+    let name = called_as used (codes "draw") (sym c.in-draw.is ∙ cc) in
+    let rows = rows_of (found_of c.in_ok-name.options.now) in
+    let told = draw_used used words rows spells name (c.in_ok-name.ensures.rows ∙ ap (option_map (λ p. p.1)) e) in
+    c.read-in-draw.ensures ∙ ap (option_map Read) c.draw_in.ensures ∙ told
 
 pub returns-in-batch : goal.returns-in-batch
 returns-in-batch c = λ used words spells e.

@@ -1,4 +1,4 @@
-use Rattle.std.proofs.Common.{◌≡◌, ◌≤◌, ◌<◌, ap, subst, take, length}
+use Rattle.std.proofs.Common.{◌≤◌, ◌<◌, ap, subst, take, length}
 use Rattle.std.proofs.lemmas.Result.{err_from_is_err_and}
 use Rattle.sched_base.specs.Sets.{SetContents}
 use Rattle.run_tool.specs.declared.refusal.Refusal.{Refusal}

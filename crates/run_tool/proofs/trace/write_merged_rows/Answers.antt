@@ -1,5 +1,3 @@
-use Rattle.std.proofs.Common.{ℕ, List, subst}
-use Rattle.sched_edges.specs.Streams.{Wrote}
 use Rattle.run_tool.proofs.TraceLemmas.{on_time_unless, merged_text}
 use Rattle.run_tool.proofs.trace.write_merged_rows.Goals as goal
 

@@ -1,4 +1,4 @@
-use Rattle.std.proofs.Common.{ℕ, false, List, length, sym, ap, ◌∙◌, ◌≡◌}
+use Rattle.std.proofs.Common.{ℕ, false, List, sym, ap, ◌∙◌, ◌≡◌}
 use Rattle.std.proofs.lemmas.Bool.{cond-false}
 use Rattle.sched_base.specs.declared.rows.Row.{Row}
 use Rattle.sched_base.specs.Lanes.{lanes_of}

@@ -11,4 +11,5 @@ returns-clause-wrote g c =
       c.word_line-6.ensures,
       c.word_line-7.ensures,
       c.word_line-8.ensures,
+      c.word_line-9.ensures,
     ) at c.write_lines.ensures.wrote

@@ -1,0 +1,292 @@
+//! Pictures of traces by the command: worked ones, the lines and what is no line, refused texts, and faults in mid-stream. The pictures
+//! were made by a plain program of its own, and looked at.
+
+use super::calls::{Left, Outside, SURE, assert_told, call};
+use super::texts::LATE_ROWS;
+use super::usage::assert_refused;
+use run_tool::Status;
+use std::process::Abort;
+use std::test::Fail;
+
+/// The trace of three tasks of rate 2/3.
+const ROWS: &str =
+    "run-trace 1\nprocessors 2\nhorizon 3\nscale 3\ntasks 3\ntask a 2 3\ntask b 2 3\ntask c 2 3\nrow 0 0 3 b\nrow 0 3 9 a\nrow 1 0 6 c\nrow 1 6 9 b\ntotal a 6\ntotal b 6\ntotal c 6\nrows 4\n";
+
+const STYLE: &str =
+    "<style>text{font:125px ui-monospace,DejaVu Sans Mono,monospace}.h{font-size:180px;font-weight:bold}
+.n,.a,.u,.s{fill:#444}.l,.s,.e,.u,.ok,.bad{text-anchor:end}.m,.a,.k{text-anchor:middle}.l,.e{font-size:115px}
+.ok,.bad{font-size:160px;fill:#00603f}.e{font-weight:bold}.e,.bad{fill:#b00000}.q,.s{font-size:85px}
+.k{font-size:95px}.p{fill:#f2f2f2}.g,.b,.r,.f,.o{fill:none;stroke:#bbb;stroke-width:6}.b{stroke:#999}
+.r,.o{stroke:#000;stroke-width:14}.o{fill:#fff}.f{stroke:#b00000;stroke-width:24}.w{fill:#b00000}
+.c0{fill:#0072b2}.c1{fill:#e69f00}.c2{fill:#009e73}.c3{fill:#cc79a7}
+.c4{fill:#56b4e9}.c5{fill:#d55e00}.c6{fill:#f0e442}.c7{fill:#595959}.i0,.i7{fill:#fff}
+.v1,.v2,.v3{stroke:#000;stroke-width:12}.v2{stroke-dasharray:40}.v3{stroke-dasharray:160 60}
+@media(max-width:700px){.h{font-size:300px}.n,.u{font-size:190px}.ok,.bad{font-size:260px}}</style>
+";
+
+// Its unit 1.
+const UNIT_ABOVE: &str = "<svg xmlns='http://www.w3.org/2000/svg' role='img' aria-labelledby='t d'
+ viewBox='0 0 12000 3330'>
+<title id='t'>Schedule of 3 tasks on 2 processors</title>
+<desc id='d'>A lane for each processor, and below them one for each task;
+units 1 to 2 of 3; valid</desc>
+";
+
+const UNIT_BELOW: &str = "<rect width='12000' height='3330' fill='#fff'/>
+<text class='h' x='250' y='330'>3 tasks on 2 processors</text>
+<text class='n' x='250' y='560'>units 1 to 2 of 3</text>
+<text class='u' x='11600' y='560'>one unit is 3 ticks</text>
+<text class='ok' x='11600' y='330'>valid</text>
+<text class='l' x='1780' y='1115'>cpu 0</text>
+<rect class='p' x='1900' y='900' width='9700' height='340'/>
+<text class='l' x='1780' y='1535'>cpu 1</text>
+<rect class='p' x='1900' y='1320' width='9700' height='340'/>
+<path class='g' d='M1900 780V2930'/>
+<text class='a' x='1900' y='730'>1</text>
+<path class='g' d='M11600 780V2930'/>
+<text class='a' x='11600' y='730'>2</text>
+<rect class='c0 v0' x='1900' y='900' width='9700' height='340'/>
+<text class='m i0' x='6750' y='1115'>a</text>
+<rect class='c0 v0' x='1900' y='2030' width='9700' height='170'/>
+<text class='k i0' x='6750' y='2150'>0</text>
+<rect class='c2 v0' x='1900' y='1320' width='9700' height='340'/>
+<text class='m i2' x='6750' y='1535'>c</text>
+<rect class='c2 v0' x='1900' y='2670' width='9700' height='170'/>
+<text class='k i2' x='6750' y='2790'>1</text>
+<text class='l' x='1780' y='2075'>a</text>
+<text class='s' x='1780' y='2185'>2/3</text>
+<path class='b' d='M1900 2200H11600'/>
+<text class='l' x='1780' y='2395'>b</text>
+<text class='s' x='1780' y='2505'>2/3</text>
+<path class='b' d='M1900 2520H11600'/>
+<text class='l' x='1780' y='2715'>c</text>
+<text class='s' x='1780' y='2825'>2/3</text>
+<path class='b' d='M1900 2840H11600'/>
+<circle class='o' cx='11600' cy='2840' r='40'/>
+<text class='n' x='250' y='3130'>arrow: release, and deadline of the job before; ring: the period has its work; red: at fault</text>
+</svg>
+";
+
+// The whole of it, where the last row begins before the one before it ends.
+const OVERLAP_ABOVE: &str =
+    "<svg xmlns='http://www.w3.org/2000/svg' role='img' aria-labelledby='t d'
+ viewBox='0 0 12000 3330'>
+<title id='t'>Schedule of 3 tasks on 2 processors</title>
+<desc id='d'>A lane for each processor, and below them one for each task;
+units 0 to 3 of 3; line 12: processor-overlap</desc>
+";
+
+const OVERLAP_BELOW: &str = "<rect width='12000' height='3330' fill='#fff'/>
+<text class='h' x='250' y='330'>3 tasks on 2 processors</text>
+<text class='n' x='250' y='560'>units 0 to 3 of 3</text>
+<text class='u' x='11600' y='560'>one unit is 3 ticks</text>
+<text class='bad' x='11600' y='330'>line 12: processor-overlap</text>
+<text class='l' x='1780' y='1115'>cpu 0</text>
+<rect class='p' x='1900' y='900' width='9700' height='340'/>
+<text class='l' x='1780' y='1535'>cpu 1</text>
+<rect class='p' x='1900' y='1320' width='9700' height='340'/>
+<path class='g' d='M1900 780V2930'/>
+<text class='a' x='1900' y='730'>0</text>
+<path class='g' d='M5133 780V2930'/>
+<text class='a' x='5133' y='730'>1</text>
+<path class='g' d='M8366 780V2930'/>
+<text class='a' x='8366' y='730'>2</text>
+<path class='g' d='M11600 780V2930'/>
+<text class='a' x='11600' y='730'>3</text>
+<rect class='c1 v0' x='1900' y='900' width='3233' height='340'/>
+<text class='m i1' x='3516' y='1115'>b</text>
+<rect class='c1 v0' x='1900' y='2350' width='3233' height='170'/>
+<text class='k i1' x='3516' y='2470'>0</text>
+<rect class='c0 v0' x='5133' y='900' width='6467' height='340'/>
+<text class='m i0' x='8366' y='1115'>a</text>
+<rect class='c0 v0' x='5133' y='2030' width='6467' height='170'/>
+<text class='k i0' x='8366' y='2150'>0</text>
+<rect class='c2 v0' x='1900' y='1320' width='6466' height='340'/>
+<text class='m i2' x='5133' y='1535'>c</text>
+<rect class='c2 v0' x='1900' y='2670' width='6466' height='170'/>
+<text class='k i2' x='5133' y='2790'>1</text>
+<rect class='c1 v0' x='7288' y='1320' width='3234' height='340'/>
+<text class='m i1' x='8905' y='1535'>b</text>
+<rect class='c1 v0' x='7288' y='2350' width='3234' height='170'/>
+<text class='k i1' x='8905' y='2470'>1</text>
+<text class='l' x='1780' y='2075'>a</text>
+<text class='s' x='1780' y='2185'>2/3</text>
+<path class='b' d='M1900 2200H11600'/>
+<path class='r' d='M1900 2200v-230m-45 70l45-70l45 70'/>
+<circle class='o' cx='11600' cy='2200' r='40'/>
+<path class='r' d='M11600 2200v-230m-45 70l45-70l45 70'/>
+<text class='l' x='1780' y='2395'>b</text>
+<text class='s' x='1780' y='2505'>2/3</text>
+<path class='b' d='M1900 2520H11600'/>
+<path class='r' d='M1900 2520v-230m-45 70l45-70l45 70'/>
+<circle class='o' cx='10522' cy='2520' r='40'/>
+<path class='r' d='M11600 2520v-230m-45 70l45-70l45 70'/>
+<text class='l' x='1780' y='2715'>c</text>
+<text class='s' x='1780' y='2825'>2/3</text>
+<path class='b' d='M1900 2840H11600'/>
+<path class='r' d='M1900 2840v-230m-45 70l45-70l45 70'/>
+<circle class='o' cx='8366' cy='2840' r='40'/>
+<path class='r' d='M11600 2840v-230m-45 70l45-70l45 70'/>
+<rect class='f' x='7288' y='1320' width='3234' height='340'/>
+<rect class='f' x='7288' y='2350' width='3234' height='170'/>
+<text class='n' x='250' y='3130'>arrow: release, and deadline of the job before; ring: the period has its work; red: at fault</text>
+</svg>
+";
+
+// Makes sure that the call was done, and that `out` took just these parts.
+fn assert_drawn(rt: &impl Abort, left: &Left, parts: &[&str]) {
+    assert_eq!(rt; (left.status, left.err.len()), (Status::Done, 0));
+    let mut rest = left.out.as_slice();
+    for part in parts {
+        match rest.strip_prefix(part.as_bytes()) {
+            Some(behind) => rest = behind,
+            None => panic!(rt; "another picture"),
+        }
+    }
+    assert!(rt; rest.is_empty());
+}
+
+#[test]
+fn worked_pictures(rt: HostRuntime) -> Result<(), Fail> {
+    let words = ["draw", "--from", "1", "--units=1"];
+    let left = call(&rt, rt.alloc(), &words, ROWS.as_bytes(), &SURE)?;
+    assert_drawn(&rt, &left, &[UNIT_ABOVE, STYLE, UNIT_BELOW]);
+
+    // An invalid trace is drawn too, and the command is done.
+    let invalid = ROWS.replace(rt.alloc(), "row 1 6 9 b", "row 1 5 8 b")?;
+    let left = call(&rt, rt.alloc(), &["draw"], invalid.as_bytes(), &SURE)?;
+    assert_drawn(&rt, &left, &[OVERLAP_ABOVE, STYLE, OVERLAP_BELOW]);
+    Ok(())
+}
+
+#[test]
+fn lines_and_their_windows(rt: HostRuntime) -> Result<(), Fail> {
+    // the words, and the units that the picture says it shows
+    let rows: [(&[&str], &str); 15] = [
+        (&["draw"], "units 0 to 5 of 5"),
+        (&["draw", "--from", "2"], "units 2 to 5 of 5"),
+        (&["draw", "--from=2"], "units 2 to 5 of 5"),
+        (&["draw", "--units", "2"], "units 0 to 2 of 5"),
+        (&["draw", "--units=2"], "units 0 to 2 of 5"),
+        (
+            &["draw", "--from", "1", "--units", "2"],
+            "units 1 to 3 of 5",
+        ),
+        (&["draw", "--from", "1", "--units=2"], "units 1 to 3 of 5"),
+        (&["draw", "--from=1", "--units", "2"], "units 1 to 3 of 5"),
+        (&["draw", "--from=1", "--units=2"], "units 1 to 3 of 5"),
+        (&["draw", "--from", "0"], "units 0 to 5 of 5"),
+        (&["draw", "--units", "4294967295"], "units 0 to 5 of 5"),
+        // At the horizon and past it the last unit is shown.
+        (&["draw", "--from", "4"], "units 4 to 5 of 5"),
+        (&["draw", "--from", "5"], "units 4 to 5 of 5"),
+        (&["draw", "--from=4294967295"], "units 4 to 5 of 5"),
+        (&["draw", "--from=9", "--units=9"], "units 4 to 5 of 5"),
+    ];
+    for (words, units) in rows {
+        let left = call(&rt, rt.alloc(), words, LATE_ROWS.as_bytes(), &SURE)?;
+        assert_eq!(rt; (left.status, left.err.len()), (Status::Done, 0));
+        let text = std::str::from_utf8(left.out.as_slice())?;
+        assert!(rt; text.contains(units), "{units}");
+    }
+    Ok(())
+}
+
+/// Words that are no command line.
+const FAULTY: [&[&str]; 36] = [
+    &["draw", "--units", "0"],
+    &["draw", "--units=0"],
+    &["draw", "--units", "07"],
+    &["draw", "--units=07"],
+    &["draw", "--from", "07"],
+    &["draw", "--from=00"],
+    &["draw", "--from"],
+    &["draw", "--units"],
+    &["draw", "--from="],
+    &["draw", "--units="],
+    &["draw", "--from=1="],
+    &["draw", "--units", "1", "--from", "0"],
+    &["draw", "--units=1", "--from=0"],
+    &["draw", "--units=1", "--from", "0"],
+    &["draw", "--from", "1", "--from", "2"],
+    &["draw", "--from=1", "--from=1"],
+    &["draw", "--units=1", "--units=1"],
+    &["draw", "--from", "--units", "1"],
+    &["draw", "--from", "1", "--units"],
+    &["draw", "--from", "1", "--units", "2", "3"],
+    &["draw", "--from", "-1"],
+    &["draw", "--from=-1"],
+    &["draw", "--from", "+1"],
+    &["draw", "--from", " 1"],
+    &["draw", "--from", ""],
+    // 2^32, and 2^128 + 1.
+    &["draw", "--from", "4294967296"],
+    &["draw", "--units", "4294967296"],
+    &["draw", "--units", "340282366920938463463374607431768211457"],
+    &["draw", "--fro", "1"],
+    &["draw", "-f", "1"],
+    &["draw", "1"],
+    &["draw", "draw"],
+    &["draw", "--met"],
+    &["draw", "--", "--from", "1"],
+    &["--from", "1", "draw"],
+    &["check", "--from", "1"],
+];
+
+#[test]
+fn other_words_are_no_line(rt: HostRuntime) -> Result<(), Fail> {
+    for words in FAULTY {
+        assert_refused(&rt, rt.alloc(), words)?;
+    }
+    Ok(())
+}
+
+#[test]
+fn texts_that_are_no_trace(rt: HostRuntime) -> Result<(), Fail> {
+    // what stands in place of a part of the text
+    let rows = [
+        ("row 1 6 9 b", "row 1 6 8 b", "refused 6 BadLine 14\n"),
+        ("scale 3", "scale 4", "refused 6 BadLine 4\n"),
+        ("tasks 3", "tasks 4", "refused 6 BadLine 9\n"),
+        ("rows 4", "rows 5", "refused 6 BadLine 16\n"),
+        ("run-trace 1", "run-trace 3", "refused 6 BadLine 1\n"),
+    ];
+    for (part, other, err) in rows {
+        let text = ROWS.replace(rt.alloc(), part, other)?;
+        let left = call(&rt, rt.alloc(), &["draw"], text.as_bytes(), &SURE)?;
+        assert_told(&rt, &left, Status::BadInput, "", err);
+    }
+    Ok(())
+}
+
+#[test]
+fn streams_that_fail(rt: HostRuntime) -> Result<(), Fail> {
+    let rows = [
+        (
+            Outside {
+                source: &[2],
+                ..SURE
+            },
+            Status::ReadFault,
+            "",
+            "refused 3 ReadFault\n",
+        ),
+        (
+            Outside { out: &[1], ..SURE },
+            Status::WriteFault,
+            "",
+            "refused 4 WriteFault\n",
+        ),
+        (
+            Outside { out: &[3], ..SURE },
+            Status::WriteFault,
+            "<svg xmlns='http://www.w3.org/2000/svg' role='img' aria-labelledby='t d'\n viewBox='0 0 12000 3330'>\n",
+            "refused 4 WriteFault\n",
+        ),
+    ];
+    for (fails, status, out, err) in rows {
+        let left = call(&rt, rt.alloc(), &["draw"], ROWS.as_bytes(), &fails)?;
+        assert_told(&rt, &left, status, out, err);
+    }
+    Ok(())
+}
