@@ -1,11 +1,11 @@
 #!/bin/sh
-# Times `exec` beside `trace` and beside the plain program near the limit of rows, at windows 1, 32 and 1,024:
+# Times `exec` beside `trace` and beside the plain program near the limit of rows, at windows 1, 32 and 1,024, one run each:
 #
 #     bench/exec.sh PROGRAM PLAIN [NAME ..]
 #
-# The sets are those of bench/sets.py. A line has the set, the lines of rows, the window, the seconds of `trace`, of `exec` and of the
-# plain program's `exec` (each the least of three, by the clock), the ratios of `exec` to both, and how often `exec` was switched. All
-# three must write the same text.
+# The sets are those of bench/sets.py: the eleven of docs/SPEED.md, or those named. A line of the table has the set, the window, the seconds
+# of `trace`, of `exec` and of the plain program's `exec` by the clock, the ratios of `exec` to both, how often `exec` and the plain
+# program were switched, and the peak memory of both in MB. All three must write the same text. RUNS=3 takes the least of three runs.
 set -eu
 here=$(dirname "$0")
 program=$1
@@ -15,18 +15,18 @@ shift 2
 dir=$(mktemp -d)
 trap 'rm -rf "$dir"' EXIT
 
-# least OUTPUT PROGRAM WORD..: the least seconds of three calls, and the switches of that call.
+# least OUTPUT PROGRAM WORD..: of the shortest call its seconds, its switches, and its peak of memory in KB.
 least() {
     to=$1
     shift
-    for _ in 1 2 3; do
-        /usr/bin/time -o "$dir/time" -f '%e %w %c' "$@" <"$dir/input" >"$to"
+    for _ in $(seq "${RUNS:-1}"); do
+        /usr/bin/time -o "$dir/time" -f '%e %w %c %M' "$@" <"$dir/input" >"$to"
         cat "$dir/time"
     done | sort -n | head -n 1
 }
 
-echo "| set | lines | window | trace s | exec s | plain s | exec to trace | exec to plain | switches | plain's |"
-echo "|---|---|---|---|---|---|---|---|---|---|"
+echo "| set | window | trace | exec | plain | exec to trace | exec to plain | switches of exec | of plain | MB of exec | of plain |"
+echo "|---|---|---|---|---|---|---|---|---|---|---|"
 for name in "$@"; do
     "$here/sets.py" "$name" "$("$here/fit.py" "$plain" "$name" | cut -d ' ' -f 2)" >"$dir/input"
     trace=$(least "$dir/rows" "$program" trace)
@@ -35,9 +35,9 @@ for name in "$@"; do
         cmp "$dir/rows" "$dir/ran"
         other=$(least "$dir/ran" "$plain" exec "$window")
         cmp "$dir/rows" "$dir/ran"
-        echo "$name $window $(tail -n 1 "$dir/rows" | cut -d ' ' -f 2) $trace $exec $other"
+        echo "$name $window $trace $exec $other" | awk '{
+            printf("| %s | %d | %.2f | %.2f | %.2f | %.1f | %.2f | %d | %d | %d | %d |\n", $1, $2, $3, $7, $11,
+                ($3 > 0 ? $7 / $3 : 0), ($11 > 0 ? $7 / $11 : 0), $8 + $9, $12 + $13, $10 / 1024, $14 / 1024)
+        }'
     done
-done | awk '{
-    printf "| %s | %d | %d | %.2f | %.2f | %.2f | %.1f | %.1f | %d | %d |\n", $1, $3, $2, $4, $7, $10, $4 > 0 ? $7 / $4 : 0, $10 > 0 ? $7 / $10 : 0, $8 + $9, $11 + $12
-    fflush()
-}'
+done
