@@ -2,9 +2,12 @@
 _furnacelime() {
     local word=${COMP_WORDS[COMP_CWORD]} words=
     case $COMP_CWORD:${COMP_WORDS[1]} in
-        1:*) words='rate tree trace check follow batch exec drill jobs modes' ;;
+        1:*) words='rate tree trace table check follow draw batch exec drill jobs modes' ;;
         2:trace) words='--met --by --by=wrap' ;;
         3:trace) [[ ${COMP_WORDS[2]} == --by ]] && words='wrap' ;;
+        2:draw) words='--from --units' ;;
+        3:draw) [[ ${COMP_WORDS[2]} == --from=* ]] && words='--units' ;;
+        4:draw) [[ ${COMP_WORDS[2]} == --from ]] && words='--units' ;;
         2:exec) words='--met --window' ;;
     esac
     mapfile -t COMPREPLY < <(compgen -W "$words" -- "$word")
