@@ -1,0 +1,2 @@
+pub mod BoxValues
+pub mod HandleValues
