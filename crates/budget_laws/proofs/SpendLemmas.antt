@@ -11,7 +11,7 @@ use Rattle.run_tree.proofs.WindowLemmas.{end_is}
 use Rattle.run_tree.proofs.BoundaryLemmas.{member_has}
 use Rattle.run_tree.proofs.SetBoundaryLemmas.{set_leaves}
 use Rattle.sched_laws.proofs.Spending.{left_spent}
-use Rattle.budget_laws.specs.Spending.{SaysLeft, SaysRuns, IsSpent, left_at}
+use Rattle.budget_laws.specs.Spending.{SaysLeft, SaysMembersRun, AreSpent, left_of}
 
 module _ (p : PlanContents) (h : IsPlan p) where
   leaves : HaveBoundaries (set_boundary p.set.tasks) p.tree
@@ -27,13 +27,13 @@ module _ (p : PlanContents) (h : IsPlan p) where
         | inr l ↦ absurd (both_ways (boundary_of p x (window_end (boundary_of p x) (n / p.tree.scale))) (none (window_end (boundary_of p x) (n / p.tree.scale)) up l) e.here)
       ]
 
-  pub left_after : (n ticks : ℕ) (running : List Bool) (before after : List ℕ) → SaysLeft p n before → ((s : ℕ) → n ≤ s → s < n + ticks → SaysRuns p s running) → IsSpent p running ticks before after →
-      (x : ℕ) → IsMember p.tree x → ((u : ℕ) → n < u * p.tree.scale → u * p.tree.scale ≤ n + ticks → boundary_of p x u ≡ false) → get_or after x 0 ≡ left_at p (n + ticks) x
+  pub left_after : (n ticks : ℕ) (running : List Bool) (before after : List ℕ) → SaysLeft p n before → ((s : ℕ) → n ≤ s → s < n + ticks → SaysMembersRun p s running) → AreSpent p running ticks before after →
+      (x : ℕ) → IsMember p.tree x → ((u : ℕ) → n < u * p.tree.scale → u * p.tree.scale ≤ n + ticks → boundary_of p x u ≡ false) → get_or after x 0 ≡ left_of p (n + ticks) x
   left_after n zero running before after left says spent x i none =
       let s = spent x i in
       let l = left x i in
       let e : n + 0 ≡ n = omega arith in
-      let now = ap (λ m. left_at p m x) e in
+      let now = ap (λ m. left_of p m x) e in
       omega (arith, s, l, now)
   left_after n (suc k) running before after left says spent x i none =
       let first = says n (le_refl n) (omega arith) x i in

@@ -8,17 +8,17 @@ use Rattle.run_tree.specs.Plans.{PlanContents}
 use Rattle.server_budget.specs.Spent.{spends}
 
 -- what is left of the due of node x at tick n
-abbrev pub left_at : PlanContents → ℕ → ℕ → ℕ
-left_at p n x = due_left (set_boundary p.set.tasks) p.tree (ticks_below (set_boundary p.set.tasks) p.tree n) x
+abbrev pub left_of : PlanContents → ℕ → ℕ → ℕ
+left_of p n x = due_left (set_boundary p.set.tasks) p.tree (ticks_below (set_boundary p.set.tasks) p.tree n) x
 
 -- the list says what is left of each due at tick n
 abbrev pub SaysLeft : PlanContents → ℕ → List ℕ → Type 0
-SaysLeft p n remains = (x : ℕ) → IsMember p.tree x → slice_index remains x ≡ left_at p n x
+SaysLeft p n remains = (x : ℕ) → IsMember p.tree x → slice_index remains x ≡ left_of p n x
 
 -- the list says who runs at tick n
-abbrev pub SaysRuns : PlanContents → ℕ → List Bool → Type 0
-SaysRuns p n running = (x : ℕ) → IsMember p.tree x → slice_index_or running x false ≡ runs (set_boundary p.set.tasks) p.tree x n
+abbrev pub SaysMembersRun : PlanContents → ℕ → List Bool → Type 0
+SaysMembersRun p n running = (x : ℕ) → IsMember p.tree x → slice_index_or running x false ≡ runs (set_boundary p.set.tasks) p.tree x n
 
 -- the ticks are taken off each leaf and dual that runs, as spending does
-abbrev pub IsSpent : PlanContents → List Bool → ℕ → List ℕ → List ℕ → Type 0
-IsSpent p running ticks before after = (x : ℕ) → IsMember p.tree x → slice_index after x ≡ slice_index before x - bit (spends p.tree running x) * ticks
+abbrev pub AreSpent : PlanContents → List Bool → ℕ → List ℕ → List ℕ → Type 0
+AreSpent p running ticks before after = (x : ℕ) → IsMember p.tree x → slice_index after x ≡ slice_index before x - bit (spends p.tree running x) * ticks

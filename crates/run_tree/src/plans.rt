@@ -34,8 +34,15 @@ impl Plan {
         ensures { result ≡ record { set = set; tree = tree } }
     {
         prove!(tree.scale() == scale);
-        let _tasks = set.count();
+        set.know_lawful();
         Plan { set, tree }
+    }
+
+    /// Brings what each plan keeps into the proof of its caller; it does nothing.
+    pub fn know_lawful(&self)
+        ensures lawful { IsPlan self.now }
+    {
+        let _set = &self.set;
     }
 
     /// The set.

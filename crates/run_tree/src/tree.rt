@@ -1,6 +1,6 @@
 //! Reduction trees.
-ghost use Rattle.std.specs.Prelude.{◌≡◌, ◌<◌, length, option_map, slice_index, IfOk};
-ghost use Rattle.run_tree.specs.Tree.{IsTree, kind_at, rate as rate_in, home as home_in, place as place_in, members as members_in};
+ghost use Rattle.std.specs.Prelude.{◌≡◌, ◌≤◌, ◌<◌, not, length, option_map, slice_index, IfOk};
+ghost use Rattle.run_tree.specs.Tree.{IsTree, is_pack, kind_at, rate as rate_in, home as home_in, place as place_in, members as members_in};
 ghost use Rattle.run_tree.specs.Tree.{member as member_in, dual as dual_in, numbers};
 ghost use Rattle.run_tree.specs.Schedule.{packs_at};
 ghost use Rattle.run_tree.specs.Plans.{IsLawfulTree};
@@ -105,10 +105,30 @@ impl Tree {
         node_of(self.made.nodes(), n.0).kind()
     }
 
-    /// The rate of node n, in ticks a unit.
+    /// Brings what each tree keeps into the proof of its caller; it does nothing.
+    pub fn know_lawful(&self)
+        ensures lawful { IsLawfulTree self.now }
+    {
+        let _made = &self.made;
+    }
+
+    /// Whether node n is a leaf or a dual.
+    pub fn is_member(&self, n: NodeId) -> bool
+        requires { n.0 < length self.now.nodes }
+        ensures { result ≡ not (is_pack (kind_at self.now n.0)) }
+    {
+        match self.kind(n) {
+            Kind::Leaf(_) => true,
+            Kind::Pack(_) => false,
+            Kind::Dual(_) => true,
+        }
+    }
+
+    /// The rate of node n, in ticks a unit, at most the scale.
     pub fn rate(&self, n: NodeId) -> u128
         requires { n.0 < length self.now.nodes }
-        ensures { result ≡ rate_in self.now n.0 }
+        ensures value { result ≡ rate_in self.now n.0 }
+        ensures within { result ≤ self.now.scale }
     {
         node_of(self.made.nodes(), n.0).rate()
     }

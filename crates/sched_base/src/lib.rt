@@ -14,5 +14,5 @@ pub use memory::NoMemory;
 pub use names::{Name, lawful_name};
 pub use rows::{Leaf, NodeId, ProcId, Row, TaskId};
 pub use sets::{Task, TaskSet};
-pub use tables::RowTable;
+pub use tables::{ROW_LIMIT, RowTable, blank_rows};
 pub use totals::Totals;

@@ -130,6 +130,13 @@ impl TaskSet {
         })
     }
 
+    /// Brings what each set keeps into the proof of its caller; it does nothing.
+    pub fn know_lawful(&self)
+        ensures lawful { IsLawful self.now }
+    {
+        let _tasks = &self.tasks;
+    }
+
     /// The number of processors.
     pub fn processors(&self) -> u32
         ensures value { result ≡ self.now.processors }

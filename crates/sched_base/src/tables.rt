@@ -3,9 +3,25 @@ ghost use Rattle.std.specs.Prelude.{◌≡◌, ◌≤◌, ◌<◌, ◌+◌, [], 
 ghost use Rattle.sched_base.specs.Tables.{lane_of, rounds_of, end_of, RowAt, IsRound, IsTable, with_round, with_row, with_rows, HaveRoom};
 
 use crate::memory::NoMemory;
-use crate::rows::Row;
+use crate::rows::{Leaf, Row};
 use std::alloc::Global;
 use std::marker::Model;
+
+/// The most rows that a schedule has which is executed, printed or read.
+pub const ROW_LIMIT: u64 = 2_097_152;
+
+/// Rows to be overwritten, one for each processor.
+pub fn blank_rows(alloc: Global, processors: u32) -> Result<Vec<Row>, NoMemory>
+    ensures { IfOk result (λ v. length v.items ≡ processors) }
+{
+    let blank = Row {
+        processor: 0,
+        start: 0,
+        end: 0,
+        leaf: Leaf::Empty,
+    };
+    Ok(vec![in alloc; blank; processors as usize]?)
+}
 
 /// Whole rounds of rows, each processor's rows together, with room for a stated number of further rounds.
 ///
@@ -60,6 +76,13 @@ impl RowTable {
         ensures lawful { IsTable self.now.lanes }
     {
         self.lanes.len() as u32
+    }
+
+    /// Brings what each table keeps into the proof of its caller; it does nothing.
+    pub fn know_whole(&self)
+        ensures lawful { IsTable self.now.lanes }
+    {
+        let _lanes = &self.lanes;
     }
 
     /// The number of rounds.

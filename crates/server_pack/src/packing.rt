@@ -56,6 +56,7 @@ impl Packing {
     pub fn rate(&self, s: u32) -> u128
         requires { s < length self.now.servers }
         ensures value { result ≡ (server_at self.now.servers s).rate }
+        ensures within { result ≤ self.now.scale }
         ensures kept { IsPacked self.now }
     {
         self.servers[s as usize].rate

@@ -1,3 +1,2 @@
 pub mod SearchLemmas
 pub mod PieceLemmas
-pub mod Examples

@@ -10,7 +10,7 @@ returns-then-is_idle_leaf c =
     let is = ap (λ (x : Kind). is_idle_leaf c.args.k (leaf_of x)) (sym c.kind.ensures) ∙ sym c.is_idle_leaf.ensures ∙ c.if-is_idle_leaf.true in
     let count = c.nodes-n-end.ensures.value in
     let within : c.loop-n.n < length c.args.tree.now.nodes = omega (arith, count, c.loop-n-test.true) in
-    c.rate.ensures ∙ ap (rate c.args.tree.now) (sym (idle_found c.args.tree.now c.args.k c.loop-n.n within c.loop-n.invariant is))
+    c.rate.ensures.value ∙ ap (rate c.args.tree.now) (sym (idle_found c.args.tree.now c.args.k c.loop-n.n within c.loop-n.invariant is))
 
 pub returns : goal.returns
 returns c =

@@ -9,7 +9,7 @@ use Rattle.tree_text.proofs.packs.write_pack.Goals as goal
 
 pub loop-member-init : goal.loop-member-init
 loop-member-init g c =
-    let told = rw c.tree.ensures.value at c.rate.ensures in
+    let told = rw c.tree.ensures.value at c.rate.ensures.value in
     let line : c.start_of_pack-line.result ≡ pack_start c.args.plan.now c.args.pack.0 = c.start_of_pack-line.ensures ∙ ap (λ r. codes "pack " ++ decimal r) told in
     (rw line (added_none _ (pack_start c.args.plan.now c.args.pack.0)), le_refl _)
 
