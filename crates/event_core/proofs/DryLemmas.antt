@@ -17,7 +17,7 @@ use Rattle.tree_select.specs.Selected.{candidates}
 use Rattle.tree_select.specs.Reselected.{AreFreshFrom}
 use Rattle.tree_select.proofs.LevelLemmas.{place_in_level}
 use Rattle.tree_select.proofs.ServedLemmas.{still_served}
-use Rattle.event_core.specs.Serving.{ServingContents, no_tick, dry_by, IsServing, AreReadyBut, IsDrying, IsDried}
+use Rattle.event_core.specs.Serving.{ServingContents, no_tick, dry_by, AreSoonestFrom, IsServing, AreReadyBut, IsDrying, IsDried}
 use Rattle.event_core.proofs.EndLemmas.{at_is, dry_known}
 
 same_place : (a b : ℕ) → Some a ≡ Some b → a ≡ b
@@ -143,6 +143,28 @@ drying_wide t d ends s done done' less v = record {
   led = v.led;
   served = λ p i wet off. v.served p i (λ e. less p i (wet e)) off;
 }
+
+-- a level of which no pack runs dry at this tick is passed over
+pub drying_wet : (t : Tree) (d : DueContents) (ends : List ℕ) (s : ServingContents) (soonest : List ℕ) (l now : ℕ) → now ≡ d.tick → l < length soonest → now < get_or soonest l 0 → AreSoonestFrom t s.dry soonest 0 →
+    IsDrying t d ends s (λ q. l + 1 ≤ level t q) → IsDrying t d ends s (λ q. l ≤ level t q)
+drying_wet t d ends s soonest l now is_now room late noted v = record {
+  early = v.early;
+  but = v.but;
+  picks = λ q i w. v.picks q i (λ e. less q i e (w e));
+  within = v.within;
+  at = v.at;
+  agree = v.agree;
+  rest = v.rest;
+  known = v.known;
+  led = v.led;
+  served = λ q i w off. v.served q i (λ e. less q i e (w e)) off;
+}
+  where
+    less : (q : ℕ) → IsPack t q → get_or s.dry q 0 ≡ d.tick → l ≤ level t q → l + 1 ≤ level t q
+    less q i e low = elim (cases_eq (level t q) l) [
+      | inl same ↦ absurd (let b = noted q i (omega arith) (omega (arith, same, room)) in let at = ap (λ (k : ℕ). get_or soonest k 0) same in omega (arith, b, at, late, is_now, e))
+      | inr ne ↦ omega (arith, low, ne)
+    ]
 
 pub drying_none : (t : Tree) (d : DueContents) (ends : List ℕ) (s : ServingContents) (l : ℕ) → IsDrying t d ends s (λ q. l + 1 ≤ level t q) → IsDrying t d ends s (λ q. (l + 1 ≤ level t q) ⊎ ((k : ℕ) × (k < 0) × (get_or (packs_at t l) k 0 ≡ q)))
 drying_none t d ends s l v = drying_wide t d ends s (λ q. l + 1 ≤ level t q) (λ q. (l + 1 ≤ level t q) ⊎ ((k : ℕ) × (k < 0) × (get_or (packs_at t l) k 0 ≡ q))) less v

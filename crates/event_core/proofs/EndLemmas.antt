@@ -1,13 +1,15 @@
 -- The first tick at which a member that runs has nothing left.
-use Rattle.std.proofs.Common.{◌≡◌, ℕ, ◌+◌, ◌-◌, ◌<◌, ◌≤◌, min, true, false, List, length, get_or, Option, Some, None, refl, ap, arith, inl, inr, sym, subst, le_refl, ◌∙◌, eq-eqb}
+use Rattle.std.proofs.Common.{◌≡◌, ℕ, ◌+◌, ◌-◌, ◌<◌, ◌≤◌, min, true, false, List, length, get_or, Option, Some, None, refl, ap, arith, inl, inr, sym, subst, le_refl, ◌∙◌, eq-eqb, get_or-set_same, get_or-set_other}
 use Rattle.std.proofs.lemmas.Bool.{cases_eq, cases_lt, both_ways, eqb-true}
+use Rattle.std.proofs.lemmas.List.{length-set}
+use Rattle.std.proofs.Math.ListN.{set}
 use Rattle.sched_base.specs.Candidates.{is_at}
 use Rattle.run_tree.specs.Tree.{Tree, IsTree, IsPack, IsMember, home, place, member, level}
 use Rattle.run_tree.specs.Schedule.{packs_at}
 use Rattle.tree_select.specs.Reselected.{AreFreshFrom}
 use Rattle.tree_select.proofs.LevelLemmas.{place_in_level}
 use Rattle.server_budget.specs.Dues.{DueContents}
-use Rattle.event_core.specs.Serving.{ServingContents, no_tick, dry_by, IsServing, IsSoonest}
+use Rattle.event_core.specs.Serving.{ServingContents, no_tick, dry_by, AreSoonestFrom, IsServing, IsSoonest}
 use Rattle.event_core.specs.Steps.{IsShortest}
 
 -- no pack of a level yet
@@ -51,18 +53,41 @@ level_is_all t h dry l n most first e was = record {
 }
 
 -- one level more, below the others
-pub soonest_level : (t : Tree) (dry : List ℕ) (l above most first next : ℕ) → above ≡ l + 1 → IsSoonest t dry (λ q. above ≤ level t q) most first → IsSoonest t dry (λ q. level t q ≡ l) first next → IsSoonest t dry (λ q. l ≤ level t q) most next
-soonest_level t dry l above most first next e was own = record {
-  below = (let a = was.below in let b = own.below in omega (arith, a, b));
+pub soonest_level : (t : Tree) (dry : List ℕ) (l above most first least next : ℕ) → above ≡ l + 1 → most ≤ no_tick → next ≡ min first least → IsSoonest t dry (λ q. above ≤ level t q) most first →
+    IsSoonest t dry (λ q. level t q ≡ l) no_tick least → IsSoonest t dry (λ q. l ≤ level t q) most next
+soonest_level t dry l above most first least next e far is was own = record {
+  below = (let b = was.below in omega (arith, b, is));
   all = λ q j low. elim (cases_eq (level t q) l) [
-    | inl same ↦ own.all q j same
-    | inr ne ↦ (let a = was.all q j (omega (arith, low, ne, e)) in let b = own.below in omega (arith, a, b))
+    | inl same ↦ (let a = own.all q j same in omega (arith, a, is))
+    | inr ne ↦ (let a = was.all q j (omega (arith, low, ne, e)) in omega (arith, a, is))
   ];
-  one = elim own.one [
-    | inr found ↦ inr found
-    | inl same ↦ elim was.one [ inl is ↦ inl (same ∙ is) | inr found ↦ inr (found.0, found.1, same ∙ found.2) ]
+  one = elim (cases_lt least first) [
+    | inl less ↦ (let same : next ≡ least = omega (arith, is, less) in elim own.one [
+      | inr found ↦ inr (found.0, found.1, same ∙ found.2)
+      | inl none ↦ absurd (let b = was.below in omega (arith, none, less, b, far))
+    ])
+    | inr high ↦ (let same : next ≡ first = omega (arith, is, high) in elim was.one [ inl here ↦ inl (same ∙ here) | inr found ↦ inr (found.0, found.1, same ∙ found.2) ])
   ];
 }
+
+-- no level is noted yet
+pub noted_top : (t : Tree) → IsTree t → (dry soonest : List ℕ) (l : ℕ) → l ≡ t.levels → AreSoonestFrom t dry soonest l
+noted_top t h dry soonest l e = λ p i low short. absurd (let b = h.leveled p i in omega (arith, low, b, e))
+
+-- one level more is noted, where there is room
+pub noted_level : (t : Tree) (dry soonest soonest' : List ℕ) (l above least : ℕ) → above ≡ l + 1 → IsSoonest t dry (λ q. level t q ≡ l) no_tick least → (l < length soonest → soonest' ≡ set soonest l least) →
+    ((l < length soonest → ⊥) → soonest' ≡ soonest) → AreSoonestFrom t dry soonest above → AreSoonestFrom t dry soonest' l
+noted_level t dry soonest soonest' l above least e own noted full was = λ p i low short. elim (cases_lt l (length soonest)) [
+  | inl room ↦ (let is = noted room in
+      let long = ap (λ (xs : List ℕ). length xs) is ∙ length-set soonest l least in
+      elim (cases_eq (level t p) l) [
+        | inl same ↦ (let at = ap (λ (k : ℕ). get_or soonest' k 0) same ∙ ap (λ (xs : List ℕ). get_or xs l 0) is ∙ get_or-set_same soonest l least 0 room in
+            let b = own.all p i same in omega (arith, at, b))
+        | inr ne ↦ (let at = ap (λ (xs : List ℕ). get_or xs (level t p) 0) is ∙ get_or-set_other soonest l (level t p) least 0 ne in
+            let b = was p i (omega (arith, low, ne, e)) (omega (arith, short, long)) in omega (arith, at, b))
+      ])
+  | inr past ↦ absurd (let long = ap (λ (xs : List ℕ). length xs) (full (λ m. omega (arith, m, past))) in omega (arith, short, long, past, low))
+]
 
 -- ---- which are the ticks of the round
 

@@ -21,14 +21,14 @@ use Rattle.tree_select.proofs.LevelLemmas.{pack_of_level}
 use Rattle.cpu_assign.specs.Changed.{ChangeLists, with_pack, AreChanged}
 use Rattle.cpu_assign.proofs.BackLemmas.{range_more}
 use Rattle.event_core.specs.Rounds.{event_at, IsRoundUpTo}
-use Rattle.event_core.specs.Serving.{AreStill, AreSettledFrom, first_runs, stops_below, begins_below}
+use Rattle.event_core.specs.Serving.{AreUnchanged, AreSettledFrom, first_runs, stops_below, begins_below}
 use Rattle.event_core.specs.Cores.{SaysRuns}
 use Rattle.event_core.specs.Steps.{packs_by}
 use Rattle.event_core.proofs.QuietRounds.{plan_leaves}
 
 -- ---- packs that go on
 
-module _ (t : Tree) (h : IsTree t) (onto : List (Option ℕ)) (stale runs stale' runs' : List Bool) (p : ℕ) (s : AreStill t p stale runs stale' runs') where
+module _ (t : Tree) (h : IsTree t) (onto : List (Option ℕ)) (stale runs stale' runs' : List Bool) (p : ℕ) (s : AreUnchanged t p stale runs stale' runs') where
   -- a pack of another level is served
   pub settled_above : (l i : ℕ) → 1 ≤ l → i < length (packs_at t l) → p ≡ get_or (packs_at t l) i 0 → AreSettledFrom t onto stale runs 0 → AreSettledFrom t onto stale' runs' 0
   settled_above l i up b at settled j low c off =
@@ -39,7 +39,7 @@ module _ (t : Tree) (h : IsTree t) (onto : List (Option ℕ)) (stale runs stale'
       let there = (pack_of_level t h 0 j c).1 in
       let same = ap (level t) (e ∙ at) in
       omega (arith, here, there, same, up)) in
-      settled j low c (s.unmarked q is_pack ne off) ∙ sym (s.still q is_pack off)
+      settled j low c (s.unmarked q is_pack ne off) ∙ sym (s.unchanged q is_pack off)
 
 -- ---- packs of level 0 stand once in their list
 
@@ -72,14 +72,14 @@ first_apart t i j b c ne same = elim (cases_lt i j) [
   ]
 ]
 
-module _ (t : Tree) (h : IsTree t) (onto : List (Option ℕ)) (stale runs stale' runs' : List Bool) (p i : ℕ) (b : i < length (packs_at t 0)) (at : p ≡ get_or (packs_at t 0) i 0) (s : AreStill t p stale runs stale' runs') where
+module _ (t : Tree) (h : IsTree t) (onto : List (Option ℕ)) (stale runs stale' runs' : List Bool) (p i : ℕ) (b : i < length (packs_at t 0)) (at : p ≡ get_or (packs_at t 0) i 0) (s : AreUnchanged t p stale runs stale' runs') where
   -- pack i of level 0 is served
   pub settled_rest : AreSettledFrom t onto stale runs i → AreSettledFrom t onto stale' runs' (i + 1)
   settled_rest settled j low c off =
       let q = get_or (packs_at t 0) j 0 in
       let is_pack = first_is_pack t h j c in
       let ne : q ≢ p = (λ e. first_apart t j i c b (λ same. omega (arith, same, low)) (e ∙ at)) in
-      settled j (omega (arith, low)) c (s.unmarked q is_pack ne off) ∙ sym (s.still q is_pack off)
+      settled j (omega (arith, low)) c (s.unmarked q is_pack ne off) ∙ sym (s.unchanged q is_pack off)
 
 -- ---- lists of those that pass a test
 

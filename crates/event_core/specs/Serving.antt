@@ -6,7 +6,7 @@ use Rattle.sched_base.specs.declared.candidates.Candidate.{Candidate}
 use Rattle.std.specs.List.{range_with_len}
 use Rattle.sched_base.specs.Candidates.{candidate_at, is_at}
 use Rattle.sched_base.specs.Places.{is_held}
-use Rattle.run_tree.specs.Tree.{Tree, IsPack, IsMember, kind_at, is_pack, home, place, rate, members, member}
+use Rattle.run_tree.specs.Tree.{Tree, IsPack, IsMember, kind_at, is_pack, home, level, place, rate, members, member}
 use Rattle.run_tree.specs.Schedule.{packs_at}
 use Rattle.knockout.specs.Knockouts.{never}
 use Rattle.edf_pick.specs.Ready.{ready_end, AreReady}
@@ -92,9 +92,9 @@ pub record IsBlank (t : Tree) (s : ServingContents) : Type 0 where
 -- ---- what changes in level 0
 
 -- of pack p alone a mark went away, and the packs that aren't marked run as before
-pub record AreStill (t : Tree) (p : ℕ) (stale runs stale' runs' : List Bool) : Type 0 where
+pub record AreUnchanged (t : Tree) (p : ℕ) (stale runs stale' runs' : List Bool) : Type 0 where
   pub unmarked : (q : ℕ) → IsPack t q → q ≢ p → slice_index_or stale' q false ≡ false → slice_index_or stale q false ≡ false
-  pub still : (q : ℕ) → IsPack t q → slice_index_or stale' q false ≡ false → slice_index_or runs' q false ≡ slice_index_or runs q false
+  pub unchanged : (q : ℕ) → IsPack t q → slice_index_or stale' q false ≡ false → slice_index_or runs' q false ≡ slice_index_or runs q false
 
 -- whether pack i of level 0 runs by this list
 abbrev pub first_runs : Tree → List Bool → ℕ → Bool
@@ -123,6 +123,10 @@ pub record IsSoonest (t : Tree) (dry : List ℕ) (among : ℕ → Type 0) (most 
   pub below : least ≤ most
   pub all : (p : ℕ) → IsPack t p → among p → least ≤ slice_index dry p
   pub one : (least ≡ most) ⊎ ((p : ℕ) × IsPack t p × (least ≡ slice_index dry p))
+
+-- Of each level from this one on for which a tick is noted, no pack's member runs dry before that tick.
+abbrev pub AreSoonestFrom : Tree → List ℕ → List ℕ → ℕ → Type 0
+AreSoonestFrom t dry soonest l = (p : ℕ) → IsPack t p → l ≤ level t p → level t p < length soonest → slice_index soonest (level t p) ≤ slice_index dry p
 
 -- ---- what ran dry
 

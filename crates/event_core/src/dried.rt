@@ -3,7 +3,7 @@ ghost use Rattle.std.specs.Prelude.{ℕ, [], ◌≡◌, ◌≢◌, ◌+◌, ◌<
 ghost use Rattle.run_tree.specs.Tree.{IsTree, IsPack, level as level_of};
 ghost use Rattle.run_tree.specs.Schedule.{packs_at};
 ghost use Rattle.knockout.specs.Knockouts.{never};
-ghost use Rattle.event_core.specs.Serving.{lists, IsServing, IsDrying, IsDried};
+ghost use Rattle.event_core.specs.Serving.{lists, AreSoonestFrom, IsServing, IsDrying, IsDried};
 
 use crate::walks::pack_of;
 use knockout::{Knockout, NEVER};
@@ -110,6 +110,41 @@ fn dry_level(
     }
 }
 
+// Whether a tick is noted of a level before which none of its packs' members runs dry, and which is after tick `now`.
+fn is_wet(soonest: &[u128], level: u32, now: u128) -> bool
+    ensures { result ≡ true → (level < length soonest.now) × (now < slice_index soonest.now level) }
+{
+    (level as usize) < soonest.len() && now < soonest[level as usize]
+}
+
+// Of one level's packs, where some may have run dry. The ends and who runs are only spoken of.
+fn dry_level_if(
+    tree: &Tree,
+    level: u32,
+    ends: &[u128],
+    dues: &Dues,
+    serves: &[Option<u32>],
+    dry: &[u128],
+    runs: &[bool],
+    soonest: &[u128],
+    ready: &mut [Knockout],
+    stale: &mut [bool],
+)
+    requires tree { IsTree tree.now }
+    requires level { level < tree.now.levels }
+    requires ready { length ready.old ≡ length tree.now.nodes }
+    requires serves { length serves.now ≡ length tree.now.nodes }
+    requires dry { length dry.now ≡ length tree.now.nodes }
+    requires stale { length stale.old ≡ length tree.now.nodes }
+    requires soonest { AreSoonestFrom tree.now dry.now soonest.now 0 }
+    requires drying { IsDrying tree.now dues.now ends.now (lists ready.old serves.now dry.now stale.old runs.now) (λ q. level + 1 ≤ level_of tree.now q) }
+    ensures { IsDrying tree.now dues.now ends.now (lists ready.new serves.now dry.now stale.new runs.now) (λ q. level ≤ level_of tree.now q) }
+{
+    if !is_wet(soonest, level, dues.now()) {
+        dry_level(tree, level, ends, dues, serves, dry, runs, ready, stale);
+    }
+}
+
 /// Members that ran dry at the present tick are ready no more, and their packs are marked.
 pub(crate) fn run_dry(
     tree: &Tree,
@@ -118,6 +153,7 @@ pub(crate) fn run_dry(
     serves: &[Option<u32>],
     dry: &[u128],
     runs: &[bool],
+    soonest: &[u128],
     ready: &mut [Knockout],
     stale: &mut [bool],
 )
@@ -125,12 +161,15 @@ pub(crate) fn run_dry(
     requires serves { length serves.now ≡ length tree.now.nodes }
     requires dry { length dry.now ≡ length tree.now.nodes }
     requires stale { length stale.old ≡ length tree.now.nodes }
+    requires soonest { AreSoonestFrom tree.now dry.now soonest.now 0 }
     requires drying { IsDrying tree.now dues.now ends.now (lists ready.old serves.now dry.now stale.old runs.now) (λ q. ⊥) }
     ensures { IsServing tree.now dues.now ends.now (lists ready.new serves.now dry.now stale.new runs.now) }
 {
     let mut level = tree.levels();
     while level > 0 {
         level -= 1;
-        dry_level(tree, level, ends, dues, serves, dry, runs, ready, stale);
+        dry_level_if(
+            tree, level, ends, dues, serves, dry, runs, soonest, ready, stale,
+        );
     }
 }

@@ -1,7 +1,7 @@
 //! Where a round ends: the first tick at which a member that runs has nothing left.
-ghost use Rattle.std.specs.Prelude.{ℕ, ◌≡◌, ◌+◌, ◌<◌, ◌≤◌, min, length, slice_index};
+ghost use Rattle.std.specs.Prelude.{ℕ, ◌≡◌, ◌+◌, ◌<◌, ◌≤◌, min, length, slice_index, slice_set};
 ghost use Rattle.run_tree.specs.Tree.{IsTree, IsPack, level as level_of};
-ghost use Rattle.event_core.specs.Serving.{IsSoonest};
+ghost use Rattle.event_core.specs.Serving.{AreSoonestFrom, IsSoonest};
 
 use crate::walks::pack_of;
 use run_tree::Tree;
@@ -29,16 +29,30 @@ fn first_of_level(tree: &Tree, level: u32, dry: &[u128], most: u128) -> u128
     first
 }
 
-/// The first of a tick and of those at which members that run have nothing left.
-pub(crate) fn first_dry(tree: &Tree, dry: &[u128], most: u128) -> u128
+// Notes a tick of a level, where there is room for it.
+fn note_level(soonest: &mut [u128], level: u32, tick: u128)
+    ensures noted { level < length soonest.old → soonest.new ≡ slice_set soonest.old level tick }
+    ensures full { (level < length soonest.old → ⊥) → soonest.new ≡ soonest.old }
+{
+    if (level as usize) < soonest.len() {
+        soonest[level as usize] = tick;
+    }
+}
+
+/// The first of a tick and of those at which members that run have nothing left. Of each level for which there is room the first
+/// of its own packs' ticks is noted.
+pub(crate) fn first_dry(tree: &Tree, dry: &[u128], most: u128, soonest: &mut [u128]) -> u128
     requires dry { length dry.now ≡ length tree.now.nodes }
-    ensures { IsSoonest tree.now dry.now (λ q. 0 ≤ level_of tree.now q) most result }
+    ensures first { IsSoonest tree.now dry.now (λ q. 0 ≤ level_of tree.now q) most result }
+    ensures soonest { AreSoonestFrom tree.now dry.now soonest.new 0 }
 {
     let mut first = most;
     let mut level = tree.levels();
     while level > 0 {
         level -= 1;
-        first = first_of_level(tree, level, dry, first);
+        let least = first_of_level(tree, level, dry, u128::MAX);
+        note_level(soonest, level, least);
+        first = first.min(least);
     }
     first
 }

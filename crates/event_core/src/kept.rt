@@ -7,7 +7,7 @@ ghost use Rattle.run_tree.specs.Schedule.{packs_at};
 ghost use Rattle.cpu_assign.specs.Changed.{AreChanged};
 ghost use Rattle.release_calendar.specs.Calendars.{BelongsTo};
 ghost use Rattle.tree_select.specs.Reselected.{AreFreshFrom};
-ghost use Rattle.event_core.specs.Serving.{due_of, AreBegun, AreFitting, AreLong, AreSettledFrom, IsBlank, IsDrying, IsServing, IsSoonest};
+ghost use Rattle.event_core.specs.Serving.{due_of, AreBegun, AreFitting, AreLong, AreSettledFrom, AreSoonestFrom, IsBlank, IsDrying, IsServing, IsSoonest};
 ghost use Rattle.event_core.specs.Steps.{packs_by};
 
 use crate::begun::begin_all;
@@ -87,16 +87,19 @@ impl Serving {
         );
     }
 
-    /// The first of a tick and of those at which members that run have nothing left.
-    pub(crate) fn first_dry(&self, plan: &Plan, most: u128) -> u128
+    /// The first of a tick and of those at which members that run have nothing left. Of each level for which there is room the
+    /// first of its own packs' ticks is noted.
+    pub(crate) fn first_dry(&self, plan: &Plan, most: u128, soonest: &mut [u128]) -> u128
         requires { length self.now.dry ≡ length plan.now.tree.nodes }
-        ensures { IsSoonest plan.now.tree self.now.dry (λ q. 0 ≤ level_of plan.now.tree q) most result }
+        ensures first { IsSoonest plan.now.tree self.now.dry (λ q. 0 ≤ level_of plan.now.tree q) most result }
+        ensures soonest { AreSoonestFrom plan.now.tree self.now.dry soonest.new 0 }
     {
-        first_dry(plan.tree(), &self.dry, most)
+        first_dry(plan.tree(), &self.dry, most, soonest)
     }
 
     /// Members that ran dry at the present tick are ready no more, and their packs are marked.
-    pub(crate) fn run_dry(&mut self, plan: &Plan, ends: &[u128], dues: &Dues)
+    pub(crate) fn run_dry(&mut self, plan: &Plan, ends: &[u128], dues: &Dues, soonest: &[u128])
+        requires soonest { AreSoonestFrom plan.now.tree self.old.dry soonest.now 0 }
         requires long { AreLong plan.now.tree dues.now self.old }
         requires drying { IsDrying plan.now.tree dues.now ends.now self.old (λ q. ⊥) }
         ensures long { AreLong plan.now.tree dues.now self.new }
@@ -111,6 +114,7 @@ impl Serving {
             &self.serves,
             &self.dry,
             &self.runs,
+            soonest,
             &mut self.ready,
             &mut self.stale,
         );

@@ -131,7 +131,7 @@ pub(crate) fn serve(
     ensures own { slice_index_or stale.new p.0 false ≡ false }
     ensures unmarked { (q : ℕ) → IsPack tree.now q → q ≢ p.0 → slice_index_or stale.new q false ≡ false →
         slice_index_or stale.old q false ≡ false }
-    ensures still { (q : ℕ) → IsPack tree.now q → slice_index_or stale.new q false ≡ false →
+    ensures unchanged { (q : ℕ) → IsPack tree.now q → slice_index_or stale.new q false ≡ false →
         slice_index_or runs.new q false ≡ slice_index_or runs.old q false }
     ensures marks { (q : ℕ) → IsPack tree.now q → q ≢ p.0 → level tree.now p.0 ≤ level tree.now q →
         slice_index_or stale.new q false ≡ slice_index_or stale.old q false }

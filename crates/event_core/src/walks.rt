@@ -7,7 +7,7 @@ ghost use Rattle.run_tree.specs.Schedule.{packs_at};
 ghost use Rattle.run_tree.specs.Runs.{runs_now};
 ghost use Rattle.cpu_assign.specs.Changed.{with_pack, AreChanged};
 ghost use Rattle.tree_select.specs.Reselected.{AreFresh, AreFreshFrom};
-ghost use Rattle.event_core.specs.Serving.{dry_by, lists, AreFitting, AreSettledFrom, AreStill, IsServing};
+ghost use Rattle.event_core.specs.Serving.{dry_by, lists, AreFitting, AreSettledFrom, AreUnchanged, IsServing};
 ghost use Rattle.event_core.specs.Steps.{packs_by};
 
 use crate::serving::{id_of, serve};
@@ -67,7 +67,7 @@ fn serve_pack(
     ensures nodes { length dues.new.runs ≡ length dues.old.runs }
     ensures serving { IsServing tree.now dues.new ends.now (lists ready.now serves.new dry.new stale.new runs.new) }
     ensures own { slice_index_or stale.new p.0 false ≡ false }
-    ensures still { AreStill tree.now p.0 stale.old runs.old stale.new runs.new }
+    ensures unchanged { AreUnchanged tree.now p.0 stale.old runs.old stale.new runs.new }
     ensures marks { (q : ℕ) → IsPack tree.now q → q ≢ p.0 → level tree.now p.0 ≤ level tree.now q →
         slice_index_or stale.new q false ≡ slice_index_or stale.old q false }
 {
@@ -181,7 +181,7 @@ fn serve_listed(
     ensures nodes { length dues.new.runs ≡ length dues.old.runs }
     ensures serving { IsServing tree.now dues.new ends.now (lists ready.now serves.new dry.new stale.new runs.new) }
     ensures own { slice_index_or stale.new p.0 false ≡ false }
-    ensures still { AreStill tree.now p.0 stale.old runs.old stale.new runs.new }
+    ensures unchanged { AreUnchanged tree.now p.0 stale.old runs.old stale.new runs.new }
     ensures marks { (q : ℕ) → IsPack tree.now q → q ≢ p.0 → level tree.now p.0 ≤ level tree.now q →
         slice_index_or stale.new q false ≡ slice_index_or stale.old q false }
     ensures stopped { changes.new.stopped ≡ with_pack changes.old.stopped i (not (slice_index_or runs.new p.0 false) && is_held places.now.onto i) }

@@ -1,6 +1,7 @@
 -- The merged rows of a plan's schedule.
-use Rattle.std.specs.Prelude.{ℕ, ◌≡◌, ◌≤◌, true, List, map, Option, None, Some, slice_index_or}
+use Rattle.std.specs.Prelude.{ℕ, ◌≡◌, ◌<◌, ◌≤◌, true, List, length, map, Option, None, Some, slice_index_or}
 use Rattle.sched_base.specs.declared.rows.Leaf.{Leaf}
+use Rattle.sched_base.specs.declared.rows.Leaf.TheVariants.{Empty}
 use Rattle.sched_base.specs.declared.rows.NodeId.{NodeId}
 use Rattle.sched_base.specs.declared.rows.Row.{Row}
 use Rattle.sched_base.specs.Lanes.{lanes_of}
@@ -22,6 +23,12 @@ shown_for p n start = shown p.set.tasks p.tree.scale start (leaf p.tree n)
 -- what a row of the round from `start` up to `end` shows; `none` stands for one that isn't there
 abbrev pub leaf_at : PlanContents → ℕ → ℕ → ℕ → Row → Leaf
 leaf_at p start end q none = (slice_index_or (rows_of_round p start end) q none).leaf
+
+-- this node, if any, runs on processor q in the round from `start` up to `end`
+pub record IsNodeOn (p : PlanContents) (start end q : ℕ) (node : Option NodeId) : Type 0 where
+  pub none : (none : Row) → node ≡ None → leaf_at p start end q none ≡ Empty
+  pub some : (n : NodeId) (none : Row) → node ≡ Some n → leaf_at p start end q none ≡ shown_for p n.0 start
+  pub within : (n : NodeId) → node ≡ Some n → n.0 < length p.tree.nodes
 
 -- Of processor q it is told what its row of the round from `start` up to `end` shows, or nothing where the node that is kept of it
 -- runs there again; and a node is kept then only where it shows the same from `start` on.

@@ -6,7 +6,7 @@ ghost use Rattle.sched_base.specs.declared.rows.NodeId.{NodeId as DeclaredNodeId
 ghost use Rattle.sched_base.specs.declared.rows.TaskId.{TaskId as DeclaredTaskId};
 ghost use Rattle.event_core.specs.Rounds.{IsRoundUpTo};
 ghost use Rattle.event_core.specs.Cores.{IsCoreOf};
-ghost use Rattle.merged_rounds.specs.Passes.{shown_for, IsLooked};
+ghost use Rattle.merged_rounds.specs.Passes.{shown_for, IsLooked, IsNodeOn};
 
 use event_core::{Core, leaf_shown_for};
 use run_tree::Plan;
@@ -33,51 +33,84 @@ fn look_at(plan: &Plan, n: NodeId, start: u128) -> (Option<NodeId>, Leaf)
     (node_to_keep(n, leaf), leaf)
 }
 
-// What processor q shows in the round just gone, which began at tick `start`, and the node to keep of it.
-fn look(plan: &Plan, core: &Core, start: u128, q: u32) -> (Option<NodeId>, Leaf)
+// The node that runs on processor q in the round just gone, which began at tick `start`.
+fn node_on(plan: &Plan, core: &Core, start: u128, q: u32) -> Option<NodeId>
     requires belongs { IsCoreOf plan.now core.now }
     requires round { IsRoundUpTo plan.now start core.now.tick }
     requires processor { q < plan.now.tree.processors }
+    ensures { IsNodeOn plan.now start core.now.tick q result }
+{
+    core.node_on(plan, start, q)
+}
+
+// What processor q shows where this node runs on it, and the node to keep of it. The core and the processor are only spoken of.
+fn look(
+    plan: &Plan,
+    core: &Core,
+    start: u128,
+    q: u32,
+    node: Option<NodeId>,
+) -> (Option<NodeId>, Leaf)
+    requires on { IsNodeOn plan.now start core.now.tick q node }
     ensures { (before : Option DeclaredNodeId) → IsLooked plan.now start core.now.tick q before result.0 (Some result.1) }
 {
-    match core.node_on(plan, start, q) {
+    let _core = core;
+    let _q = q;
+    match node {
         None => (None, Leaf::Empty),
         Some(n) => look_at(plan, n, start),
     }
 }
 
-// Whether the node that is kept of processor q runs there again in the round just gone, which began at tick `start`.
-fn goes_on(plan: &Plan, core: &Core, start: u128, q: u32, before: Option<NodeId>) -> bool
-    requires belongs { IsCoreOf plan.now core.now }
-    requires round { IsRoundUpTo plan.now start core.now.tick }
-    requires processor { q < plan.now.tree.processors }
+// Whether this node, which runs on processor q, is the one that is kept of it. All but the nodes is only spoken of.
+fn goes_on(
+    plan: &Plan,
+    core: &Core,
+    start: u128,
+    q: u32,
+    node: Option<NodeId>,
+    before: Option<NodeId>,
+) -> bool
+    requires on { IsNodeOn plan.now start core.now.tick q node }
     ensures { result ≡ true → IsLooked plan.now start core.now.tick q before before None }
 {
-    match core.node_on(plan, start, q) {
+    let _plan = plan;
+    let _core = core;
+    let _start = start;
+    let _q = q;
+    match node {
         None => false,
         Some(n) => before == Some(n),
     }
 }
 
-// The first processor from number `from` on where another node runs than the one that is kept, or the number of processors where
-// there is none.
-fn next_other(plan: &Plan, core: &Core, start: u128, kept: &[Option<NodeId>], from: u32) -> u32
+// The first processor from number `from` on where another node runs than the one that is kept, and that node; or the number of
+// processors where there is none.
+fn next_other(
+    plan: &Plan,
+    core: &Core,
+    start: u128,
+    kept: &[Option<NodeId>],
+    from: u32,
+) -> (u32, Option<NodeId>)
     requires belongs { IsCoreOf plan.now core.now }
     requires round { IsRoundUpTo plan.now start core.now.tick }
     requires kept { length kept.now ≡ plan.now.tree.processors }
     requires from { from ≤ plan.now.tree.processors }
-    ensures after { from ≤ result }
-    ensures within { result ≤ plan.now.tree.processors }
-    ensures skipped { (q : ℕ) → from ≤ q → q < result →
+    ensures after { from ≤ result.0 }
+    ensures within { result.0 ≤ plan.now.tree.processors }
+    ensures skipped { (q : ℕ) → from ≤ q → q < result.0 →
         IsLooked plan.now start core.now.tick q (slice_index_or kept.now q None) (slice_index_or kept.now q None) None }
+    ensures node { result.0 < plan.now.tree.processors → IsNodeOn plan.now start core.now.tick result.0 result.1 }
 {
     let count = plan.tree().processors();
     for q in from..count {
-        if !goes_on(plan, core, start, q, kept[q as usize]) {
-            return q;
+        let node = node_on(plan, core, start, q);
+        if !goes_on(plan, core, start, q, node, kept[q as usize]) {
+            return (q, node);
         }
     }
-    count
+    (count, None)
 }
 
 // Nothing is told of any processor.
@@ -107,11 +140,12 @@ pub(crate) fn look_each(
 {
     forget(told);
     let count = plan.tree().processors();
-    let mut q = next_other(plan, core, start, kept, 0);
-    'others: while q < count {
-        let (node, leaf) = look(plan, core, start, q);
+    let mut other = next_other(plan, core, start, kept, 0);
+    'others: while other.0 < count {
+        let q = other.0;
+        let (node, leaf) = look(plan, core, start, q, other.1);
         kept[q as usize] = node;
         told[q as usize] = Some(leaf);
-        q = next_other(plan, core, start, kept, q + 1);
+        other = next_other(plan, core, start, kept, q + 1);
     }
 }

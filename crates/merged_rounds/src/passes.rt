@@ -11,11 +11,8 @@ use crate::looks::look_each;
 use event_core::{Core, CountFault};
 use merged_rows::MergedRows;
 use run_tree::Plan;
-use sched_base::{Leaf, NoMemory, NodeId};
+use sched_base::{Leaf, NoMemory, NodeId, ROW_LIMIT};
 use std::alloc::Global;
-
-/// The rows that a schedule may have.
-const ROW_LIMIT: u64 = 2_097_152;
 
 /// The merged rows of a plan's schedule, where it has at most 2,097,152 rows, one for each round and processor. It goes over each
 /// round once, and keeps no row that is merged with the one before. A schedule with too many rows is refused as it comes to the first

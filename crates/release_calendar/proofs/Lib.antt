@@ -2,3 +2,4 @@ pub mod NextLemmas
 pub mod TurnLemmas
 pub mod OrderLemmas
 pub mod BegunLemmas
+pub mod EndLemmas

@@ -63,6 +63,10 @@ pub record IsReady (p : PlanContents) (begins ends : List ℕ) (u x : ℕ) : Typ
 abbrev pub AreReady : PlanContents → List ℕ → List ℕ → ℕ → Type 0
 AreReady p begins ends u = (x : ℕ) → IsMember p.tree x → IsReady p begins ends u x
 
+-- the end of each leaf's and each dual's window that isn't unit u is that of its window of the unit
+abbrev pub AreEnds : PlanContents → List ℕ → ℕ → Type 0
+AreEnds p ends u = (x : ℕ) → IsMember p.tree x → (slice_index ends x ≡ u → ⊥) → slice_index ends x ≡ window_end (boundary_of p x) u
+
 -- the leaves and duals below number n have their windows of unit u, and the others what they had before
 pub record AreTurned (p : PlanContents) (begins ends begins' ends' : List ℕ) (u n : ℕ) : Type 0 where
   pub done : (x : ℕ) → x < n → IsMember p.tree x → HasWindow p begins' ends' u x

@@ -1,12 +1,13 @@
 //! The present window of each leaf and dual of a plan, and the next unit at which a task has a boundary.
 #![tactic(auto)]
 
+mod next_ends;
 mod turns;
 
-ghost use Rattle.std.specs.Prelude.{◌≡◌, ℕ, ◌<◌, ◌≤◌, ◌&&◌, not, false, length, slice_index, slice_index_or, IfOk};
+ghost use Rattle.std.specs.Prelude.{◌≡◌, ℕ, ◌<◌, ◌≤◌, ◌^◌, ◌&&◌, not, false, length, slice_index, slice_index_or, IfOk};
 ghost use Rattle.run_tree.specs.Tree.{kind_at, is_pack};
 ghost use Rattle.run_tree.specs.Plans.{boundary_of};
-ghost use Rattle.release_calendar.specs.Calendars.{AreListed, BelongsTo};
+ghost use Rattle.release_calendar.specs.Calendars.{AreListed, BelongsTo, EndsFit};
 
 use knockout::Knockout;
 use run_tree::Plan;
@@ -29,7 +30,7 @@ pub struct Calendar {
 }
 
 impl Model for Calendar {
-    ghost use Rattle.std.specs.Prelude.{◌≡◌, ◌≤◌, length, take};
+    ghost use Rattle.std.specs.Prelude.{◌≡◌, ◌≤◌, ◌^◌, length, take};
     ghost use Rattle.run_tree.specs.Tree.{numbers};
     ghost use Rattle.release_calendar.specs.Calendars.{CalendarContents, EndsFit};
 
@@ -38,7 +39,7 @@ impl Model for Calendar {
     ghost view = { λ c. record { unit = c.unit; next = c.next; begins = c.begins.items; ends = c.ends.items; begun = numbers (take c.turned c.begun.items) } };
 
     ghost invariant = { λ c. (length c.ends.items ≡ length c.begins.items) × EndsFit c.ends.items × (c.order ≡ c.ends.items)
-        × (length c.begun.items ≡ length c.begins.items) × (c.turned ≤ length c.begun.items) };
+        × (length c.begun.items ≡ length c.begins.items) × (c.turned ≤ length c.begun.items) × (c.next ≤ 2 ^ 33) };
 }
 
 impl Calendar {
@@ -64,7 +65,8 @@ impl Calendar {
 
     /// The least unit above the present one at which some task has a boundary, or 2^33 where there are no tasks.
     pub fn next(&self) -> u64
-        ensures { result ≡ self.now.next }
+        ensures value { result ≡ self.now.next }
+        ensures within { result ≤ 2 ^ 33 }
     {
         self.next
     }
@@ -81,7 +83,7 @@ impl Calendar {
             ≡ (not (is_pack (kind_at plan.now.tree x)) && boundary_of plan.now x self.old.next) }
         ensures begun { AreListed due.new self.new.begun }
     {
-        let _lawful = plan.tree();
+        plan.know_lawful();
         let at = self.next;
         let (next, turned) = turns::turn_marked(
             plan,
@@ -117,13 +119,15 @@ impl Calendar {
         requires { n.0 < length self.now.begins }
         ensures begin { result.0 ≡ slice_index self.now.begins n.0 }
         ensures end { result.1 ≡ slice_index self.now.ends n.0 }
+        ensures fits { (result.0 < 2 ^ 64) × (result.1 < 2 ^ 64) }
     {
         (self.begins[n.0 as usize], self.ends[n.0 as usize] as u64)
     }
 
     /// The end of the window of each leaf and dual, in units.
     pub fn ends(&self) -> &[u128]
-        ensures { result.now ≡ self.now.ends }
+        ensures values { result.now ≡ self.now.ends }
+        ensures fit { EndsFit self.now.ends }
     {
         self.ends.as_slice()
     }

@@ -6,8 +6,9 @@ ghost use Rattle.run_tree.specs.Windows.{window_end};
 ghost use Rattle.run_tree.specs.Tree.{kind_at, is_pack, is_leaf, numbers, IsMember};
 ghost use Rattle.run_tree.specs.Plans.{IsPlan, boundary_of};
 ghost use Rattle.knockout.specs.Knockouts.{IsFirst, never};
-ghost use Rattle.release_calendar.specs.Calendars.{HasWindow, EndsFit, PacksNeverEnd, AreListed, AreReady, AreTurned, IsTurning, IsFirstEnd, IsNext};
+ghost use Rattle.release_calendar.specs.Calendars.{HasWindow, EndsFit, PacksNeverEnd, AreEnds, AreListed, AreReady, AreTurned, IsTurning, IsFirstEnd, IsNext};
 
+use crate::next_ends::end_from;
 use knockout::{Entry, Knockout, NEVER};
 use run_tree::{Kind, Plan, next_boundary};
 use sched_base::{NoMemory, NodeId};
@@ -138,7 +139,7 @@ pub(crate) fn turn(plan: &Plan, at: u64, begins: &mut [u64], ends: &mut [u128]) 
     ensures packs { PacksNeverEnd plan.now.tree ends.old → PacksNeverEnd plan.now.tree ends.new }
     ensures fit { EndsFit ends.old → EndsFit ends.new }
 {
-    let _lawful = plan.tree();
+    plan.know_lawful();
     turn_all(plan, at, begins, ends);
     first_end(plan, ends)
 }
@@ -183,7 +184,7 @@ pub(crate) fn turn_first(
     ensures packs { PacksNeverEnd plan.now.tree ends.new }
     ensures fit { EndsFit ends.new }
 {
-    let _lawful = plan.tree();
+    plan.know_lawful();
     part_packs(plan, ends);
     let next = turn(plan, 0, begins, ends);
     let order = order_of(alloc, ends)?;
@@ -223,11 +224,13 @@ fn turn_due(
     order: &mut Knockout,
     due: &mut [bool],
 )
-    requires node { n.0 < length plan.now.tree.nodes }
+    requires plan { IsPlan plan.now }
+    requires member { IsMember plan.now.tree n.0 }
     requires at { at ≤ plan.now.set.horizon }
     requires begins { length begins.old ≡ length plan.now.tree.nodes }
     requires ends { length ends.old ≡ length plan.now.tree.nodes }
     requires order { length order.old ≡ length plan.now.tree.nodes }
+    requires known { AreEnds plan.now ends.old at }
     requires due { length due.old ≡ length plan.now.tree.nodes }
     ensures begins { begins.new ≡ slice_set begins.old n.0 at }
     ensures ends { ends.new ≡ slice_set ends.old n.0 (window_end (boundary_of plan.now n.0) at) }
@@ -235,7 +238,7 @@ fn turn_due(
     ensures due { due.new ≡ slice_set due.old n.0 true }
     ensures fits { window_end (boundary_of plan.now n.0) at < 2 ^ 64 }
 {
-    let end = next_boundary(plan, n, at);
+    let end = end_from(plan, n, at, ends);
     begins[n.0 as usize] = at;
     ends[n.0 as usize] = u128::from(end);
     order.set(n.0, end);

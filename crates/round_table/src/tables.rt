@@ -1,5 +1,5 @@
 //! The table of a plan's rounds.
-ghost use Rattle.std.specs.Prelude.{◌≡◌, [], length, replicate, IfOk, vec_len};
+ghost use Rattle.std.specs.Prelude.{◌≡◌, [], length, replicate, IfOk};
 ghost use Rattle.sched_base.specs.Tables.{all_rows, rounds_of as rounds_in};
 ghost use Rattle.sched_base.specs.Valid.{IsValid};
 ghost use Rattle.run_tree.specs.Plans.{rounds_of, schedule_of, stop_of};
@@ -8,21 +8,8 @@ ghost use Rattle.sched_base.specs.Lanes.{lanes_of};
 
 use event_core::Core;
 use run_tree::Plan;
-use sched_base::{Leaf, NoMemory, Row, RowTable};
+use sched_base::{NoMemory, Row, RowTable, blank_rows};
 use std::alloc::Global;
-
-// Rows to be overwritten.
-fn blank_rows(alloc: Global, plan: &Plan) -> Result<Vec<Row>, NoMemory>
-    ensures { IfOk result (λ v. vec_len v ≡ plan.now.tree.processors) }
-{
-    let blank = Row {
-        processor: 0,
-        start: 0,
-        end: 0,
-        leaf: Leaf::Empty,
-    };
-    Ok(vec![in alloc; blank; plan.tree().processors() as usize]?)
-}
 
 // Appends all rounds of the plan.
 fn push_rounds(plan: &Plan, core: &mut Core, rows: &mut [Row], table: &mut RowTable)
@@ -52,9 +39,9 @@ pub fn table_of(alloc: Global, plan: &Plan, rounds: u64) -> Result<RowTable, NoM
     ensures valid { IfOk result (λ t. IsValid plan.now.set plan.now.tree.scale (stop_of plan.now) (stop_of plan.now) (all_rows t.lanes)) }
 {
     let mut table = RowTable::new(alloc, plan.tree().processors(), rounds)?;
-    let mut rows = blank_rows(alloc, plan)?;
+    let mut rows = blank_rows(alloc, plan.tree().processors())?;
     let mut core = Core::new(alloc, plan)?;
     push_rounds(plan, &mut core, &mut rows, &mut table);
-    let _whole = table.processors();
+    table.know_whole();
     Ok(table)
 }

@@ -47,7 +47,8 @@ impl Dues {
 
     /// The present tick.
     pub fn now(&self) -> u128
-        ensures { result ≡ self.now.tick }
+        ensures value { result ≡ self.now.tick }
+        ensures fits { result < 2 ^ 128 }
     {
         self.tick
     }
@@ -103,7 +104,8 @@ impl Dues {
     pub fn dry(&self, n: NodeId) -> u128
         requires node { n.0 < length self.now.runs }
         requires runs { slice_index_or self.now.runs n.0 false ≡ true }
-        ensures { result ≡ self.now.tick + slice_index self.now.remains n.0 }
+        ensures value { result ≡ self.now.tick + slice_index self.now.remains n.0 }
+        ensures fits { result < 2 ^ 128 }
     {
         dry_at(&self.marks, &self.runs, self.tick, n.0 as usize)
     }

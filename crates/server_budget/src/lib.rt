@@ -47,7 +47,7 @@ impl Budgets {
         ensures value { result ≡ rate tree.now n.0 * units }
         ensures fits { result ≤ 2 ^ 127 }
     {
-        let _lawful = tree.scale();
+        tree.know_lawful();
         tree.rate(n) * u128::from(units)
     }
 

@@ -6,7 +6,7 @@ use Rattle.event_core.proofs.dried.dry_level.Goals as goal
 pub dried-init : goal.dried-init
 dried-init c =
     let s = lists c.args.ready.now c.args.serves.now c.args.dry.now c.args.stale.now c.args.runs.now in (
-      drying_skip c.args.tree.now c.args.dues.now c.args.ends.now s c.args.level 0 c.next_dry-i.result c.now-now.result c.now-now.ensures c.next_dry-i.ensures.skipped
+      drying_skip c.args.tree.now c.args.dues.now c.args.ends.now s c.args.level 0 c.next_dry-i.result c.now-now.result c.now-now.ensures.value c.next_dry-i.ensures.skipped
           (drying_none c.args.tree.now c.args.dues.now c.args.ends.now s c.args.level c.requires.drying),
       c.next_dry-i.ensures.within,
     )
@@ -22,10 +22,10 @@ dried-preserved c =
     let ready' = c.dried.auto.ready in
     let stale = c.requires.stale in
     let stale' = c.dried.auto.stale in (
-      drying_skip c.args.tree.now c.args.dues.now c.args.ends.now (lists c.dry_pack.new.ready c.args.serves.now c.args.dry.now c.dry_pack.new.stale c.args.runs.now) c.args.level (c.dried.i + 1) c.next_dry-i-in-dried.result c.now-now.result c.now-now.ensures
+      drying_skip c.args.tree.now c.args.dues.now c.args.ends.now (lists c.dry_pack.new.ready c.args.serves.now c.args.dry.now c.dry_pack.new.stale c.args.runs.now) c.args.level (c.dried.i + 1) c.next_dry-i-in-dried.result c.now-now.result c.now-now.ensures.value
           c.next_dry-i-in-dried.ensures.skipped
           (drying_step c.args.tree.now c.args.dues.now c.args.ends.now (lists c.dried.ready c.args.serves.now c.args.dry.now c.dried.stale c.args.runs.now) c.dry_pack.new.ready c.dry_pack.new.stale c.args.level c.dried.i c.pack_of-p.result.0 c.now-now.result
-          c.now-now.ensures (omega (arith, b, ready, ready')) (omega (arith, b, stale, stale')) c.pack_of-p.ensures.pack c.pack_of-p.ensures.value c.dry_pack.ensures c.dried.invariant.0),
+          c.now-now.ensures.value (omega (arith, b, ready, ready')) (omega (arith, b, stale, stale')) c.pack_of-p.ensures.pack c.pack_of-p.ensures.value c.dry_pack.ensures c.dried.invariant.0),
       c.next_dry-i-in-dried.ensures.within,
     )
 

@@ -8,4 +8,4 @@ pub shown-requires : goal.shown-requires
 shown-requires c = λ id e.
     let tree = c.args.plan.now.tree in
     let f : leaf tree c.args.n.0 ≡ Task id = sym c.leaf_of.ensures ∙ e in
-    c.scale-lawful.ensures.lawful.tree.tasks.known c.args.n.0 id (c.requires.node, leaf_of_task id.0 (kind_at tree c.args.n.0) f) f
+    c.know_lawful.ensures.lawful.tree.tasks.known c.args.n.0 id (c.requires.node, leaf_of_task id.0 (kind_at tree c.args.n.0) f) f

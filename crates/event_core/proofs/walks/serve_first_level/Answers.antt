@@ -73,9 +73,9 @@ marked-preserved c =
     let within = c.next_marked-i-in-marked.ensures.within in
     let skipped = c.next_marked-i-in-marked.ensures.skipped in
     let fresh = fresh_step t c.requires.tree c.marked.stale stale 0 i c.pack_of-p.result.0 l at c.marked.invariant.4 c.serve_listed.ensures.own c.serve_listed.ensures.marks in
-    let settled = settled_rest t c.requires.tree onto c.marked.stale c.marked.runs stale runs c.pack_of-p.result.0 i l at c.serve_listed.ensures.still c.marked.invariant.5 in
+    let settled = settled_rest t c.requires.tree onto c.marked.stale c.marked.runs stale runs c.pack_of-p.result.0 i l at c.serve_listed.ensures.unchanged c.marked.invariant.5 in
     let same : (k : ℕ) → k < i → first_runs t runs k ≡ first_runs t c.marked.runs k =
-    (λ k m. let is_pack = first_is_pack t c.requires.tree k (omega (arith, m, l)) in c.serve_listed.ensures.still.still (get_or (packs_at t 0) k 0) is_pack (fresh (get_or (packs_at t 0) k 0) is_pack (inr (k, omega (arith, m), refl)))) in
+    (λ k m. let is_pack = first_is_pack t c.requires.tree k (omega (arith, m, l)) in c.serve_listed.ensures.unchanged.unchanged (get_or (packs_at t 0) k 0) is_pack (fresh (get_or (packs_at t 0) k 0) is_pack (inr (k, omega (arith, m), refl)))) in
     let here : first_runs t runs i ≡ get_or runs c.pack_of-p.result.0 false = ap (λ q. get_or runs q false) (sym at) in
     let stops : c.serve_listed.new.changes.stopped ≡ stops_below t onto runs (i + 1) =
     listed_step (λ k. not (first_runs t c.marked.runs k) && is_held onto k) (λ k. not (first_runs t runs k) && is_held onto k) c.marked.changes.stopped c.serve_listed.new.changes.stopped i _

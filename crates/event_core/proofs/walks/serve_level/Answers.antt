@@ -31,7 +31,7 @@ marked-preserved c =
       fresh_skip c.args.tree.now c.serve_pack.new.stale c.args.level (c.marked.i + 1) c.next_marked-i-in-marked.result
           (fresh_step c.args.tree.now c.requires.tree c.marked.stale c.serve_pack.new.stale c.args.level c.marked.i c.pack_of-p.result.0 here c.pack_of-p.ensures.value c.marked.invariant.4 c.serve_pack.ensures.own c.serve_pack.ensures.marks)
           c.next_marked-i-in-marked.ensures.skipped,
-      λ onto s. settled_above c.args.tree.now c.requires.tree onto c.marked.stale c.marked.runs c.serve_pack.new.stale c.serve_pack.new.runs c.pack_of-p.result.0 c.serve_pack.ensures.still c.args.level c.marked.i c.requires.above_first
+      λ onto s. settled_above c.args.tree.now c.requires.tree onto c.marked.stale c.marked.runs c.serve_pack.new.stale c.serve_pack.new.runs c.pack_of-p.result.0 c.serve_pack.ensures.unchanged c.args.level c.marked.i c.requires.above_first
           here c.pack_of-p.ensures.value (c.marked.invariant.5 onto s),
       c.next_marked-i-in-marked.ensures.within,
     )

@@ -27,5 +27,5 @@ returns-clause-serving c =
     c.serve-next.ensures.within c.serve-next.ensures.now c.serve-next.ensures.others c.serve-next.ensures.agree c.serve-next.ensures.rest c.serve-next.ensures.unmarked c.serve-next.ensures.led
     (c.serve-next.ensures.served c.args.ends.now (subst (λ (xs : List ℕ). AreReady (candidates c.args.tree.now c.args.dues.now.remains c.args.ends.now c.args.p.0) xs) (sym c.ready_at.ensures) (c.requires.serving.picks c.args.p.0 c.requires.pack)) c.requires.serving.served) c.requires.serving
 
-pub returns-clause-still : goal.returns-clause-still
-returns-clause-still c = record { unmarked = c.serve-next.ensures.unmarked; still = c.serve-next.ensures.still }
+pub returns-clause-unchanged : goal.returns-clause-unchanged
+returns-clause-unchanged c = record { unmarked = c.serve-next.ensures.unmarked; unchanged = c.serve-next.ensures.unchanged }

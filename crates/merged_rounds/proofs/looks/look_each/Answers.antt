@@ -8,16 +8,17 @@ others-init c =
     let kept = c.args.kept.now in
     let told = c.forget.new.told in
     record {
-      done = looked_past c.args.plan.now c.args.start c.args.core.now.tick 0 c.next_other-q.result kept kept told
-          (λ k l. absurd (omega (arith, l))) (λ k l. refl) (λ k l. c.forget.ensures k) c.next_other-q.ensures.skipped;
+      done = looked_past c.args.plan.now c.args.start c.args.core.now.tick 0 c.next_other-other.result.0 kept kept told
+          (λ k l. absurd (omega (arith, l))) (λ k l. refl) (λ k l. c.forget.ensures k) c.next_other-other.ensures.skipped;
       left = λ k l. refl;
       untold = λ k l. c.forget.ensures k;
-      within = c.next_other-q.ensures.within;
+      within = c.next_other-other.ensures.within;
+      node = c.next_other-other.ensures.node;
     }
 
 pub others-preserved : goal.others-preserved
 others-preserved c =
-    let q = c.others.q in
+    let q = c.others.other.0 in
     let kept = c.others.kept in
     let told = c.others.told in
     let node = c.look-node.result.0 in
@@ -35,10 +36,17 @@ others-preserved c =
     let untold : (k : ℕ) → q + 1 ≤ k → get_or (set told q leaf) k None ≡ None =
     (λ k l. (let apart : k ≢ q = (λ e. omega (arith, e, l)) in get_or-set_other told q k leaf None apart) ∙ c.others.invariant.untold k (omega (arith, l))) in
     record {
-      done = looked_past c.args.plan.now c.args.start c.args.core.now.tick (q + 1) c.next_other-q-in-others.result c.args.kept.now (set kept q node) (set told q leaf)
+      done = looked_past c.args.plan.now c.args.start c.args.core.now.tick (q + 1) c.next_other-other-in-others.result.0 c.args.kept.now (set kept q node) (set told q leaf)
           (looked_on c.args.plan.now c.args.start c.args.core.now.tick q c.args.kept.now kept told None node leaf here there c.others.invariant.done c.others.invariant.left (c.look-node.ensures (get_or kept q None)))
-          left untold c.next_other-q-in-others.ensures.skipped;
-      left = λ k l. left k (let after = c.next_other-q-in-others.ensures.after in omega (arith, after, l));
-      untold = λ k l. untold k (let after = c.next_other-q-in-others.ensures.after in omega (arith, after, l));
-      within = c.next_other-q-in-others.ensures.within;
+          left untold c.next_other-other-in-others.ensures.skipped;
+      left = λ k l. left k (let after = c.next_other-other-in-others.ensures.after in omega (arith, after, l));
+      untold = λ k l. untold k (let after = c.next_other-other-in-others.ensures.after in omega (arith, after, l));
+      within = c.next_other-other-in-others.ensures.within;
+      node = c.next_other-other-in-others.ensures.node;
     }
+
+pub look-node-requires : goal.look-node-requires
+look-node-requires c =
+    let many = c.processors-count.ensures.value ∙ ap (λ (t : Tree). t.processors) c.tree.ensures.value in
+    let on = c.others-test.true in
+    record { on = c.others.invariant.node (omega (arith, many, on)) }

@@ -54,7 +54,7 @@ rounds-init c =
 pub returns-then-next_rows-gt-ROW_LIMIT-clause-fault : goal.returns-then-next_rows-gt-ROW_LIMIT-clause-fault
 returns-then-next_rows-gt-ROW_LIMIT-clause-fault c =
     let p = c.args.plan.now in
-    let now = c.now.ensures in
+    let now = c.now.ensures.value in
     let end = c.rounds_end-end.ensures.value in
     let on = c.rounds-test.true in
     let early : c.rounds.core.tick < stop_of p = omega (arith, now, end, on) in
@@ -88,12 +88,12 @@ rounds-preserved c =
     let counted = next_rounds p start end round in
     let count = c.rounds.invariant.count in
     let looked : (q : ℕ) → q < m → IsLooked p start end q (get_or c.rounds.kept q None) (get_or c.look_each.new.kept q None) (get_or c.look_each.new.told q None) =
-    (λ q l. subst (λ (n : ℕ). IsLooked p n end q (get_or c.rounds.kept q None) (get_or c.look_each.new.kept q None) (get_or c.look_each.new.told q None)) c.now-start.ensures (c.look_each.ensures q l)) in
+    (λ q l. subst (λ (n : ℕ). IsLooked p n end q (get_or c.rounds.kept q None) (get_or c.look_each.new.kept q None) (get_or c.look_each.new.told q None)) c.now-start.ensures.value (c.look_each.ensures q l)) in
     let told_long : length c.look_each.new.told ≡ m = (let a = c.requires.told in omega (arith, a)) in
     let told = are_told p start end c.rounds.merged.lanes c.rounds.kept c.look_each.new.kept c.look_each.new.told c.rounds.invariant.kept looked told_long in
     let now : IsRound c.rounds.merged.end rows = subst (λ (n : ℕ). IsRound n rows) (sym c.rounds.invariant.tick) (is_round p h start end round) in
     let to : end_after c.rounds.merged.end rows ≡ c.now-to.result =
-    end_of_all rows c.rounds.merged.end end (omega (arith, whole, long, some)) (λ k row at. ap (λ (x : Row). x.end) (round_get p.set.tasks p.tree start end k row at)) ∙ sym c.now-to.ensures in
+    end_of_all rows c.rounds.merged.end end (omega (arith, whole, long, some)) (λ k row at. ap (λ (x : Row). x.end) (round_get p.set.tasks p.tree start end k row at)) ∙ sym c.now-to.ensures.value in
     let lanes = c.in_ok-merged.ensures.merged raw rows c.rounds.invariant.lanes now to told in
     let is_now : IsRound (end_of raw) rows = subst (λ (n : ℕ). IsRound n rows) (sym c.rounds.invariant.end) (is_round p h start end round) in
     record {
@@ -101,7 +101,7 @@ rounds-preserved c =
       count = omega (arith, counted, count);
       few = c.if-next_rows-gt-ROW_LIMIT.false;
       lanes = lanes ∙ ap (map merged) (sym next);
-      tick = c.in_ok-merged.ensures.end ∙ c.now-to.ensures;
+      tick = c.in_ok-merged.ensures.end ∙ c.now-to.ensures.value;
       table = subst IsTable (sym next) (IsTable-with_round raw rows c.rounds.invariant.table whole is_now);
       end = ap end_of next ∙ next_end p h start end round raw long;
       kept = kept_on p start end c.rounds.merged.lanes c.rounds.kept c.look_each.new.kept c.look_each.new.told c.rounds.invariant.kept looked c.in_ok-merged.merged.lanes (let above = round.above in omega (arith, above))
@@ -116,7 +116,7 @@ returns-clause-lawful c =
     let h = c.rounds_end-end.ensures.lawful in
     let m = p.tree.processors in
     let tick = c.rounds.core.tick in
-    let now = c.now.ensures in
+    let now = c.now.ensures.value in
     let end = c.rounds_end-end.ensures.value in
     let early = c.rounds.invariant.belongs.at.early in
     let here : tick ≡ stop_of p = omega (arith, now, end, early, c.rounds-test.false) in

@@ -20,7 +20,7 @@ returns-clause-belongs c =
     let v' = ap (λ (xs : List ℕ). length xs) c.deref_mut-2.ensures.value in
     let kept = c.turn_marked-next.auto.begins in
     let kept' = c.turn_marked-next.auto.ends in
-    belongs_written c.args.plan.now c.tree-lawful.ensures.lawful c.self.inside.begins c.self.inside.ends c.turn_marked-next.new.begins c.turn_marked-next.new.ends _ c.self.inside.next c.turn_marked-next.result.0 (omega (arith, early, next)) (omega (arith, b, long, v, kept)) (omega (arith, e, long', v', kept')) (omega (arith, v, kept)) (omega (arith, v', kept'))
+    belongs_written c.args.plan.now c.know_lawful.ensures.lawful c.self.inside.begins c.self.inside.ends c.turn_marked-next.new.begins c.turn_marked-next.new.ends _ c.self.inside.next c.turn_marked-next.result.0 (omega (arith, early, next)) (omega (arith, b, long, v, kept)) (omega (arith, e, long', v', kept')) (omega (arith, v, kept)) (omega (arith, v', kept'))
     c.turn_marked-next.ensures.windows c.turn_marked-next.ensures.packs c.turn_marked-next.ensures.next
 
 pub returns-clause-due : goal.returns-clause-due
@@ -30,13 +30,13 @@ pub turn_marked-next-requires-clause-ready : goal.turn_marked-next-requires-clau
 turn_marked-next-requires-clause-ready c =
     let P : CalendarContents → Type 0 = λ s. AreReady c.args.plan.now s.begins s.ends s.next in
     let Q : List ℕ → List ℕ → Type 0 = λ b e. AreReady c.args.plan.now b e c.self.inside.next in
-    subst₂ Q (sym c.deref_mut.ensures.value) (sym c.deref_mut-2.ensures.value) (subst P (sym c.self.view_is) (ready_next c.args.plan.now c.tree-lawful.ensures.lawful c.args.self.now c.requires.belongs))
+    subst₂ Q (sym c.deref_mut.ensures.value) (sym c.deref_mut-2.ensures.value) (subst P (sym c.self.view_is) (ready_next c.args.plan.now c.know_lawful.ensures.lawful c.args.self.now c.requires.belongs))
 
 pub turn_marked-next-requires-clause-earlier : goal.turn_marked-next-requires-clause-earlier
 turn_marked-next-requires-clause-earlier c =
     let P : CalendarContents → Type 0 = λ s. (x : ℕ) → IsMember c.args.plan.now.tree x → get_or s.begins x 0 < s.next in
     let Q : List ℕ → Type 0 = λ b. (x : ℕ) → IsMember c.args.plan.now.tree x → get_or b x 0 < c.self.inside.next in
-    subst Q (sym c.deref_mut.ensures.value) (subst P (sym c.self.view_is) (begins_earlier c.args.plan.now c.tree-lawful.ensures.lawful c.args.self.now c.requires.belongs))
+    subst Q (sym c.deref_mut.ensures.value) (subst P (sym c.self.view_is) (begins_earlier c.args.plan.now c.know_lawful.ensures.lawful c.args.self.now c.requires.belongs))
 
 pub returns-clause-begun : goal.returns-clause-begun
 returns-clause-begun c =

@@ -5,7 +5,7 @@ use Rattle.run_tree.specs.Windows.{window_end}
 use Rattle.run_tree.specs.Tree.{numbers}
 use Rattle.run_tree.specs.Plans.{boundary_of}
 use Rattle.release_calendar.specs.Calendars.{EndsFit, ending}
-use Rattle.release_calendar.proofs.OrderLemmas.{ending_less, ends_later, turning_step, fit_set}
+use Rattle.release_calendar.proofs.OrderLemmas.{ending_less, ends_later, ends_member, turning_step, fit_set}
 use Rattle.release_calendar.proofs.BegunLemmas.{ending_most, ending_some, listed_none, listed_step}
 use Rattle.release_calendar.proofs.turns.turn_in_order.Goals as goal
 
@@ -34,6 +34,20 @@ loop-first-init c =
       listed_none c.args.due.now c.args.begun.now c.requires.clear,
       omega (arith, most, ends, begun),
     )
+
+pub turn_due-requires-clause-member : goal.turn_due-requires-clause-member
+turn_due-requires-clause-member c =
+    let x = c.loop-first.first.index in
+    let f = c.loop-first.invariant.2 in
+    let here = f.here in
+    let within = f.within in
+    let long = c.requires.ends in
+    let kept = c.loop-first.auto.ends in
+    let at = c.loop-first-test.true in
+    ends_member c.args.plan.now c.requires.plan c.loop-first.ends c.args.at x c.loop-first.invariant.1.packs c.requires.at (omega (arith, within, long, kept)) (omega (arith, here, at))
+
+pub turn_due-requires-clause-known : goal.turn_due-requires-clause-known
+turn_due-requires-clause-known c = λ x i later. ((c.loop-first.invariant.1.ready x i).other later).end
 
 pub list_one-requires : goal.list_one-requires
 list_one-requires c =

@@ -43,7 +43,7 @@ push_round-requires-clause-round c =
 pub push_round-requires-clause-room : goal.push_round-requires-clause-room
 push_round-requires-clause-room c =
     let p = c.args.plan.now in
-    let now = c.now.ensures in
+    let now = c.now.ensures.value in
     let end = c.rounds_end-end.ensures.value in
     let on = c.rounds-test.true in
     let early : c.rounds.core.tick < stop_of p = omega (arith, now, end, on) in
