@@ -1,6 +1,6 @@
 //! The state of the machine, and its steps.
 ghost use Rattle.std.specs.Prelude.{◌≡◌, ◌≤◌, ◌<◌, ◌+◌, ◌↔◌, ℕ, length, true, IsTrue, IfOk, IfSome, IfNone};
-ghost use Rattle.book_machine.specs.Machine.{IsLegal, MayTake, IsReady, WaitsFor, IsOut, IsStuck};
+ghost use Rattle.book_machine.specs.Machine.{IsLegal, MayTake, HasTakeable, WaitsFor, IsOut, IsStuck};
 ghost use Rattle.book_machine.specs.Machine.{after, start, posted_at, least_posted as least_count, horizon_of};
 ghost use Rattle.book_machine.specs.Links.{LinkIsPosted, ArePostedInOrder};
 ghost use Rattle.sched_base.specs.declared.rows.Row.{Row};
@@ -171,7 +171,7 @@ impl MachineState {
         requires round { posted_at self.now p < least_count self.now + window → posted_at self.now p < rounds_of table.now.lanes }
         requires lane { p < length self.now.lanes }
         ensures some { IfSome result (λ q. WaitsFor table.now.lanes window self.now p q) }
-        ensures none { IfNone result (IsReady table.now.lanes window self.now p) }
+        ensures none { IfNone result (HasTakeable table.now.lanes window self.now p) }
     {
         let lanes = self.lanes.as_slice();
         let round = lanes[p as usize].posted;
@@ -191,7 +191,7 @@ impl MachineState {
         requires lane { p < length self.now.lanes }
         requires in_order { ArePostedInOrder linked.now.lanes self.now }
         ensures some { IfSome result (λ q. WaitsFor linked.now.lanes window self.now p q) }
-        ensures none { IfNone result (IsReady linked.now.lanes window self.now p) }
+        ensures none { IfNone result (HasTakeable linked.now.lanes window self.now p) }
     {
         if self.is_clear(linked, window, p) {
             None
@@ -206,7 +206,7 @@ impl MachineState {
         requires round { posted_at self.now p < least_count self.now + window → posted_at self.now p < rounds_of linked.now.lanes }
         requires lane { p < length self.now.lanes }
         requires in_order { ArePostedInOrder linked.now.lanes self.now }
-        ensures { IsTrue result → IsReady linked.now.lanes window self.now p }
+        ensures { IsTrue result → HasTakeable linked.now.lanes window self.now p }
     {
         let round = self.posted(p);
         if round - self.least >= window as u64 {

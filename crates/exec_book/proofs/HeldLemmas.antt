@@ -3,7 +3,7 @@ use Rattle.std.proofs.Common.{◌≡◌, ℕ, ◌<◌, ◌*◌, ◌∙◌, true,
 use Rattle.std.specs.Prelude.{sum, slice_get}
 use Rattle.sched_base.specs.declared.rows.Row.{Row}
 use Rattle.sched_base.specs.Rows.{is_of_task}
-use Rattle.sched_base.specs.Tables.{RowAt, rounds_of as rounds_in}
+use Rattle.sched_base.specs.Tables.{RowAt, rounds_of as rounds_in, row_limit}
 use Rattle.sched_base.proofs.TableLemmas.{row_within}
 use Rattle.run_tree.specs.Plans.{PlanContents, IsPlan, rounds_of}
 use Rattle.book_machine.specs.Machine.{State, posted_at, IsOut}
@@ -35,7 +35,7 @@ pub record LaneOut {J : Type 0} (p : PlanContents) (s : State) (rounds : RoundsC
   pub out_row : (row : Row) → RowAt rounds.table.lanes lane (posted_at s lane) row → OutRow (plan_rows p) s lane row
   pub away : (row : Row) → RowAt rounds.table.lanes lane (posted_at s lane) row → (t : ℕ) → is_of_task t row.leaf ≡ true → slice_get desk.jobs.places t ≡ Some None
   -- the posts are fewer than the rows
-  pub few : sum (counts_of s.lanes) < 2097152
+  pub few : sum (counts_of s.lanes) < row_limit
 
 pub lane_out : {J : Type 0} (id used : J → ℕ) (made : J → Made) (all_made : List Made) (p : PlanContents) (count window : ℕ) (s : State)
     (rounds : RoundsContents) (desk : DeskContents J) (side lane : ℕ)

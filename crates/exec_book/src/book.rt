@@ -132,7 +132,7 @@ impl<Q: PostLedger, J: Job> Book<Q, J> {
         ensures set { self.now.plan.set ≡ Q.set }
         ensures lanes { length self.now.state.lanes ≡ self.now.plan.tree.processors }
     {
-        let _lawful = self.plan.scale();
+        self.plan.know_lawful();
         &self.plan
     }
 
@@ -150,7 +150,7 @@ impl<Q: PostLedger, J: Job> Book<Q, J> {
         ensures value { result.now ≡ self.now.log }
         ensures follows { FollowsPlan self.now.plan self.now.window self.now.log self.now.state }
     {
-        let _lawful = self.plan.scale();
+        self.plan.know_lawful();
         self.log.as_slice()
     }
 
@@ -199,7 +199,7 @@ impl<Q: PostLedger, J: Job> Book<Q, J> {
         let Some(held) = &self.held else {
             unreachable!()
         };
-        let _lawful = self.plan.scale();
+        self.plan.know_lawful();
         held.rounds.table()
     }
 

@@ -3,7 +3,7 @@ ghost use Rattle.std.specs.Prelude.{◌≡◌, ◌≤◌, ◌<◌, ◌+◌, ℕ,
 ghost use Rattle.sched_base.specs.declared.rows.Row.{Row};
 ghost use Rattle.sched_base.specs.declared.rows.Leaf.TheVariants.{Task};
 ghost use Rattle.sched_base.specs.declared.rows.TaskId.{TaskId};
-ghost use Rattle.sched_base.specs.Tables.{RowAt, rounds_of as rounds_in};
+ghost use Rattle.sched_base.specs.Tables.{RowAt, rounds_of as rounds_in, row_limit};
 ghost use Rattle.sched_edges.specs.Jobs.{JobAt};
 ghost use Rattle.run_tree.specs.Plans.{rounds_of};
 ghost use Rattle.book_machine.specs.declared.events.Event.TheVariants.{Take};
@@ -97,8 +97,8 @@ impl<Q: PostLedger, J: Job> Held<Q, J> {
 
     /// Counts a post of a lane in the ledger.
     pub(crate) fn count(&mut self, seat: &mut LaneSeat<Q>)
-        requires few { self.old.side < 2097152 }
-        requires few_of_lane { seat.old.posted < 2097152 }
+        requires few { self.old.side < row_limit }
+        requires few_of_lane { seat.old.posted < row_limit }
         ensures held { self.new ≡ record self.old { side = self.old.side + 1 } }
         ensures seat { seat.new ≡ record seat.old { posted = seat.old.posted + 1 } }
     {

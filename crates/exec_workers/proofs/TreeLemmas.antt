@@ -1,5 +1,5 @@
 -- Trees and nodes with the same parts.
-use Rattle.std.proofs.Common.{◌≡◌, ℕ, ◌<◌, List, Option, length, ap, arith}
+use Rattle.std.proofs.Common.{◌≡◌, ℕ, ◌<◌, length}
 use Rattle.std.proofs.lemmas.List.{ext_get_or}
 use Rattle.run_tree.specs.Tree.{Node, Tree, node as node_in, no_node}
 

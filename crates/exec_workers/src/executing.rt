@@ -9,10 +9,10 @@ ghost use Rattle.exec_workers.specs.Runs.{OutcomeOf, AreFresh, AreEmpty, GatesGr
 
 use crate::answers::{ExecFault, Executed};
 use crate::kits::Kit;
+use crate::opening::open_book;
 use crate::run::{Ended, run_gates};
-use crate::stage::{fault_counts, lay_jobs, lift_jobs, push_totals};
+use crate::stage::{fault_counts, lay_jobs, push_totals};
 use crate::waiters::Waiters;
-use exec_book::{Book, JobsBack};
 use run_tree::Plan;
 use sched_base::Totals;
 use sched_edges::{BoxedJob, Gate, Job, JobList, Jobs};
@@ -48,7 +48,7 @@ pub fn execute<G: Gate + Send, X: Threads + Wait + Sync>(
     ensures jobs { OnOk result (JobsUsedAll ⟦<BoxedJob as Job>⟧.id ⟦<BoxedJob as Job>⟧.used plan.now jobs.new.places) }
     ensures posts { IfOk result (λ executed. executed.posts ≡ rounds * plan.now.tree.processors) }
 {
-    let _lawful = plan.scale();
+    plan.know_lawful();
     execute_on(rt, alloc, plan, rounds, window, kits, jobs)
 }
 
@@ -122,20 +122,11 @@ fn execute_in<G: Gate + Send, Q: PostLedger + Send + Sync, J: Job + Send, X: Thr
     let n = plan.set().count();
     let mut counts = fault_counts(alloc, jobs, n)?;
     let mut posted = vec![in alloc; 0u64; m as usize]?;
-    let waiters = Waiters::of_lanes(alloc, m)?;
+    let waiters = Waiters::of_lanes(rt, alloc, m)?;
     let mut totals = Totals::with_room(alloc, n)?;
-    let mut lanes = Vec::with_capacity(alloc, m as usize)?;
-    let mut out = JobList::with_room(alloc, n)?;
-    let copy = plan.copy()?;
-    let (side, seats) = unit_ledger::open::<Q>(blank, alloc, m)?;
-    lift_jobs(jobs, &mut out, n);
-    let book = match Book::new(alloc, copy, rounds, window, side, out) {
-        Ok(book) => Mutex::new(book),
-        Err(JobsBack { jobs: mut back }) => {
-            lay_jobs(&mut back, jobs, n);
-            return Err(ExecFault::NoMemory);
-        }
-    };
+    let lanes = Vec::with_capacity(alloc, m as usize)?;
+    let (book, seats) = open_book::<Q, J>(alloc, blank, plan, rounds, window, jobs)?;
+    let book = Mutex::new(book);
     let Ended {
         jobs: mut back,
         table,

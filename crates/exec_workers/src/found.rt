@@ -42,7 +42,7 @@ fn is_of_run<Q: PostLedger, J: Job>(book: &Book<Q, J>, plan: &Plan) -> bool
     ensures lanes { length book.now.state.lanes ≡ book.now.plan.tree.processors }
     ensures open { IsTrue result → ¬ (IsDismissed book.now) }
 {
-    let _lawful = plan.scale();
+    plan.know_lawful();
     let _of_run = book.plan();
     !book.dismissed()
 }

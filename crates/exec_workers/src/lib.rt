@@ -14,6 +14,7 @@ mod executing;
 mod found;
 mod kits;
 mod lanes;
+mod opening;
 mod passes;
 mod rows;
 mod run;

@@ -26,7 +26,7 @@ pub fn take_row<Q: PostLedger, J: Job, R: Wait>(
     requires counts { length counts.now ≡ length plan.now.set.tasks }
     ensures { Gives J.id J.used J.made J.faults Q.made plan.now seat.now counts.now result }
 {
-    let _lawful = plan.scale();
+    plan.know_lawful();
     agree(rt, book, plan);
     for _ in rt.forever() {
         let mut guard = book.lock(rt);
@@ -122,7 +122,7 @@ pub(crate) fn take_next<Q: PostLedger, J: Job, R: Wait>(
     requires set { plan.now.set ≡ Q.set }
     ensures { GivesRow J.id J.used J.made Q.made plan.now seat.now result }
 {
-    let _lawful = plan.scale();
+    plan.know_lawful();
     for _ in rt.forever() {
         let mut guard = lock_soon(rt, book);
         let held = &mut *guard;
@@ -150,7 +150,7 @@ pub(crate) fn post_and_take<Q: PostLedger, J: Job, R: Wait>(
     ensures seat { seat.new ≡ record seat.old { posted = seat.old.posted + 1 } }
     ensures gives { GivesRow J.id J.used J.made Q.made plan.now seat.new result }
 {
-    let _lawful = plan.scale();
+    plan.know_lawful();
     let ticks = ticks_of(row);
     for _ in rt.forever() {
         let mut guard = lock_soon(rt, book);

@@ -125,7 +125,7 @@ fn run_row<G: Gate, Q: PostLedger, J: Job, R: Wait>(
     ensures more { IfSome result (λ look. lane.new.cause ≡ None) }
     ensures look { IfSome result (λ look. GivesRow J.id J.used J.made Q.made plan.now lane.new.seat look) }
 {
-    let _lawful = plan.scale();
+    plan.know_lawful();
     let mut job = job;
     if let Err(Failed) = lane.gate.run(&row) {
         halt_row(rt, book, plan, &lane.seat, &row, job);

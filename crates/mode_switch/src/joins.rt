@@ -12,11 +12,8 @@ use crate::faults::{ModeFault, ModeKind};
 use event_core::{CountFault, count_rounds};
 use run_compile::{CompileFault, compile};
 use run_tree::Plan;
-use sched_base::{Task, TaskSet};
+use sched_base::{ROW_LIMIT, Task, TaskSet};
 use std::alloc::Global;
-
-/// The rows that the schedules of all modes may have together.
-const ROW_LIMIT: u64 = 2_097_152;
 
 /// The first task that isn't released at unit 0.
 fn first_late(tasks: &[Task]) -> Option<usize>
@@ -69,7 +66,7 @@ pub(crate) fn plan_of(alloc: Global, mode: u32, set: TaskSet) -> Result<Plan, Mo
     ensures fits { IfOk result (λ plan. Fits plan.tree.scale set) }
     ensures refused { IfErr result (λ fault. RefusesAs mode (IsOverloadOf set) fault) }
 {
-    let _lawful = set.count();
+    set.know_lawful();
     match compile(alloc, set) {
         Ok(plan) => Ok(plan),
         Err(CompileFault::Overload { total, room }) => Err(ModeFault::Refused {

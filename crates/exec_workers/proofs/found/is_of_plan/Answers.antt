@@ -1,4 +1,4 @@
-use Rattle.std.proofs.Common.{◌≡◌, ap, sym, subst, ◌∙◌}
+use Rattle.std.proofs.Common.{ap, sym, subst, ◌∙◌}
 use Rattle.run_tree.specs.Plans.{PlanContents}
 use Rattle.exec_book.specs.PlanRows.{IsCompiled}
 use Rattle.exec_workers.proofs.found.is_of_plan.Goals as goal

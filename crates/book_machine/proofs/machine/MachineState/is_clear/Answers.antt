@@ -2,7 +2,7 @@ use Rattle.std.proofs.Common.{◌≡◌, ◌≤◌, ◌<◌, ◌∙◌, ◌+◌,
 use Rattle.std.proofs.lemmas.Bool.{eqb-true}
 use Rattle.sched_base.specs.declared.rows.Row.{Row}
 use Rattle.sched_base.specs.Tables.{RowAt}
-use Rattle.book_machine.specs.Machine.{State, posted_at, least_posted, IsReady, EarlierPosted}
+use Rattle.book_machine.specs.Machine.{State, posted_at, least_posted, HasTakeable, EarlierPosted}
 use Rattle.book_machine.proofs.Lanes.{least_le}
 use Rattle.book_machine.proofs.LinkLemmas.{earlier_at_least}
 use Rattle.book_machine.proofs.machine.MachineState.is_clear.Goals.{After-row}
@@ -24,10 +24,10 @@ module _ (c : After-row) where
   in_window : posted_at c.args.self.now c.args.p < least_posted c.args.self.now + c.args.window
   in_window = let low = least_le c.args.self.now.lanes c.args.p c.requires.lane in let near = c.if-round-self.false in let is = least in omega (arith, c.posted-round.ensures, is, low, near)
 
-  pub ready_by : EarlierPosted c.args.linked.now.lanes c.args.self.now.lanes c.args.p (posted_at c.args.self.now c.args.p) c.row.result.leaf → IsReady c.args.linked.now.lanes c.args.window c.args.self.now c.args.p
+  pub ready_by : EarlierPosted c.args.linked.now.lanes c.args.self.now.lanes c.args.p (posted_at c.args.self.now c.args.p) c.row.result.leaf → HasTakeable c.args.linked.now.lanes c.args.window c.args.self.now c.args.p
   ready_by earlier = record { in_window = in_window; next = (c.row.result, at, earlier) }
 
-  pub at_least : IsTrue (nat_eq c.posted-round.result c.self.inside.least) → IsReady c.args.linked.now.lanes c.args.window c.args.self.now c.args.p
+  pub at_least : IsTrue (nat_eq c.posted-round.result c.self.inside.least) → HasTakeable c.args.linked.now.lanes c.args.window c.args.self.now c.args.p
   at_least same = ready_by (earlier_at_least c.args.linked.now.lanes c.args.self.now c.args.p (posted_at c.args.self.now c.args.p) c.row.result.leaf c.requires.lanes
       (let is = least in let e : c.posted-round.result ≡ c.self.inside.least = eqb-true c.posted-round.result c.self.inside.least same in omega (arith, c.posted-round.ensures, is, e)))
 

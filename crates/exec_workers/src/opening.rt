@@ -1,0 +1,56 @@
+//! The book of a run, opened with its ledger and with the jobs.
+ghost use Rattle.std.specs.Prelude.{◌≡◌, ◌≤◌, ◌<◌, ◌*◌, ℕ, None, Some, length, slice_get, slice_index_or, IfOk, IfErr, OnOk};
+ghost use Rattle.sched_base.specs.Tables.{row_limit};
+ghost use Rattle.sched_edges.specs.Jobs.{JobAt};
+ghost use Rattle.run_tree.specs.Plans.{rounds_of};
+ghost use Rattle.exec_book.specs.PlanRows.{IsCompiled};
+ghost use Rattle.unit_ledger.specs.Seats.{seats_at_start};
+ghost use Rattle.exec_workers.specs.Runs.{AreFresh};
+
+use crate::stage::{lay_jobs, lift_jobs};
+use exec_book::{Book, JobsBack};
+use run_tree::Plan;
+use sched_base::NoMemory;
+use sched_edges::{Job, JobList};
+use std::alloc::Global;
+use std::sync::ledger::Blank;
+use unit_ledger::{PostLedger, Seats};
+
+/// Opens a ledger, and moves the jobs of a plan's tasks into a book of the plan. Where memory is refused they are where they were.
+pub(crate) fn open_book<Q: PostLedger, J: Job>(
+    alloc: Global,
+    blank: Blank,
+    plan: &Plan,
+    rounds: u64,
+    window: u32,
+    jobs: &mut JobList<J>,
+) -> Result<(Book<Q, J>, Seats<Q>), NoMemory>
+    requires name { blank.name ≡ Q.name }
+    requires parts { blank.parts ≡ Q.parts }
+    requires a_part_each { blank.parts ≡ plan.now.tree.processors }
+    requires compiled { IsCompiled plan.now }
+    requires set { plan.now.set ≡ Q.set }
+    requires rounds { rounds ≡ rounds_of plan.now }
+    requires few { rounds * plan.now.tree.processors ≤ row_limit }
+    requires some_window { 1 ≤ window }
+    requires small_window { window ≤ 1024 }
+    requires jobs { AreFresh J.id J.used (length plan.now.set.tasks) jobs.old.places }
+    requires made { (t : ℕ) (job : J) → t < length plan.now.set.tasks → JobAt jobs.old.places t job → J.made job ≡ slice_index_or Q.made t None }
+    ensures seats { IfOk result (λ opened. opened.1 ≡ seats_at_start plan.now.tree.processors) }
+    ensures lent { OnOk result ((t : ℕ) → t < length plan.now.set.tasks → slice_get jobs.new.places t ≡ Some None) }
+    ensures others { OnOk result ((t : ℕ) → length plan.now.set.tasks ≤ t → slice_get jobs.new.places t ≡ slice_get jobs.old.places t) }
+    ensures kept { IfErr result (λ refused. jobs.new.places ≡ jobs.old.places) }
+{
+    let n = plan.set().count();
+    let mut out = JobList::with_room(alloc, n)?;
+    let copy = plan.copy()?;
+    let (side, seats) = unit_ledger::open::<Q>(blank, alloc, plan.tree().processors())?;
+    lift_jobs(jobs, &mut out, n);
+    match Book::new(alloc, copy, rounds, window, side, out) {
+        Ok(book) => Ok((book, seats)),
+        Err(JobsBack { jobs: mut back }) => {
+            lay_jobs(&mut back, jobs, n);
+            Err(NoMemory)
+        }
+    }
+}
