@@ -2,42 +2,19 @@
 use Rattle.std.proofs.Common.{ℕ, zero, suc, ◌*◌, ◌^◌, ◌<◌, ◌≤◌, ◌≡◌, inl, inr, lit<, List, [], ◌∷◌, Some, length, map, replicate, refl, sym, ap, ◌∙◌, subst, arith, length-append}
 use Rattle.std.specs.Prelude.{slice_get}
 use Rattle.std.specs.List.{AllByRecursion}
-use Rattle.std.proofs.lemmas.Bool.{cases_Bool, cond-true, cond-false}
 use Rattle.std.proofs.lemmas.List.{length-map}
-use Rattle.sched_base.specs.declared.rows.Leaf.{Leaf}
-use Rattle.sched_base.specs.declared.rows.Leaf.TheVariants.{Task, Wait, Idle, Empty}
 use Rattle.sched_base.specs.declared.rows.Row.{Row}
-use Rattle.sched_base.specs.declared.sets.Task as declared
 use Rattle.sched_base.specs.Lanes.{NamesOneOf}
 use Rattle.sched_base.specs.Sets.{SetContents}
 use Rattle.sched_base.specs.Tables.{IsTable, all_rows, end_after, lane_of, rounds_of as rounds_in, row_limit, ticks_in}
+use Rattle.row_totals.specs.Sums.{NamesAmong, AreForward}
+use Rattle.row_totals.proofs.NameLemmas.{names_among}
 use Rattle.row_totals.proofs.TableSums.{ticks_fit}
-use Rattle.trace_lines.specs.Conditions.{IsAmong, RunForward}
-use Rattle.trace_lines.specs.Finishes.{ticks_of}
-use Rattle.trace_lines.specs.Merging.{lengthened, merge_onto, merged}
-use Rattle.trace_lines.proofs.MergeLemmas.{few_merged, forward_lanes, forward_merged, goes_on, ticks_merged_lanes}
+use Rattle.trace_lines.specs.Merging.{merged}
+use Rattle.trace_lines.proofs.MergeLemmas.{few_merged, forward_lanes, forward_merged, names_merged, ticks_merged_lanes}
 use Rattle.merged_rows.specs.Lawful.{AreLawful}
-use Rattle.merged_rows.specs.Sums.{NamesAmong, TicksFit}
+use Rattle.merged_rows.specs.Sums.{TicksFit}
 use Rattle.merged_rows.proofs.PushLemmas.{all_merged}
-
--- ---- names
-
-among : (tasks : List declared.Task) (leaf : Leaf) → NamesOneOf tasks leaf → IsAmong (length tasks) leaf
-among tasks (Task id) h = h
-among tasks (Wait id) h = tt
-among tasks (Idle number) h = tt
-among tasks Empty h = tt
-
-names_onto : (tasks : List declared.Task) (r : Row) (rows : List Row) → IsAmong (length tasks) r.leaf → NamesAmong (length tasks) rows → NamesAmong (length tasks) (merge_onto r rows)
-names_onto tasks r [] own rest = (own, tt)
-names_onto tasks r (q ∷ rows) own rest = elim (cases_Bool (goes_on r q)) [
-  | inl t ↦ (let e : merge_onto r (q ∷ rows) ≡ lengthened r q.end ∷ rows = cond-true _ _ _ t in subst (NamesAmong (length tasks)) (sym e) (own, rest.1))
-  | inr f ↦ (let e : merge_onto r (q ∷ rows) ≡ r ∷ (q ∷ rows) = cond-false _ _ _ f in subst (NamesAmong (length tasks)) (sym e) (own, rest))
-]
-
-names_merged : (tasks : List declared.Task) (rows : List Row) → AllByRecursion (λ r. NamesOneOf tasks r.leaf) rows → NamesAmong (length tasks) (merged rows)
-names_merged tasks [] names = tt
-names_merged tasks (r ∷ rows) names = names_onto tasks r (merged rows) (among tasks r.leaf names.0) (names_merged tasks rows names.1)
 
 -- ---- of each lane, merged
 
@@ -68,7 +45,7 @@ count_of_all (lane ∷ lanes) k whole =
 
 merged_fit : (lanes : List (List Row)) → IsTable lanes → TicksFit (all_rows (map merged lanes))
 merged_fit lanes table j =
-    let e : ticks_of (all_rows (map merged lanes)) j ≡ ticks_in j (all_rows lanes) = ap (λ rows. ticks_of rows j) (all_merged lanes) ∙ ticks_merged_lanes j lanes (forward_lanes lanes table) in
+    let e : ticks_in j (all_rows (map merged lanes)) ≡ ticks_in j (all_rows lanes) = ap (ticks_in j) (all_merged lanes) ∙ ticks_merged_lanes j lanes (forward_lanes lanes table) in
     let f = ticks_fit j lanes table in
     let wide : 2 ^ 127 < 2 ^ 128 = lit< tt in
     omega (arith, e, f, wide)
@@ -80,8 +57,8 @@ pub lawful_rows : (s : SetContents) (raw : List (List Row)) (rounds : ℕ) → l
     → IsTable raw → rounds_in raw ≡ rounds → rounds * s.processors ≤ row_limit → AreLawful s (map merged raw)
 lawful_rows s raw rounds many names table count few = record {
   processors = length-map raw merged ∙ many;
-  names = all_of (AllByRecursion (λ r. NamesOneOf s.tasks r.leaf)) (NamesAmong (length s.tasks)) (names_merged s.tasks) raw names;
-  forward = all_of RunForward RunForward forward_merged raw (forward_lanes raw table);
+  names = all_of (AllByRecursion (λ r. NamesOneOf s.tasks r.leaf)) (NamesAmong (length s.tasks)) (λ rows named. names_merged (length s.tasks) rows (names_among s.tasks rows named)) raw names;
+  forward = all_of AreForward AreForward forward_merged raw (forward_lanes raw table);
   few =
       (let less = few_of_all raw in
       let all = count_of_all raw (rounds_in raw) table.whole in

@@ -1,11 +1,11 @@
 //! The merged rows of one processor, as two columns.
-ghost use Rattle.std.specs.Prelude.{◌≡◌, ◌<◌, ◌==◌, [], ◌∷◌, ◌++◌, length, OnOk, OnErr, Some, slice_get};
-ghost use Rattle.trace_lines.specs.Merging.{shown};
+ghost use Rattle.std.specs.Prelude.{◌≡◌, ◌<◌, [], ◌∷◌, ◌++◌, length, OnOk, OnErr, Some, slice_get};
 ghost use Rattle.merged_rows.specs.Columns.{Begun, going_on, shows_last, showing};
 
 use sched_base::{Leaf, NoMemory};
 use std::alloc::Global;
 use std::marker::Model;
+use trace_lines::is_shown_alike;
 
 /// The rows of one processor as they begin, each at a tick and with what it shows. A row goes on up to the next one's start.
 #[derive(Drop)]
@@ -90,16 +90,5 @@ impl MergedLane {
         ensures { slice_get self.now i ≡ Some (record { start = result.0; leaf = result.1 }) }
     {
         (self.starts[i], self.leaves[i])
-    }
-}
-
-// Whether two leaves are printed alike: all but tasks are.
-fn is_shown_alike(first: Leaf, second: Leaf) -> bool
-    ensures { result ≡ (shown first == shown second) }
-{
-    match (first, second) {
-        (Leaf::Task(one), Leaf::Task(other)) => one.0 == other.0,
-        (Leaf::Task(_), _) | (_, Leaf::Task(_)) => false,
-        _ => true,
     }
 }

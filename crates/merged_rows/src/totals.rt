@@ -1,21 +1,22 @@
 //! The ticks of each task in merged rows.
-ghost use Rattle.std.specs.Prelude.{◌≡◌, ◌<◌, ◌≤◌, [], ◌∷◌, length, replicate, slice_index, EachIndex, IfOk};
+ghost use Rattle.std.specs.Prelude.{◌≡◌, ◌<◌, length, replicate, IfOk};
 ghost use Rattle.std.specs.List.{AllByRecursion};
 ghost use Rattle.sched_base.specs.Tables.{all_rows, lane_of};
-ghost use Rattle.trace_lines.specs.Conditions.{IsAmong, RunForward};
-ghost use Rattle.merged_rows.specs.Sums.{NamesAmong, TicksFit, Adds, HaveRoomFor, totals_of};
+ghost use Rattle.row_totals.specs.Sums.{NamesAmong, AreForward, Adds, HaveRoomFor, totals_of};
+ghost use Rattle.merged_rows.specs.Sums.{TicksFit};
 
 use crate::merging::MergedRows;
-use sched_base::{Leaf, NoMemory, Row};
+use row_totals::add_row;
+use sched_base::NoMemory;
 use std::alloc::Global;
 
 /// For each of the first `tasks` tasks, in order, the ticks of its rows. Rows of waiting tasks and of idle leaves count for no task.
 /// The only error is want of memory.
 pub fn totals_of(alloc: Global, rows: &MergedRows, tasks: u32) -> Result<Vec<u128>, NoMemory>
     requires names { AllByRecursion (NamesAmong tasks) rows.now.lanes }
-    requires forward { AllByRecursion RunForward rows.now.lanes }
+    requires forward { AllByRecursion AreForward rows.now.lanes }
     requires fit { TicksFit (all_rows rows.now.lanes) }
-    ensures { IfOk result (λ v. v.items ≡ totals_of tasks (all_rows rows.now.lanes)) }
+    ensures { IfOk result (λ v. v.items ≡ totals_of tasks rows.now.lanes) }
 {
     let mut sums = no_ticks(alloc, tasks)?;
     add_lanes(&mut sums, rows);
@@ -31,7 +32,7 @@ fn no_ticks(alloc: Global, tasks: u32) -> Result<Vec<u128>, NoMemory>
 // Adds the rows of all processors to sums that are 0.
 fn add_lanes(sums: &mut [u128], rows: &MergedRows)
     requires names { AllByRecursion (NamesAmong (length sums.old)) rows.now.lanes }
-    requires forward { AllByRecursion RunForward rows.now.lanes }
+    requires forward { AllByRecursion AreForward rows.now.lanes }
     requires room { HaveRoomFor (all_rows rows.now.lanes) sums.old }
     ensures { Adds (all_rows rows.now.lanes) sums.old sums.new }
 {
@@ -44,22 +45,11 @@ fn add_lanes(sums: &mut [u128], rows: &MergedRows)
 fn add_lane(sums: &mut [u128], rows: &MergedRows, p: u32)
     requires processor { p < length rows.now.lanes }
     requires names { NamesAmong (length sums.old) (lane_of rows.now.lanes p) }
-    requires forward { RunForward (lane_of rows.now.lanes p) }
+    requires forward { AreForward (lane_of rows.now.lanes p) }
     requires room { HaveRoomFor (lane_of rows.now.lanes p) sums.old }
     ensures { Adds (lane_of rows.now.lanes p) sums.old sums.new }
 {
     for i in 0..rows.count(p) {
         add_row(sums, &rows.row(p, i));
-    }
-}
-
-fn add_row(sums: &mut [u128], row: &Row)
-    requires among { IsAmong (length sums.old) row.now.leaf }
-    requires forward { row.now.start ≤ row.now.end }
-    requires room { HaveRoomFor (row.now ∷ []) sums.old }
-    ensures { Adds (row.now ∷ []) sums.old sums.new }
-{
-    if let Leaf::Task(id) = row.leaf {
-        sums[id.0 as usize] += row.end - row.start;
     }
 }

@@ -1,2 +1,3 @@
-mod SumLemmas
+pub mod SumLemmas
+pub mod NameLemmas
 pub mod TableSums

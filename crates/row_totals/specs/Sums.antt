@@ -27,7 +27,7 @@ Adds rows before after = (j : ℕ) → j < length before → slice_index after j
 
 -- the ticks of the rows can be added without overflow
 abbrev pub HaveRoomFor : List Row → List ℕ → Type 0
-HaveRoomFor rows sums = (j : ℕ) → j < length sums → slice_index sums j + ticks_in j rows < 2 ^ 127
+HaveRoomFor rows sums = (j : ℕ) → j < length sums → slice_index sums j + ticks_in j rows < 2 ^ 128
 
 -- for each of the first n tasks, in order, the ticks that the table's rows give to it
 abbrev pub totals_of : ℕ → List (List Row) → List ℕ

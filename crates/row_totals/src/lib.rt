@@ -10,6 +10,7 @@ mod sums;
 use crate::sums::add_lanes;
 use sched_base::{NoMemory, RowTable, Totals};
 use std::alloc::Global;
+pub use sums::add_row;
 
 /// For each of the first `tasks` tasks, in order, the ticks that the rows of the table give to it. Rows of waiting tasks and
 /// of idle leaves count for no task. The only error is want of memory.

@@ -6,7 +6,8 @@ ghost use Rattle.row_totals.specs.Sums.{IsAmong, NamesAmong, AreForward, Adds, H
 
 use sched_base::{Leaf, Row, RowTable};
 
-fn add_row(sums: &mut [u128], row: &Row)
+/// Adds the ticks of a row to the sum of its task; a row of a waiting task or of an idle leaf adds nothing.
+pub fn add_row(sums: &mut [u128], row: &Row)
     requires among { IsAmong (length sums.old) row.now.leaf }
     requires forward { row.now.start ≤ row.now.end }
     requires room { HaveRoomFor (row.now ∷ []) sums.old }

@@ -16,7 +16,8 @@ ticks_line width = codes "  uint" ++ (decimal width ++ codes "_t start, end;\n")
 -- a task: its name, work, period and offset
 unfoldable pub task_line : Task → List ℕ
 task_line t =
-    codes "  {\"" ++ (t.name ++ (codes "\", " ++ (decimal t.work ++ (codes "u, " ++ (decimal t.period ++ (codes "u, " ++ (decimal t.offset ++ codes "u},\n")))))))
+    codes "  {\"" ++ (t.name ++ (codes "\", " ++ (decimal t.work ++ (codes "u, " ++ (decimal t.period
+    ++ (codes "u, " ++ (decimal t.offset ++ codes "u},\n")))))))
 
 -- the number of the task that runs, or -1 where none does
 abbrev pub task_number : Leaf → List ℕ

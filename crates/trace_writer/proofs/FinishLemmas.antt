@@ -1,7 +1,6 @@
 -- When a period was done: by merged rows as by the rows themselves, and by the ends of the rows.
 use Rattle.std.proofs.Common.{ℕ, ◌+◌, ◌-◌, ◌*◌, ◌^◌, ◌<◌, ◌≤◌, ◌≡◌, inl, inr, min, max, eqb, ltb, Bool, true, false, ◌&&◌, List, [], ◌∷◌, ◌++◌, cond, sym, refl, ap, ◌∙◌, arith}
 use Rattle.std.proofs.lemmas.Bool.{cases_Bool, cases_lt, and_parts, cond-true, cond-false, eqb-true, lt-ltb, le-ltb, ltb-false}
-use Rattle.std.proofs.Math.Nat.{mul-le-mul_right, le-div_iff_mul-le}
 use Rattle.std.specs.List.{AllByRecursion}
 use Rattle.sched_base.specs.declared.rows.Row.{Row}
 use Rattle.sched_base.specs.Tables.{IsTable, all_rows}
@@ -9,9 +8,10 @@ use Rattle.sched_base.specs.declared.sets.Task.{Task}
 use Rattle.sched_base.specs.Rows.{is_of_task}
 use Rattle.sched_base.specs.Sets.{SetContents, task_at}
 use Rattle.sched_base.specs.Valid.{period_start}
-use Rattle.trace_lines.specs.Finishes.{ended_count, finish, finish_between}
+use Rattle.trace_lines.specs.Finishes.{finish, finish_between}
 use Rattle.trace_lines.specs.Merging.{shown, lengthened, merge_onto, merged, merged_lanes}
-use Rattle.trace_lines.specs.Conditions.{RunForward}
+use Rattle.row_totals.specs.Sums.{AreForward}
+use Rattle.trace_lines.proofs.PeriodLemmas.{starts_rise}
 use Rattle.trace_lines.proofs.MergeLemmas.{goes_on, shown_same, forward_merged, forward_lanes}
 use Rattle.trace_writer.specs.Ends.{own_end, last_end_before}
 use Rattle.trace_writer.proofs.EndLemmas.{last_end_before-append}
@@ -105,7 +105,7 @@ reach_joined r q j a b most same joint own next above =
           omega (arith, whole, first, second, above))
     ]
 
-finish_onto : (r : Row) (rows : List Row) (j a b : ℕ) → r.start ≤ r.end → RunForward rows → finish_between (merge_onto r rows) j a b ≡ max (reach r j a b) (finish_between rows j a b)
+finish_onto : (r : Row) (rows : List Row) (j a b : ℕ) → r.start ≤ r.end → AreForward rows → finish_between (merge_onto r rows) j a b ≡ max (reach r j a b) (finish_between rows j a b)
 finish_onto r [] j a b own rest = finish_cons r [] j a b
 finish_onto r (q ∷ rows) j a b own rest =
     elim (cases_Bool (goes_on r q)) [
@@ -123,7 +123,7 @@ finish_onto r (q ∷ rows) j a b own rest =
     ]
 
 -- merged rows finish a period when the rows do
-pub finish_merged : (rows : List Row) (j a b : ℕ) → RunForward rows → finish_between (merged rows) j a b ≡ finish_between rows j a b
+pub finish_merged : (rows : List Row) (j a b : ℕ) → AreForward rows → finish_between (merged rows) j a b ≡ finish_between rows j a b
 finish_merged [] j a b f = refl
 finish_merged (r ∷ rows) j a b f =
     let one = finish_onto r (merged rows) j a b f.0 (forward_merged rows f.1) in
@@ -166,7 +166,7 @@ finish_by_end (r ∷ rows) j a b h =
     cond_same false = refl
 
 -- the same of merged lanes by the table's rows
-pub finish_lanes : (lanes : List (List Row)) (j a b : ℕ) → a ≤ b → AllByRecursion RunForward lanes → finish_between (merged_lanes lanes) j a b ≡ max a (min b (last_end_before b (all_rows lanes) j))
+pub finish_lanes : (lanes : List (List Row)) (j a b : ℕ) → a ≤ b → AllByRecursion AreForward lanes → finish_between (merged_lanes lanes) j a b ≡ max a (min b (last_end_before b (all_rows lanes) j))
 finish_lanes [] j a b h forward = omega (arith, h)
 finish_lanes (lane ∷ lanes) j a b h forward =
     let split = finish-append (merged lane) (merged_lanes lanes) j a b in
@@ -177,25 +177,6 @@ finish_lanes (lane ∷ lanes) j a b h forward =
     omega (arith, split, first, one, rest, both)
 
 -- ---- periods
-
-pub starts_rise : (scale : ℕ) (t : Task) (k : ℕ) → period_start scale t k ≤ period_start scale t (k + 1)
-starts_rise scale t k =
-    let step : k * t.period ≤ (k + 1) * t.period = mul-le-mul_right t.period (omega arith) in
-    mul-le-mul_right scale (omega (arith, step))
-
--- a period that ends by the horizon begins by it too, in ticks that fit
-ended_within : (s : SetContents) (t : Task) (k : ℕ) → 0 < t.period → k < ended_count s t → t.offset + (k + 1) * t.period ≤ s.horizon
-ended_within s t k some h =
-    let v : (k + 1) * t.period ≤ s.horizon - t.offset = (le-div_iff_mul-le some).0 (omega (arith, h)) in
-    let w : 1 * t.period ≤ (k + 1) * t.period = mul-le-mul_right t.period (omega arith) in
-    omega (arith, v, w, some)
-
-pub start_fits : (s : SetContents) (t : Task) (scale k : ℕ) → 0 < t.period → k < ended_count s t → s.horizon < 2 ^ 32 → scale ≤ 2 ^ 94 → period_start scale t (k + 1) < 2 ^ 127
-start_fits s t scale k some h u v =
-    let w = ended_within s t k some h in
-    let a : period_start scale t (k + 1) ≤ s.horizon * scale = mul-le-mul_right scale w in
-    let b : s.horizon * scale ≤ (2 ^ 32 - 1) * scale = mul-le-mul_right scale (omega (arith, u)) in
-    omega (arith, a, b, v)
 
 -- when period k was done, found from its first tick, the one after its last, and the ends of the rows that start before that
 pub finish_is : (s : SetContents) (lanes : List (List Row)) (t : Task) (j scale k begin end reached cut result : ℕ) → IsTable lanes → task_at s.tasks j ≡ t → begin ≡ period_start scale t k → end ≡ period_start scale t (k + 1)

@@ -4,7 +4,6 @@ use Rattle.std.specs.Prelude.{IsErr}
 use Rattle.std.specs.List.{AllByRecursion, flat_map}
 use Rattle.std.specs.Io.KnownBytes.{Appends}
 use Rattle.std.proofs.KnownBytes.{Appends-trans}
-use Rattle.std.proofs.lemmas.Bool.{cases_Bool, cond-true, cond-false}
 use Rattle.std.proofs.lemmas.List.{take_more}
 use Rattle.std.proofs.lemmas.List.Concat.{flat_map-append}
 use Rattle.sched_base.specs.declared.rows.Row.{Row}
@@ -12,10 +11,9 @@ use Rattle.sched_base.specs.declared.sets.Task.{Task}
 use Rattle.sched_base.specs.Tables.{IsTable, lane_of, rounds_of}
 use Rattle.sched_edges.specs.Streams.{Wrote}
 use Rattle.sched_edges.proofs.Wrote.{part_then, part_cut, wrote_part}
-use Rattle.trace_lines.specs.Conditions.{IsAmong, NameTasks}
+use Rattle.row_totals.specs.Sums.{IsAmong, NamesAmong}
 use Rattle.trace_lines.specs.Lines.{row_line}
-use Rattle.trace_lines.specs.Merging.{lengthened, merge_onto, merged, merged_lanes}
-use Rattle.trace_lines.proofs.MergeLemmas.{goes_on}
+use Rattle.trace_lines.specs.Merging.{merged, merged_lanes}
 
 -- ---- one processor
 
@@ -64,22 +62,9 @@ written_all tasks a b rows left count v none so_far =
     let whole : merged rows ≡ written = all ∙ ap (λ rs. written ++ merged rs) none ∙ append-nil written in
     (record { ok = subst (Appends a b) (ap (flat_map (row_line tasks)) (sym whole)) took; err = tt }, counted ∙ ap length (sym whole))
 
-names_onto : (tasks : List Task) (r : Row) (rows : List Row) → IsAmong (length tasks) r.leaf → NameTasks tasks rows → NameTasks tasks (merge_onto r rows)
-names_onto tasks r [] own rest = (own, tt)
-names_onto tasks r (q ∷ rows) own rest =
-    elim (cases_Bool (goes_on r q)) [
-      | inl t ↦ (let e : merge_onto r (q ∷ rows) ≡ lengthened r q.end ∷ rows = cond-true _ _ _ t in subst (NameTasks tasks) (sym e) (own, rest.1))
-      | inr f ↦ (let e : merge_onto r (q ∷ rows) ≡ r ∷ (q ∷ rows) = cond-false _ _ _ f in subst (NameTasks tasks) (sym e) (own, rest))
-    ]
-
--- merged rows name tasks of the set alone, where the rows do
-pub names_merged : (tasks : List Task) (rows : List Row) → NameTasks tasks rows → NameTasks tasks (merged rows)
-names_merged tasks [] names = tt
-names_merged tasks (r ∷ rows) names = names_onto tasks r (merged rows) names.0 (names_merged tasks rows names.1)
-
--- the next of them does, and so do those after it
-pub names_next : (tasks : List Task) (left later : List Row) (r : Row) → merged left ≡ r ∷ merged later → NameTasks tasks (merged left) → IsAmong (length tasks) r.leaf × NameTasks tasks (merged later)
-names_next tasks left later r first names = subst (NameTasks tasks) first names
+-- where the merged rows name the first n tasks alone, the next of them does, and so do those after it
+pub names_next : (n : ℕ) (left later : List Row) (r : Row) → merged left ≡ r ∷ merged later → NamesAmong n (merged left) → IsAmong n r.leaf × NamesAmong n (merged later)
+names_next n left later r first names = subst (NamesAmong n) first names
 
 -- ---- all processors
 

@@ -4,9 +4,8 @@ use Rattle.std.specs.Prelude.{slice_get}
 use Rattle.std.specs.List.{flat_map}
 use Rattle.std.proofs.lemmas.List.Concat.{flat_map-append}
 use Rattle.sched_base.specs.declared.rows.Row.{Row}
-use Rattle.sched_base.specs.declared.sets.Task.{Task}
 use Rattle.sched_base.specs.Tables.{all_rows, lane_of}
-use Rattle.trace_lines.specs.Conditions.{IsAmong, NameTasks}
+use Rattle.row_totals.specs.Sums.{IsAmong, NamesAmong}
 
 -- the text of all rows is that of each lane's
 pub all_text : (f : Row → List ℕ) (lanes : List (List Row)) → flat_map f (all_rows lanes) ≡ flat_map (flat_map f) lanes
@@ -43,7 +42,7 @@ row_there [] i r at = absurd (let e : None ≡ Some r = at in cc)
 row_there (q ∷ rows) zero r at = let e : Some q ≡ Some r = at in cc
 row_there (q ∷ rows) (suc i) r at = row_there rows i r at
 
-pub row_among : (tasks : List Task) (rows : List Row) (i : ℕ) (r : Row) → slice_get rows i ≡ Some r → NameTasks tasks rows → IsAmong (length tasks) r.leaf
-row_among tasks [] i r at names = absurd (let e : None ≡ Some r = at in cc)
-row_among tasks (q ∷ rows) zero r at names = let e : Some q ≡ Some r = at in let e' : q ≡ r = cc in subst (λ (x : Row). IsAmong (length tasks) x.leaf) e' names.0
-row_among tasks (q ∷ rows) (suc i) r at names = row_among tasks rows i r at names.1
+pub row_among : (n : ℕ) (rows : List Row) (i : ℕ) (r : Row) → slice_get rows i ≡ Some r → NamesAmong n rows → IsAmong n r.leaf
+row_among n [] i r at names = absurd (let e : None ≡ Some r = at in cc)
+row_among n (q ∷ rows) zero r at names = let e : Some q ≡ Some r = at in let e' : q ≡ r = cc in subst (λ (x : Row). IsAmong n x.leaf) e' names.0
+row_among n (q ∷ rows) (suc i) r at names = row_among n rows i r at names.1

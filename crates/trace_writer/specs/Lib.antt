@@ -1,4 +1,3 @@
-pub mod Conditions
 pub mod Parts
 pub mod Ends
 pub mod Reaches

@@ -1,15 +1,13 @@
 //! A trace text from its first line up to its totals.
 ghost use Rattle.std.specs.Prelude.{◌≡◌, ◌≤◌, ◌*◌, length, IfOk};
 ghost use Rattle.std.specs.List.{AllByRecursion, flat_map};
-ghost use Rattle.sched_base.specs.Tables.{all_rows, rounds_of};
+ghost use Rattle.sched_base.specs.Tables.{all_rows, rounds_of, row_limit};
 ghost use Rattle.sched_edges.specs.Causes.{HasCause};
 ghost use Rattle.sched_edges.specs.Streams.{Wrote};
-ghost use Rattle.trace_lines.specs.Conditions.{NameTasks};
+ghost use Rattle.row_totals.specs.Sums.{NamesAmong, totals_of};
 ghost use Rattle.trace_lines.specs.Lines.{task_line, version_number};
 ghost use Rattle.trace_lines.specs.Merging.{merged_lanes};
 ghost use Rattle.trace_lines.specs.Text.{head_lines};
-ghost use Rattle.merged_rows.specs.Sums.{totals_of as merged_totals};
-ghost use Rattle.trace_writer.specs.Conditions.{totals_of};
 ghost use Rattle.trace_writer.specs.Parts.{text_of, body_text, lines_of_totals};
 
 use crate::lines::line_of_task;
@@ -29,9 +27,9 @@ pub(crate) fn write_body<W: Sink>(
     table: &RowTable,
     totals: &[u128],
 ) -> Result<u64, Failed>
-    requires names { AllByRecursion (NameTasks set.now.tasks) table.now.lanes }
-    requires few { length table.now.lanes * rounds_of table.now.lanes ≤ 2_097_152 }
-    requires totals { totals.now ≡ totals_of set.now.tasks table.now.lanes }
+    requires names { AllByRecursion (NamesAmong (length set.now.tasks)) table.now.lanes }
+    requires few { length table.now.lanes * rounds_of table.now.lanes ≤ row_limit }
+    requires totals { totals.now ≡ totals_of (length set.now.tasks) table.now.lanes }
     ensures wrote { Wrote (W.taken sink.old) (W.taken sink.new) (body_text version set.now scale (merged_lanes table.now.lanes)) result }
     ensures count { IfOk result (λ n. n ≡ length (merged_lanes table.now.lanes)) }
     ensures cause { HasCause (W.faults sink.old) (W.faults sink.new) result }
@@ -53,9 +51,9 @@ pub(crate) fn write_merged_body<W: Sink>(
     rows: &MergedRows,
     totals: &[u128],
 ) -> Result<u64, Failed>
-    requires names { AllByRecursion (NameTasks set.now.tasks) rows.now.lanes }
-    requires few { length (all_rows rows.now.lanes) ≤ 2_097_152 }
-    requires totals { totals.now ≡ merged_totals (length set.now.tasks) (all_rows rows.now.lanes) }
+    requires names { AllByRecursion (NamesAmong (length set.now.tasks)) rows.now.lanes }
+    requires few { length (all_rows rows.now.lanes) ≤ row_limit }
+    requires totals { totals.now ≡ totals_of (length set.now.tasks) rows.now.lanes }
     ensures wrote { Wrote (W.taken sink.old) (W.taken sink.new) (body_text version set.now scale (all_rows rows.now.lanes)) result }
     ensures count { IfOk result (λ n. n ≡ length (all_rows rows.now.lanes)) }
     ensures cause { HasCause (W.faults sink.old) (W.faults sink.new) result }

@@ -3,7 +3,6 @@
 
 mod body;
 mod digits;
-mod finishes;
 mod lines;
 mod merged;
 mod mets;

@@ -1,6 +1,6 @@
 //! The lines of tasks and rows.
 ghost use Rattle.std.specs.Prelude.{◌≡◌, ◌≤◌, ◌++◌, ◌∷◌, codes, decimal, length};
-ghost use Rattle.trace_lines.specs.Conditions.{IsAmong};
+ghost use Rattle.row_totals.specs.Sums.{IsAmong};
 ghost use Rattle.trace_lines.specs.Lines.{leaf_name, task_line, row_line};
 
 use crate::pages::Page;

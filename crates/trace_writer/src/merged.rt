@@ -1,10 +1,10 @@
 //! The lines of rows that are merged already.
 ghost use Rattle.std.specs.Prelude.{◌≡◌, ◌≤◌, ◌<◌, ◌++◌, length, take, IfOk};
 ghost use Rattle.std.specs.List.{AllByRecursion, flat_map};
-ghost use Rattle.sched_base.specs.Tables.{all_rows, lane_of};
+ghost use Rattle.sched_base.specs.Tables.{all_rows, lane_of, row_limit};
 ghost use Rattle.sched_edges.specs.Causes.{HasCause};
 ghost use Rattle.sched_edges.specs.Streams.{Wrote};
-ghost use Rattle.trace_lines.specs.Conditions.{NameTasks};
+ghost use Rattle.row_totals.specs.Sums.{NamesAmong};
 ghost use Rattle.trace_lines.specs.Lines.{row_line};
 
 use crate::lines::add_row;
@@ -22,8 +22,8 @@ pub(crate) fn write_merged_rows<W: Sink>(
     set: &TaskSet,
     rows: &MergedRows,
 ) -> Result<u64, Failed>
-    requires names { AllByRecursion (NameTasks set.now.tasks) rows.now.lanes }
-    requires few { length (all_rows rows.now.lanes) ≤ 2_097_152 }
+    requires names { AllByRecursion (NamesAmong (length set.now.tasks)) rows.now.lanes }
+    requires few { length (all_rows rows.now.lanes) ≤ row_limit }
     ensures wrote { Wrote (W.taken sink.old) (W.taken sink.new) (flat_map (row_line set.now.tasks) (all_rows rows.now.lanes)) result }
     ensures count { IfOk result (λ n. n ≡ length (all_rows rows.now.lanes)) }
     ensures cause { HasCause (W.faults sink.old) (W.faults sink.new) result }
@@ -43,7 +43,7 @@ fn write_merged_lane<W: Sink>(
     p: u32,
 ) -> Result<u64, Failed>
     requires processor { p < length rows.now.lanes }
-    requires names { NameTasks set.now.tasks (lane_of rows.now.lanes p) }
+    requires names { NamesAmong (length set.now.tasks) (lane_of rows.now.lanes p) }
     ensures wrote { Wrote (W.taken sink.old) (W.taken sink.new) (flat_map (row_line set.now.tasks) (lane_of rows.now.lanes p)) result }
     ensures count { IfOk result (λ n. n ≡ length (lane_of rows.now.lanes p)) }
     ensures cause { HasCause (W.faults sink.old) (W.faults sink.new) result }
@@ -62,7 +62,7 @@ fn write_merged_lane<W: Sink>(
 fn fill(page: &mut Page, set: &TaskSet, rows: &MergedRows, p: u32, first: usize) -> usize
     requires processor { p < length rows.now.lanes }
     requires some { first < length (lane_of rows.now.lanes p) }
-    requires names { NameTasks set.now.tasks (lane_of rows.now.lanes p) }
+    requires names { NamesAmong (length set.now.tasks) (lane_of rows.now.lanes p) }
     ensures later { first < result }
     ensures within { result ≤ length (lane_of rows.now.lanes p) }
     ensures text { flat_map (row_line set.now.tasks) (take result (lane_of rows.now.lanes p))

@@ -8,11 +8,10 @@ ghost use Rattle.trace_lines.specs.Merging.{merged_lanes};
 ghost use Rattle.trace_lines.specs.Text.{mets_of_task, met_lines};
 ghost use Rattle.trace_writer.specs.Parts.{text_of};
 
-use crate::finishes::{ended_count, period_start};
 use crate::reaches::{Reach, reach_to};
 use sched_base::{RowTable, Task, TaskSet};
 use sched_edges::{Failed, Sink, write_all};
-use trace_lines::met_line;
+use trace_lines::{ended_count, met_line, period_start};
 
 /// Writes for each task in order, and for each of its periods that ends by the horizon, when it was done.
 pub(crate) fn write_mets<W: Sink>(

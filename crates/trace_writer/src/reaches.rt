@@ -1,12 +1,12 @@
 //! How far the rows of a task reach, round by round.
 ghost use Rattle.std.specs.Prelude.{ℕ, List, ◌≡◌, ◌≤◌, ◌<◌};
 ghost use Rattle.sched_base.specs.declared.rows.Row.{Row};
+ghost use Rattle.sched_base.specs.Rows.{is_of_task};
 ghost use Rattle.sched_base.specs.Tables.{IsTable, all_rows, rounds_of};
 ghost use Rattle.trace_writer.specs.Ends.{last_end, last_end_before, rows_of_round};
 ghost use Rattle.trace_writer.specs.Reaches.{HasGone};
 
-use crate::finishes::is_of_task;
-use sched_base::RowTable;
+use sched_base::{Leaf, RowTable};
 
 /// How far the rows of a task reach in the first rounds of a table.
 #[derive(Clone, Copy)]
@@ -59,4 +59,14 @@ fn end_in_round(table: &RowTable, task: u32, k: u64) -> u128
         }
     }
     end
+}
+
+// Whether the leaf is the task of this number.
+fn is_of_task(leaf: Leaf, task: u32) -> bool
+    ensures { result ≡ is_of_task task leaf }
+{
+    match leaf {
+        Leaf::Task(id) => id.0 == task,
+        Leaf::Idle(_) | Leaf::Wait(_) | Leaf::Empty => false,
+    }
 }

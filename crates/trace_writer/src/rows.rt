@@ -1,10 +1,10 @@
 //! The lines of the rows.
 ghost use Rattle.std.specs.Prelude.{◌≡◌, ◌≤◌, ◌*◌, length, IfOk};
 ghost use Rattle.std.specs.List.{AllByRecursion, flat_map};
-ghost use Rattle.sched_base.specs.Tables.{rounds_of};
+ghost use Rattle.sched_base.specs.Tables.{rounds_of, row_limit};
 ghost use Rattle.sched_edges.specs.Causes.{HasCause};
 ghost use Rattle.sched_edges.specs.Streams.{Wrote};
-ghost use Rattle.trace_lines.specs.Conditions.{NameTasks};
+ghost use Rattle.row_totals.specs.Sums.{NamesAmong};
 ghost use Rattle.trace_lines.specs.Lines.{row_line};
 ghost use Rattle.trace_lines.specs.Merging.{merged, merged_lanes};
 
@@ -20,8 +20,8 @@ pub(crate) fn write_rows<W: Sink>(
     set: &TaskSet,
     table: &RowTable,
 ) -> Result<u64, Failed>
-    requires names { AllByRecursion (NameTasks set.now.tasks) table.now.lanes }
-    requires few { length table.now.lanes * rounds_of table.now.lanes ≤ 2_097_152 }
+    requires names { AllByRecursion (NamesAmong (length set.now.tasks)) table.now.lanes }
+    requires few { length table.now.lanes * rounds_of table.now.lanes ≤ row_limit }
     ensures wrote { Wrote (W.taken sink.old) (W.taken sink.new) (flat_map (row_line set.now.tasks) (merged_lanes table.now.lanes)) result }
     ensures count { IfOk result (λ n. n ≡ length (merged_lanes table.now.lanes)) }
     ensures cause { HasCause (W.faults sink.old) (W.faults sink.new) result }
@@ -35,11 +35,11 @@ pub(crate) fn write_rows<W: Sink>(
 
 // Writes the rows of one processor, merged.
 fn write_lane<W: Sink>(sink: &mut W, set: &TaskSet, lane: &[Row]) -> Result<u64, Failed>
-    requires names { NameTasks set.now.tasks lane.now }
-    requires few { length lane.now ≤ 2_097_152 }
+    requires names { NamesAmong (length set.now.tasks) lane.now }
+    requires few { length lane.now ≤ row_limit }
     ensures wrote { Wrote (W.taken sink.old) (W.taken sink.new) (flat_map (row_line set.now.tasks) (merged lane.now)) result }
     ensures count { IfOk result (λ n. n ≡ length (merged lane.now)) }
-    ensures few { IfOk result (λ n. n ≤ 2_097_152) }
+    ensures few { IfOk result (λ n. n ≤ row_limit) }
     ensures cause { HasCause (W.faults sink.old) (W.faults sink.new) result }
 {
     let mut page = Page::new();

@@ -2,15 +2,14 @@
 ghost use Rattle.std.specs.Prelude.{◌≡◌, ◌≤◌, ◌*◌, ◌^◌, length};
 ghost use Rattle.std.specs.List.{AllByRecursion};
 ghost use Rattle.sched_base.specs.Scale.{IsScale};
-ghost use Rattle.sched_base.specs.Tables.{all_rows, rounds_of};
+ghost use Rattle.sched_base.specs.Tables.{all_rows, rounds_of, row_limit};
 ghost use Rattle.sched_edges.specs.Causes.{HasCause};
 ghost use Rattle.sched_edges.specs.Streams.{Wrote};
 ghost use Rattle.trace_lines.specs.declared.versions.Version.TheVariants.{One, Two};
-ghost use Rattle.trace_lines.specs.Conditions.{NameTasks, AreOnTime};
+ghost use Rattle.row_totals.specs.Sums.{NamesAmong, totals_of};
+ghost use Rattle.trace_lines.specs.Conditions.{AreOnTime};
 ghost use Rattle.trace_lines.specs.Merging.{merged_lanes};
 ghost use Rattle.trace_lines.specs.Text.{trace_text};
-ghost use Rattle.merged_rows.specs.Sums.{totals_of as merged_totals};
-ghost use Rattle.trace_writer.specs.Conditions.{totals_of};
 
 use crate::body::{write_body, write_merged_body};
 use crate::mets::write_mets;
@@ -32,9 +31,9 @@ pub fn write_trace<W: Sink>(
 ) -> Result<(), Failed>
     requires on_time { AreOnTime set.now.tasks }
     requires processors { length table.now.lanes ≡ set.now.processors }
-    requires names { AllByRecursion (NameTasks set.now.tasks) table.now.lanes }
-    requires few { length table.now.lanes * rounds_of table.now.lanes ≤ 2_097_152 }
-    requires totals { totals.now ≡ totals_of set.now.tasks table.now.lanes }
+    requires names { AllByRecursion (NamesAmong (length set.now.tasks)) table.now.lanes }
+    requires few { length table.now.lanes * rounds_of table.now.lanes ≤ row_limit }
+    requires totals { totals.now ≡ totals_of (length set.now.tasks) table.now.lanes }
     ensures wrote { Wrote (W.taken sink.old) (W.taken sink.new) (trace_text One set.now scale (merged_lanes table.now.lanes)) result }
     ensures cause { HasCause (W.faults sink.old) (W.faults sink.new) result }
 {
@@ -53,9 +52,9 @@ pub fn write_merged<W: Sink>(
 ) -> Result<(), Failed>
     requires on_time { AreOnTime set.now.tasks }
     requires processors { length rows.now.lanes ≡ set.now.processors }
-    requires names { AllByRecursion (NameTasks set.now.tasks) rows.now.lanes }
-    requires few { length (all_rows rows.now.lanes) ≤ 2_097_152 }
-    requires totals { totals.now ≡ merged_totals (length set.now.tasks) (all_rows rows.now.lanes) }
+    requires names { AllByRecursion (NamesAmong (length set.now.tasks)) rows.now.lanes }
+    requires few { length (all_rows rows.now.lanes) ≤ row_limit }
+    requires totals { totals.now ≡ totals_of (length set.now.tasks) rows.now.lanes }
     ensures wrote { Wrote (W.taken sink.old) (W.taken sink.new) (trace_text One set.now scale (all_rows rows.now.lanes)) result }
     ensures cause { HasCause (W.faults sink.old) (W.faults sink.new) result }
 {
@@ -77,9 +76,9 @@ pub fn write_met<W: Sink>(
 ) -> Result<(), Failed>
     requires scale { scale ≤ 2 ^ 94 }
     requires processors { length table.now.lanes ≡ set.now.processors }
-    requires names { AllByRecursion (NameTasks set.now.tasks) table.now.lanes }
-    requires few { length table.now.lanes * rounds_of table.now.lanes ≤ 2_097_152 }
-    requires totals { totals.now ≡ totals_of set.now.tasks table.now.lanes }
+    requires names { AllByRecursion (NamesAmong (length set.now.tasks)) table.now.lanes }
+    requires few { length table.now.lanes * rounds_of table.now.lanes ≤ row_limit }
+    requires totals { totals.now ≡ totals_of (length set.now.tasks) table.now.lanes }
     ensures wrote { Wrote (W.taken sink.old) (W.taken sink.new) (trace_text Two set.now scale (merged_lanes table.now.lanes)) result }
     ensures cause { HasCause (W.faults sink.old) (W.faults sink.new) result }
 {

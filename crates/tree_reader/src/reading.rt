@@ -12,6 +12,7 @@ use crate::levels::read_levels;
 use sched_base::TaskSet;
 use std::alloc::Global;
 use trace_check::{is_scale, next_number, read_tasks};
+use trace_rows::FIRST_TASK_LINE;
 use tree_check::ReadTree;
 
 // What follows the tasks.
@@ -20,10 +21,10 @@ fn read_body(alloc: Global, set: TaskSet, scale: u128, text: &[u8]) -> Result<Re
     ensures tree { IfOk result (λ t. body set scale (lines_of text.now) ≡ Ok t) }
     ensures fault { IfErr result (Stops (body set scale (lines_of text.now))) }
 {
-    let tasks = u64::from(set.count());
-    let (count, rest) = next_number(text, 6 + tasks, b"idles", 0, 1_024)?;
-    let (idles, rest) = read_idles(alloc, scale, count as u32, 7 + tasks, rest)?;
-    let levels = read_levels(alloc, scale, 7 + tasks + idles.len() as u64, rest)?;
+    let after_tasks = FIRST_TASK_LINE + u64::from(set.count());
+    let (count, rest) = next_number(text, after_tasks, b"idles", 0, 1_024)?;
+    let (idles, rest) = read_idles(alloc, scale, count as u32, after_tasks + 1, rest)?;
+    let levels = read_levels(alloc, scale, after_tasks + 1 + idles.len() as u64, rest)?;
     Ok(ReadTree::new(set, scale, idles, levels))
 }
 

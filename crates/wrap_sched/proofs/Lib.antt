@@ -10,4 +10,3 @@ mod PatternLemmas
 mod TableLemmas
 mod RowNames
 mod MergedLemmas
-mod Examples

@@ -8,12 +8,9 @@ ghost use Rattle.wrap_sched.specs.Wrapped.{wrapped_rounds};
 
 use crate::cuts::{cuts_of, rates_of};
 use crate::points::next_point;
-use sched_base::{NoMemory, TaskSet};
+use sched_base::{NoMemory, ROW_LIMIT, TaskSet};
 use std::alloc::Global;
 use thiserror::Error;
-
-/// The rows that a schedule may have.
-const ROW_LIMIT: u64 = 2_097_152;
 
 /// Why the rounds of a wrapped schedule aren't counted.
 #[derive(Clone, Copy, Debug, PartialEq, Eq, Error)]

@@ -11,10 +11,10 @@ ghost use Rattle.wrap_sched.specs.Wrapped.{slice_rows, wrapped_rounds};
 
 use crate::cuts::rates_of;
 use crate::points::next_point;
-use crate::tables::{blank_rows, write_rows};
+use crate::tables::write_rows;
 use crate::units::{UnitRound, unit_rounds};
 use merged_rows::MergedRows;
-use sched_base::{NoMemory, Row, TaskSet};
+use sched_base::{NoMemory, Row, TaskSet, blank_rows};
 use std::alloc::Global;
 
 // Merges the rounds of the slice from unit x up to unit y onto those before it.
@@ -39,7 +39,7 @@ fn merge_slice(
         → AreMergedUpTo m (x * scale) count done before → AreMergedUpTo m (y * scale) (count + length pattern.now)
         (done ++ slice_rows scale set.now.tasks m (record { begin = x; end = y })) now) }
 {
-    let _lawful = set.processors();
+    set.know_lawful();
     let start = u128::from(x) * scale;
     let mut merged = before;
     for round in pattern {
@@ -68,7 +68,7 @@ fn merge_slices(
     ensures rows { IfOk result (λ merged. AreMergedOf scale set.now merged.lanes) }
     ensures lawful { IfOk result (λ merged. AreLawful set.now merged.lanes) }
 {
-    let _lawful = set.processors();
+    set.know_lawful();
     let mut merged = none;
     let mut x: u64 = 0;
     'slices: while x < set.horizon() {

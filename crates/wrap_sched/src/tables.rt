@@ -1,5 +1,5 @@
 //! The table of the wrapped schedule.
-ghost use Rattle.std.specs.Prelude.{ℕ, ◌≡◌, ◌<◌, ◌≤◌, ◌+◌, ◌*◌, ◌-◌, ◌^◌, IfOk, vec_len};
+ghost use Rattle.std.specs.Prelude.{ℕ, ◌≡◌, ◌<◌, ◌≤◌, ◌+◌, ◌*◌, ◌-◌, ◌^◌, IfOk};
 ghost use Rattle.std.specs.Prelude.{List, [], ◌++◌, length, replicate};
 ghost use Rattle.sched_base.specs.Scale.{IsScale, Fits};
 ghost use Rattle.sched_base.specs.Tables.{all_rows, end_of, rounds_of};
@@ -12,21 +12,8 @@ ghost use Rattle.wrap_sched.specs.Wrapped.{leaf_of, slice_rows, wrapped, wrapped
 use crate::cuts::rates_of;
 use crate::points::next_point;
 use crate::units::{UnitRound, unit_rounds};
-use sched_base::{Leaf, NoMemory, Row, RowTable, TaskId, TaskSet};
+use sched_base::{Leaf, NoMemory, Row, RowTable, TaskId, TaskSet, blank_rows};
 use std::alloc::Global;
-
-/// Rows to be overwritten.
-pub(crate) fn blank_rows(alloc: Global, processors: u32) -> Result<Vec<Row>, NoMemory>
-    ensures { IfOk result (λ v. vec_len v ≡ processors) }
-{
-    let blank = Row {
-        processor: 0,
-        start: 0,
-        end: 0,
-        leaf: Leaf::Empty,
-    };
-    Ok(vec![in alloc; blank; processors as usize]?)
-}
 
 // What a processor runs in a slice from unit x on, where this task holds its place.
 fn leaf_of(set: &TaskSet, x: u64, processor: u32, holder: u32) -> Leaf
@@ -60,7 +47,7 @@ pub(crate) fn write_rows(
     requires rows { length rows.old ≡ set.now.processors }
     ensures { rows.new ≡ stretched_rows set.now x y start round.now }
 {
-    let _lawful = set.processors();
+    set.know_lawful();
     let units = u128::from(y - x);
     let end = start + units * round.end();
     let begin = start + units * round.begin();
@@ -102,7 +89,7 @@ fn push_slice(
     ensures count { rounds_of table.new.lanes ≡ rounds_of table.old.lanes + length pattern.now }
     ensures room { table.new.room + length pattern.now ≡ table.old.room }
 {
-    let _lawful = set.processors();
+    set.know_lawful();
     let start = u128::from(x) * scale;
     for round in pattern {
         write_rows(set, x, y, start, round, rows);
@@ -129,7 +116,7 @@ fn push_slices(
     ensures count { rounds_of table.new.lanes ≡ wrapped_rounds scale set.now }
     ensures full { table.new.room ≡ 0 }
 {
-    let _lawful = set.processors();
+    set.know_lawful();
     let mut x: u64 = 0;
     'slices: while x < set.horizon() {
         let y = next_point(set, x);
@@ -156,6 +143,6 @@ pub fn wrap(alloc: Global, set: &TaskSet, scale: u128, rounds: u64) -> Result<Ro
     let mut rows = blank_rows(alloc, processors)?;
     let mut table = RowTable::new(alloc, processors, rounds)?;
     push_slices(set, scale, &pattern, &mut rows, &mut table);
-    let _whole = table.processors();
+    table.know_whole();
     Ok(table)
 }

@@ -1,8 +1,8 @@
 use Rattle.std.proofs.Common.{◌≡◌, ◌<◌, ◌∙◌, [], ◌∷◌, ◌+◌, arith, add-one, get_or, length, suc, sym, ap, subst, take, Some}
 use Rattle.sched_base.specs.declared.rows.Row.{Row}
-use Rattle.sched_base.specs.Tables.{lane_of}
-use Rattle.trace_lines.specs.Finishes.{ticks_of}
-use Rattle.merged_rows.proofs.SumLemmas.{ticks_of-more, ticks_of-le, Adds-then, room_after, row_there}
+use Rattle.sched_base.specs.Tables.{lane_of, ticks_in}
+use Rattle.row_totals.proofs.SumLemmas.{ticks_in-take-more, ticks_in-take-le, Adds-then, room_after}
+use Rattle.merged_rows.proofs.SumLemmas.{row_there}
 use Rattle.merged_rows.proofs.totals.add_lane.Goals as goal
 
 pub add_row-requires-clause-room : goal.add_row-requires-clause-room
@@ -14,9 +14,9 @@ add_row-requires-clause-room c =
     let here = row_there lane i c.row.result c.row.ensures in
     room_after (take i lane) (c.row.result ∷ []) lane c.args.sums.now c.loop-i.sums c.loop-i.auto.sums
     (λ j.
-    let same = ap (λ (r : Row). ticks_of (r ∷ []) j) here in
-    let more = ticks_of-more j lane i within in
-    let all = ticks_of-le j lane (suc i) in
+    let same = ap (λ (r : Row). ticks_in j (r ∷ [])) here in
+    let more = ticks_in-take-more j lane i within in
+    let all = ticks_in-take-le j lane (suc i) in
     omega (arith, same, more, all))
     c.requires.room c.loop-i.invariant
 
@@ -29,6 +29,6 @@ loop-i-preserved c =
     let here = row_there lane i c.row.result c.row.ensures in
     Adds-then (take i lane) (c.row.result ∷ []) (take (i + 1) lane) c.args.sums.now c.loop-i.sums c.add_row.new.sums c.loop-i.auto.sums
     (λ j.
-    let same = ap (λ (r : Row). ticks_of (r ∷ []) j) here in
-    rw add-one (let more = ticks_of-more j lane i within in omega (arith, more, same)))
+    let same = ap (λ (r : Row). ticks_in j (r ∷ [])) here in
+    rw add-one (let more = ticks_in-take-more j lane i within in omega (arith, more, same)))
     c.loop-i.invariant c.add_row.ensures

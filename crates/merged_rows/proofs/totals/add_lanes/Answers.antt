@@ -1,8 +1,6 @@
 use Rattle.std.proofs.Common.{◌≡◌, ◌<◌, ◌+◌, length, arith, add-one, suc, take}
 use Rattle.sched_base.specs.Tables.{all_rows, lane_of}
-use Rattle.merged_rows.specs.Sums.{NamesAmong}
-use Rattle.trace_lines.specs.Conditions.{RunForward}
-use Rattle.merged_rows.proofs.SumLemmas.{lanes-more, lanes-le, Adds-then, room_after, lane_names}
+use Rattle.row_totals.proofs.SumLemmas.{ticks_in-lanes-more, ticks_in-lanes-le, Adds-then, room_after}
 use Rattle.merged_rows.proofs.totals.add_lanes.Goals as goal
 
 pub add_lane-requires-clause-room : goal.add_lane-requires-clause-room
@@ -13,8 +11,8 @@ add_lane-requires-clause-room c =
     let within : p < length lanes = omega (arith, many, c.loop-p-test.true) in
     room_after (all_rows (take p lanes)) (lane_of lanes p) (all_rows lanes) c.args.sums.now c.loop-p.sums c.loop-p.auto.sums
     (λ j.
-    let more = lanes-more j lanes p within in
-    let all = lanes-le j lanes (suc p) in
+    let more = ticks_in-lanes-more j lanes p within in
+    let all = ticks_in-lanes-le j lanes (suc p) in
     omega (arith, more, all))
     c.requires.room c.loop-p.invariant
 
@@ -25,5 +23,5 @@ loop-p-preserved c =
     let many = c.processors-p-end.ensures in
     let within : p < length lanes = omega (arith, many, c.loop-p-test.true) in
     Adds-then (all_rows (take p lanes)) (lane_of lanes p) (all_rows (take (p + 1) lanes)) c.args.sums.now c.loop-p.sums c.add_lane.new.sums c.loop-p.auto.sums
-    (λ j. rw add-one (lanes-more j lanes p within))
+    (λ j. rw add-one (ticks_in-lanes-more j lanes p within))
     c.loop-p.invariant c.add_lane.ensures

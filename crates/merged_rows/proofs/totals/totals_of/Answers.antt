@@ -1,8 +1,8 @@
 use Rattle.std.proofs.Common.{◌≡◌, ◌∙◌, length, ap, sym, subst, replicate}
 use Rattle.std.proofs.lemmas.List.{length-replicate}
 use Rattle.sched_base.specs.Tables.{all_rows}
-use Rattle.merged_rows.specs.Sums.{Adds}
-use Rattle.merged_rows.proofs.SumLemmas.{sums_are, written_back}
+use Rattle.row_totals.specs.Sums.{Adds}
+use Rattle.row_totals.proofs.SumLemmas.{sums_are, written_back}
 use Rattle.merged_rows.proofs.totals.totals_of.Goals as goal
 
 pub returns : goal.returns
@@ -14,4 +14,4 @@ returns c =
     let long : length c.add_lanes.new.sums ≡ c.args.tasks = c.add_lanes.auto.sums ∙ count in
     let room : c.in_ok-sums.sums.len ≡ c.args.tasks = sym c.deref_mut.ensures.len ∙ count in
     written_back c.add_lanes.new.sums c.in_ok-sums.sums.items c.in_ok-sums.sums.len (long ∙ sym room) (ap length (sym c.deref_mut.ensures.value) ∙ c.deref_mut.ensures.len)
-    ∙ sums_are c.args.tasks rows c.add_lanes.new.sums long adds
+    ∙ sums_are c.args.tasks c.args.rows.now.lanes c.add_lanes.new.sums long adds

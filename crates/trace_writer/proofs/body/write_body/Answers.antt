@@ -23,7 +23,7 @@ returns-in_err-write_totals-clause-wrote g c =
     c.from_residual-in_err-write_totals.ensures.0)))
 
 pub write_totals-requires : goal.write_totals-requires
-write_totals-requires g c = record { totals = ap length c.requires.totals ∙ length-totals_of c.args.set.now.tasks c.args.table.now.lanes }
+write_totals-requires g c = record { totals = ap length c.requires.totals ∙ length-totals_of (length c.args.set.now.tasks) c.args.table.now.lanes }
 
 pub returns-clause-wrote : goal.returns-clause-wrote
 returns-clause-wrote g c =

@@ -1,8 +1,7 @@
 use Rattle.std.proofs.Common.{◌∙◌, ap, length}
-use Rattle.sched_base.specs.Tables.{all_rows}
 use Rattle.sched_edges.proofs.Wrote.{wrote_then, wrote_cut}
 use Rattle.trace_writer.proofs.TextLemmas.{wrote_again}
-use Rattle.trace_writer.proofs.TotalLemmas.{length-merged_totals, merged_told}
+use Rattle.trace_writer.proofs.TotalLemmas.{length-totals_of, merged_told}
 use Rattle.trace_writer.proofs.body.write_merged_body.Goals as goal
 
 pub returns-in_err-write_tasks-clause-wrote : goal.returns-in_err-write_tasks-clause-wrote
@@ -20,15 +19,15 @@ returns-in_err-write_totals-clause-wrote g c =
     wrote_then _ _ _ _ _ _ _ c.in_ok-write_head.ensures.wrote
     (wrote_then _ _ _ _ _ _ _ c.in_ok-write_tasks.ensures.wrote
     (wrote_then _ _ _ _ _ _ _ c.in_ok-count.ensures.wrote
-    (wrote_again _ _ _ _ _ (rw (merged_told c.args.set.now c.args.totals.now (all_rows c.args.rows.now.lanes) c.requires.totals) at c.in_err-write_totals.ensures.wrote)
+    (wrote_again _ _ _ _ _ (rw (merged_told c.args.set.now c.args.totals.now c.args.rows.now.lanes c.requires.totals) at c.in_err-write_totals.ensures.wrote)
     c.from_residual-in_err-write_totals.ensures.0)))
 
 pub write_totals-requires : goal.write_totals-requires
-write_totals-requires g c = record { totals = ap length c.requires.totals ∙ length-merged_totals (length c.args.set.now.tasks) (all_rows c.args.rows.now.lanes) }
+write_totals-requires g c = record { totals = ap length c.requires.totals ∙ length-totals_of (length c.args.set.now.tasks) c.args.rows.now.lanes }
 
 pub returns-clause-wrote : goal.returns-clause-wrote
 returns-clause-wrote g c =
     wrote_then _ _ _ _ _ _ _ c.in_ok-write_head.ensures.wrote
     (wrote_then _ _ _ _ _ _ _ c.in_ok-write_tasks.ensures.wrote
     (wrote_then _ _ _ _ _ _ _ c.in_ok-count.ensures.wrote
-    (record { ok = (rw (merged_told c.args.set.now c.args.totals.now (all_rows c.args.rows.now.lanes) c.requires.totals) at c.in_ok-write_totals.ensures.wrote).ok; err = tt })))
+    (record { ok = (rw (merged_told c.args.set.now c.args.totals.now c.args.rows.now.lanes c.requires.totals) at c.in_ok-write_totals.ensures.wrote).ok; err = tt })))

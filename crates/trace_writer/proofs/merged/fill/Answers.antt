@@ -21,7 +21,7 @@ returns-then-len-gt-FULL-clause-later c =
     ]
 
 pub add_row-requires-clause-among : goal.add_row-requires-clause-among
-add_row-requires-clause-among c = row_among c.args.set.now.tasks (lane_of c.args.rows.now.lanes c.args.p) c.loop-i.i c.row.result c.row.ensures c.requires.names
+add_row-requires-clause-among c = row_among (length c.args.set.now.tasks) (lane_of c.args.rows.now.lanes c.args.p) c.loop-i.i c.row.result c.row.ensures c.requires.names
 
 pub loop-i-preserved : goal.loop-i-preserved
 loop-i-preserved c =

@@ -4,7 +4,7 @@ use Rattle.std.proofs.lemmas.List.{get_or_default, take_all}
 use Rattle.sched_base.specs.declared.rows.Row.{Row}
 use Rattle.sched_base.specs.Tables.{all_rows, lane_of}
 use Rattle.sched_edges.proofs.Wrote.{item_written, wrote_item}
-use Rattle.trace_lines.specs.Conditions.{NameTasks}
+use Rattle.row_totals.specs.Sums.{NamesAmong}
 use Rattle.trace_lines.specs.Lines.{row_line}
 use Rattle.trace_writer.proofs.LaneLemmas.{lane_has}
 use Rattle.trace_writer.proofs.MergedLemmas.{all_text, all_more, all_le}
@@ -14,7 +14,7 @@ pub write_merged_lane-requires-clause-names : goal.write_merged_lane-requires-cl
 write_merged_lane-requires-clause-names g c =
     let lanes = c.args.rows.now.lanes in
     let many = c.processors-p-end.ensures in
-    lane_has (NameTasks c.args.set.now.tasks) lanes c.loop-p.p (omega (arith, many, c.loop-p-test.true)) c.requires.names
+    lane_has (NamesAmong (length c.args.set.now.tasks)) lanes c.loop-p.p (omega (arith, many, c.loop-p-test.true)) c.requires.names
 
 pub returns-in_err-count-clause-wrote : goal.returns-in_err-count-clause-wrote
 returns-in_err-count-clause-wrote g c =

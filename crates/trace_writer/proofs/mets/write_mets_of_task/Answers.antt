@@ -2,7 +2,8 @@ use Rattle.std.proofs.Common.{◌≡◌, ◌<◌, arith}
 use Rattle.sched_edges.proofs.Wrote.{number_written, wrote_number}
 use Rattle.trace_lines.specs.Finishes.{ended_count}
 use Rattle.trace_lines.specs.Merging.{merged_lanes}
-use Rattle.trace_writer.proofs.FinishLemmas.{finish_is, starts_rise}
+use Rattle.trace_lines.proofs.PeriodLemmas.{starts_rise}
+use Rattle.trace_writer.proofs.FinishLemmas.{finish_is}
 use Rattle.trace_writer.proofs.LaneLemmas.{took_none}
 use Rattle.trace_writer.proofs.ReachLemmas.{HasGone-later}
 use Rattle.trace_writer.proofs.TextLemmas.{met_of, mets_are}

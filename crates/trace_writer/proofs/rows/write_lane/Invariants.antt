@@ -1,5 +1,5 @@
 use Rattle.std.proofs.Common.{◌≤◌, ◌+◌, length}
-use Rattle.trace_lines.specs.Conditions.{NameTasks}
+use Rattle.row_totals.specs.Sums.{NamesAmong}
 use Rattle.trace_lines.specs.Merging.{merged}
 use Rattle.trace_writer.proofs.LaneLemmas.{Written}
 use Rattle.trace_writer.proofs.rows.write_lane.Given as goal
@@ -8,7 +8,7 @@ abbrev pub invariant-loop-row : goal.invariant-loop-row
 invariant-loop-row g l =
     Written l.set.tasks (g.W.Sink.taken l.fn.sink) (g.W.Sink.taken l.sink) l.lane l.left l.count
     × (g.W.Sink.faults l.fn.sink ≤ g.W.Sink.faults l.sink)
-    × NameTasks l.set.tasks (merged l.left)
+    × NamesAmong (length l.set.tasks) (merged l.left)
     × (l.count + length l.left ≤ length l.lane)
 
 abbrev pub decreases-loop-row : goal.decreases-loop-row

@@ -22,4 +22,4 @@ pub new-requires : goal.new-requires
 new-requires c =
     let w : Written = record { set = c.args.set; scale = c.args.scale; idles = c.in_ok-idles.idles.items; levels = c.in_ok-levels.levels.items } in
     written_is w c.count.ensures.lawful c.requires (omega (arith, c.in_ok-idles.ensures.count, c.in_ok-count.ensures.limits)) c.in_ok-idles.ensures.each c.in_ok-levels.ensures.some c.in_ok-levels.ensures.lawful
-    (omega (arith, c.in_ok-levels.ensures.lines, c.from-tasks.ensures, c.count.ensures.value, c.len.ensures))
+    (omega (arith, c.in_ok-levels.ensures.lines, c.from-after_tasks.ensures, c.count.ensures.value, c.len.ensures))

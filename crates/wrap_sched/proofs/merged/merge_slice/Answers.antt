@@ -10,12 +10,12 @@ use Rattle.wrap_sched.proofs.merged.merge_slice.Goals as goal
 
 pub loop-round-init : goal.loop-round-init
 loop-round-init c = λ done count up.
-    first_part c.args.set.now c.args.scale c.processors-lawful.ensures.lawful c.requires.scale c.args.x c.args.y c.requires.forward count done c.args.before up
+    first_part c.args.set.now c.args.scale c.know_lawful.ensures.lawful c.requires.scale c.args.x c.args.y c.requires.forward count done c.args.before up
 
 pub write_rows-requires : goal.write_rows-requires
 write_rows-requires c =
     let s = c.args.set.now in
-    let lawful = c.processors-lawful.ensures.lawful in
+    let lawful = c.know_lawful.ensures.lawful in
     let it = item_at s.processors c.args.scale (rates c.args.scale s.tasks) c.args.pattern.now c.loop-round.round-index c.round-item.result c.requires.pattern c.loop-round-test.true c.round-item.is in
     let (done, count, up) = c.requires.before in
     let part = c.loop-round.invariant done count up in
@@ -32,7 +32,7 @@ write_rows-requires c =
 pub with_rows-requires-clause-whole : goal.with_rows-requires-clause-whole
 with_rows-requires-clause-whole c =
     let s = c.args.set.now in
-    let lawful = c.processors-lawful.ensures.lawful in
+    let lawful = c.know_lawful.ensures.lawful in
     let it = item_at s.processors c.args.scale (rates c.args.scale s.tasks) c.args.pattern.now c.loop-round.round-index c.round-item.result c.requires.pattern c.loop-round-test.true c.round-item.is in
     let (done, count, up) = c.requires.before in
     let rows_are = c.write_rows.ensures ∙ written_rows s c.args.scale lawful c.requires.scale c.args.x c.args.y c.requires.forward c.loop-round.round-index c.round-item.result it _ (ap (λ n. n * c.args.scale) c.from.ensures) in
@@ -43,7 +43,7 @@ with_rows-requires-clause-whole c =
 pub with_rows-requires-clause-round : goal.with_rows-requires-clause-round
 with_rows-requires-clause-round c =
     let s = c.args.set.now in
-    let lawful = c.processors-lawful.ensures.lawful in
+    let lawful = c.know_lawful.ensures.lawful in
     let it = item_at s.processors c.args.scale (rates c.args.scale s.tasks) c.args.pattern.now c.loop-round.round-index c.round-item.result c.requires.pattern c.loop-round-test.true c.round-item.is in
     let (done, count, up) = c.requires.before in
     let rows_are = c.write_rows.ensures ∙ written_rows s c.args.scale lawful c.requires.scale c.args.x c.args.y c.requires.forward c.loop-round.round-index c.round-item.result it _ (ap (λ n. n * c.args.scale) c.from.ensures) in
@@ -54,7 +54,7 @@ with_rows-requires-clause-round c =
 pub loop-round-preserved : goal.loop-round-preserved
 loop-round-preserved c = λ done count up.
     let s = c.args.set.now in
-    let lawful = c.processors-lawful.ensures.lawful in
+    let lawful = c.know_lawful.ensures.lawful in
     let i = c.loop-round.round-index in
     let it = item_at s.processors c.args.scale (rates c.args.scale s.tasks) c.args.pattern.now i c.round-item.result c.requires.pattern c.loop-round-test.true c.round-item.is in
     let so_far = done ++ rows_up_to s c.args.scale c.args.x c.args.y i in
@@ -68,5 +68,5 @@ loop-round-preserved c = λ done count up.
 
 pub returns : goal.returns
 returns c = λ done count up.
-    last_part c.args.set.now c.args.scale c.processors-lawful.ensures.lawful c.requires.scale c.args.x c.args.y c.requires.forward count c.loop-round.round-index done c.loop-round.merged
+    last_part c.args.set.now c.args.scale c.know_lawful.ensures.lawful c.requires.scale c.args.x c.args.y c.requires.forward count c.loop-round.round-index done c.loop-round.merged
     c.args.pattern.now c.requires.pattern (omega arith) (c.loop-round.invariant done count up)

@@ -7,7 +7,7 @@ pub slices-init : goal.slices-init
 slices-init c = record {
   at = λ l. point_at_zero c.args.set.now.tasks;
   within = omega arith;
-  before = none_before c.args.set.now c.args.scale c.processors-lawful.ensures.lawful c.requires.scale c.args.none c.args.pattern.now c.requires.pattern c.requires.none c.requires.start;
+  before = none_before c.args.set.now c.args.scale c.know_lawful.ensures.lawful c.requires.scale c.args.none c.args.pattern.now c.requires.pattern c.requires.none c.requires.start;
 }
 
 pub merge_slice-requires-clause-before : goal.merge_slice-requires-clause-before
@@ -24,7 +24,7 @@ slices-preserved c =
     record {
       at = next.at;
       within = next.within;
-      before = next_before s c.args.scale c.processors-lawful.ensures.lawful c.requires.scale (length c.args.pattern.now) c.slices.x c.next_point-y.result c.slices.merged _
+      before = next_before s c.args.scale c.know_lawful.ensures.lawful c.requires.scale (length c.args.pattern.now) c.slices.x c.next_point-y.result c.slices.merged _
           (c.slices.invariant.at early) next before (c.in_ok-merged.ensures before.done before.count before.so_far);
     }
 
@@ -32,10 +32,10 @@ pub returns-clause-rows : goal.returns-clause-rows
 returns-clause-rows c =
     let s = c.args.set.now in
     let past : s.horizon ≤ c.slices.x = (let off = c.slices-test.false in let is = c.horizon.ensures.value in omega (arith, off, is)) in
-    all_merged_rows s c.args.scale c.processors-lawful.ensures.lawful c.requires.scale c.requires.fits (length c.args.pattern.now) c.slices.x c.slices.merged c.slices.invariant.before past
+    all_merged_rows s c.args.scale c.know_lawful.ensures.lawful c.requires.scale c.requires.fits (length c.args.pattern.now) c.slices.x c.slices.merged c.slices.invariant.before past
 
 pub returns-clause-lawful : goal.returns-clause-lawful
 returns-clause-lawful c =
     let s = c.args.set.now in
     let past : s.horizon ≤ c.slices.x = (let off = c.slices-test.false in let is = c.horizon.ensures.value in omega (arith, off, is)) in
-    all_lawful s c.args.scale c.processors-lawful.ensures.lawful c.requires.scale c.requires.fits (length c.args.pattern.now) c.slices.x c.slices.merged c.slices.invariant.before past c.requires.few
+    all_lawful s c.args.scale c.know_lawful.ensures.lawful c.requires.scale c.requires.fits (length c.args.pattern.now) c.slices.x c.slices.merged c.slices.invariant.before past c.requires.few

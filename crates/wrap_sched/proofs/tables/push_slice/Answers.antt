@@ -14,7 +14,7 @@ pub loop-round-init : goal.loop-round-init
 loop-round-init c =
     let s = c.args.set.now in
     record {
-      reached = first_reached s c.args.scale c.processors-lawful.ensures.lawful c.requires.scale c.args.x c.args.y c.requires.forward c.args.table.now.lanes c.requires.start c.requires.whole;
+      reached = first_reached s c.args.scale c.know_lawful.ensures.lawful c.requires.scale c.args.x c.args.y c.requires.forward c.args.table.now.lanes c.requires.start c.requires.whole;
       lanes = λ done is. is ∙ ap (lanes_of s.processors) (sym (append-nil done));
       count = sym (add-zero (rounds_of c.args.table.now.lanes));
       room = add-zero c.args.table.now.room;
@@ -23,7 +23,7 @@ loop-round-init c =
 pub write_rows-requires : goal.write_rows-requires
 write_rows-requires c =
     let s = c.args.set.now in
-    let lawful = c.processors-lawful.ensures.lawful in
+    let lawful = c.know_lawful.ensures.lawful in
     let it = item_at s.processors c.args.scale (rates c.args.scale s.tasks) c.args.pattern.now c.loop-round.round-index c.round-item.result c.requires.pattern c.loop-round-test.true c.round-item.is in
     let b = item_bounds s c.args.scale lawful c.requires.scale c.args.x c.args.y c.requires.forward c.loop-round.table.lanes c.loop-round.round-index c.loop-round.invariant.reached c.round-item.result it in
     let at = ap (λ n. n * c.args.scale) c.from.ensures in
@@ -38,7 +38,7 @@ write_rows-requires c =
 pub push_round-requires-clause-round : goal.push_round-requires-clause-round
 push_round-requires-clause-round c =
     let s = c.args.set.now in
-    let lawful = c.processors-lawful.ensures.lawful in
+    let lawful = c.know_lawful.ensures.lawful in
     let it = item_at c.args.set.now.processors c.args.scale (rates c.args.scale c.args.set.now.tasks) c.args.pattern.now c.loop-round.round-index c.round-item.result c.requires.pattern c.loop-round-test.true c.round-item.is in
     let rows_are = c.write_rows.ensures ∙ written_rows s c.args.scale lawful c.requires.scale c.args.x c.args.y c.requires.forward c.loop-round.round-index c.round-item.result it _ (ap (λ n. n * c.args.scale) c.from.ensures) in
     let F : List Row → Type 0 = λ rows. IsRound (end_of c.loop-round.table.lanes) rows in
@@ -47,7 +47,7 @@ push_round-requires-clause-round c =
 pub loop-round-preserved : goal.loop-round-preserved
 loop-round-preserved c =
     let s = c.args.set.now in
-    let lawful = c.processors-lawful.ensures.lawful in
+    let lawful = c.know_lawful.ensures.lawful in
     let lanes = c.loop-round.table.lanes in
     let reached = c.loop-round.invariant.reached in
     let it = item_at c.args.set.now.processors c.args.scale (rates c.args.scale c.args.set.now.tasks) c.args.pattern.now c.loop-round.round-index c.round-item.result c.requires.pattern c.loop-round-test.true c.round-item.is in
@@ -78,12 +78,12 @@ returns-clause-lanes c = λ done is.
     let all = take_all c.loop-round.round-index rs (let l = c.loop-round-test.false in omega (arith, l, many)) in
     c.loop-round.invariant.lanes done is
     ∙ ap (λ ps. lanes_of s.processors (done ++ flat_map (round_rows c.args.scale s.tasks s.processors (slice_of c.args.x c.args.y)) ps)) (ap (λ zs. map (stretch (c.args.y - c.args.x)) zs) all)
-    ∙ ap (λ rows. lanes_of s.processors (done ++ rows)) (sym (slice_rows_are s c.args.scale c.processors-lawful.ensures.lawful c.requires.scale (slice_of c.args.x c.args.y) c.requires.forward))
+    ∙ ap (λ rows. lanes_of s.processors (done ++ rows)) (sym (slice_rows_are s c.args.scale c.know_lawful.ensures.lawful c.requires.scale (slice_of c.args.x c.args.y) c.requires.forward))
 
 pub returns-clause-end : goal.returns-clause-end
 returns-clause-end c =
     let s = c.args.set.now in
     let rs = rounds_in c.args.scale (rates c.args.scale s.tasks) in
     let many = ap length c.requires.pattern ∙ length-map rs (unit_round s.processors c.args.scale (rates c.args.scale s.tasks)) in
-    last_reached s c.args.scale c.processors-lawful.ensures.lawful c.requires.scale c.args.x c.args.y c.requires.forward c.loop-round.table.lanes c.loop-round.round-index
+    last_reached s c.args.scale c.know_lawful.ensures.lawful c.requires.scale c.args.x c.args.y c.requires.forward c.loop-round.table.lanes c.loop-round.round-index
     (let l = c.loop-round-test.false in omega (arith, l, many)) c.loop-round.invariant.reached

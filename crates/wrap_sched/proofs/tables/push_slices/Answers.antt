@@ -16,7 +16,7 @@ pub slices-init : goal.slices-init
 slices-init c =
     let s = c.args.set.now in
     let m = s.processors in
-    let lawful = c.processors-lawful.ensures.lawful in
+    let lawful = c.know_lawful.ensures.lawful in
     let some = lawful.some_processors in
     let none : c.args.table.now.lanes ≡ lanes_of m [] = c.requires.none ∙ sym (lanes_of-none m) in
     let end = none_end m c.args.table.now.lanes some none in
