@@ -11,7 +11,7 @@ use Rattle.sched_base.specs.Tables.{RowAt, IsTable, all_rows}
 use Rattle.sched_base.specs.Valid.{IsValid, period_start, served}
 use Rattle.sched_base.proofs.RowLemmas.{AllApart-by, task_ticks-append}
 use Rattle.trace_rows.proofs.EntryLemmas.{AllByRecursion-append, AllByRecursion-front, AllByRecursion-back}
-use Rattle.trace_lines.specs.Conditions.{RunForward}
+use Rattle.row_totals.specs.Sums.{AreForward}
 use Rattle.trace_lines.specs.Merging.{shown, lengthened, merge_onto, merged, merged_lanes}
 use Rattle.trace_lines.proofs.MergeLemmas.{goes_on, shown_same, forward_merged, forward_lanes}
 use Rattle.trace_check.specs.RoundTrip.{row_as_read}
@@ -224,7 +224,7 @@ joined_overlap false s m e x y low high = omega (arith, low, high)
 abbrev part_of : Row → ℕ → ℕ → ℕ → ℕ
 part_of r j x y = bit (is_of_task j r.leaf) * overlap r.start r.end x y
 
-ticks_onto : (r : Row) (rows : List Row) (j x y : ℕ) → r.start ≤ r.end → RunForward rows → task_ticks (merge_onto r rows) j x y ≡ part_of r j x y + task_ticks rows j x y
+ticks_onto : (r : Row) (rows : List Row) (j x y : ℕ) → r.start ≤ r.end → AreForward rows → task_ticks (merge_onto r rows) j x y ≡ part_of r j x y + task_ticks rows j x y
 ticks_onto r [] j x y own rest = refl
 ticks_onto r (q ∷ rows) j x y own rest =
     elim (cases_Bool (goes_on r q)) [
@@ -242,11 +242,11 @@ ticks_onto r (q ∷ rows) j x y own rest =
       | inr f ↦ ap (λ l. task_ticks l j x y) (cond-false _ (lengthened r q.end ∷ rows) (r ∷ (q ∷ rows)) f)
     ]
 
-ticks_merged : (rows : List Row) (j x y : ℕ) → RunForward rows → task_ticks (merged rows) j x y ≡ task_ticks rows j x y
+ticks_merged : (rows : List Row) (j x y : ℕ) → AreForward rows → task_ticks (merged rows) j x y ≡ task_ticks rows j x y
 ticks_merged [] j x y f = refl
 ticks_merged (r ∷ rows) j x y f = ticks_onto r (merged rows) j x y f.0 (forward_merged rows f.1) ∙ ap (λ n. part_of r j x y + n) (ticks_merged rows j x y f.1)
 
-ticks_lanes : (lanes : List (List Row)) (j x y : ℕ) → AllByRecursion RunForward lanes → task_ticks (merged_lanes lanes) j x y ≡ task_ticks (all_rows lanes) j x y
+ticks_lanes : (lanes : List (List Row)) (j x y : ℕ) → AllByRecursion AreForward lanes → task_ticks (merged_lanes lanes) j x y ≡ task_ticks (all_rows lanes) j x y
 ticks_lanes [] j x y f = refl
 ticks_lanes (lane ∷ lanes) j x y f =
     let first = task_ticks-append (merged lane) (merged_lanes lanes) j x y in

@@ -13,3 +13,5 @@ mod AllEntries
 mod StandingLemmas
 mod SuppliedLemmas
 mod StackLemmas
+pub mod TallyLemmas
+mod ToldLemmas

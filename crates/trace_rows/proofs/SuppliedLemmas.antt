@@ -1,7 +1,8 @@
 -- A walk through a task's rows, part by part.
-use Rattle.std.proofs.Common.{zero, suc, ℕ, ◌+◌, ◌-◌, ◌<◌, ◌≤◌, ◌≡◌, true, List, [], ◌∷◌, ◌++◌, length, map, take, drop, get_or, sym, ap, ◌∙◌, subst, arith, append_assoc}
+use Rattle.std.proofs.Common.{zero, suc, ℕ, ◌+◌, ◌-◌, ◌<◌, ◌≤◌, ◌≡◌, true, List, [], ◌∷◌, ◌++◌, length, map, take, drop, get_or, eqb, refl, sym, ap, ◌∙◌, subst, arith, append_assoc}
 use Rattle.std.specs.List.{AllByRecursion}
-use Rattle.std.proofs.lemmas.Bool.{and_from}
+use Rattle.std.specs.Prelude.{Option, None, Some, IfSome}
+use Rattle.std.proofs.lemmas.Bool.{and_from, eqb-true}
 use Rattle.std.proofs.lemmas.List.{take-append-drop, take_more, map-append}
 use Rattle.sched_base.specs.declared.rows.Row.{Row}
 use Rattle.trace_rows.specs.declared.entries.Entry.{Entry}
@@ -9,8 +10,11 @@ use Rattle.trace_rows.specs.declared.supply.Periods.{Periods}
 use Rattle.trace_rows.specs.declared.walks.Walk.{Walk}
 use Rattle.trace_rows.specs.Faults.{row_at}
 use Rattle.trace_rows.specs.Supply.{gap_holds, row_holds, holds_from, Follows}
-use Rattle.trace_rows.specs.Supplied.{IsPlaceOf, entry_for, entries_at, StandsAt, Holds, GoesPast}
+use Rattle.trace_rows.specs.declared.findings.Findings.{Findings}
+use Rattle.trace_rows.specs.Findings.{IsRowIn, IsTold}
+use Rattle.trace_rows.specs.Supplied.{IsPlaceOf, entry_for, entries_at, GoSupplied, StandsAt, Holds, GoesPast, WentThrough}
 use Rattle.trace_rows.proofs.EntryLemmas.{AllByRecursion-append}
+use Rattle.trace_rows.proofs.SupplyLemmas.{Lawful, supplied_to}
 
 pub past_none : (p : Periods) (w : Walk) → StandsAt p w → GoesPast p [] w w
 past_none p w s = record { stands = s; holds = λ rest h. h }
@@ -44,6 +48,13 @@ past_more p rows j places i d a b c h g one =
     = ap (entries_at rows j) (take_more places i d h) ∙ map-append (λ place. entry_for j (row_at rows place) place) (take i places) (get_or places i d ∷ []) in
     subst (λ es. GoesPast p es a c) (sym e) (past_then p _ _ a b c g one)
 
+pub rows_more : (p : Periods) (rows : List Row) (places : List ℕ) (i d : ℕ) → i < length places → AllByRecursion (IsRowIn p) (map (row_at rows) (take i places))
+    → IsRowIn p (row_at rows (get_or places i d)) → AllByRecursion (IsRowIn p) (map (row_at rows) (take (i + 1) places))
+rows_more p rows places i d h all one =
+    let e : map (row_at rows) (take (i + 1) places) ≡ map (row_at rows) (take i places) ++ row_at rows (get_or places i d) ∷ []
+    = ap (map (row_at rows)) (take_more places i d h) ∙ map-append (row_at rows) (take i places) (get_or places i d ∷ []) in
+    subst (AllByRecursion (IsRowIn p)) (sym e) (AllByRecursion-append (IsRowIn p) (map (row_at rows) (take i places)) (row_at rows (get_or places i d) ∷ []) all (one, tt))
+
 -- what is left, by the part that is taken and what comes later
 pub left_is : (n : ℕ) (left now later : List ℕ) → now ≡ take n left → later ≡ drop n left → left ≡ now ++ later
 left_is n left now later e f = sym (ap (λ w. w ++ later) e ∙ (ap (λ w. take n left ++ w) f ∙ take-append-drop n left))
@@ -75,6 +86,34 @@ leaves_less p rows j places left now later a b e l own past =
       apart = λ h. l.apart (back h);
       due = λ h. l.due (back h);
     }
+
+-- the walk has come to the end of the rows
+pub went_all : (p : Periods) (rows : List Row) (j : ℕ) (places : List ℕ) (w : Walk) (f : Findings) → Leaves p rows j places [] w → Holds p w [] → IsTold p (map (row_at rows) places) f
+    → WentThrough p rows j places f
+went_all p rows j places w f l h told = record { own = l.own tt; apart = l.apart h; due = l.due h; told = told }
+
+pub went_none : (p : Periods) (w : Walk) (f : Findings) → StandsAt p w → w.tick ≡ p.base → w.done ≡ 0 → Holds p w [] → IsTold p [] f → (rows : List Row) (j : ℕ) → WentThrough p rows j [] f
+went_none p w f s tick done h told rows j = went_all p rows j [] w f (leaves_all p rows j [] w s tick done) h told
+
+pub empty_is : (xs : List ℕ) → eqb (length xs) 0 ≡ true → xs ≡ []
+empty_is [] h = refl
+empty_is (x ∷ xs) h = (let none = eqb-true (length (x ∷ xs)) 0 h in absurd (omega (arith, none)))
+
+pub none_told : (p : Periods) (rows : List Row) (places : List ℕ) (r : Option Findings) → IfSome r (λ f. places ≡ []) → IfSome r (λ f. (q : Periods) → IsTold q [] f)
+    → IfSome r (IsTold p (map (row_at rows) places))
+none_told p rows places None none told = tt
+none_told p rows places (Some f) none told = subst (λ ps. IsTold p (map (row_at rows) ps) f) (sym none) (told p)
+
+-- where a period begins by the end of the schedule, the walk shows that each has its due
+pub went_supplied : (p : Periods) (rows : List Row) (j : ℕ) (places : List ℕ) (r : Option Findings) → Lawful p → p.base ≤ p.stop → IfSome r (WentThrough p rows j places)
+    → IfSome r (λ f. GoSupplied p rows j places)
+went_supplied p rows j places None l begun went = tt
+went_supplied p rows j places (Some f) l begun went = record {
+  own = went.own;
+  apart = λ h. went.apart;
+  none = λ h. absurd (omega (arith, h, begun));
+  supplied = supplied_to p (entries_at rows j places) l begun went.apart went.due;
+}
 
 -- the row that was fetched from a place
 pub fetched : (rows part : List Row) (places : List ℕ) (i : ℕ) (d : Row) → take (length places) part ≡ map (row_at rows) places → i < length places → get_or part i d ≡ row_at rows (get_or places i 0)

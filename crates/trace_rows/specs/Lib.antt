@@ -6,3 +6,5 @@ pub mod Searches
 pub mod Clock
 pub mod Standing
 pub mod Supplied
+pub mod Findings
+pub mod Tally

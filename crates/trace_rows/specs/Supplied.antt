@@ -5,8 +5,10 @@ use Rattle.sched_base.specs.declared.rows.Row.{Row}
 use Rattle.trace_rows.specs.declared.entries.Entry.{Entry}
 use Rattle.trace_rows.specs.declared.supply.Periods.{Periods}
 use Rattle.trace_rows.specs.declared.walks.Walk.{Walk}
+use Rattle.trace_rows.specs.declared.findings.Findings.{Findings}
 use Rattle.trace_rows.specs.Orders.{task_key, IsTaskOrder}
 use Rattle.trace_rows.specs.Faults.{row_at}
+use Rattle.trace_rows.specs.Findings.{IsTold}
 use Rattle.trace_rows.specs.Searches.{IsFirstHit, IsFirstUnsupplied}
 use Rattle.sched_base.specs.Sets.{SetContents}
 use Rattle.trace_rows.specs.Supply.{ended_by, holds_from, Follows, IsSupplied}
@@ -49,6 +51,14 @@ pub record Holds (p : Periods) (w : Walk) (es : List Entry) : Type 0 where
 pub record GoesPast (p : Periods) (es : List Entry) (old new : Walk) : Type 0 where
   pub stands : StandsAt p new
   pub holds : (rest : List Entry) → Holds p new rest → Holds p old (es ++ rest)
+
+-- the walk went through the rows at these places: they are those of task j in the order of time, apart, which give each period its
+-- due, and this is what they tell
+pub record WentThrough (p : Periods) (rows : List Row) (j : ℕ) (places : List ℕ) (f : Findings) : Type 0 where
+  pub own : AllByRecursion (IsPlaceOf rows j) places
+  pub apart : Follows p.stop p.base (entries_at rows j places)
+  pub due : holds_from p 0 p.base (entries_at rows j places) ≡ true
+  pub told : IsTold p (map (row_at rows) places) f
 
 -- these are the places of tasks' rows in order, no two rows of a task overlap, and each task has what it is to have
 pub record IsSuppliedOrder (s : SetContents) (scale : ℕ) (rows : List Row) (ordered starts : List ℕ) : Type 0 where

@@ -5,10 +5,10 @@ ghost use Rattle.trace_rows.specs.Faults.{row_at};
 use sched_base::{Leaf, Row};
 
 /// How many rows are brought together at once.
-pub const PART: usize = 64;
+pub(crate) const PART: usize = 64;
 
 /// Room for rows that are brought together.
-pub fn no_rows() -> [Row; PART]
+pub(crate) fn no_rows() -> [Row; PART]
     ensures { length result ≡ 64 }
 {
     let none = Row {
@@ -33,7 +33,7 @@ pub fn are_within(places: &[u32], count: usize) -> bool
 }
 
 /// Brings the rows at these places together, so that those who go through them don't wait for each row's memory by itself.
-pub fn fetch(part: &mut [Row], rows: &[Row], places: &[u32])
+pub(crate) fn fetch(part: &mut [Row], rows: &[Row], places: &[u32])
     requires room { length places.now ≤ length part.old }
     requires within { (i : ℕ) → i < length places.now → slice_index places.now i < length rows.now }
     ensures rows { take (length places.now) part.new ≡ map (row_at rows.now) places.now }

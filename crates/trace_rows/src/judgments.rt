@@ -3,10 +3,12 @@ ghost use Rattle.std.specs.Prelude.{◌≡◌, ◌*◌, ◌≤◌, ◌^◌, leng
 ghost use Rattle.sched_base.specs.Valid.{IsValid};
 ghost use Rattle.trace_rows.specs.Orders.{processor_key, task_key, IsOrder, IsProcessorOrder, IsTaskOrder};
 ghost use Rattle.trace_rows.specs.Faults.{IsTrace, IsVerdict};
+ghost use Rattle.trace_rows.specs.Findings.{AreTold};
 ghost use Rattle.trace_rows.specs.Searches.{kind_of, IsFirstHit, IsFirstUnfit};
 
 use crate::entries::Entry;
-use crate::faults::{FaultKind, Verdict};
+use crate::faults::{FIRST_TASK_LINE, FaultKind, Verdict};
+use crate::findings::Findings;
 use crate::orders::{order_by_processor, order_by_task, places_of, starts_of};
 use crate::searches::{first_processor_hit, first_task_hit, first_unfit, first_unsupplied};
 use crate::standing::{all_places, stand};
@@ -23,6 +25,8 @@ pub struct Judgment {
     pub by_task: Vec<u32>,
     /// Where each task's part of `by_task` begins, and at its end where the last one ends.
     pub task_starts: Vec<u32>,
+    /// For each task what its rows tell of its jobs; for none where entries were made of them.
+    pub found: Vec<Findings>,
     pub verdict: Verdict,
 }
 
@@ -71,14 +75,14 @@ fn verdict_of(
             task_hit == first,
         );
         return Verdict::Fault {
-            line: 6 + u64::from(set.count()) + u64::from(first),
+            line: FIRST_TASK_LINE + u64::from(set.count()) + u64::from(first),
             kind,
         };
     }
     let task = first_unsupplied(set, scale, rows, by_task);
     if task < set.count() {
         return Verdict::Fault {
-            line: 6 + u64::from(set.count()) + u64::from(count) + u64::from(task),
+            line: FIRST_TASK_LINE + u64::from(set.count()) + u64::from(count) + u64::from(task),
             kind: FaultKind::Supply,
         };
     }
@@ -107,11 +111,12 @@ fn processor_order(
 }
 
 /// The orders of the rows of a trace and the verdict on them. Where no row is at fault and each task has what it is to have,
-/// no entries are made for tasks; else they find the first fault.
+/// no entries are made for tasks, and it is found what their rows tell; else entries find the first fault.
 pub fn judge(alloc: Global, set: &TaskSet, scale: u128, rows: &[Row]) -> Result<Judgment, NoMemory>
     requires trace { IsTrace set.now scale rows.now }
     ensures by_processor { IfOk result (λ j. IsProcessorOrder rows.now j.by_processor.items) }
     ensures by_task { IfOk result (λ j. IsTaskOrder (length set.now.tasks) rows.now j.by_task.items j.task_starts.items) }
+    ensures found { IfOk result (λ j. AreTold set.now scale rows.now j.found.items) }
     ensures verdict { IfOk result (λ j. IsVerdict set.now scale rows.now j.verdict) }
     ensures valid { IfOk result (λ j. (j.verdict ≡ Verdict.Valid) ↔ IsValid set.now scale (set.now.horizon * scale) (set.now.horizon * scale) rows.now) }
 {
@@ -123,6 +128,7 @@ pub fn judge(alloc: Global, set: &TaskSet, scale: u128, rows: &[Row]) -> Result<
                 by_processor,
                 by_task: order.places,
                 task_starts: order.starts,
+                found: order.found,
                 verdict: Verdict::Valid,
             });
         }
@@ -133,6 +139,7 @@ pub fn judge(alloc: Global, set: &TaskSet, scale: u128, rows: &[Row]) -> Result<
         by_processor,
         by_task: places_of(alloc, &entries)?,
         task_starts: starts_of(alloc, &entries, set.count())?,
+        found: Vec::new(alloc),
         verdict,
     })
 }

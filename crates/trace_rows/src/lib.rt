@@ -6,19 +6,22 @@ mod dealing;
 mod entries;
 mod faults;
 mod fetching;
+mod findings;
 mod judgments;
 mod orders;
 mod searches;
 mod standing;
 mod supplied;
 mod supply;
+mod tally;
 #[cfg(test)]
 mod tests;
 mod walks;
 
-pub use clock::Clock;
 pub use entries::Entry;
-pub use faults::{FaultKind, Verdict};
-pub use fetching::{PART, fetch, no_rows};
+pub use faults::{FIRST_TASK_LINE, FaultKind, Verdict};
+pub use findings::{Findings, findings_at};
 pub use judgments::{Judgment, judge};
 pub use orders::{front_len, order_by_task};
+pub use searches::periods_of;
+pub use supply::Periods;

@@ -1,4 +1,5 @@
-//! What no clause says: rows of tasks that have what they are to have are found to be in order, and no entries are made.
+//! What no clause says: rows of tasks that have what they are to have are found to be in order, and no entries are made; so it is
+//! told of their jobs.
 ghost use Rattle.std.specs.Prelude.{◌≡◌};
 
 use crate::dealing::{TASKS, count_rows, deal_places};
@@ -35,11 +36,21 @@ fn rows_of_valid_tasks_are_found(rt: HostRuntime) -> Result<(), NoMemory> {
     let mut ends = [0u32; TASKS];
     let count = count_rows(&mut ends, &rows);
     let dealt = deal_places(rt.alloc(), &mut ends, &rows, count)?;
-    let table: [(u32, &[u32]); 3] = [(0, &[3]), (1, &[2, 1]), (2, &[0])];
-    for (task, want) in table {
+    // The places of each task's rows, its preemptions and migrations, and its response.
+    let table: [(u32, &[u32], u64, u128); 3] = [
+        (0, &[3], 0, 9),
+        (1, &[2, 1], 1, 9),
+        (2, &[0], 0, 6),
+    ];
+    for (task, want, count, response) in table {
         let mine = part_of(&dealt, &ends, task as usize);
         match places_in_order(rt.alloc(), &periods, task, &rows, mine)? {
-            Some(found) => assert_eq!(rt; found.as_slice(), want),
+            Some((places, found)) => {
+                assert_eq!(rt; places.as_slice(), want);
+                assert_eq!(rt; found.preemptions, count);
+                assert_eq!(rt; found.migrations, count);
+                assert_eq!(rt; found.response, response);
+            }
             None => assert!(rt; false, "the task has what it is to have"),
         }
     }

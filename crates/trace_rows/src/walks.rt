@@ -1,14 +1,20 @@
-//! A walk through the rows of a task in the order of time: whether they are in order, apart, and give each period its due.
-ghost use Rattle.std.specs.Prelude.{ℕ, ◌≡◌, ◌<◌, ◌≤◌, ◌^◌, true, [], ◌∷◌, Some, IsTrue, length};
+//! A walk through the rows of a task in the order of time: whether they are in order, apart, and give each period its due, and
+//! what they tell of its jobs.
+ghost use Rattle.std.specs.Prelude.{ℕ, ◌≡◌, ◌<◌, ◌≤◌, ◌^◌, List, [], ◌∷◌, Some, IsTrue, IfSome, length, map, take};
+ghost use Rattle.sched_base.specs.declared.rows.Row.{Row};
 ghost use Rattle.std.specs.List.{AllByRecursion};
+ghost use Rattle.trace_rows.specs.declared.supply.Periods.{Periods};
 ghost use Rattle.trace_rows.specs.Orders.{task_key};
-ghost use Rattle.trace_rows.specs.Supply.{holds_from, Follows};
-ghost use Rattle.trace_rows.specs.Supplied.{IsPlaceOf, entry_for, entries_at, GoSupplied, StandsAt, Holds, GoesPast};
+ghost use Rattle.trace_rows.specs.Faults.{row_at};
+ghost use Rattle.trace_rows.specs.Findings.{IsRowIn, IsTold};
+ghost use Rattle.trace_rows.specs.Supplied.{IsPlaceOf, entry_for, entries_at, GoSupplied, StandsAt, Holds, GoesPast, WentThrough};
 
 use crate::clock::Clock;
 use crate::fetching::{PART, are_within, fetch, no_rows};
+use crate::findings::Findings;
 use crate::orders::task_key;
 use crate::supply::{Periods, Stretch, gap_holds, row_holds};
+use crate::tally::Tally;
 use sched_base::Row;
 
 /// The tick that a walk has come to, the ticks that were done by then, and a clock at the period of that tick.
@@ -43,6 +49,7 @@ impl Walk {
         requires period_fits { periods.now.period < 2 ^ 127 }
         requires stands { StandsAt periods.now self.old }
         ensures key { IsTrue result → task_key row.now ≡ Some task }
+        ensures row { IsTrue result → IsRowIn periods.now row.now }
         ensures past { IsTrue result → (place : ℕ) → GoesPast periods.now (entry_for task row.now place ∷ []) self.old self.new }
     {
         if task_key(row) != Some(task) {
@@ -94,6 +101,9 @@ impl Walk {
         requires stands { StandsAt periods.now self.old }
         ensures own { IsTrue result → AllByRecursion (IsPlaceOf rows.now task) places.now }
         ensures past { IsTrue result → GoesPast periods.now (entries_at rows.now task places.now) self.old self.new }
+        ensures room { length part.new ≡ length part.old }
+        ensures fetched { IsTrue result → take (length places.now) part.new ≡ map (row_at rows.now) places.now }
+        ensures rows { IsTrue result → AllByRecursion (IsRowIn periods.now) (map (row_at rows.now) places.now) }
     {
         if !are_within(places, rows.len()) {
             return false;
@@ -128,41 +138,106 @@ impl Walk {
     }
 }
 
-// The same of all places, where a period begins by the end of the schedule.
-fn walk_all(periods: &Periods, task: u32, rows: &[Row], places: &[u32]) -> bool
+// The same of all places, of which the first is given, where a period begins by the end of the schedule, and what the rows
+// there tell of the task's jobs.
+fn walk_on(
+    periods: &Periods,
+    task: u32,
+    rows: &[Row],
+    first: u32,
+    places: &[u32],
+) -> Option<Findings>
     requires some { 0 < periods.now.period }
     requires within { periods.now.due ≤ periods.now.period }
     requires fits { periods.now.stop < 2 ^ 127 }
     requires period_fits { periods.now.period < 2 ^ 127 }
     requires begun { periods.now.base ≤ periods.now.stop }
-    ensures own { IsTrue result → AllByRecursion (IsPlaceOf rows.now task) places.now }
-    ensures apart { IsTrue result → Follows periods.now.stop periods.now.base (entries_at rows.now task places.now) }
-    ensures due { IsTrue result → holds_from periods.now 0 periods.now.base (entries_at rows.now task places.now) ≡ true }
+    ensures { IfSome result (WentThrough periods.now rows.now task (first ∷ places.now)) }
 {
+    let row = rows.get(first as usize)?;
     let mut walk = Walk::new(periods);
+    if !walk.step(periods, task, row) {
+        return None;
+    }
+    let mut tally = Tally::new(periods, row);
     let mut part = no_rows();
     let mut left = places;
     while !left.is_empty() {
         let (now, later) = left.split_at(left.len().min(PART));
         if !walk.steps(periods, task, rows, &mut part, now) {
-            return false;
+            return None;
         }
+        tally.steps(periods, &part[..now.len()]);
         left = later;
     }
-    walk.ends(periods)
+    if walk.ends(periods) {
+        Some(tally.found)
+    } else {
+        None
+    }
 }
 
-/// Whether the rows at these places are the task's, in the order of time, apart, and give each of its periods its due.
-pub(crate) fn go_supplied(periods: &Periods, task: u32, rows: &[Row], places: &[u32]) -> bool
+// The same where there are no rows.
+fn walk_none(periods: &Periods) -> Option<Findings>
+    requires some { 0 < periods.now.period }
+    requires within { periods.now.due ≤ periods.now.period }
+    requires fits { periods.now.stop < 2 ^ 127 }
+    requires period_fits { periods.now.period < 2 ^ 127 }
+    requires begun { periods.now.base ≤ periods.now.stop }
+    ensures { (rows : List Row) (j : ℕ) → IfSome result (WentThrough periods.now rows j []) }
+{
+    if Walk::new(periods).ends(periods) {
+        Some(Findings::none())
+    } else {
+        None
+    }
+}
+
+// The same of all places.
+fn walk_all(periods: &Periods, task: u32, rows: &[Row], places: &[u32]) -> Option<Findings>
+    requires some { 0 < periods.now.period }
+    requires within { periods.now.due ≤ periods.now.period }
+    requires fits { periods.now.stop < 2 ^ 127 }
+    requires period_fits { periods.now.period < 2 ^ 127 }
+    requires begun { periods.now.base ≤ periods.now.stop }
+    ensures { IfSome result (WentThrough periods.now rows.now task places.now) }
+{
+    match places.split_first() {
+        Some((first, later)) => walk_on(periods, task, rows, *first, later),
+        None => walk_none(periods),
+    }
+}
+
+/// What the rows at these places tell of the task's jobs, where they are the task's, in the order of time, apart, and give each
+/// of its periods its due. Else nothing.
+pub(crate) fn go_supplied(
+    periods: &Periods,
+    task: u32,
+    rows: &[Row],
+    places: &[u32],
+) -> Option<Findings>
     requires some { 0 < periods.now.period }
     requires some_due { 0 < periods.now.due }
     requires within { periods.now.due ≤ periods.now.period }
     requires fits { periods.now.stop < 2 ^ 127 }
     requires period_fits { periods.now.period < 2 ^ 127 }
-    ensures { IsTrue result → GoSupplied periods.now rows.now task places.now }
+    ensures supplied { IfSome result (λ _. GoSupplied periods.now rows.now task places.now) }
+    ensures told { IfSome result (IsTold periods.now (map (row_at rows.now) places.now)) }
 {
     if periods.stop < periods.base {
-        return places.is_empty();
+        return none_at(places);
     }
     walk_all(periods, task, rows, places)
+}
+
+// What no rows tell, where there are none.
+fn none_at(places: &[u32]) -> Option<Findings>
+    ensures none { IfSome result (λ _. places.now ≡ []) }
+    ensures told { IfSome result (λ found. (p : Periods) → IsTold p [] found) }
+{
+    if places.is_empty() {
+        Some(Findings::none())
+    } else {
+        None
+    }
 }

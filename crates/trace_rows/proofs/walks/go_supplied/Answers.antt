@@ -1,14 +1,10 @@
-use Rattle.std.proofs.Common.{◌≤◌, arith}
-use Rattle.trace_rows.proofs.SupplyLemmas.{Lawful, supplied_to}
+use Rattle.trace_rows.proofs.SuppliedLemmas.{none_told, went_supplied}
 use Rattle.trace_rows.proofs.walks.go_supplied.Goals as goal
 
-pub returns : goal.returns
-returns c = λ t.
-    let b : c.args.periods.now.base ≤ c.args.periods.now.stop = omega (arith, c.if-periods.false) in
-    let l : Lawful c.args.periods.now = record { some_period = c.requires.some; some_due = c.requires.some_due } in
-    record {
-      own = c.walk_all.ensures.own t;
-      apart = λ h. c.walk_all.ensures.apart t;
-      none = λ h. absurd (omega (arith, h, b));
-      supplied = supplied_to c.args.periods.now _ l b (c.walk_all.ensures.apart t) (c.walk_all.ensures.due t);
-    }
+pub returns-then-periods-clause-told : goal.returns-then-periods-clause-told
+returns-then-periods-clause-told c = none_told c.args.periods.now c.args.rows.now c.args.places.now c.none_at.result c.none_at.ensures.none c.none_at.ensures.told
+
+pub returns-clause-supplied : goal.returns-clause-supplied
+returns-clause-supplied c =
+    went_supplied c.args.periods.now c.args.rows.now c.args.task c.args.places.now c.walk_all.result
+    (record { some_period = c.requires.some; some_due = c.requires.some_due }) c.if-periods.false c.walk_all.ensures

@@ -1,7 +1,11 @@
-use Rattle.std.proofs.Common.{take}
+use Rattle.std.proofs.Common.{map, take}
 use Rattle.std.specs.List.{AllByRecursion}
+use Rattle.trace_rows.specs.Faults.{row_at}
+use Rattle.trace_rows.specs.Findings.{IsRowIn}
 use Rattle.trace_rows.specs.Supplied.{IsPlaceOf, entries_at, GoesPast}
 use Rattle.trace_rows.proofs.walks.Walk.steps.Given as goal
 
 abbrev pub invariant-loop-i : goal.invariant-loop-i
-invariant-loop-i l = AllByRecursion (IsPlaceOf l.rows l.task) (take l.i l.places) × GoesPast l.periods (entries_at l.rows l.task (take l.i l.places)) l.fn.self l.self
+invariant-loop-i l = AllByRecursion (IsPlaceOf l.rows l.task) (take l.i l.places)
+    × GoesPast l.periods (entries_at l.rows l.task (take l.i l.places)) l.fn.self l.self
+    × AllByRecursion (IsRowIn l.periods) (map (row_at l.rows) (take l.i l.places))

@@ -1,0 +1,10 @@
+use Rattle.trace_check.proofs.traces.ReadTrace.new.Goals as goal
+
+pub invariant_of-result : goal.invariant_of-result
+invariant_of-result c = record {
+  trace = c.requires;
+  processors = rw c.deref.ensures.value at c.in_ok-judgment.ensures.by_processor;
+  tasks = rw c.deref.ensures.value at c.in_ok-judgment.ensures.by_task;
+  told = rw c.deref.ensures.value at c.in_ok-judgment.ensures.found;
+  judged = rw c.deref.ensures.value at c.in_ok-judgment.ensures.verdict;
+}

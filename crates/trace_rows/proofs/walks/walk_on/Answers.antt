@@ -1,0 +1,55 @@
+use Rattle.std.proofs.Common.{◌≡◌, ◌∷◌, ◌++◌, ◌<◌, ◌∙◌, [], Some, length, map, take, refl, sym, ap, subst}
+use Rattle.std.specs.List.{AllByRecursion}
+use Rattle.std.proofs.lemmas.List.{get_or_default}
+use Rattle.sched_base.specs.declared.rows.Row.{Row}
+use Rattle.trace_rows.specs.Faults.{row_at}
+use Rattle.trace_rows.specs.Findings.{row_response}
+use Rattle.trace_rows.specs.Orders.{task_key}
+use Rattle.trace_rows.specs.Supplied.{IsPlaceOf, entry_for, entries_at, GoesPast}
+use Rattle.trace_rows.proofs.SuppliedLemmas.{left_is, empty_is, Leaves, leaves_all, leaves_less, went_all}
+use Rattle.trace_rows.proofs.TallyLemmas.{Tells, tells_first, tells_later, tells_all}
+use Rattle.trace_rows.proofs.walks.walk_on.Goals as goal
+
+pub loop-left-init : goal.loop-left-init
+loop-left-init c =
+    let p = c.args.periods.now in
+    let rows = c.args.rows.now in
+    let j = c.args.task in
+    let first = c.args.first in
+    let places = c.args.places.now in
+    let within : first < length rows = c.in_ok-row.ensures.lookup.3.0 in
+    let row : c.in_ok-row.row.now ≡ row_at rows first = c.in_ok-row.ensures.lookup.1 ∙ get_or_default rows first c.in_ok-row.row.now _ within in
+    let key : task_key (row_at rows first) ≡ Some j = ap task_key (sym row) ∙ c.step.ensures.key c.if-not-step.false in
+    let own : AllByRecursion (IsPlaceOf rows j) (first ∷ []) = (record { within = within; key = key }, tt) in
+    let past : GoesPast p (entries_at rows j (first ∷ [])) c.new-walk.result c.step.new.self
+    = subst (λ (r : Row). GoesPast p (entry_for j r first ∷ []) c.new-walk.result c.step.new.self) row (c.step.ensures.past c.if-not-step.false first) in
+    let all = leaves_all p rows j (first ∷ places) c.new-walk.result c.new-walk.ensures.stands c.new-walk.ensures.tick c.new-walk.ensures.done in (
+      leaves_less p rows j (first ∷ places) (first ∷ places) (first ∷ []) places c.new-walk.result c.step.new.self refl all own past,
+      tells_first p (row_at rows first) (map (row_at rows) places) c.new-tally.result c.new-tally.ensures.pace (c.new-tally.ensures.before ∙ row)
+          c.new-tally.ensures.preemptions c.new-tally.ensures.migrations (c.new-tally.ensures.response ∙ ap (row_response p) row),
+    )
+
+pub loop-left-preserved : goal.loop-left-preserved
+loop-left-preserved c =
+    let p = c.args.periods.now in
+    let rows = c.args.rows.now in
+    let j = c.args.task in
+    let all = c.args.first ∷ c.args.places.now in
+    let now = c.split_at.result.0.now in
+    let later = c.split_at.result.1.now in
+    let left : c.loop-left.left.now ≡ now ++ later = left_is _ _ _ _ c.split_at.ensures.front c.split_at.ensures.back in (
+      leaves_less p rows j all c.loop-left.left.now now later c.loop-left.walk c.steps.new.self left c.loop-left.invariant.0 (c.steps.ensures.own c.if-not-steps.false) (c.steps.ensures.past c.if-not-steps.false),
+      tells_later p rows (take (length now) c.steps.new.part) (map (row_at rows) all) c.loop-left.left.now now later c.loop-left.tally c.steps-in-loop-left.new.self left
+          (c.steps.ensures.fetched c.if-not-steps.false) c.loop-left.invariant.1 c.steps-in-loop-left.ensures,
+    )
+
+pub returns-then-ends : goal.returns-then-ends
+returns-then-ends c =
+    let p = c.args.periods.now in
+    let rows = c.args.rows.now in
+    let j = c.args.task in
+    let all = c.args.first ∷ c.args.places.now in
+    let none : c.loop-left.left.now ≡ [] = empty_is c.loop-left.left.now (sym c.is_empty.ensures ∙ c.loop-left-test.false) in
+    let leaves : Leaves p rows j all [] c.loop-left.walk = subst (λ left. Leaves p rows j all left c.loop-left.walk) none c.loop-left.invariant.0 in
+    let tells : Tells p (map (row_at rows) all) [] c.loop-left.tally = subst (λ left. Tells p (map (row_at rows) all) (map (row_at rows) left) c.loop-left.tally) none c.loop-left.invariant.1 in
+    went_all p rows j all c.loop-left.walk c.loop-left.tally.found leaves (c.ends.ensures c.if-ends.true) (tells_all p (map (row_at rows) all) c.loop-left.tally tells)
