@@ -1,5 +1,6 @@
 -- The head of a picture: what a screen reader reads, the style, the words above the plot, the lanes of the processors and the axis.
-use Rattle.std.specs.Prelude.{ℕ, ◌+◌, ◌-◌, ◌*◌, ◌/◌, ◌==◌, nat_le, if◌then◌else◌, List, [], ◌∷◌, ◌++◌, length, codes, decimal}
+use Rattle.std.specs.Prelude.{ℕ, ◌+◌, ◌-◌, ◌*◌, ◌/◌, ◌==◌, nat_le, if◌then◌else◌}
+use Rattle.std.specs.Prelude.{List, [], ◌∷◌, ◌++◌, length, codes, decimal}
 use Rattle.std.specs.List.{flat_map, concat, range_with_len}
 use Rattle.sched_base.specs.Sets.{SetContents}
 use Rattle.sched_edges.specs.Lines.{word_line}
@@ -9,7 +10,7 @@ use Rattle.trace_rows.specs.declared.faults.Verdict.{Verdict}
 use Rattle.trace_rows.specs.declared.faults.Verdict.TheVariants.{Valid, Fault}
 use Rattle.trace_draw.specs.declared.windows.Window.{Window}
 use Rattle.trace_draw.specs.Windows.{plot_left, plot_width, place}
-use Rattle.trace_draw.specs.Shapes.{box_line, label_line, grid_line, lane_top, task_top}
+use Rattle.trace_draw.specs.Shapes.{box_line, label_line, roomy_line, grid_line, lane_top, task_top}
 
 -- how far from the top the plot ends
 abbrev pub bottom : SetContents → ℕ
@@ -70,18 +71,21 @@ unfoldable pub paper_line : SetContents → List ℕ
 paper_line s = codes "<rect width='12000' height='" ++ (decimal (height s) ++ (codes "' fill='#fff'/>" ++ 10 ∷ []))
 
 -- how the shapes look: the colours are told apart by colour-blind people, and each text by its contrast; on a narrow page the words above the plot
--- are larger
+-- are larger, and others where they have room
 abbrev pub style_lines : List (List ℕ)
 style_lines =
     word_line (codes "<style>text{font:125px ui-monospace,DejaVu Sans Mono,monospace}.h{font-size:180px;font-weight:bold}")
-    ∷ word_line (codes ".n,.a,.u,.s{fill:#444}.l,.s,.e,.u,.ok,.bad{text-anchor:end}.m,.a,.k{text-anchor:middle}.l,.e{font-size:115px}")
-    ∷ word_line (codes ".ok,.bad{font-size:160px;fill:#00603f}.e{font-weight:bold}.e,.bad{fill:#b00000}.q,.s{font-size:85px}")
-    ∷ word_line (codes ".k{font-size:95px}.p{fill:#f2f2f2}.g,.b,.r,.f,.o{fill:none;stroke:#bbb;stroke-width:6}.b{stroke:#999}")
+    ∷ word_line (codes ".n,.a,.u,.s{fill:#444}.l,.s,.e,.u,.ok,.bad{text-anchor:end}.m,.a{text-anchor:middle}.l,.e{font-size:115px}")
+    ∷ word_line (codes ".ok,.bad{font-size:160px;fill:#00603f}.e{font-weight:bold}.e,.bad{fill:#b00000}.q,.s{font-size:85px}.j{font-size:45px}")
+    ∷ word_line (codes ".s.x,.s.y{font-size:110px}.p{fill:#f2f2f2}.g,.b,.r,.f,.o{fill:none;stroke:#bbb;stroke-width:6}.b{stroke:#999}")
     ∷ word_line (codes ".r,.o{stroke:#000;stroke-width:14}.o{fill:#fff}.f{stroke:#b00000;stroke-width:24}.w{fill:#b00000}")
-    ∷ word_line (codes ".c0{fill:#0072b2}.c1{fill:#e69f00}.c2{fill:#009e73}.c3{fill:#cc79a7}")
-    ∷ word_line (codes ".c4{fill:#56b4e9}.c5{fill:#d55e00}.c6{fill:#f0e442}.c7{fill:#595959}.i0,.i7{fill:#fff}")
-    ∷ word_line (codes ".v1,.v2,.v3{stroke:#000;stroke-width:12}.v2{stroke-dasharray:40}.v3{stroke-dasharray:160 60}")
-    ∷ word_line (codes "@media(max-width:700px){.h{font-size:300px}.n,.u{font-size:190px}.ok,.bad{font-size:260px}}</style>") ∷ []
+    ∷ word_line (codes ".c0{color:#0072b2}.c1{color:#e69f00}.c2{color:#009e73}.c3{color:#cc79a7}")
+    ∷ word_line (codes ".c4{color:#56b4e9}.c5{color:#d55e00}.c6{color:#f0e442}.c7{color:#595959}")
+    ∷ word_line (codes ".m{dominant-baseline:central;stroke:currentColor;stroke-width:.2em;paint-order:stroke}.m.c0,.m.c7{fill:#fff}")
+    ∷ word_line (codes ".v0,.v1,.v2,.v3{fill:currentColor}.v1,.v2,.v3{stroke:#000;stroke-width:12}")
+    ∷ word_line (codes ".v2{stroke-dasharray:40}.v3{stroke-dasharray:160 60}")
+    ∷ word_line (codes "@media(max-width:900px){.h{font-size:300px}.n,.u{font-size:190px}.ok,.bad{font-size:260px}")
+    ∷ word_line (codes ".x{font-size:230px}.y{font-size:165px}.s.x{font-size:185px}.s.y{font-size:145px}}</style>") ∷ []
 
 -- what comes before the lanes
 abbrev pub opening_lines : SetContents → Window → Verdict → List (List ℕ)
@@ -101,7 +105,8 @@ head_text s w v = concat (opening_lines s w v) ++ (concat style_lines ++ concat 
 
 -- the lane of processor p, with nothing on it
 abbrev pub lane_lines : ℕ → List (List ℕ)
-lane_lines p = label_line (codes "l") 1780 (lane_top p + 215) (codes "cpu " ++ decimal p) ∷ box_line (codes "p") plot_left (lane_top p) plot_width 340 ∷ []
+lane_lines p =
+    roomy_line (codes "l") 1760 1780 (lane_top p + 215) (codes "cpu " ++ decimal p) ∷ box_line (codes "p") plot_left (lane_top p) plot_width 340 ∷ []
 
 -- the lanes of all processors
 abbrev pub lanes_text : SetContents → List ℕ
@@ -128,7 +133,7 @@ mark_count w step = (w.from + w.units) / step + 1 - first_mark w step
 
 -- the line and the number of a unit at this place
 abbrev pub mark_lines : ℕ → ℕ → ℕ → List (List ℕ)
-mark_lines at end unit = grid_line at end ∷ label_line (codes "a") at 730 (decimal unit) ∷ []
+mark_lines at end unit = grid_line at end ∷ roomy_line (codes "a") 760 at 840 (decimal unit) ∷ []
 
 -- the i-th mark of the axis
 abbrev pub mark_text : SetContents → Window → ℕ → ℕ → List ℕ

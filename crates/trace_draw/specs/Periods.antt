@@ -1,5 +1,6 @@
 -- The lanes of the tasks: names, releases, and how each period was served.
-use Rattle.std.specs.Prelude.{ℕ, ◌+◌, ◌-◌, ◌*◌, ◌/◌, ◌==◌, nat_le, nat_lt, not, Bool, ◌&&◌, if◌then◌else◌, List, [], ◌∷◌, ◌++◌, length, codes, decimal}
+use Rattle.std.specs.Prelude.{ℕ, ◌+◌, ◌-◌, ◌*◌, ◌/◌, ◌==◌, nat_le, nat_lt, not, Bool, ◌&&◌, if◌then◌else◌}
+use Rattle.std.specs.Prelude.{List, [], ◌∷◌, ◌++◌, length, codes, decimal}
 use Rattle.std.specs.List.{flat_map, concat, range_with_len}
 use Rattle.sched_base.specs.declared.sets.Task.{Task}
 use Rattle.sched_base.specs.Sets.{task_at}
@@ -10,7 +11,7 @@ use Rattle.trace_rows.specs.declared.faults.Verdict.TheVariants.{Valid, Fault}
 use Rattle.trace_check.specs.Traces.{Trace}
 use Rattle.trace_draw.specs.declared.windows.Window.{Window}
 use Rattle.trace_draw.specs.Windows.{plot_width, first_tick, has_tick, place}
-use Rattle.trace_draw.specs.Shapes.{box_line, label_line, base_line, arrow_line, ring_line, task_top}
+use Rattle.trace_draw.specs.Shapes.{box_line, roomy_line, base_line, arrow_line, ring_line, task_top}
 use Rattle.trace_draw.specs.Rows.{line_if}
 
 -- how many periods of the task begin before this unit
@@ -44,7 +45,7 @@ period_lines w horizon y a b due given done =
 -- what is drawn of period k of task j
 abbrev pub period_text : Trace → Window → ℕ → ℕ → List ℕ
 period_text t w j k =
-    concat (period_lines w (t.set.horizon * t.scale) (task_top t.set.processors j + 230)
+    concat (period_lines w (t.set.horizon * t.scale) (task_top t.set.processors j + 300)
     (period_start t.scale (task_at t.set.tasks j) k) (period_start t.scale (task_at t.set.tasks j) (k + 1))
     ((task_at t.set.tasks j).work * t.scale) (served t.scale t.set t.rows j k) (finish t.scale t.set t.rows j k))
 
@@ -61,15 +62,19 @@ abbrev pub is_at_fault : Trace → Verdict → ℕ → Bool
 is_at_fault t Valid j = Bool.false
 is_at_fault t (Fault line kind) j = line == 6 + length t.set.tasks + length t.rows + j
 
+-- how small so many letters are, that they fit into the left margin
+abbrev pub shrunk : ℕ → List ℕ
+shrunk letters = if nat_le letters 24 then [] else (if nat_le letters 34 then codes " q" else codes " j")
+
 -- the look of a task's name: bold and red where its total is at fault, small where it is long
-abbrev pub title_look : Bool → Bool → List ℕ
-title_look fault long = if fault then (if long then codes "e q" else codes "e") else (if long then codes "l q" else codes "l")
+abbrev pub title_look : Bool → ℕ → List ℕ
+title_look fault letters = (if fault then codes "e" else codes "l") ++ shrunk letters
 
 -- the words and the line of the lane of task j
 abbrev pub title_lines : Trace → Verdict → ℕ → ℕ → List (List ℕ)
 title_lines t v j top =
-    label_line (title_look (is_at_fault t v j) (nat_lt 24 (length (task_at t.set.tasks j).name))) 1780 (top + 105) (task_at t.set.tasks j).name
-    ∷ label_line (codes "s") 1780 (top + 215) (numbers_text (task_at t.set.tasks j)) ∷ base_line (top + 230) ∷ []
+    roomy_line (title_look (is_at_fault t v j) (length (task_at t.set.tasks j).name)) 1760 1780 (top + 170) (task_at t.set.tasks j).name
+    ∷ roomy_line (codes "s") 1960 1780 (top + 350) (numbers_text (task_at t.set.tasks j)) ∷ base_line (top + 300) ∷ []
 
 -- the marks of the periods of task j that are shown
 abbrev pub marks_text : Trace → Window → ℕ → List ℕ

@@ -7,6 +7,7 @@ use Rattle.trace_rows.specs.declared.faults.Verdict.{Verdict}
 use Rattle.trace_rows.specs.declared.faults.Verdict.TheVariants.{Valid, Fault}
 use Rattle.trace_rows.specs.Faults.{row_at}
 use Rattle.trace_check.specs.Traces.{Trace}
+use Rattle.trace_draw.specs.declared.rows.Part.TheVariants.{Boxes, Words}
 use Rattle.trace_draw.specs.declared.windows.Window.{Window}
 use Rattle.trace_draw.specs.Windows.{reaches, place, span}
 use Rattle.trace_draw.specs.Shapes.{label_line}
@@ -35,10 +36,10 @@ closing_lines s =
 abbrev pub base_text : Trace → Window → Verdict → List ℕ
 base_text t w v = head_text t.set w v ++ (lanes_text t.set ++ axis_text t.set w)
 
--- what comes last
+-- what comes last: the words of rows lie above all else
 abbrev pub end_text : Trace → Window → Verdict → List ℕ
-end_text t w v = fault_text t w v ++ concat (closing_lines t.set)
+end_text t w v = fault_text t w v ++ (rows_text Words t.set w t.rows ++ concat (closing_lines t.set))
 
 -- the picture of a trace with this verdict
 unfoldable pub picture : Trace → Window → Verdict → List ℕ
-picture t w v = base_text t w v ++ (rows_text t.set w t.rows ++ (tasks_text t w v ++ end_text t w v))
+picture t w v = base_text t w v ++ (rows_text Boxes t.set w t.rows ++ (tasks_text t w v ++ end_text t w v))

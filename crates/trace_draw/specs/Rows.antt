@@ -1,54 +1,61 @@
--- The rows of a picture: each is a box in the lane of its processor and one in the lane of its task, with words where they have room.
+-- The rows of a picture: each is a box in the lane of its processor and one in the lane of its task, with words where they have room. The words of
+-- all rows lie above all boxes.
 use Rattle.std.specs.Prelude.{ℕ, ◌+◌, ◌*◌, ◌/◌, nat_le, nat_lt, Bool, ◌&&◌, if◌then◌else◌, List, [], ◌∷◌, length, decimal}
 use Rattle.std.specs.List.{flat_map, concat}
 use Rattle.sched_base.specs.declared.rows.Leaf.{Leaf}
 use Rattle.sched_base.specs.declared.rows.Leaf.TheVariants as leaves
 use Rattle.sched_base.specs.declared.rows.Row.{Row}
 use Rattle.sched_base.specs.Sets.{SetContents, task_at}
+use Rattle.trace_draw.specs.declared.rows.Part.{Part}
+use Rattle.trace_draw.specs.declared.rows.Part.TheVariants.{Boxes, Words}
 use Rattle.trace_draw.specs.declared.windows.Window.{Window}
 use Rattle.trace_draw.specs.Windows.{reaches, place, span}
-use Rattle.trace_draw.specs.Shapes.{box_line, label_line, task_look, name_look, number_look, lane_top, task_top}
+use Rattle.trace_draw.specs.Shapes.{box_line, roomy_line, task_look, text_look, lane_top, task_top}
 
 -- the line, where it is to be shown
 abbrev pub line_if : Bool → List ℕ → List ℕ
 line_if shown line = if shown then line else []
 
--- whether a box of this width has room for a name
+-- whether a box of this width has room for a text
 abbrev pub has_room : List ℕ → ℕ → Bool
-has_room name width = nat_le (76 * length name + 60) width
+has_room text width = nat_le (76 * length text + 60) width
 
--- the boxes and words of a row of task j, x from the left and so wide. A processor that the set hasn't has no lane.
-abbrev pub row_lines : SetContents → ℕ → Row → ℕ → ℕ → List (List ℕ)
-row_lines s j r x width =
+-- a text in a box of task j, x from the left and so wide, where it has room
+abbrev pub words_line : ℕ → ℕ → ℕ → ℕ → List ℕ → List ℕ
+words_line j x width y text = line_if (has_room text width) (roomy_line (text_look j) width (x + width / 2) y text)
+
+-- the boxes of a row of task j, x from the left and so wide, and the words on them: the name of the task, and the number of the processor.
+-- A processor that the set hasn't has no lane.
+abbrev pub row_lines : Part → SetContents → ℕ → Row → ℕ → ℕ → List (List ℕ)
+row_lines Boxes s j r x width =
     line_if (nat_lt r.processor s.processors) (box_line (task_look j) x (lane_top r.processor) width 340)
-    ∷ line_if (nat_lt r.processor s.processors && has_room (task_at s.tasks j).name width)
-    (label_line (name_look j) (x + width / 2) (lane_top r.processor + 215) (task_at s.tasks j).name)
-    ∷ box_line (task_look j) x (task_top s.processors j + 60) width 170
-    ∷ line_if (nat_lt r.processor 100 && nat_le 130 width)
-    (label_line (number_look j) (x + width / 2) (task_top s.processors j + 180) (decimal r.processor)) ∷ []
+    ∷ box_line (task_look j) x (task_top s.processors j + 70) width 230 ∷ []
+row_lines Words s j r x width =
+    line_if (nat_lt r.processor s.processors) (words_line j x width (lane_top r.processor + 170) (task_at s.tasks j).name)
+    ∷ words_line j x width (task_top s.processors j + 185) (decimal r.processor) ∷ []
 
--- what is drawn of a row of task j
-abbrev pub task_row_text : SetContents → Window → ℕ → Row → List ℕ
-task_row_text s w j r = if reaches w r then concat (row_lines s j r (place w r.start) (span w r.start r.end)) else []
+-- this part of what is drawn of a row of task j
+abbrev pub task_row_text : Part → SetContents → Window → ℕ → Row → List ℕ
+task_row_text part s w j r = if reaches w r then concat (row_lines part s j r (place w r.start) (span w r.start r.end)) else []
 
--- what is drawn of a row with this leaf: idle time is left blank
-abbrev pub leaf_text : SetContents → Window → Row → Leaf → List ℕ
-leaf_text s w r (leaves.Task id) = task_row_text s w id.0 r
-leaf_text s w r (leaves.Wait id) = []
-leaf_text s w r (leaves.Idle number) = []
-leaf_text s w r leaves.Empty = []
+-- this part of what is drawn of a row with this leaf: idle time is left blank
+abbrev pub leaf_text : Part → SetContents → Window → Row → Leaf → List ℕ
+leaf_text part s w r (leaves.Task id) = task_row_text part s w id.0 r
+leaf_text part s w r (leaves.Wait id) = []
+leaf_text part s w r (leaves.Idle number) = []
+leaf_text part s w r leaves.Empty = []
 
--- what is drawn of a row
-abbrev pub row_text : SetContents → Window → Row → List ℕ
-row_text s w r = leaf_text s w r r.leaf
+-- this part of what is drawn of a row
+abbrev pub row_text : Part → SetContents → Window → Row → List ℕ
+row_text part s w r = leaf_text part s w r r.leaf
 
--- what is drawn of all rows, in the order of their lines
-abbrev pub rows_text : SetContents → Window → List Row → List ℕ
-rows_text s w rows = flat_map (row_text s w) rows
+-- this part of what is drawn of all rows, in the order of their lines
+abbrev pub rows_text : Part → SetContents → Window → List Row → List ℕ
+rows_text part s w rows = flat_map (row_text part s w) rows
 
 -- the red frame of a row with this leaf, in the lane of its task
 abbrev pub task_frame : SetContents → Leaf → ℕ → ℕ → List ℕ
-task_frame s (leaves.Task id) x width = box_line (102 ∷ []) x (task_top s.processors id.0 + 60) width 170
+task_frame s (leaves.Task id) x width = box_line (102 ∷ []) x (task_top s.processors id.0 + 70) width 230
 task_frame s (leaves.Wait id) x width = []
 task_frame s (leaves.Idle number) x width = []
 task_frame s leaves.Empty x width = []

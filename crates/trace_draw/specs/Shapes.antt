@@ -1,5 +1,5 @@
 -- The shapes of a picture, each a line of text. Lengths are tenths of a pixel.
-use Rattle.std.specs.Prelude.{ℕ, ◌+◌, ◌*◌, ◌/◌, ◌%◌, List, [], ◌∷◌, ◌++◌, codes, decimal}
+use Rattle.std.specs.Prelude.{ℕ, ◌+◌, ◌*◌, ◌/◌, ◌%◌, nat_le, if◌then◌else◌, List, [], ◌∷◌, ◌++◌, length, codes, decimal}
 
 -- a filled box
 unfoldable pub box_line : List ℕ → ℕ → ℕ → ℕ → ℕ → List ℕ
@@ -13,9 +13,18 @@ label_line look x y text =
     codes "<text class='" ++ (look ++ (codes "' x='" ++ (decimal x ++ (codes "' y='" ++ (decimal y
     ++ (codes "'>" ++ (text ++ (codes "</text>" ++ 10 ∷ []))))))))
 
+-- how large so many letters with this room may be on a narrow page: large, middle, or as everywhere
+abbrev pub grown : ℕ → ℕ → List ℕ
+grown letters room =
+    if nat_le (140 * letters + 60) room then codes " x" else (if nat_le (100 * letters + 60) room then codes " y" else [])
+
+-- a text with this room, whose letters are larger on a narrow page
+abbrev pub roomy_line : List ℕ → ℕ → ℕ → ℕ → List ℕ → List ℕ
+roomy_line look room x y text = label_line (look ++ grown (length text) room) x y text
+
 -- an upright line from the axis down to y
 unfoldable pub grid_line : ℕ → ℕ → List ℕ
-grid_line x y = codes "<path class='g' d='M" ++ (decimal x ++ (codes " 780V" ++ (decimal y ++ (codes "'/>" ++ 10 ∷ []))))
+grid_line x y = codes "<path class='g' d='M" ++ (decimal x ++ (codes " 880V" ++ (decimal y ++ (codes "'/>" ++ 10 ∷ []))))
 
 -- a line under the lane of a task
 unfoldable pub base_line : ℕ → List ℕ
@@ -23,7 +32,7 @@ base_line y = codes "<path class='b' d='M1900 " ++ (decimal y ++ (codes "H11600'
 
 -- an arrow that stands on y
 unfoldable pub arrow_line : ℕ → ℕ → List ℕ
-arrow_line x y = codes "<path class='r' d='M" ++ (decimal x ++ (32 ∷ (decimal y ++ (codes "v-230m-45 70l45-70l45 70'/>" ++ 10 ∷ []))))
+arrow_line x y = codes "<path class='r' d='M" ++ (decimal x ++ (32 ∷ (decimal y ++ (codes "v-290m-45 70l45-70l45 70'/>" ++ 10 ∷ []))))
 
 -- a ring
 unfoldable pub ring_line : ℕ → ℕ → List ℕ
@@ -33,17 +42,14 @@ ring_line x y = codes "<circle class='o' cx='" ++ (decimal x ++ (codes "' cy='" 
 abbrev pub task_look : ℕ → List ℕ
 task_look j = 99 ∷ (48 + j % 8) ∷ 32 ∷ 118 ∷ (48 + j / 8 % 4) ∷ []
 
--- the look of a text on them: that of a name, or of a number
-abbrev pub name_look : ℕ → List ℕ
-name_look j = 109 ∷ 32 ∷ 105 ∷ (48 + j % 8) ∷ []
-
-abbrev pub number_look : ℕ → List ℕ
-number_look j = 107 ∷ 32 ∷ 105 ∷ (48 + j % 8) ∷ []
+-- the look of a text on them, which is edged with their colour
+abbrev pub text_look : ℕ → List ℕ
+text_look j = 109 ∷ 32 ∷ 99 ∷ (48 + j % 8) ∷ []
 
 -- how far from the top the lane of processor p begins
 abbrev pub lane_top : ℕ → ℕ
-lane_top p = 900 + 420 * p
+lane_top p = 1000 + 420 * p
 
 -- how far from the top the lane of task j begins, below those of so many processors
 abbrev pub task_top : ℕ → ℕ → ℕ
-task_top processors j = 1130 + 420 * processors + 320 * j
+task_top processors j = 1230 + 420 * processors + 400 * j

@@ -8,7 +8,7 @@ ghost use Rattle.trace_draw.specs.Head.{bottom, height, plural, size_text, units
 ghost use Rattle.trace_draw.specs.Head.{title_line, description_line, paper_line, style_lines, opening_lines, caption_lines, head_text};
 ghost use Rattle.trace_draw.specs.Head.{lane_lines, lanes_text, axis_step, first_mark, mark_count, mark_lines, axis_text};
 
-use crate::shapes::{box_line, grid_line, label_line, lane_top, number_text, task_top};
+use crate::shapes::{box_line, grid_line, label_line, lane_top, number_text, roomy_line, task_top};
 use crate::windows::{LEFT, WIDTH, Window};
 use sched_base::TaskSet;
 use sched_edges::{Failed, Line, Sink, word_line, write_lines};
@@ -222,26 +222,29 @@ fn write_style<W: Sink>(sink: &mut W) -> Result<(), Failed>
             b"<style>text{font:125px ui-monospace,DejaVu Sans Mono,monospace}.h{font-size:180px;font-weight:bold}",
         ),
         word_line(
-            b".n,.a,.u,.s{fill:#444}.l,.s,.e,.u,.ok,.bad{text-anchor:end}.m,.a,.k{text-anchor:middle}.l,.e{font-size:115px}",
+            b".n,.a,.u,.s{fill:#444}.l,.s,.e,.u,.ok,.bad{text-anchor:end}.m,.a{text-anchor:middle}.l,.e{font-size:115px}",
         ),
         word_line(
-            b".ok,.bad{font-size:160px;fill:#00603f}.e{font-weight:bold}.e,.bad{fill:#b00000}.q,.s{font-size:85px}",
+            b".ok,.bad{font-size:160px;fill:#00603f}.e{font-weight:bold}.e,.bad{fill:#b00000}.q,.s{font-size:85px}.j{font-size:45px}",
         ),
         word_line(
-            b".k{font-size:95px}.p{fill:#f2f2f2}.g,.b,.r,.f,.o{fill:none;stroke:#bbb;stroke-width:6}.b{stroke:#999}",
+            b".s.x,.s.y{font-size:110px}.p{fill:#f2f2f2}.g,.b,.r,.f,.o{fill:none;stroke:#bbb;stroke-width:6}.b{stroke:#999}",
         ),
         word_line(
             b".r,.o{stroke:#000;stroke-width:14}.o{fill:#fff}.f{stroke:#b00000;stroke-width:24}.w{fill:#b00000}",
         ),
-        word_line(b".c0{fill:#0072b2}.c1{fill:#e69f00}.c2{fill:#009e73}.c3{fill:#cc79a7}"),
+        word_line(b".c0{color:#0072b2}.c1{color:#e69f00}.c2{color:#009e73}.c3{color:#cc79a7}"),
+        word_line(b".c4{color:#56b4e9}.c5{color:#d55e00}.c6{color:#f0e442}.c7{color:#595959}"),
         word_line(
-            b".c4{fill:#56b4e9}.c5{fill:#d55e00}.c6{fill:#f0e442}.c7{fill:#595959}.i0,.i7{fill:#fff}",
+            b".m{dominant-baseline:central;stroke:currentColor;stroke-width:.2em;paint-order:stroke}.m.c0,.m.c7{fill:#fff}",
+        ),
+        word_line(b".v0,.v1,.v2,.v3{fill:currentColor}.v1,.v2,.v3{stroke:#000;stroke-width:12}"),
+        word_line(b".v2{stroke-dasharray:40}.v3{stroke-dasharray:160 60}"),
+        word_line(
+            b"@media(max-width:900px){.h{font-size:300px}.n,.u{font-size:190px}.ok,.bad{font-size:260px}",
         ),
         word_line(
-            b".v1,.v2,.v3{stroke:#000;stroke-width:12}.v2{stroke-dasharray:40}.v3{stroke-dasharray:160 60}",
-        ),
-        word_line(
-            b"@media(max-width:700px){.h{font-size:300px}.n,.u{font-size:190px}.ok,.bad{font-size:260px}}</style>",
+            b".x{font-size:230px}.y{font-size:165px}.s.x{font-size:185px}.s.y{font-size:145px}}</style>",
         ),
     ];
     write_lines(sink, &lines)
@@ -281,7 +284,7 @@ fn lane_lines(processor: u32) -> [Line; 2]
     name.text(b"cpu ");
     name.number(u128::from(processor));
     [
-        label_line(b"l", 1780, top + 215, name.as_slice()),
+        roomy_line(b"l", 1760, 1780, top + 215, name.as_slice()),
         box_line(b"p", LEFT, top, WIDTH, 340),
     ]
 }
@@ -337,7 +340,7 @@ fn mark_lines(at: u64, end: u64, unit: u64) -> [Line; 2]
 {
     [
         grid_line(at, end),
-        label_line(b"a", at, 730, number_text(unit).as_slice()),
+        roomy_line(b"a", 760, at, 840, number_text(unit).as_slice()),
     ]
 }
 

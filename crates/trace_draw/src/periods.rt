@@ -1,7 +1,6 @@
 //! The lanes of the tasks: names, releases, and how each period was served.
 ghost use Rattle.std.specs.Prelude.{ℕ, ◌≡◌, ◌+◌, ◌-◌, ◌*◌, ◌≤◌, ◌<◌, ◌^◌, min, length, false};
 ghost use Rattle.sched_base.specs.Sets.{task_at, IsLawfulTask};
-ghost use Rattle.sched_base.specs.Valid.{period_start};
 ghost use Rattle.sched_edges.specs.Causes.{HasCause};
 ghost use Rattle.sched_edges.specs.Streams.{Wrote};
 ghost use Rattle.trace_draw.specs.Windows.{IsWindow};
@@ -10,12 +9,13 @@ ghost use Rattle.trace_draw.specs.Periods.{title_look, title_lines, marks_text, 
 
 use crate::rows::task_of;
 use crate::served::{Served, served_between};
-use crate::shapes::{arrow_line, base_line, box_line, label_line, line_if, ring_line, task_top};
+use crate::shapes::{arrow_line, base_line, box_line, line_if, ring_line, roomy_line, task_top};
 use crate::windows::{WIDTH, Window};
 use sched_base::Task;
 use sched_edges::{Failed, Line, Sink, write_lines};
 use trace_check::ReadTrace;
-use trace_rows::Verdict;
+use trace_lines::period_start;
+use trace_rows::{FIRST_TASK_LINE, Verdict};
 
 // How many periods of the task begin before a unit.
 fn begun_before(task: &Task, unit: u64) -> u64
@@ -90,17 +90,6 @@ fn period_lines(window: &Window, y: u64, period: &Period, served: &Served) -> [L
     [line_if(first <= period.begin, arrow_line(left, y)), mark]
 }
 
-// The tick at which period k of the task begins.
-fn period_start(task: &Task, scale: u128, k: u64) -> u128
-    requires task { IsLawfulTask task.now }
-    requires k { k ≤ 2 ^ 33 }
-    requires scale { scale ≤ 2 ^ 94 }
-    requires fits { task.now.offset + k * task.now.period < 2 ^ 33 }
-    ensures { result ≡ period_start scale task.now k }
-{
-    u128::from(task.offset + k * task.period) * scale
-}
-
 // Writes what is drawn of period k of a task.
 fn write_period<W: Sink>(
     sink: &mut W,
@@ -127,7 +116,7 @@ fn write_period<W: Sink>(
         horizon: u128::from(set.horizon()) * scale,
     };
     let served = served_between(trace, task, period.begin, period.end);
-    let y = task_top(set.processors(), task) + 230;
+    let y = task_top(set.processors(), task) + 300;
     write_lines(sink, &period_lines(window, y, &period, &served))
 }
 
@@ -172,7 +161,7 @@ fn numbers_text(task: &Task) -> Line
 fn is_at_fault(trace: &ReadTrace, verdict: Verdict, task: u32) -> bool
     ensures { result ≡ is_at_fault trace.now verdict task }
 {
-    let before = 6 + u64::from(trace.set().count()) + trace.rows().len() as u64;
+    let before = FIRST_TASK_LINE + u64::from(trace.set().count()) + trace.rows().len() as u64;
     match verdict {
         Verdict::Valid => false,
         Verdict::Fault { line, kind: _ } => line == before + u64::from(task),
@@ -180,15 +169,17 @@ fn is_at_fault(trace: &ReadTrace, verdict: Verdict, task: u32) -> bool
 }
 
 // The look of a task's name.
-fn title_look(fault: bool, long: bool) -> &'static [u8]
-    ensures look { result.now ≡ title_look fault long }
+fn title_look(fault: bool, letters: usize) -> &'static [u8]
+    ensures look { result.now ≡ title_look fault letters }
     ensures short { length result.now ≤ 3 }
 {
-    match (fault, long) {
-        (true, true) => b"e q",
-        (true, false) => b"e",
-        (false, true) => b"l q",
-        (false, false) => b"l",
+    match (fault, letters) {
+        (true, 0..=24) => b"e",
+        (true, 25..=34) => b"e q",
+        (true, _) => b"e j",
+        (false, 0..=24) => b"l",
+        (false, 25..=34) => b"l q",
+        (false, _) => b"l j",
     }
 }
 
@@ -200,11 +191,11 @@ fn title_lines(trace: &ReadTrace, verdict: Verdict, task: u32, top: u64) -> [Lin
 {
     let of_set = task_of(trace.set(), task);
     let name = of_set.name.as_slice();
-    let look = title_look(is_at_fault(trace, verdict, task), name.len() > 24);
+    let look = title_look(is_at_fault(trace, verdict, task), name.len());
     [
-        label_line(look, 1780, top + 105, name),
-        label_line(b"s", 1780, top + 215, numbers_text(of_set).as_slice()),
-        base_line(top + 230),
+        roomy_line(look, 1760, 1780, top + 170, name),
+        roomy_line(b"s", 1960, 1780, top + 350, numbers_text(of_set).as_slice()),
+        base_line(top + 300),
     ]
 }
 

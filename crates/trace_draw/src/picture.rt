@@ -8,13 +8,13 @@ ghost use Rattle.trace_draw.specs.Picture.{framed_row, fault_text, closing_lines
 
 use crate::head::{bottom, write_axis, write_head, write_lanes};
 use crate::periods::write_tasks;
-use crate::rows::{frame_lines, write_rows};
+use crate::rows::{Part, frame_lines, write_rows};
 use crate::shapes::label_line;
 use crate::windows::Window;
 use sched_base::TaskSet;
 use sched_edges::{Failed, Sink, word_line, write_lines};
 use trace_check::ReadTrace;
-use trace_rows::Verdict;
+use trace_rows::{FIRST_TASK_LINE, Verdict};
 
 /// Writes the picture of a trace over a window: the trace may be valid or not, and the verdict is the one that is told.
 ///
@@ -32,7 +32,7 @@ pub fn write_picture<W: Sink>(
     ensures cause { HasCause (W.faults sink.old) (W.faults sink.new) result }
 {
     write_base(sink, trace, window, verdict)?;
-    write_rows(sink, trace.set(), window, trace.rows())?;
+    write_rows(sink, Part::Boxes, trace.set(), window, trace.rows())?;
     write_tasks(sink, trace, window, verdict)?;
     write_end(sink, trace, window, verdict)
 }
@@ -89,7 +89,7 @@ fn write_fault<W: Sink>(
     ensures wrote { Wrote (W.taken sink.old) (W.taken sink.new) (fault_text trace.now window.now verdict) result }
     ensures cause { HasCause (W.faults sink.old) (W.faults sink.new) result }
 {
-    let first = 6 + u64::from(trace.set().count());
+    let first = FIRST_TASK_LINE + u64::from(trace.set().count());
     match verdict {
         Verdict::Valid => Ok(()),
         Verdict::Fault { line, kind: _ } => match line.checked_sub(first) {
@@ -127,5 +127,6 @@ fn write_end<W: Sink>(
     ensures cause { HasCause (W.faults sink.old) (W.faults sink.new) result }
 {
     write_fault(sink, trace, window, verdict)?;
+    write_rows(sink, Part::Words, trace.set(), window, trace.rows())?;
     write_closing(sink, trace.set())
 }

@@ -7,15 +7,23 @@ ghost use Rattle.sched_edges.specs.Causes.{HasCause};
 ghost use Rattle.sched_edges.specs.Streams.{Wrote};
 ghost use Rattle.trace_rows.specs.Faults.{IsTraceRow};
 ghost use Rattle.trace_draw.specs.Windows.{IsWindow};
-ghost use Rattle.trace_draw.specs.Rows.{has_room, row_lines, task_row_text, row_text, rows_text, task_frame, frame_lines};
+ghost use Rattle.trace_draw.specs.Rows.{has_room, words_line, row_lines, task_row_text, row_text, rows_text, task_frame, frame_lines};
 
 use crate::shapes::{
-    box_line, label_line, lane_top, line_if, name_look, number_look, number_text, task_look,
-    task_top,
+    box_line, lane_top, line_if, number_text, roomy_line, task_look, task_top, text_look,
 };
 use crate::windows::Window;
 use sched_base::{Leaf, Row, Task, TaskSet};
 use sched_edges::{Failed, Line, Sink, write_lines};
+
+/// What of the rows is drawn: the words of all lie above the boxes of all.
+#[derive(Clone, Copy, Debug, PartialEq, Eq)]
+pub(crate) enum Part {
+    /// The boxes.
+    Boxes,
+    /// The words on them.
+    Words,
+}
 
 /// Task j of the set.
 pub(crate) fn task_of(set: &TaskSet, task: u32) -> &Task
@@ -26,45 +34,55 @@ pub(crate) fn task_of(set: &TaskSet, task: u32) -> &Task
     &set.tasks()[task as usize]
 }
 
-fn has_room(name: &[u8], width: u64) -> bool
-    requires { length name.now ≤ 64 }
-    ensures { result ≡ has_room name.now width }
+fn has_room(text: &[u8], width: u64) -> bool
+    requires { length text.now ≤ 64 }
+    ensures { result ≡ has_room text.now width }
 {
-    76 * name.len() as u64 + 60 <= width
+    76 * text.len() as u64 + 60 <= width
 }
 
-// The boxes and words of a row of a task, x from the left and so wide.
-fn row_lines(set: &TaskSet, task: u32, row: &Row, x: u64, width: u64) -> [Line; 4]
+// A text in a box of a task, x from the left and so wide, where it has room.
+fn words_line(task: u32, x: u64, width: u64, y: u64, text: &[u8]) -> Line
+    requires x { x ≤ 11600 }
+    requires width { width ≤ 11600 }
+    requires text { length text.now ≤ 64 }
+    ensures { result ≡ words_line task x width y text.now }
+{
+    line_if(
+        has_room(text, width),
+        roomy_line(&text_look(task), width, x + width / 2, y, text),
+    )
+}
+
+// A part of a row of a task, x from the left and so wide.
+fn row_lines(part: Part, set: &TaskSet, task: u32, row: &Row, x: u64, width: u64) -> [Line; 2]
     requires task { task < length set.now.tasks }
     requires x { x ≤ 11600 }
     requires width { width ≤ 11600 }
-    ensures { result ≡ row_lines set.now task row.now x width }
+    ensures { result ≡ row_lines part set.now task row.now x width }
 {
     let processors = set.processors();
     let name = task_of(set, task).name.as_slice();
+    let number = number_text(u64::from(row.processor));
     let in_lane = row.processor < processors;
     let lane = lane_top(row.processor);
     let top = task_top(processors, task);
-    let middle = x + width / 2;
-    let number = number_text(u64::from(row.processor));
-    let numbered = row.processor < 100 && 130 <= width;
-    [
-        line_if(in_lane, box_line(&task_look(task), x, lane, width, 340)),
-        line_if(
-            in_lane && has_room(name, width),
-            label_line(&name_look(task), middle, lane + 215, name),
-        ),
-        box_line(&task_look(task), x, top + 60, width, 170),
-        line_if(
-            numbered,
-            label_line(&number_look(task), middle, top + 180, number.as_slice()),
-        ),
-    ]
+    match part {
+        Part::Boxes => [
+            line_if(in_lane, box_line(&task_look(task), x, lane, width, 340)),
+            box_line(&task_look(task), x, top + 70, width, 230),
+        ],
+        Part::Words => [
+            line_if(in_lane, words_line(task, x, width, lane + 170, name)),
+            words_line(task, x, width, top + 185, number.as_slice()),
+        ],
+    }
 }
 
-// Writes what is drawn of a row of a task.
+// Writes a part of a row of a task.
 fn write_row_of<W: Sink>(
     sink: &mut W,
+    part: Part,
     set: &TaskSet,
     window: &Window,
     task: u32,
@@ -72,7 +90,7 @@ fn write_row_of<W: Sink>(
 ) -> Result<(), Failed>
     requires window { IsWindow window.now }
     requires task { task < length set.now.tasks }
-    ensures wrote { Wrote (W.taken sink.old) (W.taken sink.new) (task_row_text set.now window.now task row.now) result }
+    ensures wrote { Wrote (W.taken sink.old) (W.taken sink.new) (task_row_text part set.now window.now task row.now) result }
     ensures cause { HasCause (W.faults sink.old) (W.faults sink.new) result }
 {
     if !window.reaches(row) {
@@ -80,36 +98,43 @@ fn write_row_of<W: Sink>(
     }
     let x = window.place(row.start);
     let width = window.span(row.start, row.end);
-    write_lines(sink, &row_lines(set, task, row, x, width))
+    write_lines(sink, &row_lines(part, set, task, row, x, width))
 }
 
-// Writes what is drawn of a row.
-fn write_row<W: Sink>(sink: &mut W, set: &TaskSet, window: &Window, row: &Row) -> Result<(), Failed>
+// Writes a part of a row.
+fn write_row<W: Sink>(
+    sink: &mut W,
+    part: Part,
+    set: &TaskSet,
+    window: &Window,
+    row: &Row,
+) -> Result<(), Failed>
     requires window { IsWindow window.now }
     requires row { IsTraceRow set.now row.now }
-    ensures wrote { Wrote (W.taken sink.old) (W.taken sink.new) (row_text set.now window.now row.now) result }
+    ensures wrote { Wrote (W.taken sink.old) (W.taken sink.new) (row_text part set.now window.now row.now) result }
     ensures cause { HasCause (W.faults sink.old) (W.faults sink.new) result }
 {
     match row.leaf {
-        Leaf::Task(id) => write_row_of(sink, set, window, id.0, row),
+        Leaf::Task(id) => write_row_of(sink, part, set, window, id.0, row),
         Leaf::Idle(_) | Leaf::Wait(_) | Leaf::Empty => Ok(()),
     }
 }
 
-/// Writes the rows, in the order of their lines.
+/// Writes a part of each row, in the order of their lines.
 pub(crate) fn write_rows<W: Sink>(
     sink: &mut W,
+    part: Part,
     set: &TaskSet,
     window: &Window,
     rows: &[Row],
 ) -> Result<(), Failed>
     requires window { IsWindow window.now }
     requires rows { AllByRecursion (IsTraceRow set.now) rows.now }
-    ensures wrote { Wrote (W.taken sink.old) (W.taken sink.new) (rows_text set.now window.now rows.now) result }
+    ensures wrote { Wrote (W.taken sink.old) (W.taken sink.new) (rows_text part set.now window.now rows.now) result }
     ensures cause { HasCause (W.faults sink.old) (W.faults sink.new) result }
 {
     for row in rows {
-        write_row(sink, set, window, row)?;
+        write_row(sink, part, set, window, row)?;
     }
     Ok(())
 }
@@ -119,7 +144,7 @@ fn task_frame(set: &TaskSet, leaf: Leaf, x: u64, width: u64) -> Line
     ensures { result ≡ task_frame set.now leaf x width }
 {
     match leaf {
-        Leaf::Task(id) => box_line(b"f", x, task_top(set.processors(), id.0) + 60, width, 170),
+        Leaf::Task(id) => box_line(b"f", x, task_top(set.processors(), id.0) + 70, width, 230),
         Leaf::Idle(_) | Leaf::Wait(_) | Leaf::Empty => Line::new(),
     }
 }

@@ -1,7 +1,7 @@
 //! The shapes of a picture, each a line of text. Lengths are tenths of a pixel.
-ghost use Rattle.std.specs.Prelude.{◌≡◌, ◌+◌, ◌≤◌, ◌<◌, ◌^◌, [], length, decimal};
-ghost use Rattle.trace_draw.specs.Shapes.{box_line, label_line, grid_line, base_line, arrow_line, ring_line, task_look, name_look, number_look};
-ghost use Rattle.trace_draw.specs.Shapes.{lane_top, task_top};
+ghost use Rattle.std.specs.Prelude.{◌≡◌, ◌+◌, ◌≤◌, ◌<◌, ◌^◌, [], ◌++◌, length, decimal};
+ghost use Rattle.trace_draw.specs.Shapes.{box_line, label_line, grown, roomy_line, grid_line, base_line, arrow_line, ring_line};
+ghost use Rattle.trace_draw.specs.Shapes.{task_look, text_look, lane_top, task_top};
 ghost use Rattle.trace_draw.specs.Rows.{line_if};
 
 use sched_edges::Line;
@@ -48,7 +48,7 @@ pub(crate) fn box_line(look: &[u8], x: u64, y: u64, width: u64, height: u64) -> 
 /// A text.
 #[tactic(auto, unfolding(crate::specs::Shapes::label_line))]
 pub(crate) fn label_line(look: &[u8], x: u64, y: u64, text: &[u8]) -> Line
-    requires look { length look.now ≤ 5 }
+    requires look { length look.now ≤ 7 }
     requires text { length text.now ≤ 136 }
     ensures { result ≡ label_line look.now x y text.now }
 {
@@ -66,6 +66,34 @@ pub(crate) fn label_line(look: &[u8], x: u64, y: u64, text: &[u8]) -> Line
     line
 }
 
+// How large so many letters with this room may be on a narrow page.
+fn grown(letters: usize, room: u64) -> &'static [u8]
+    requires { letters ≤ 256 }
+    ensures look { result.now ≡ grown letters room }
+    ensures short { length result.now ≤ 2 }
+{
+    let letters = letters as u64;
+    if 140 * letters + 60 <= room {
+        b" x"
+    } else if 100 * letters + 60 <= room {
+        b" y"
+    } else {
+        b""
+    }
+}
+
+/// A text with this room, whose letters are larger on a narrow page.
+pub(crate) fn roomy_line(look: &[u8], room: u64, x: u64, y: u64, text: &[u8]) -> Line
+    requires look { length look.now ≤ 5 }
+    requires text { length text.now ≤ 136 }
+    ensures { result ≡ roomy_line look.now room x y text.now }
+{
+    let mut whole = Line::new();
+    whole.text(look);
+    whole.text(grown(text.len(), room));
+    label_line(whole.as_slice(), x, y, text)
+}
+
 /// An upright line from the axis down to y.
 #[tactic(auto, unfolding(crate::specs::Shapes::grid_line))]
 pub(crate) fn grid_line(x: u64, y: u64) -> Line
@@ -74,7 +102,7 @@ pub(crate) fn grid_line(x: u64, y: u64) -> Line
     let mut line = Line::new();
     line.text(b"<path class='g' d='M");
     line.number(u128::from(x));
-    line.text(b" 780V");
+    line.text(b" 880V");
     line.number(u128::from(y));
     line.text(b"'/>");
     line.end();
@@ -104,7 +132,7 @@ pub(crate) fn arrow_line(x: u64, y: u64) -> Line
     line.number(u128::from(x));
     line.space();
     line.number(u128::from(y));
-    line.text(b"v-230m-45 70l45-70l45 70'/>");
+    line.text(b"v-290m-45 70l45-70l45 70'/>");
     line.end();
     line
 }
@@ -140,20 +168,12 @@ pub(crate) fn task_look(task: u32) -> [u8; 5]
     [b'c', digit(task % 8), b' ', b'v', digit(task / 8 % 4)]
 }
 
-/// The look of a name on them.
-pub(crate) fn name_look(task: u32) -> [u8; 4]
-    ensures look { result ≡ name_look task }
+/// The look of a text on them.
+pub(crate) fn text_look(task: u32) -> [u8; 4]
+    ensures look { result ≡ text_look task }
     ensures short { length result ≤ 5 }
 {
-    [b'm', b' ', b'i', digit(task % 8)]
-}
-
-/// The look of a number on them.
-pub(crate) fn number_look(task: u32) -> [u8; 4]
-    ensures look { result ≡ number_look task }
-    ensures short { length result ≤ 5 }
-{
-    [b'k', b' ', b'i', digit(task % 8)]
+    [b'm', b' ', b'c', digit(task % 8)]
 }
 
 /// How far from the top the lane of a processor begins.
@@ -161,7 +181,7 @@ pub(crate) fn lane_top(processor: u32) -> u64
     ensures value { result ≡ lane_top processor }
     ensures fits { result < 2 ^ 42 }
 {
-    900 + 420 * u64::from(processor)
+    1000 + 420 * u64::from(processor)
 }
 
 /// How far from the top the lane of a task begins, below those of so many processors.
@@ -169,5 +189,5 @@ pub(crate) fn task_top(processors: u32, task: u32) -> u64
     ensures value { result ≡ task_top processors task }
     ensures fits { result < 2 ^ 43 }
 {
-    1130 + 420 * u64::from(processors) + 320 * u64::from(task)
+    1230 + 420 * u64::from(processors) + 400 * u64::from(task)
 }

@@ -12,4 +12,7 @@ returns-clause-wrote g c =
       c.word_line-7.ensures,
       c.word_line-8.ensures,
       c.word_line-9.ensures,
+      c.word_line-10.ensures,
+      c.word_line-11.ensures,
+      c.word_line-12.ensures,
     ) at c.write_lines.ensures.wrote

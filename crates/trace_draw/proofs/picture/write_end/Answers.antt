@@ -1,9 +1,31 @@
+use Rattle.std.proofs.Common.{◌++◌}
 use Rattle.std.specs.List.{concat}
-use Rattle.sched_edges.proofs.Wrote.{wrote_then}
+use Rattle.sched_edges.proofs.Wrote.{wrote_then, wrote_cut}
+use Rattle.trace_draw.specs.declared.rows.Part.TheVariants.{Words}
+use Rattle.trace_draw.specs.Rows.{rows_text}
 use Rattle.trace_draw.specs.Picture.{fault_text, closing_lines}
 use Rattle.trace_draw.proofs.picture.write_end.Goals as goal
 
+pub returns-in_err-write_fault-clause-wrote : goal.returns-in_err-write_fault-clause-wrote
+returns-in_err-write_fault-clause-wrote g c =
+    let t = c.args.trace.now in
+    let w = c.args.window.now in
+    wrote_cut _ _ (fault_text t w c.args.verdict) (rows_text Words t.set w t.rows ++ concat (closing_lines t.set)) _ _ c.in_err-write_fault.ensures.wrote
+    c.from_residual.ensures.0
+
+pub returns-in_err-write_rows-clause-wrote : goal.returns-in_err-write_rows-clause-wrote
+returns-in_err-write_rows-clause-wrote g c =
+    let t = c.args.trace.now in
+    let w = c.args.window.now in
+    let words = rw (c.rows.ensures.value, c.set.ensures) at c.in_err-write_rows.ensures.wrote in
+    wrote_then _ _ _ (fault_text t w c.args.verdict) (rows_text Words t.set w t.rows ++ concat (closing_lines t.set)) _ _ c.in_ok-write_fault.ensures.wrote
+    (wrote_cut _ _ (rows_text Words t.set w t.rows) (concat (closing_lines t.set)) _ _ words c.from_residual-in_err-write_rows.ensures.0)
+
 pub returns-clause-wrote : goal.returns-clause-wrote
 returns-clause-wrote g c =
-    wrote_then _ _ _ (fault_text c.args.trace.now c.args.window.now c.args.verdict) (concat (closing_lines c.args.trace.now.set)) _ _ c.in_ok-write_fault.ensures.wrote
-    (rw c.set.ensures at c.write_closing.ensures.wrote)
+    let t = c.args.trace.now in
+    let w = c.args.window.now in
+    let words = rw (c.rows.ensures.value, c.set.ensures) at c.in_ok-write_rows.ensures.wrote in
+    let closing = rw c.set-2.ensures at c.write_closing.ensures.wrote in
+    wrote_then _ _ _ (fault_text t w c.args.verdict) (rows_text Words t.set w t.rows ++ concat (closing_lines t.set)) _ _ c.in_ok-write_fault.ensures.wrote
+    (wrote_then _ _ _ (rows_text Words t.set w t.rows) (concat (closing_lines t.set)) _ _ words closing)

@@ -1,4 +1,5 @@
 use Rattle.sched_edges.proofs.Wrote.{wrote_then, wrote_cut}
+use Rattle.trace_draw.specs.declared.rows.Part.TheVariants.{Boxes}
 use Rattle.trace_draw.specs.Rows.{rows_text}
 use Rattle.trace_draw.specs.Periods.{tasks_text}
 use Rattle.trace_draw.specs.Picture.{base_text, end_text, picture}
@@ -11,7 +12,7 @@ returns-in_err-write_base-clause-wrote g c =
     let t = c.args.trace.now in
     let w = c.args.window.now in
     let v = c.args.verdict in
-    wrote_cut _ _ (base_text t w v) (rows_text t.set w t.rows ++ (tasks_text t w v ++ end_text t w v)) _ _ c.in_err-write_base.ensures.wrote c.from_residual.ensures.0
+    wrote_cut _ _ (base_text t w v) (rows_text Boxes t.set w t.rows ++ (tasks_text t w v ++ end_text t w v)) _ _ c.in_err-write_base.ensures.wrote c.from_residual.ensures.0
 
 pub returns-in_err-write_rows-clause-wrote : goal.returns-in_err-write_rows-clause-wrote
 unfolding picture
@@ -21,7 +22,7 @@ returns-in_err-write_rows-clause-wrote g c =
     let v = c.args.verdict in
     let rows = rw (c.rows.ensures.value, c.set.ensures) at c.in_err-write_rows.ensures.wrote in
     wrote_then _ _ _ (base_text t w v) _ _ _ c.in_ok-write_base.ensures.wrote
-    (wrote_cut _ _ (rows_text t.set w t.rows) (tasks_text t w v ++ end_text t w v) _ _ rows c.from_residual-in_err-write_rows.ensures.0)
+    (wrote_cut _ _ (rows_text Boxes t.set w t.rows) (tasks_text t w v ++ end_text t w v) _ _ rows c.from_residual-in_err-write_rows.ensures.0)
 
 pub returns-in_err-write_tasks-clause-wrote : goal.returns-in_err-write_tasks-clause-wrote
 unfolding picture
@@ -31,7 +32,7 @@ returns-in_err-write_tasks-clause-wrote g c =
     let v = c.args.verdict in
     let rows = rw (c.rows.ensures.value, c.set.ensures) at c.in_ok-write_rows.ensures.wrote in
     wrote_then _ _ _ (base_text t w v) _ _ _ c.in_ok-write_base.ensures.wrote
-    (wrote_then _ _ _ (rows_text t.set w t.rows) (tasks_text t w v ++ end_text t w v) _ _ rows
+    (wrote_then _ _ _ (rows_text Boxes t.set w t.rows) (tasks_text t w v ++ end_text t w v) _ _ rows
     (wrote_cut _ _ (tasks_text t w v) (end_text t w v) _ _ c.in_err-write_tasks.ensures.wrote c.from_residual-in_err-write_tasks.ensures.0))
 
 pub returns-clause-wrote : goal.returns-clause-wrote
@@ -42,5 +43,5 @@ returns-clause-wrote g c =
     let v = c.args.verdict in
     let rows = rw (c.rows.ensures.value, c.set.ensures) at c.in_ok-write_rows.ensures.wrote in
     wrote_then _ _ _ (base_text t w v) _ _ _ c.in_ok-write_base.ensures.wrote
-    (wrote_then _ _ _ (rows_text t.set w t.rows) (tasks_text t w v ++ end_text t w v) _ _ rows
+    (wrote_then _ _ _ (rows_text Boxes t.set w t.rows) (tasks_text t w v ++ end_text t w v) _ _ rows
     (wrote_then _ _ _ (tasks_text t w v) (end_text t w v) _ _ c.in_ok-write_tasks.ensures.wrote c.write_end.ensures.wrote))

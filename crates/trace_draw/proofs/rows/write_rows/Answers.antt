@@ -11,7 +11,7 @@ returns-in_err-write_row-clause-wrote g c =
     let rows = c.args.rows.now in
     let i = c.loop-row.row-index in
     let at = get_or_default rows i (record { processor = 0; start = 0; end = 0; leaf = leaves.Task (record { 0 = 0 }) }) (row_at rows i) c.loop-row-test.true in
-    wrote_item (row_text c.args.set.now c.args.window.now) rows i (row_at rows i) _ _ _ _ _ c.loop-row-test.true at c.loop-row.invariant.0 c.in_err-write_row.ensures.wrote
+    wrote_item (row_text c.args.part c.args.set.now c.args.window.now) rows i (row_at rows i) _ _ _ _ _ c.loop-row-test.true at c.loop-row.invariant.0 c.in_err-write_row.ensures.wrote
     c.from_residual.ensures.0
 
 pub loop-row-preserved : goal.loop-row-preserved
@@ -21,7 +21,7 @@ loop-row-preserved g c =
     let at = get_or_default rows i (record { processor = 0; start = 0; end = 0; leaf = leaves.Task (record { 0 = 0 }) }) (row_at rows i) c.loop-row-test.true in
     let before = c.loop-row.invariant.1 in
     let later = c.write_row.ensures.cause.later in (
-      item_written (row_text c.args.set.now c.args.window.now) rows i (row_at rows i) _ _ _ c.loop-row-test.true at c.loop-row.invariant.0 c.in_ok-write_row.ensures.wrote.ok,
+      item_written (row_text c.args.part c.args.set.now c.args.window.now) rows i (row_at rows i) _ _ _ c.loop-row-test.true at c.loop-row.invariant.0 c.in_ok-write_row.ensures.wrote.ok,
       omega (arith, before, later),
     )
 

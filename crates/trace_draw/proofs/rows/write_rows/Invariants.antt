@@ -6,5 +6,5 @@ use Rattle.trace_draw.proofs.rows.write_rows.Given as goal
 
 abbrev pub invariant-loop-row : goal.invariant-loop-row
 invariant-loop-row g l =
-    Appends (g.W.Sink.taken l.fn.sink) (g.W.Sink.taken l.sink) (flat_map (row_text l.set l.window) (take l.row-index l.rows))
+    Appends (g.W.Sink.taken l.fn.sink) (g.W.Sink.taken l.sink) (flat_map (row_text l.part l.set l.window) (take l.row-index l.rows))
     × (g.W.Sink.faults l.fn.sink ≤ g.W.Sink.faults l.sink)
