@@ -2,7 +2,7 @@
 use Rattle.std.proofs.Common.{false, ◌≡◌, ◌⊎◌, inl, inr, ℕ, ◌+◌, ◌^◌, ◌≤◌, ◌<◌, List, ◌++◌, length, Result, Ok, Err, Option, Some, None, refl}
 use Rattle.std.proofs.Common.{sym, ◌∙◌, ap, subst, arith, append-nil}
 use Rattle.sched_base.specs.Sets.{SetContents}
-use Rattle.sched_base.specs.Scale.{IsScale, PassesAt, total_of, room_of, Fits}
+use Rattle.sched_base.specs.Scale.{IsScale, PassesAt, total_of, room_of}
 use Rattle.sched_edges.specs.Causes.{Rose}
 use Rattle.sched_edges.specs.Streams.{GaveAll, GaveCount}
 use Rattle.sched_edges.proofs.Pieces.{holds_more}
@@ -12,7 +12,7 @@ use Rattle.trace_check.specs.Traces.{Trace as TraceRead}
 use Rattle.trace_check.specs.Reading.{reading}
 use Rattle.stat_report.specs.Report.{IsValidTrace}
 use Rattle.rate_scale.proofs.ScaleLemmas.{same_scale, PassesAt-whole}
-use Rattle.run_tool.specs.declared.command.Command.{Command}
+use Rattle.command_words.specs.declared.command.Command.{Command}
 use Rattle.run_tool.specs.declared.refusal.Refusal.{Refusal}
 use Rattle.run_tool.specs.declared.refusal.Refusal.TheVariants as why
 use Rattle.run_tool.specs.declared.status.Status.{Status}
@@ -22,8 +22,8 @@ use Rattle.sched_base.specs.Tables.{row_limit}
 use Rattle.run_tree.specs.Plans.{stop_of}
 use Rattle.run_tool.specs.Commands.{SetText, rates, server_tree, schedule_rows, wrapped_rows, c_table, Output, of_set, of_trace, of_picture, of_tree, of_batch, of_jobs, of_modes, of_drill}
 use Rattle.run_tool.specs.Commands.{output_of, limit_of, ReadsSet, text_of}
-use Rattle.run_tool.specs.Commands.{plan_of, rows_of, wrapped_rows_of, HasRoom, HasTooManyRows, HasTooManyWrapped, HasTooManyTicks, HasNoRoom, HasNoType, WritesSet, Writes, CallsFor, RefusesSet}
-use Rattle.run_tool.specs.Commands.{RefusesText}
+use Rattle.run_tool.specs.Commands.{plan_of, rows_of, wrapped_rows_of, HasRoom, WritesSet, Writes, CallsFor, RefusesText}
+use Rattle.run_tool.specs.SetTexts.{IsSchedulable, IsUnfit, IsTooLongSet, IsTooWidePlan, IsTooWideSet, LacksText}
 use Rattle.run_tool.specs.Commands.{Refuses}
 use Rattle.run_tool.proofs.FollowLemmas.{followed_or_refused, one_follow_status}
 use Rattle.run_tool.proofs.ModeTextLemmas.{modes_or_refused, one_modes_status}
@@ -51,230 +51,163 @@ same_refusal bytes r q a b = let e : ◌≡◌ {A = Result SetContents ReadSet} 
 not_both : (bytes : List ℕ) (s : SetContents) (r : ReadSet) → set_read_from bytes ≡ Ok s → set_read_from bytes ≡ Err r → ⊥
 not_both bytes s r a b = let e : ◌≡◌ {A = Result SetContents ReadSet} (Ok s) (Err r) = sym a ∙ b in cc
 
+-- ---- sets
+
 -- a set with a scale within the limit has no task that passes it
-no_pass : (bytes : List ℕ) (s t : SetContents) (scale task : ℕ) → ReadsSet bytes s scale → set_read_from bytes ≡ Ok t → PassesAt (2 ^ 94) t.tasks task → ⊥
-no_pass bytes s t scale task reads read passes =
-    let same : t ≡ s = same_set bytes t s read reads.read in
-    let passes' : PassesAt (2 ^ 94) s.tasks task = subst (λ (x : SetContents). PassesAt (2 ^ 94) x.tasks task) same passes in
-    let over = PassesAt-whole (2 ^ 94) s.tasks task passes' scale reads.is_scale in
-    let within = reads.within in
-    absurd (omega (arith, over, within))
+no_pass : (s : SetContents) (scale task : ℕ) → IsScale s.tasks scale → scale ≤ 2 ^ 94 → PassesAt (2 ^ 94) s.tasks task → ⊥
+no_pass s scale task is within passes = let over = PassesAt-whole (2 ^ 94) s.tasks task passes scale is in absurd (omega (arith, over, within))
 
 -- a set that fits doesn't ask for more than there is
-no_overload : (bytes : List ℕ) (s t : SetContents) (scale other total room : ℕ) → ReadsSet bytes s scale → Fits scale s
-    → ReadsSet bytes t other → room < total → total ≡ total_of other t.tasks → room ≡ room_of other t → ⊥
-no_overload bytes s t scale other total room reads fits reads' over is_total is_room =
-    let same : t ≡ s = same_set bytes t s reads'.read reads.read in
-    let scale' : IsScale s.tasks other = subst (λ (x : SetContents). IsScale x.tasks other) same reads'.is_scale in
-    let one : other ≡ scale = same_scale s.tasks other scale scale' reads.is_scale in
-    let fits' : total_of other t.tasks ≤ room_of other t = rw (same, one) fits in
-    absurd (omega (arith, fits', over, is_total, is_room))
+no_overload : (s : SetContents) (scale other total room : ℕ) → IsSchedulable s scale → IsScale s.tasks other → room < total
+    → total ≡ total_of other s.tasks → room ≡ room_of other s → ⊥
+no_overload s scale other total room run is over is_total is_room =
+    let one : other ≡ scale = same_scale s.tasks other scale is run.is_scale in
+    let fits : total_of other s.tasks ≤ room_of other s = rw one run.fits in
+    absurd (omega (arith, fits, over, is_total, is_room))
 
--- a set that fits isn't refused as a set
-fits_not_refused : (bytes : List ℕ) (s : SetContents) (scale : ℕ) (r : Refusal) → ReadsSet bytes s scale → Fits scale s → RefusesSet bytes r → ⊥
-fits_not_refused bytes s scale (why.BadSet r) reads fits refuses = not_both bytes s r reads.read refuses
-fits_not_refused bytes s scale (why.ScaleTooLarge task) reads fits refuses =
-    let (t, read, passes) = refuses in
-    no_pass bytes s t scale task reads read passes
-fits_not_refused bytes s scale (why.Overload total room) reads fits refuses =
-    let (t, other, reads', over, is_total, is_room) = refuses in
-    no_overload bytes s t scale other total room reads fits reads' over is_total is_room
-fits_not_refused bytes s scale (why.BadLine line) reads fits refuses = refuses
-fits_not_refused bytes s scale (why.BadProgram line) reads fits refuses = refuses
-fits_not_refused bytes s scale (why.BadTree line kind) reads fits refuses = refuses
-fits_not_refused bytes s scale (why.OfMode j q) reads fits refuses = refuses
-fits_not_refused bytes s scale (why.GateFault row name) reads fits refuses = refuses
-fits_not_refused bytes s scale (why.JobFault row name) reads fits refuses = refuses
-fits_not_refused bytes s scale why.Usage reads fits refuses = refuses
-fits_not_refused bytes s scale why.ReadFault reads fits refuses = refuses
-fits_not_refused bytes s scale why.WriteFault reads fits refuses = refuses
-fits_not_refused bytes s scale why.NoMemory reads fits refuses = refuses
-fits_not_refused bytes s scale (why.TooLong rows) reads fits refuses = refuses
-fits_not_refused bytes s scale (why.InputTooLong count) reads fits refuses = refuses
-fits_not_refused bytes s scale (why.TooWide ticks) reads fits refuses = refuses
+fits_or_not : (s : SetContents) (scale : ℕ) (r : Refusal) → IsSchedulable s scale → IsUnfit s r → ⊥
+fits_or_not s scale (why.ScaleTooLarge task) run unfit = no_pass s scale task run.is_scale run.within unfit
+fits_or_not s scale (why.Overload total room) run unfit =
+    let (other, is, within, over, is_total, is_room) = unfit in
+    no_overload s scale other total room run is over is_total is_room
+fits_or_not s scale _ run unfit = absurd unfit
 
--- a schedule that has room hasn't too many rows
-not_too_many : (bytes : List ℕ) (s : SetContents) (scale rows : ℕ) → ReadsSet bytes s scale → rows_of (plan_of s scale) ≤ row_limit
-    → HasTooManyRows bytes rows → ⊥
-not_too_many bytes s scale rows reads room many =
-    let (t, other, reads', fits, over, is_rows) = many in
-    let same : t ≡ s = same_set bytes t s reads'.read reads.read in
-    let scale' : IsScale s.tasks other = subst (λ (x : SetContents). IsScale x.tasks other) same reads'.is_scale in
-    let one : other ≡ scale = same_scale s.tasks other scale scale' reads.is_scale in
-    let over' : row_limit < rows_of (plan_of s scale) =
-    subst (λ (n : ℕ). row_limit < rows_of (plan_of s n)) one (subst (λ (x : SetContents). row_limit < rows_of (plan_of x other)) same over) in
+-- a set has one scale, so what is so of the one is so of the other
+moved : (P : ℕ → Type 0) (s : SetContents) (a b : ℕ) → IsSchedulable s a → IsSchedulable s b → P a → P b
+moved P s a b x y h = subst P (same_scale s.tasks a b x.is_scale y.is_scale) h
+
+-- a set whose text has room hasn't too many rows
+not_too_long : (what : SetText) (s : SetContents) (scale rows : ℕ) → IsSchedulable s scale → HasRoom what s scale → IsTooLongSet what s rows → ⊥
+not_too_long rates s scale rows run room long = long
+not_too_long server_tree s scale rows run room long = long
+not_too_long (schedule_rows met) s scale rows run room long =
+    let (other, run', over, is) = long in
+    let over' = moved (λ n. row_limit < rows_of (plan_of s n)) s other scale run' run over in
     absurd (omega (arith, room, over'))
-
-not_too_many_wrapped : (bytes : List ℕ) (s : SetContents) (scale rows : ℕ) → ReadsSet bytes s scale → wrapped_rows_of s scale ≤ row_limit
-    → HasTooManyWrapped bytes rows → ⊥
-not_too_many_wrapped bytes s scale rows reads room many =
-    let (t, other, reads', fits, over, is_rows) = many in
-    let same : t ≡ s = same_set bytes t s reads'.read reads.read in
-    let scale' : IsScale s.tasks other = subst (λ (x : SetContents). IsScale x.tasks other) same reads'.is_scale in
-    let one : other ≡ scale = same_scale s.tasks other scale scale' reads.is_scale in
-    let over' : row_limit < wrapped_rows_of s scale =
-    subst (λ (n : ℕ). row_limit < wrapped_rows_of s n) one (subst (λ (x : SetContents). row_limit < wrapped_rows_of x other) same over) in
+not_too_long wrapped_rows s scale rows run room long =
+    let (other, run', over, is) = long in
+    let over' = moved (λ n. row_limit < wrapped_rows_of s n) s other scale run' run over in
     absurd (omega (arith, room, over'))
+not_too_long c_table s scale rows run room long =
+    let (other, run', over, is) = long.1 in
+    let over' = moved (λ n. row_limit < rows_of (plan_of s n)) s other scale run' run over in
+    let few = room.1 in
+    absurd (omega (arith, few, over'))
 
 -- a schedule with few ticks hasn't too many
-not_too_wide : (bytes : List ℕ) (s : SetContents) (scale ticks : ℕ) → ReadsSet bytes s scale → stop_of (plan_of s scale) < 2 ^ 64
-    → HasTooManyTicks bytes ticks → ⊥
-not_too_wide bytes s scale ticks reads few many =
-    let (t, other, reads', fits, wide, is) = many in
-    let same : t ≡ s = same_set bytes t s reads'.read reads.read in
-    let scale' : IsScale s.tasks other = subst (λ (x : SetContents). IsScale x.tasks other) same reads'.is_scale in
-    let one : other ≡ scale = same_scale s.tasks other scale scale' reads.is_scale in
-    let is' : ticks ≡ stop_of (plan_of s scale) =
-    subst (λ (n : ℕ). ticks ≡ stop_of (plan_of s n)) one (subst (λ (x : SetContents). ticks ≡ stop_of (plan_of x other)) same is) in
-    let few' : ticks < 2 ^ 64 = subst (λ (n : ℕ). n < 2 ^ 64) (sym is') few in
-    absurd (omega (arith, wide, few'))
+few_ticks : (s : SetContents) (scale ticks : ℕ) → IsSchedulable s scale → stop_of (plan_of s scale) < 2 ^ 64 → IsTooWidePlan s ticks → ⊥
+few_ticks s scale ticks run few wide =
+    let (other, run', over, is) = wide in
+    let few' = moved (λ n. stop_of (plan_of s n) < 2 ^ 64) s scale other run run' few in
+    absurd (omega (arith, few', over, is))
 
-not_without_type : (what : SetText) (bytes : List ℕ) (s : SetContents) (scale ticks : ℕ) → ReadsSet bytes s scale → HasRoom what s scale
-    → HasNoType what bytes ticks → ⊥
-not_without_type c_table bytes s scale ticks reads room none = not_too_wide bytes s scale ticks reads room.0 none
-not_without_type rates bytes s scale ticks reads room none = none
-not_without_type server_tree bytes s scale ticks reads room none = none
-not_without_type (schedule_rows met) bytes s scale ticks reads room none = none
-not_without_type wrapped_rows bytes s scale ticks reads room none = none
+not_too_wide : (what : SetText) (s : SetContents) (scale ticks : ℕ) → IsSchedulable s scale → HasRoom what s scale → IsTooWideSet what s ticks → ⊥
+not_too_wide c_table s scale ticks run room wide = few_ticks s scale ticks run room.0 wide
+not_too_wide _ s scale ticks run room wide = absurd wide
 
-not_without_room : (what : SetText) (bytes : List ℕ) (s : SetContents) (scale rows : ℕ) → ReadsSet bytes s scale → HasRoom what s scale
-    → HasNoRoom what bytes rows → ⊥
-not_without_room rates bytes s scale rows reads room none = none
-not_without_room server_tree bytes s scale rows reads room none = none
-not_without_room (schedule_rows met) bytes s scale rows reads room none = not_too_many bytes s scale rows reads room none
-not_without_room wrapped_rows bytes s scale rows reads room none = not_too_many_wrapped bytes s scale rows reads room none
-not_without_room c_table bytes s scale rows reads room none = not_too_many bytes s scale rows reads room.1 none.1
+not_long_and_wide : (what : SetText) (s : SetContents) (rows ticks : ℕ) → IsTooLongSet what s rows → IsTooWideSet what s ticks → ⊥
+not_long_and_wide c_table s rows ticks long wide = few_ticks s long.0.0 ticks long.0.1 long.0.2 wide
+not_long_and_wide _ s rows ticks long wide = absurd wide
 
--- a set whose text has no room fits
-fits_without_room : (what : SetText) (bytes : List ℕ) (rows : ℕ) → HasNoRoom what bytes rows
-    → (s : SetContents) × (scale : ℕ) × ReadsSet bytes s scale × Fits scale s
-fits_without_room rates bytes rows none = absurd none
-fits_without_room server_tree bytes rows none = absurd none
-fits_without_room (schedule_rows met) bytes rows none = let (s, scale, reads, fits, over, is_rows) = none in (s, scale, reads, fits)
-fits_without_room wrapped_rows bytes rows none = let (s, scale, reads, fits, over, is_rows) = none in (s, scale, reads, fits)
-fits_without_room c_table bytes rows none = let (s, scale, reads, fits, over, is_rows) = none.1 in (s, scale, reads, fits)
+-- a set that has not this text for its many rows, or its many ticks, fits
+long_fits : (what : SetText) (s : SetContents) (rows : ℕ) → IsTooLongSet what s rows → (scale : ℕ) × IsSchedulable s scale
+long_fits rates s rows long = absurd long
+long_fits server_tree s rows long = absurd long
+long_fits (schedule_rows met) s rows long = (long.0, long.1)
+long_fits wrapped_rows s rows long = (long.0, long.1)
+long_fits c_table s rows long = (long.1.0, long.1.1)
 
--- so does one whose text has no type
-fits_without_type : (what : SetText) (bytes : List ℕ) (ticks : ℕ) → HasNoType what bytes ticks
-    → (s : SetContents) × (scale : ℕ) × ReadsSet bytes s scale × Fits scale s
-fits_without_type c_table bytes ticks none = let (s, scale, reads, fits, wide, is) = none in (s, scale, reads, fits)
-fits_without_type rates bytes ticks none = absurd none
-fits_without_type server_tree bytes ticks none = absurd none
-fits_without_type (schedule_rows met) bytes ticks none = absurd none
-fits_without_type wrapped_rows bytes ticks none = absurd none
+wide_fits : (what : SetText) (s : SetContents) (ticks : ℕ) → IsTooWideSet what s ticks → (scale : ℕ) × IsSchedulable s scale
+wide_fits c_table s ticks wide = (wide.0, wide.1)
+wide_fits _ s ticks wide = absurd wide
 
--- a text that has no room has its type
-not_long_and_wide : (what : SetText) (bytes : List ℕ) (rows ticks : ℕ) → HasNoRoom what bytes rows → HasNoType what bytes ticks → ⊥
-not_long_and_wide c_table bytes rows ticks long wide =
-    let (s, scale, reads, few) = long.0 in
-    not_too_wide bytes s scale ticks reads few wide
-not_long_and_wide rates bytes rows ticks long wide = wide
-not_long_and_wide server_tree bytes rows ticks long wide = wide
-not_long_and_wide (schedule_rows met) bytes rows ticks long wide = wide
-not_long_and_wide wrapped_rows bytes rows ticks long wide = wide
+-- a set doesn't fit, or doesn't have this text for its many rows, or its many ticks
+abbrev Lacks : SetText → SetContents → Refusal → Type 0
+Lacks what s r =
+    IsUnfit s r
+    ⊎ (((rows : ℕ) × IsTooLongSet what s rows × (status_of r ≡ TooLong)) ⊎ ((ticks : ℕ) × IsTooWideSet what s ticks × (status_of r ≡ TooWide)))
 
--- bytes are refused as a set, or their schedule has too many rows, or too many ticks
-abbrev AsSet : SetText → List ℕ → Refusal → Type 0
-AsSet what bytes r =
-    RefusesSet bytes r
-    ⊎ (((rows : ℕ) × HasNoRoom what bytes rows × (status_of r ≡ TooLong)) ⊎ ((ticks : ℕ) × HasNoType what bytes ticks × (status_of r ≡ TooWide)))
+lacks : (what : SetText) (s : SetContents) (r : Refusal) → LacksText what s r → Lacks what s r
+lacks what s (why.TooLong rows) without = inr (inl (rows, without, refl))
+lacks what s (why.TooWide ticks) without = inr (inr (ticks, without, refl))
+lacks what s _ without = inl without
 
-as_set : (what : SetText) (bytes : List ℕ) (r : Refusal) → RefusesText what bytes r → AsSet what bytes r
-as_set what bytes (why.BadSet r) refuses = inl refuses
-as_set what bytes (why.ScaleTooLarge task) refuses = inl refuses
-as_set what bytes (why.Overload total room) refuses = inl refuses
-as_set what bytes (why.BadLine line) refuses = absurd refuses
-as_set what bytes (why.BadProgram line) refuses = absurd refuses
-as_set what bytes (why.BadTree line kind) refuses = absurd refuses
-as_set what bytes (why.OfMode j q) refuses = absurd refuses
-as_set what bytes (why.GateFault row name) refuses = absurd refuses
-as_set what bytes (why.JobFault row name) refuses = absurd refuses
-as_set what bytes why.Usage refuses = absurd refuses
-as_set what bytes why.ReadFault refuses = absurd refuses
-as_set what bytes why.WriteFault refuses = absurd refuses
-as_set what bytes why.NoMemory refuses = absurd refuses
-as_set what bytes (why.TooLong rows) refuses = inr (inl (rows, refuses, refl))
-as_set what bytes (why.TooWide ticks) refuses = inr (inr (ticks, refuses, refl))
-as_set what bytes (why.InputTooLong count) refuses = absurd refuses
+-- a set doesn't lack the text that it has
+has_or_lacks : (what : SetText) (s : SetContents) (scale : ℕ) (r : Refusal) → IsSchedulable s scale → HasRoom what s scale → LacksText what s r → ⊥
+has_or_lacks what s scale r run room without = elim (lacks what s r without) [
+  | inl unfit ↦ fits_or_not s scale r run unfit
+  | inr (inl long) ↦ not_too_long what s scale long.0 run room long.1
+  | inr (inr wide) ↦ not_too_wide what s scale wide.0 run room wide.1
+]
 
--- no text of a set is written for bytes that are refused where it is wanted
-set_writes_or_refuses : (what : SetText) (bytes text : List ℕ) (status : Status) (r : Refusal) → WritesSet what bytes status text → RefusesText what bytes r → ⊥
-set_writes_or_refuses what bytes text status r writes refuses =
-    let (s, scale, reads, fits, room, is_text) = writes.1 in
-    elim (as_set what bytes r refuses) [
-      | inl set ↦ fits_not_refused bytes s scale r reads fits set
-      | inr (inl long) ↦ not_without_room what bytes s scale long.0 reads room long.1
-      | inr (inr wide) ↦ not_without_type what bytes s scale wide.0 reads room wide.1
+-- a set that doesn't fit is refused with one status
+one_unfit_status : (s : SetContents) (r q : Refusal) → IsUnfit s r → IsUnfit s q → status_of r ≡ status_of q
+one_unfit_status s (why.ScaleTooLarge task) (why.ScaleTooLarge other) a b = refl
+one_unfit_status s (why.ScaleTooLarge task) (why.Overload total room) a b = absurd (no_pass s b.0 task b.1 b.2 a)
+one_unfit_status s (why.ScaleTooLarge task) _ a b = absurd b
+one_unfit_status s (why.Overload total room) (why.ScaleTooLarge task) a b = absurd (no_pass s a.0 task a.1 a.2 b)
+one_unfit_status s (why.Overload total room) (why.Overload other more) a b = refl
+one_unfit_status s (why.Overload total room) _ a b = absurd b
+one_unfit_status s _ q a b = absurd a
+
+-- so is one that lacks a text
+one_lack_status : (what : SetText) (s : SetContents) (r q : Refusal) → LacksText what s r → LacksText what s q → status_of r ≡ status_of q
+one_lack_status what s r q a b =
+    elim (lacks what s r a) [
+      | inl unfit ↦ elim (lacks what s q b) [
+        | inl other ↦ one_unfit_status s r q unfit other
+        | inr (inl long) ↦ let (scale, run) = long_fits what s long.0 long.1 in absurd (fits_or_not s scale r run unfit)
+        | inr (inr wide) ↦ let (scale, run) = wide_fits what s wide.0 wide.1 in absurd (fits_or_not s scale r run unfit)
+      ]
+      | inr (inl long) ↦ elim (lacks what s q b) [
+        | inl unfit ↦ let (scale, run) = long_fits what s long.0 long.1 in absurd (fits_or_not s scale q run unfit)
+        | inr (inl other) ↦ long.2 ∙ sym other.2
+        | inr (inr wide) ↦ absurd (not_long_and_wide what s long.0 wide.0 long.1 wide.1)
+      ]
+      | inr (inr wide) ↦ elim (lacks what s q b) [
+        | inl unfit ↦ let (scale, run) = wide_fits what s wide.0 wide.1 in absurd (fits_or_not s scale q run unfit)
+        | inr (inl long) ↦ absurd (not_long_and_wide what s long.0 wide.0 long.1 wide.1)
+        | inr (inr other) ↦ wide.2 ∙ sym other.2
+      ]
     ]
 
--- bytes where a set is wanted are refused with one status
-one_set_status : (bytes : List ℕ) (r q : Refusal) → RefusesSet bytes r → RefusesSet bytes q → status_of r ≡ status_of q
-one_set_status bytes (why.BadSet r) (why.BadSet q) a b = ap set_status (same_refusal bytes r q a b)
-one_set_status bytes (why.BadSet r) (why.ScaleTooLarge task) a b = absurd (not_both bytes b.0 r b.1 a)
-one_set_status bytes (why.BadSet r) (why.Overload total room) a b = absurd (not_both bytes b.0 r b.2.read a)
-one_set_status bytes (why.ScaleTooLarge task) (why.BadSet q) a b = absurd (not_both bytes a.0 q a.1 b)
-one_set_status bytes (why.ScaleTooLarge task) (why.ScaleTooLarge other) a b = refl
-one_set_status bytes (why.ScaleTooLarge task) (why.Overload total room) a b = absurd (no_pass bytes b.0 a.0 b.1 task b.2 a.1 a.2)
-one_set_status bytes (why.Overload total room) (why.BadSet q) a b = absurd (not_both bytes a.0 q a.2.read b)
-one_set_status bytes (why.Overload total room) (why.ScaleTooLarge task) a b = absurd (no_pass bytes a.0 b.0 a.1 task a.2 b.1 b.2)
-one_set_status bytes (why.Overload total room) (why.Overload other more) a b = refl
-one_set_status bytes (why.BadLine line) q a b = absurd a
-one_set_status bytes (why.BadProgram line) q a b = absurd a
-one_set_status bytes (why.BadTree line kind) q a b = absurd a
-one_set_status bytes (why.OfMode j r) q a b = absurd a
-one_set_status bytes (why.GateFault row name) q a b = absurd a
-one_set_status bytes (why.JobFault row name) q a b = absurd a
-one_set_status bytes why.Usage q a b = absurd a
-one_set_status bytes why.ReadFault q a b = absurd a
-one_set_status bytes why.WriteFault q a b = absurd a
-one_set_status bytes why.NoMemory q a b = absurd a
-one_set_status bytes (why.TooLong rows) q a b = absurd a
-one_set_status bytes (why.InputTooLong count) q a b = absurd a
-one_set_status bytes (why.TooWide ticks) q a b = absurd a
-one_set_status bytes r (why.BadLine line) a b = absurd b
-one_set_status bytes r (why.BadProgram line) a b = absurd b
-one_set_status bytes r (why.BadTree line kind) a b = absurd b
-one_set_status bytes r (why.OfMode j q) a b = absurd b
-one_set_status bytes r (why.GateFault row name) a b = absurd b
-one_set_status bytes r (why.JobFault row name) a b = absurd b
-one_set_status bytes r why.Usage a b = absurd b
-one_set_status bytes r why.ReadFault a b = absurd b
-one_set_status bytes r why.WriteFault a b = absurd b
-one_set_status bytes r why.NoMemory a b = absurd b
-one_set_status bytes r (why.TooLong rows) a b = absurd b
-one_set_status bytes r (why.InputTooLong count) a b = absurd b
-one_set_status bytes r (why.TooWide ticks) a b = absurd b
+-- ---- bytes where a text of a set is wanted
 
--- a set whose schedule has too many rows isn't refused as a set
-long_not_refused : (what : SetText) (bytes : List ℕ) (rows : ℕ) (r : Refusal) → HasNoRoom what bytes rows → RefusesSet bytes r → ⊥
-long_not_refused what bytes rows r none refuses =
-    let (s, scale, reads, fits) = fits_without_room what bytes rows none in
-    fits_not_refused bytes s scale r reads fits refuses
+-- bytes that are refused are no set, or a set that lacks the text
+abbrev AsText : SetText → List ℕ → Refusal → Type 0
+AsText what bytes r =
+    ((q : ReadSet) × (why.BadSet q ≡ r) × (set_read_from bytes ≡ Err q)) ⊎ ((s : SetContents) × (set_read_from bytes ≡ Ok s) × LacksText what s r)
 
--- neither is one whose schedule has too many ticks
-wide_not_refused : (what : SetText) (bytes : List ℕ) (ticks : ℕ) (r : Refusal) → HasNoType what bytes ticks → RefusesSet bytes r → ⊥
-wide_not_refused what bytes ticks r none refuses =
-    let (s, scale, reads, fits) = fits_without_type what bytes ticks none in
-    fits_not_refused bytes s scale r reads fits refuses
+as_text : (what : SetText) (bytes : List ℕ) (r : Refusal) → RefusesText what bytes r → AsText what bytes r
+as_text what bytes (why.BadSet q) refuses = inl (q, refl, refuses)
+as_text what bytes _ refuses = inr refuses
+
+-- no text of a set is written for bytes that are refused where it is wanted
+set_writes_or_refuses : (what : SetText) (bytes text : List ℕ) (status : Status) (r : Refusal) → WritesSet what bytes status text
+    → RefusesText what bytes r → ⊥
+set_writes_or_refuses what bytes text status r writes refuses =
+    let (s, scale, reads, fits, room, is_text) = writes.1 in
+    elim (as_text what bytes r refuses) [
+      | inl bad ↦ not_both bytes s bad.0 reads.read bad.2
+      | inr (t, read, without) ↦
+          let same : t ≡ s = same_set bytes t s read reads.read in
+          has_or_lacks what s scale r (record { is_scale = reads.is_scale; within = reads.within; fits = fits }) room
+          (subst (λ (x : SetContents). LacksText what x r) same without)
+    ]
 
 -- bytes where a text of a set is wanted are refused with one status
 one_text_status : (what : SetText) (bytes : List ℕ) (r q : Refusal) → RefusesText what bytes r → RefusesText what bytes q → status_of r ≡ status_of q
 one_text_status what bytes r q a b =
-    elim (as_set what bytes r a) [
-      | inl set ↦ elim (as_set what bytes q b) [
-        | inl other ↦ one_set_status bytes r q set other
-        | inr (inl long) ↦ absurd (long_not_refused what bytes long.0 r long.1 set)
-        | inr (inr wide) ↦ absurd (wide_not_refused what bytes wide.0 r wide.1 set)
+    elim (as_text what bytes r a) [
+      | inl bad ↦ elim (as_text what bytes q b) [
+        | inl other ↦ sym (ap status_of bad.1) ∙ (ap set_status (same_refusal bytes bad.0 other.0 bad.2 other.2) ∙ ap status_of other.1)
+        | inr (s, read, without) ↦ absurd (not_both bytes s bad.0 read bad.2)
       ]
-      | inr (inl long) ↦ elim (as_set what bytes q b) [
-        | inl set ↦ absurd (long_not_refused what bytes long.0 q long.1 set)
-        | inr (inl other) ↦ long.2 ∙ sym other.2
-        | inr (inr wide) ↦ absurd (not_long_and_wide what bytes long.0 wide.0 long.1 wide.1)
-      ]
-      | inr (inr wide) ↦ elim (as_set what bytes q b) [
-        | inl set ↦ absurd (wide_not_refused what bytes wide.0 q wide.1 set)
-        | inr (inl long) ↦ absurd (not_long_and_wide what bytes long.0 wide.0 long.1 wide.1)
-        | inr (inr other) ↦ wide.2 ∙ sym other.2
+      | inr (s, read, without) ↦ elim (as_text what bytes q b) [
+        | inl bad ↦ absurd (not_both bytes s bad.0 read bad.2)
+        | inr (t, read', without') ↦
+            let same : t ≡ s = same_set bytes t s read' read in
+            one_lack_status what s r q without (subst (λ (x : SetContents). LacksText what x q) same without')
       ]
     ]
 

@@ -14,6 +14,7 @@ use Rattle.sched_base.specs.Counting.{bit}
 use Rattle.sched_base.specs.Rows.{is_of_task}
 use Rattle.sched_base.specs.Tables.{all_rows, lane_of, rounds_of as rounds_in, row_ticks, ticks_in, ticks_of, RowAt}
 use Rattle.sched_edges.specs.Gates.{grown}
+use Rattle.sched_base.proofs.RowLemmas.{AllByRecursion-append}
 use Rattle.run_tree.specs.Plans.{PlanContents, IsPlan, rounds_of}
 use Rattle.sched_base.specs.Tables.{row_limit}
 use Rattle.sched_base.specs.Lanes.{NamesOneOf}
@@ -29,11 +30,11 @@ use Rattle.exec_workers.specs.declared.kits.Kit.{Kit}
 use Rattle.exec_workers.specs.Kits.{KitAt, AreFilled}
 use Rattle.exec_workers.specs.Lanes.{LaneContents, HasRisen, FailsNext, IsOfTask, lane_in, no_lane, unposted}
 use Rattle.exec_workers.specs.Ends.{posted_by, GateFailed, JobFailed, NoGateBefore, NoJobBefore}
-use Rattle.exec_workers.specs.Runs.{CountsGate, Ran, RanAll as RunsAll, Outcome, AreFresh}
+use Rattle.exec_workers.specs.Runs.{CountsGate, Ran, RanWhole, Outcome, AreFresh}
 use Rattle.exec_workers.proofs.StageLemmas.{same_job}
 use Rattle.exec_workers.proofs.HeadlineLemmas.{take_next}
 use Rattle.exec_workers.proofs.WholeLemmas.{ticks_at_end, posted_at_end}
-use Rattle.run_tool.specs.Executions.{GateSeen, JobSeen, Crew, crew, gates_of, jobs_of, Holds, IsReady, AreBack, RanAll, RanPart, GateRose, GateKept}
+use Rattle.run_tool.specs.Executions.{GateSeen, JobSeen, Crew, crew, gates_of, jobs_of, Holds, IsFreshCrew, AreBack, RanAll, RanPart, GateRose, GateKept}
 use Rattle.run_tool.specs.Executions.{JobRose, JobKept, ShowsFailed, next_leaf, GateStopped, JobStopped}
 use Rattle.run_tool.proofs.CrewLemmas.{below_or, grown_none, seen_gate, seen_job, gate_in_kit, kit_shown, job_in_place, place_shown, gates_ran_all}
 use Rattle.run_tool.proofs.CrewLemmas.{back_after, back_kept}
@@ -79,18 +80,14 @@ no_ticks_of tasks i (lane ∷ lanes) (n ∷ counts) all past =
     let rest = no_ticks_of tasks i lanes counts all.1 past in
     omega (arith, here, rest)
 
-ticks_in-append : (j : ℕ) (xs ys : List Row) → ticks_in j (xs ++ ys) ≡ ticks_in j xs + ticks_in j ys
-ticks_in-append j [] ys = omega arith
-ticks_in-append j (r ∷ xs) ys = let rest = ticks_in-append j xs ys in omega (arith, rest)
+-- what is so of the rows of each lane is so of all
+all_in : (P : Row → Type 0) (lanes : List (List Row)) → AllByRecursion (AllByRecursion P) lanes → AllByRecursion P (all_rows lanes)
+all_in P [] all = tt
+all_in P (lane ∷ lanes) all = AllByRecursion-append P lane (all_rows lanes) all.0 (all_in P lanes all.1)
 
 pub no_ticks_at_all : (tasks : List declared.Task) (i : ℕ) (lanes : List (List Row))
     → AllByRecursion (λ rows. AllByRecursion (λ r. NamesOneOf tasks r.leaf) rows) lanes → length tasks ≤ i → ticks_in i (all_rows lanes) ≡ 0
-no_ticks_at_all tasks i [] all past = refl
-no_ticks_at_all tasks i (lane ∷ lanes) all past =
-    let both = ticks_in-append i lane (all_rows lanes) in
-    let here = no_ticks tasks i lane all.0 past in
-    let rest = no_ticks_at_all tasks i lanes all.1 past in
-    omega (arith, both, here, rest)
+no_ticks_at_all tasks i lanes all past = no_ticks tasks i (all_rows lanes) (all_in (λ r. NamesOneOf tasks r.leaf) lanes all) past
 
 -- ---- how many rows each gate ran
 
@@ -154,7 +151,7 @@ same_seen o x y here there = let same : Some (Some x) ≡ Some (Some y) = sym he
 -- ---- what a run may ask for
 
 module _ {G J : Type 0} (ran : G → Option (List Row)) (gate_faults : G → ℕ) (id used job_faults : J → ℕ) (made : J → Made) (kits : List (Kit G))
-    (places : List (Option J)) (ready : IsReady (crew (gates_of ran gate_faults kits) (jobs_of id used job_faults made places))) where
+    (places : List (Option J)) (ready : IsFreshCrew (crew (gates_of ran gate_faults kits) (jobs_of id used job_faults made places))) where
   pub kits_filled : (m : ℕ) → m ≤ 32 → AreFilled m kits
   kits_filled m few q within =
       let (g, at, none) = ready.gates q (omega (arith, few, within)) in
@@ -431,7 +428,7 @@ module _ {G J : Type 0} (ran : G → Option (List Row)) (gate_faults : G → ℕ
           }
 
     -- nothing failed, and all was posted
-    pub ran_to_end : (e : Executed) → RunsAll p lanes e → RanAll p before after
+    pub ran_to_end : (e : Executed) → RanWhole p lanes e → RanAll p before after
     ran_to_end e all = record {
       gates = gates_ran_all ran gate_faults id used made job_faults p kits kits' places places' lanes r h all.none_failed all.all_posted;
       jobs = λ i j at.
@@ -457,7 +454,7 @@ module _ {G J : Type 0} (ran : G → Option (List Row)) (gate_faults : G → ℕ
   back_by (Err (fault.Job t q x n)) o = back_after ran gate_faults id used made job_faults p kits kits' places places' o.0 o.1
   back_by (Err fault.NoMemory) o = back_kept ran gate_faults id used made job_faults kits kits' places places' o
 
-  module _ (h : IsPlan p) (ready : IsReady (crew (gates_of ran gate_faults kits) (jobs_of id used job_faults made places)))
+  module _ (h : IsPlan p) (ready : IsFreshCrew (crew (gates_of ran gate_faults kits) (jobs_of id used job_faults made places)))
       (names : AllByRecursion (λ rows. AllByRecursion (λ x. NamesOneOf p.set.tasks x.leaf) rows) (plan_rows p))
       (result : Result Executed ExecFault) (o : Outcome ran gate_faults id used made job_faults p kits kits' places places' result) where
     filled : AreFilled p.tree.processors kits

@@ -19,7 +19,7 @@ use Rattle.job_vm.specs.Faults.{Stops}
 use Rattle.job_vm.specs.Programs.{JobTextHeld, reading}
 use Rattle.job_vm.specs.Loading.{loaded}
 use Rattle.job_vm.specs.Results.{told_at, jobs_text}
-use Rattle.run_tool.specs.declared.command.Execution.TheVariants.{Jobs}
+use Rattle.command_words.specs.declared.command.Execution.TheVariants.{Jobs}
 use Rattle.run_tool.specs.declared.refusal.Refusal.{Refusal}
 use Rattle.run_tool.specs.declared.refusal.Refusal.TheVariants as why
 use Rattle.run_tool.specs.declared.status.Status.TheVariants.{Done}
@@ -28,14 +28,14 @@ use Rattle.event_core.specs.declared.counts.CountFault.{CountFault}
 use Rattle.event_core.specs.declared.counts.CountFault.TheVariants as count_fault
 use Rattle.event_core.specs.Counts.{IsCountFault}
 use Rattle.run_tool.specs.Faults.{of_take, of_read_set, of_read_jobs, of_count}
-use Rattle.run_tool.specs.Input.{IsRun, IsRefusedSet}
+use Rattle.run_tool.specs.Input.{IsSchedulable, IsRefusedSet}
 use Rattle.run_tool.specs.JobPrograms.{ReadsJobs, IsJobsToRun, set_bytes, result_text}
 use Rattle.run_tool.specs.Ends.{Streams}
-use Rattle.run_tool.specs.Executions.{GateSeen, JobSeen, Crew, crew, IsReady, RanAll}
+use Rattle.run_tool.specs.Executions.{GateSeen, JobSeen, Crew, crew, IsFreshCrew, RanAll}
 use Rattle.run_tool.proofs.LoadedLemmas.{results_are}
 use Rattle.run_tool.specs.Executed.{StopsInRun, loaded_crew, ToldRun, StopsRun, may_have_run}
 use Rattle.run_tool.specs.Refusals.{status_of}
-use Rattle.run_tool.specs.declared.command.Command.TheVariants.{Execute}
+use Rattle.command_words.specs.declared.command.Command.TheVariants.{Execute}
 use Rattle.run_tool.specs.JobInput.{GaveJobs, GaveNoJobs, RanJobs, StopsAtJobs}
 
 -- ---- reading the text
@@ -87,7 +87,7 @@ refused_stops text out faults c s why.NoMemory refused = (inl refl, keeps_same o
 refused_stops text out faults c s _ refused = absurd refused
 
 -- memory was refused while programs were loaded
-pub loading_stops : (text : JobTextHeld) (out : Option (List ℕ)) (faults scale n : ℕ) (old new : Crew) (s : SetContents) → IsRun s scale
+pub loading_stops : (text : JobTextHeld) (out : Option (List ℕ)) (faults scale n : ℕ) (old new : Crew) (s : SetContents) → IsSchedulable s scale
     → new ≡ loaded_crew text scale (take n s.tasks) old → StopsAtJobs text out out faults faults old new s why.NoMemory
 loading_stops text out faults scale n old new s run is = (inr (scale, n, run, is), keeps_same out)
 
@@ -106,7 +106,7 @@ module _ (text : JobTextHeld) (s : SetContents) (p : PlanContents) (is_set : p.s
   room count is few = subst (λ (q : PlanContents). rows_of q ≤ row_limit) same (subst (λ n. n * p.tree.processors ≤ row_limit) is few)
 
   -- the schedule is too long, or memory was refused
-  pub count_stops : (out : Option (List ℕ)) (faults : ℕ) (c : Crew) (f : CountFault) → IsRun s p.tree.scale → IsCountFault p f
+  pub count_stops : (out : Option (List ℕ)) (faults : ℕ) (c : Crew) (f : CountFault) → IsSchedulable s p.tree.scale → IsCountFault p f
       → StopsAtJobs text out out faults faults c c s (of_count f)
   count_stops out faults c (count_fault.TooLong rows) run is = (
     (
@@ -120,7 +120,7 @@ module _ (text : JobTextHeld) (s : SetContents) (p : PlanContents) (is_set : p.s
   count_stops out faults c count_fault.NoMemory run is = (inl refl, keeps_same out)
 
   -- a gate or a job failed, or memory was refused once all programs were loaded
-  pub running_stops : (out : Option (List ℕ)) (faults count : ℕ) (old held new : Crew) (r : Refusal) → IsRun s p.tree.scale → count ≡ rounds_of p
+  pub running_stops : (out : Option (List ℕ)) (faults count : ℕ) (old held new : Crew) (r : Refusal) → IsSchedulable s p.tree.scale → count ≡ rounds_of p
       → count * p.tree.processors ≤ row_limit → held ≡ loaded_crew text p.tree.scale s.tasks old → StopsInRun p held new r
       → (r ≡ why.NoMemory → new ≡ held) → StopsAtJobs text out out faults faults old new s r
   running_stops out faults count old held new (why.GateFault row name) run is few held_is stops left = (
@@ -157,7 +157,7 @@ module _ (text : JobTextHeld) (s : SetContents) (p : PlanContents) (is_set : p.s
       ap (crew gates) (now_is ∙ (λ i. loaded (scale_is i) text.programs (take n ((set_is ∙ is_set) i).tasks) was))
 
   -- what is written is the text of the results
-  told_are : (old new : Crew) (scale : ℕ) (set : SetContents) → scale ≡ p.tree.scale → set ≡ p.set → length s.tasks ≤ 256 → IsReady old
+  told_are : (old new : Crew) (scale : ℕ) (set : SetContents) → scale ≡ p.tree.scale → set ≡ p.set → length s.tasks ≤ 256 → IsFreshCrew old
       → RanAll p (loaded_crew text p.tree.scale s.tasks old) new → jobs_text (told_at scale new.jobs) set.tasks ≡ result_text text (plan_of s p.tree.scale) old.jobs
   told_are old new scale set scale_is set_is few ready ran =
       (λ i. jobs_text (told_at (scale_is i) new.jobs) (set_is i).tasks)
@@ -166,8 +166,8 @@ module _ (text : JobTextHeld) (s : SetContents) (p : PlanContents) (is_set : p.s
       ∙ ap (λ (q : PlanContents). result_text text q old.jobs) same)
 
   -- all was run and written
-  pub jobs_ran : (out out' : Option (List ℕ)) (count : ℕ) (old held new : Crew) (scale : ℕ) (set : SetContents) → IsRun s p.tree.scale → count ≡ rounds_of p
-      → count * p.tree.processors ≤ row_limit → scale ≡ p.tree.scale → set ≡ p.set → length s.tasks ≤ 256 → IsReady old
+  pub jobs_ran : (out out' : Option (List ℕ)) (count : ℕ) (old held new : Crew) (scale : ℕ) (set : SetContents) → IsSchedulable s p.tree.scale → count ≡ rounds_of p
+      → count * p.tree.processors ≤ row_limit → scale ≡ p.tree.scale → set ≡ p.set → length s.tasks ≤ 256 → IsFreshCrew old
       → held ≡ loaded_crew text p.tree.scale s.tasks old → RanAll p held new
       → Appends out out' (jobs_text (told_at scale new.jobs) set.tasks) → RanJobs text out out' old new s
   jobs_ran out out' count old held new scale set run is few scale_is set_is count_few ready held_is ran took =
@@ -180,8 +180,8 @@ module _ (text : JobTextHeld) (s : SetContents) (p : PlanContents) (is_set : p.s
       )
 
   -- all was run, and not all was written
-  pub jobs_unwritten : (out out' : Option (List ℕ)) (faults faults' count : ℕ) (old held new : Crew) (scale : ℕ) (set : SetContents) → IsRun s p.tree.scale
-      → count ≡ rounds_of p → count * p.tree.processors ≤ row_limit → scale ≡ p.tree.scale → set ≡ p.set → length s.tasks ≤ 256 → IsReady old
+  pub jobs_unwritten : (out out' : Option (List ℕ)) (faults faults' count : ℕ) (old held new : Crew) (scale : ℕ) (set : SetContents) → IsSchedulable s p.tree.scale
+      → count ≡ rounds_of p → count * p.tree.processors ≤ row_limit → scale ≡ p.tree.scale → set ≡ p.set → length s.tasks ≤ 256 → IsFreshCrew old
       → held ≡ loaded_crew text p.tree.scale s.tasks old → RanAll p held new
       → TookPart out out' (jobs_text (told_at scale new.jobs) set.tasks) → Rose faults faults' → StopsAtJobs text out out' faults faults' old new s why.WriteFault
   jobs_unwritten out out' faults faults' count old held new scale set run is few scale_is set_is count_few ready held_is ran took rose =
@@ -197,7 +197,7 @@ module _ (text : JobTextHeld) (s : SetContents) (p : PlanContents) (is_set : p.s
 -- ---- the whole
 
 -- a job text that was read is one to run
-to_run : (bytes : List ℕ) (text : JobTextHeld) (s : SetContents) (scale : ℕ) → ReadsJobs bytes text s → IsRun s scale → HasRoom (schedule_rows false) s scale
+to_run : (bytes : List ℕ) (text : JobTextHeld) (s : SetContents) (scale : ℕ) → ReadsJobs bytes text s → IsSchedulable s scale → HasRoom (schedule_rows false) s scale
     → IsJobsToRun bytes text s scale
 to_run bytes text s scale reads run room =
     record { reads = reads; scaled = record { read = reads.set; is_scale = run.is_scale; within = run.within }; fits = run.fits; room = room }
@@ -227,18 +227,13 @@ jobs_stopped old new b n text s (why.JobFault row name) gave stops =
     ((bytes, all, (text, s, scale, to_run bytes text s scale reads run room, stopped), keeps), tt)
 jobs_stopped old new b n text s (why.TooLong rows) gave stops =
     let (bytes, all, reads) = gave.gave in
-    let (long, keeps) = stops in
-    let (scale, run, over, is) = long in
-    ((bytes, all, (text, s, reads, (s, scale, record { read = reads.set; is_scale = run.is_scale; within = run.within }, run.fits, over, is)), keeps), tt)
+    ((bytes, all, (text, s, reads, (s, reads.set, stops.0)), stops.1), tt)
 jobs_stopped old new b n text s (why.ScaleTooLarge task) gave stops =
     let (bytes, all, reads) = gave.gave in
-    let (passes, keeps) = stops in
-    ((bytes, all, (text, s, reads, (s, reads.set, passes)), keeps), tt)
+    ((bytes, all, (text, s, reads, (s, reads.set, stops.0)), stops.1), tt)
 jobs_stopped old new b n text s (why.Overload total room) gave stops =
     let (bytes, all, reads) = gave.gave in
-    let (refused, keeps) = stops in
-    let (scale, is_scale, within, over, is_total, is_room) = refused in
-    ((bytes, all, (text, s, reads, (s, scale, record { read = reads.set; is_scale = is_scale; within = within }, over, is_total, is_room)), keeps), tt)
+    ((bytes, all, (text, s, reads, (s, reads.set, stops.0)), stops.1), tt)
 jobs_stopped old new b n text s why.NoMemory gave (inl same, keeps) = (keeps, inl same)
 jobs_stopped old new b n text s why.NoMemory gave (inr loaded, keeps) =
     let (bytes, all, reads) = gave.gave in

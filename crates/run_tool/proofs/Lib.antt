@@ -7,9 +7,6 @@ pub mod AnswerLemmas
 pub mod LineLemmas
 pub mod TraceLemmas
 pub mod SoundLemmas
-pub mod WordLemmas
-pub mod CommandLineLemmas
-pub mod DrawLemmas
 pub mod RunLemmas
 pub mod CrewLemmas
 pub mod CrewEndLemmas

@@ -17,7 +17,7 @@ use Rattle.job_vm.specs.Loading.{code_of, anew, loaded}
 use Rattle.job_vm.specs.Results.{Told, told_at, told_of, job_line, jobs_text}
 use Rattle.job_vm.proofs.ResultsLemmas.{jobs_text_is}
 use Rattle.run_tool.specs.JobPrograms.{made_at, told_of_task, result_text}
-use Rattle.run_tool.specs.Executions.{GateSeen, JobSeen, Crew, crew, gates_of, jobs_of, Holds, IsReady, AreBack, RanAll, JobRose}
+use Rattle.run_tool.specs.Executions.{GateSeen, JobSeen, Crew, crew, gates_of, jobs_of, Holds, IsFreshCrew, AreBack, RanAll, JobRose}
 use Rattle.run_tool.proofs.CrewLemmas.{job_in_place}
 use Rattle.run_tool.specs.Executed.{loaded_crew}
 
@@ -67,7 +67,7 @@ length-loaded scale programs (t ∷ tasks) [] = refl
 length-loaded scale programs (t ∷ tasks) (job ∷ jobs) = ap suc (length-loaded scale programs tasks jobs)
 
 -- all is ready once the programs are loaded
-pub ready_loaded : (text : JobTextHeld) (scale : ℕ) (tasks : List Task) (c : Crew) → IsReady c → IsReady (loaded_crew text scale tasks c)
+pub ready_loaded : (text : JobTextHeld) (scale : ℕ) (tasks : List Task) (c : Crew) → IsFreshCrew c → IsFreshCrew (loaded_crew text scale tasks c)
 ready_loaded text scale tasks c ready = record {
   gates = ready.gates;
   count = length-loaded scale text.programs tasks c.jobs ∙ ready.count;
@@ -98,8 +98,8 @@ back_alone text scale tasks c = record {
 }
 
 -- the same of the moment at which the programs are loaded
-pub ready_at : (text : JobTextHeld) (scale : ℕ) (tasks : List Task) (old held : Crew) → held ≡ loaded_crew text scale tasks old → IsReady old → IsReady held
-ready_at text scale tasks old held is ready = subst (λ (x : Crew). IsReady x) (sym is) (ready_loaded text scale tasks old ready)
+pub ready_at : (text : JobTextHeld) (scale : ℕ) (tasks : List Task) (old held : Crew) → held ≡ loaded_crew text scale tasks old → IsFreshCrew old → IsFreshCrew held
+ready_at text scale tasks old held is ready = subst (λ (x : Crew). IsFreshCrew x) (sym is) (ready_loaded text scale tasks old ready)
 
 pub back_at : (text : JobTextHeld) (scale : ℕ) (tasks : List Task) (old new : Crew) → new ≡ loaded_crew text scale tasks old → AreBack old new
 back_at text scale tasks old new is = subst (λ (x : Crew). AreBack old x) (sym is) (back_alone text scale tasks old)
@@ -122,7 +122,7 @@ rose_loaded text scale tasks c now i rose =
     (j, l, there, here, rw (← same) more)
 
 -- after a run there is a job in the place of each task
-pub jobs_there : {J : Type 0} (id used faults : J → ℕ) (made : J → Made) (places : List (Option J)) (gates : List (Option GateSeen)) (old : Crew) → IsReady old
+pub jobs_there : {J : Type 0} (id used faults : J → ℕ) (made : J → Made) (places : List (Option J)) (gates : List (Option GateSeen)) (old : Crew) → IsFreshCrew old
     → AreBack old (crew gates (jobs_of id used faults made places)) → (n : ℕ) → n ≤ 256 → (i : ℕ) → i < n → (job : J) × JobAt places i job
 jobs_there id used faults made places gates old ready back n few i within =
     let (j, at, own, none) = ready.jobs i (omega (arith, few, within)) in
@@ -175,7 +175,7 @@ told_is text p old new i j within at ran =
     ∙ (λ k. record { units = used k / p.tree.scale; numbers = computed (reloaded (made k) p.tree.scale code) (used k) })
 
 -- what is written of the jobs after a run is what is told of the tasks
-pub results_are : (text : JobTextHeld) (p : PlanContents) (old new : Crew) → length p.set.tasks ≤ 256 → IsReady old
+pub results_are : (text : JobTextHeld) (p : PlanContents) (old new : Crew) → length p.set.tasks ≤ 256 → IsFreshCrew old
     → RanAll p (loaded_crew text p.tree.scale p.set.tasks old) new → jobs_text (told_at p.tree.scale new.jobs) p.set.tasks ≡ result_text text p old.jobs
 results_are text p old new few ready ran =
     same_results (told_at p.tree.scale new.jobs) (told_of_task text.programs p old.jobs) p.set.tasks

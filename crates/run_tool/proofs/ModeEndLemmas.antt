@@ -17,8 +17,8 @@ use Rattle.mode_switch.specs.declared.faults.ModeFault.{ModeFault}
 use Rattle.mode_switch.specs.declared.faults.ModeFault.TheVariants as join
 use Rattle.mode_switch.specs.Joining.{CanBeJoined, SaysOf}
 use Rattle.mode_switch.specs.Modes.{ModesContents, AreModes, PeriodsEndIn, sets_of}
-use Rattle.run_tool.specs.declared.command.Command.TheVariants.{Execute}
-use Rattle.run_tool.specs.declared.command.Execution.TheVariants.{Modes}
+use Rattle.command_words.specs.declared.command.Command.TheVariants.{Execute}
+use Rattle.command_words.specs.declared.command.Execution.TheVariants.{Modes}
 use Rattle.run_tool.specs.declared.mode_refusal.ModeRefusal.TheVariants as mode
 use Rattle.run_tool.specs.declared.refusal.Refusal.{Refusal}
 use Rattle.run_tool.specs.declared.refusal.Refusal.TheVariants as why

@@ -1,5 +1,5 @@
 -- One mode of several and its run: what holds of it where it is written.
-use Rattle.std.proofs.Common.{◌≡◌, ℕ, zero, suc, ◌*◌, ◌≤◌, List, [], ◌∷◌, ◌++◌, Option, Some, None, option_map, refl, sym, ◌∙◌, ap, subst}
+use Rattle.std.proofs.Common.{◌≡◌, ℕ, zero, suc, ◌*◌, ◌≤◌, List, [], ◌∷◌, ◌++◌, length, Option, Some, None, option_map, refl, sym, ◌∙◌, ap, subst}
 use Rattle.std.specs.Prelude.{slice_get}
 use Rattle.std.specs.List.{AllZip}
 use Rattle.sched_base.specs.Tables.{Table, row_limit}
@@ -11,7 +11,7 @@ use Rattle.mode_switch.specs.Modes.{ModesContents, AreModes}
 use Rattle.mode_switch.specs.Runs.{IsRunOf}
 use Rattle.mode_switch.proofs.RunLemmas.{IsNext, next_mode}
 use Rattle.trace_lines.specs.Conditions.{AreOnTime}
-use Rattle.trace_writer.specs.Conditions.{totals_of}
+use Rattle.row_totals.specs.Sums.{totals_of}
 use Rattle.run_tool.specs.ModeTexts.{mode_head, mode_text, mode_part}
 
 -- what is told of an item tells that there is one
@@ -54,12 +54,12 @@ module _ (modes : ModesContents) (are : AreModes modes) (j : ℕ) (p : PlanConte
         ap (λ (x : Table). x.lanes) same ∙ is.table ∙ ap plan_rows next.1.plan
 
     pub mode_totals : (ticks : List ℕ) → option_map (λ (e : Executed). e.totals.ticks) (slice_get runs j) ≡ Some ticks
-        → ticks ≡ totals_of p.set.tasks (plan_rows p)
+        → ticks ≡ totals_of (length p.set.tasks) (plan_rows p)
     mode_totals ticks told =
         let (e, at, is) = run in
         let one : Some ticks ≡ Some e.totals.ticks = sym told ∙ ap (option_map (λ (x : Executed). x.totals.ticks)) at in
         let same : ticks ≡ e.totals.ticks = cc in
-        same ∙ is.totals ∙ ap (λ (q : PlanContents). totals_of q.set.tasks (plan_rows q)) next.1.plan
+        same ∙ is.totals ∙ ap (λ (q : PlanContents). totals_of (length q.set.tasks) (plan_rows q)) next.1.plan
 
   -- the head and the rows are the mode's text
   pub mode_texts : (start horizon : ℕ) (head : List ℕ) → option_map (λ (x : Mode). x.start) (slice_get modes.modes j) ≡ Some start → horizon ≡ p.set.horizon

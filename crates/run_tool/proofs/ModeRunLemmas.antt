@@ -30,7 +30,7 @@ use Rattle.mode_switch.specs.declared.answers.ModesFault.TheVariants as fault
 use Rattle.mode_switch.specs.Runs as modes
 use Rattle.run_tool.specs.declared.mode_refusal.ModeRefusal.{ModeRefusal}
 use Rattle.run_tool.specs.declared.mode_refusal.ModeRefusal.TheVariants as mode
-use Rattle.run_tool.specs.Executions.{GateSeen, JobSeen, Crew, crew, gates_of, jobs_of, Holds, IsReady, AreBack, RanAll, GateRose, JobRose, GateStopped, JobStopped, name_at}
+use Rattle.run_tool.specs.Executions.{GateSeen, JobSeen, Crew, crew, gates_of, jobs_of, Holds, IsFreshCrew, AreBack, RanAll, GateRose, JobRose, GateStopped, JobStopped, name_at}
 use Rattle.run_tool.specs.ModeRuns.{begun_crew, RanThrough, StopsInMode, StopsBetween}
 use Rattle.run_tool.proofs.CrewLemmas.{below_or, seen_gate, seen_job, gate_in_kit, kit_shown, job_in_place, place_shown}
 use Rattle.run_tool.proofs.CrewEndLemmas.{same_seen, no_ticks_at_all, ran_to_end, gate_stopped, gate_names, gate_below, job_stopped, job_names}
@@ -43,7 +43,7 @@ pub record IsStaffed (c : Crew) : Type 0 where
   pub gates : (q : ℕ) → q < 32 → (g : GateSeen) × Holds c.gates q g
   pub jobs : (i : ℕ) → i < 256 → (j : JobSeen) × Holds c.jobs i j × (j.id ≡ i)
 
-pub ready_staffed : (c : Crew) → IsReady c → IsStaffed c
+pub ready_staffed : (c : Crew) → IsFreshCrew c → IsStaffed c
 ready_staffed c ready = record {
   gates = λ q within. let (g, at, none) = ready.gates q within in (g, at);
   jobs = λ i within. let (j, at, own, none) = ready.jobs i within in (j, at, own);
@@ -363,7 +363,7 @@ module _ {G J : Type 0} (gate : GateTells G) (job : JobTells J)
 
   -- ---- by what a run of modes answers
 
-  module _ (ms : List Mode) (each : AllByRecursion (λ m. IsPlan m.plan) ms) (old new : Roster G J) (ready : IsReady (crew_at old))
+  module _ (ms : List Mode) (each : AllByRecursion (λ m. IsPlan m.plan) ms) (old new : Roster G J) (ready : IsFreshCrew (crew_at old))
       (result : Result (List Executed) ModesFault) (o : ModesOutcome gate job ms old new result) where
     at_answer : (answer : Result (List Executed) ModesFault) → result ≡ answer → ModesOutcome gate job ms old new answer
     at_answer answer is = subst (λ x. ModesOutcome gate job ms old new x) is o

@@ -6,7 +6,7 @@ use Rattle.std.specs.Prelude.{slice_get}
 use Rattle.std.proofs.lemmas.List.{map-append, length-append}
 use Rattle.sched_base.specs.declared.rows.Row.{Row}
 use Rattle.exec_workers.specs.declared.kits.Kit.{Kit}
-use Rattle.run_tool.specs.Executions.{GateSeen, JobSeen, crew, gates_of, jobs_of, IsReady}
+use Rattle.run_tool.specs.Executions.{GateSeen, JobSeen, crew, gates_of, jobs_of, IsFreshCrew}
 use Rattle.run_tool.specs.Ready.{AreFirstGates, AreFirstJobs}
 
 get-push_before : {X : Type 0} (xs : List X) (x y : X) (i : ℕ) → slice_get xs i ≡ Some y → slice_get (xs ++ x ∷ []) i ≡ Some y
@@ -85,7 +85,7 @@ module _ {J : Type 0} (id used faults : J → ℕ) (made : J → Option (ℕ × 
 
 -- with the last gate and the last job all is ready
 pub are_ready : {gates : List (Option GateSeen)} {jobs : List (Option JobSeen)} (n m : ℕ) → 32 ≤ n → 256 ≡ m → AreFirstGates n gates
-    → AreFirstJobs m jobs → IsReady (crew gates jobs)
+    → AreFirstJobs m jobs → IsFreshCrew (crew gates jobs)
 are_ready n m enough all g j = record {
   gates = λ p within. g.unrun p (omega (arith, within, enough));
   count = let count = j.count in omega (arith, count, all);

@@ -3,21 +3,21 @@ use Rattle.std.proofs.Common.{◌≡◌, inl, inr, ℕ, Bool, true, false, List,
 use Rattle.std.proofs.Common.{None, Ok, Err}
 use Rattle.std.specs.Prelude.{OnOk, IfErr}
 use Rattle.std.specs.Io.KnownBytes.{Keeps}
-use Rattle.run_tool.specs.declared.command.Command.{Command}
-use Rattle.run_tool.specs.declared.command.Command.TheVariants.{Read, Batch, Execute}
-use Rattle.run_tool.specs.declared.command.Execution.{Execution}
-use Rattle.run_tool.specs.declared.command.Execution.TheVariants.{Exec, ExecMet, Drill, Jobs, Modes}
+use Rattle.command_words.specs.declared.command.Command.{Command}
+use Rattle.command_words.specs.declared.command.Command.TheVariants.{Read, Batch, Execute}
+use Rattle.command_words.specs.declared.command.Execution.{Execution}
+use Rattle.command_words.specs.declared.command.Execution.TheVariants.{Exec, ExecMet, Drill, Jobs, Modes}
 use Rattle.run_tool.specs.declared.refusal.Refusal.{Refusal}
 use Rattle.run_tool.specs.declared.refusal.Refusal.TheVariants as why
 use Rattle.run_tool.specs.declared.status.Status.{Status}
 use Rattle.run_tool.specs.declared.status.Status.TheVariants.{Done}
-use Rattle.run_tool.specs.Words.{command_of, execution_of, asks_to_execute}
+use Rattle.command_words.specs.Words.{command_of, execution_of, asks_to_execute}
 use Rattle.run_tool.specs.Drill.{drill_text}
 use Rattle.run_tool.specs.Commands.{schedule_rows, output_of, set_limit, WritesSet, RefusesText}
 use Rattle.run_tool.specs.Refusals.{status_of}
 use Rattle.run_tool.specs.Refuse.{IsRefused}
 use Rattle.run_tool.specs.Ends.{Streams, ErrorStream, streams, IsUnread, IsQuiet, IsDone, IsTold, Stops, StopsAs, StopsDrill, Ends}
-use Rattle.run_tool.proofs.WordLemmas.{executes, only_execute, not_executing}
+use Rattle.command_words.proofs.WordLemmas.{executes, only_execute, not_executing}
 use Rattle.run_tool.specs.Executions.{Crew, AreBack, NothingRose}
 use Rattle.run_tool.specs.JobPrograms.{WritesResults, RefusesJobs}
 use Rattle.run_tool.specs.declared.mode_refusal.ModeRefusal.TheVariants as mode

@@ -14,7 +14,7 @@ use Rattle.run_tool.specs.Commands.{Output, of_set, of_tree}
 use Rattle.run_tool.specs.declared.status.Status.{Status}
 use Rattle.run_tool.specs.declared.status.Status.TheVariants.{Done}
 use Rattle.run_tool.specs.Follow.{FollowsTrees}
-use Rattle.run_tool.specs.Ends.{Streams, TellsTruth, IsDone, IsDoneSoundly}
+use Rattle.run_tool.specs.Ends.{Streams, IsAlwaysSound, IsDone, IsDoneSoundly}
 use Rattle.wrap_sched.specs.Wrapped.{wrapped}
 
 module _
@@ -31,14 +31,14 @@ module _
       subst (λ (n : ℕ). IsValid s n (s.horizon * n) (s.horizon * n) (schedule_of (plan_of s scale))) (same s scale l i f)
       (valid s l (tree_of scale s) (is_tree s scale l i f))
 
-  pub tells_truth : (what : SetText) → TellsTruth what
+  pub tells_truth : (what : SetText) → IsAlwaysSound what
   tells_truth rates bytes s scale reads fits = tt
   tells_truth server_tree bytes s scale reads fits = is_tree s scale (lawful bytes s reads.read) reads.is_scale fits
   tells_truth (schedule_rows met) bytes s scale reads fits = schedule_valid s scale (lawful bytes s reads.read) reads.is_scale fits
   tells_truth wrapped_rows bytes s scale reads fits = wraps s scale (lawful bytes s reads.read) reads.is_scale fits
   tells_truth c_table bytes s scale reads fits = schedule_valid s scale (lawful bytes s reads.read) reads.is_scale fits
 
-module _ (truth : (what : SetText) → TellsTruth what) (follows : FollowsTrees) where
+module _ (truth : (what : SetText) → IsAlwaysSound what) (follows : FollowsTrees) where
   -- what was told is sound
   pub done_soundly : (o : Output) (status : Status) (old new : Streams) → IsDone o status old new → IsDoneSoundly o status old new
   done_soundly (of_set what) status old new done =

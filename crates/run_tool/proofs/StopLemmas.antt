@@ -8,7 +8,7 @@ use Rattle.run_tree.specs.Plans.{PlanContents, rounds_of}
 use Rattle.run_tool.specs.declared.refusal.Refusal.{Refusal}
 use Rattle.run_tool.specs.declared.refusal.Refusal.TheVariants as why
 use Rattle.run_tool.specs.Commands.{plan_of, rows_of}
-use Rattle.run_tool.specs.Input.{IsRun}
+use Rattle.run_tool.specs.Input.{IsSchedulable}
 use Rattle.run_tool.specs.Executions.{Crew}
 use Rattle.run_tool.specs.Executed.{StopsInRun, StopsAtRun}
 
@@ -23,7 +23,7 @@ module _ (s : SetContents) (p : PlanContents) (set : p.set ≡ s) (tree : p.tree
   room : (count : ℕ) → count ≡ rounds_of p → count * p.tree.processors ≤ row_limit → rows_of (plan_of s p.tree.scale) ≤ row_limit
   room count is few = subst (λ (q : PlanContents). rows_of q ≤ row_limit) same (subst (λ n. n * p.tree.processors ≤ row_limit) is few)
 
-  pub run_stops : (met : Bool) (out : Option (List ℕ)) (faults count : ℕ) (old new : Crew) (r : Refusal) → IsRun s p.tree.scale → count ≡ rounds_of p
+  pub run_stops : (met : Bool) (out : Option (List ℕ)) (faults count : ℕ) (old new : Crew) (r : Refusal) → IsSchedulable s p.tree.scale → count ≡ rounds_of p
       → count * p.tree.processors ≤ row_limit → StopsInRun p old new r → StopsAtRun met out out faults faults old new s r
   run_stops met out faults count old new (why.GateFault row name) run is few stops =
       (p.tree.scale, run, room count is few, subst (λ (q : PlanContents). StopsInRun q old new (why.GateFault row name)) same stops, keeps_same out)

@@ -1,36 +1,17 @@
 -- What the rows of a plan are, as its trace text asks for.
 use Rattle.std.proofs.Common.{◌≡◌, ◌≤◌, ◌*◌, ◌||◌, ℕ, not, eqb, Bool, true, false, List, [], ◌∷◌, length, ap, ap₂, sym, subst, ◌∙◌, inl, inr, mul_comm}
 use Rattle.std.proofs.lemmas.Bool.{cases_Bool, cond-false, eqb-true}
-use Rattle.std.specs.List.{AllByRecursion}
-use Rattle.sched_base.specs.declared.rows.Leaf.{Leaf}
-use Rattle.sched_base.specs.declared.rows.Leaf.TheVariants.{Task, Wait, Idle, Empty}
 use Rattle.sched_base.specs.declared.rows.Row.{Row}
 use Rattle.sched_base.specs.declared.sets.Task as declared
-use Rattle.sched_base.specs.Lanes.{NamesOneOf, lanes_of}
+use Rattle.sched_base.specs.Lanes.{lanes_of}
 use Rattle.sched_base.specs.Tables.{all_rows, row_limit, rounds_of}
 use Rattle.run_tree.specs.Plans.{PlanContents, schedule_of}
-use Rattle.trace_lines.specs.Conditions.{IsAmong, NameTasks, AreOnTime}
+use Rattle.trace_lines.specs.Conditions.{AreOnTime}
 use Rattle.trace_lines.specs.declared.versions.Version.TheVariants.{One, Two}
 use Rattle.trace_lines.specs.Text.{trace_text}
 use Rattle.merged_rows.proofs.PushLemmas.{all_merged}
 use Rattle.merged_rounds.specs.Passes.{AreMergedOf}
 use Rattle.run_tool.specs.Commands.{schedule_text, some_late, version_of}
-
-among_leaf : (tasks : List declared.Task) (leaf : Leaf) → NamesOneOf tasks leaf → IsAmong (length tasks) leaf
-among_leaf tasks (Task id) h = h
-among_leaf tasks (Wait id) h = tt
-among_leaf tasks (Idle number) h = tt
-among_leaf tasks Empty h = tt
-
-among_rows : (tasks : List declared.Task) (rows : List Row) → AllByRecursion (λ r. NamesOneOf tasks r.leaf) rows → NameTasks tasks rows
-among_rows tasks [] h = tt
-among_rows tasks (r ∷ rows) h = (among_leaf tasks r.leaf h.0, among_rows tasks rows h.1)
-
--- lanes that name tasks of the set alone, running or waiting, name such tasks alone where they run
-pub among_lanes : (tasks : List declared.Task) (lanes : List (List Row))
-    → AllByRecursion (λ rows. AllByRecursion (λ r. NamesOneOf tasks r.leaf) rows) lanes → AllByRecursion (NameTasks tasks) lanes
-among_lanes tasks [] h = tt
-among_lanes tasks (rows ∷ lanes) h = (among_rows tasks rows h.0, among_lanes tasks lanes h.1)
 
 -- where no task is late, each is released at unit 0
 on_time : (tasks : List declared.Task) → some_late tasks ≡ false → AreOnTime tasks

@@ -1,10 +1,10 @@
 -- What each command writes, and which bytes it refuses and why. A new command adds its case to these definitions.
 use Rattle.std.specs.Prelude.{◌≡◌, ℕ, true, false, List}
 use Rattle.trace_draw.specs.declared.asking.Asked.{Asked}
-use Rattle.run_tool.specs.declared.command.Command.{Command}
-use Rattle.run_tool.specs.declared.command.Command.TheVariants.{Read, Batch, Execute}
-use Rattle.run_tool.specs.declared.command.Reading.TheVariants.{Rate, Tree, Trace, TraceMet, TraceWrap, Table, Check, Follow, Draw}
-use Rattle.run_tool.specs.declared.command.Execution.TheVariants.{Exec, ExecMet, Drill, Jobs, Modes}
+use Rattle.command_words.specs.declared.command.Command.{Command}
+use Rattle.command_words.specs.declared.command.Command.TheVariants.{Read, Batch, Execute}
+use Rattle.command_words.specs.declared.command.Reading.TheVariants.{Rate, Tree, Trace, TraceMet, TraceWrap, Table, Check, Follow, Draw}
+use Rattle.command_words.specs.declared.command.Execution.TheVariants.{Exec, ExecMet, Drill, Jobs, Modes}
 use Rattle.run_tool.specs.declared.refusal.Refusal.{Refusal}
 use Rattle.run_tool.specs.Batch.{WritesBatch}
 use Rattle.run_tool.specs.Drill.{WritesDrill}
@@ -16,8 +16,7 @@ use Rattle.run_tool.specs.ModeTexts.{WritesModes, RefusesModes}
 use Rattle.run_tool.specs.declared.status.Status.{Status}
 use Rattle.run_tool.specs.declared.status.Status.TheVariants.{Done}
 pub use Rattle.run_tool.specs.SetTexts.{SetText, rates, server_tree, schedule_rows, wrapped_rows, c_table, ReadsSet, plan_of, some_late, version_of}
-pub use Rattle.run_tool.specs.SetTexts.{schedule_text, wrapped_text, plan_table, text_of, rows_of, wrapped_rows_of, HasRoom, WritesSet, IsSound, RefusesSet}
-pub use Rattle.run_tool.specs.SetTexts.{HasTooManyRows, HasTooManyWrapped, HasTooManyTicks, HasFewTicks, HasNoRoom, HasNoType, RefusesText}
+pub use Rattle.run_tool.specs.SetTexts.{schedule_text, wrapped_text, plan_table, text_of, rows_of, wrapped_rows_of, HasRoom, WritesSet, IsSound, RefusesText}
 
 -- the most bytes of a task set or a tree text, and of a trace text
 abbrev pub set_limit : ℕ

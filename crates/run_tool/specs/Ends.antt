@@ -6,7 +6,7 @@ use Rattle.sched_edges.specs.Causes.{Rose}
 use Rattle.sched_edges.specs.declared.streams.Source.{Ghosts as SourceTells}
 use Rattle.sched_edges.specs.declared.streams.Sink.{Ghosts as SinkTells}
 use Rattle.sched_edges.specs.Streams.{GaveAll, GaveAtMost, GaveCount, TookPart}
-use Rattle.run_tool.specs.declared.command.Command.{Command}
+use Rattle.command_words.specs.declared.command.Command.{Command}
 use Rattle.run_tool.specs.declared.refusal.Refusal.{Refusal}
 use Rattle.run_tool.specs.declared.refusal.Refusal.TheVariants as why
 use Rattle.run_tool.specs.declared.status.Status.{Status}
@@ -116,8 +116,8 @@ Stops (of_drill number) old new refusal = StopsDrill number old new refusal
 Stops output old new refusal = StopsAs (limit_of output) (Writes output) (Refuses output) old new refusal
 
 -- what is told of each set that fits is sound
-abbrev pub TellsTruth : SetText → Type 0
-TellsTruth what = (bytes : List ℕ) (s : SetContents) (scale : ℕ) → ReadsSet bytes s scale → Fits scale s → IsSound what s scale
+abbrev pub IsAlwaysSound : SetText → Type 0
+IsAlwaysSound what = (bytes : List ℕ) (s : SetContents) (scale : ℕ) → ReadsSet bytes s scale → Fits scale s → IsSound what s scale
 
 -- how a command that tells this ends with this status, and what `err` took
 abbrev pub Ends : Output → Streams → Streams → ErrorStream → ErrorStream → Status → Type 0

@@ -9,10 +9,10 @@ use Rattle.sched_edges.specs.Streams.{GaveAll, TookPart}
 use Rattle.job_vm.specs.Programs.{JobTextHeld}
 use Rattle.job_vm.specs.Loading.{loaded}
 use Rattle.run_tool.specs.JobPrograms.{ReadsJobs, IsJobsToRun, result_text, RefusesJobs}
-use Rattle.run_tool.specs.declared.command.Command.{Command}
-use Rattle.run_tool.specs.declared.command.Command.TheVariants.{Execute}
-use Rattle.run_tool.specs.declared.command.Execution.{Execution}
-use Rattle.run_tool.specs.declared.command.Execution.TheVariants.{Exec, ExecMet, Drill, Jobs, Modes}
+use Rattle.command_words.specs.declared.command.Command.{Command}
+use Rattle.command_words.specs.declared.command.Command.TheVariants.{Execute}
+use Rattle.command_words.specs.declared.command.Execution.{Execution}
+use Rattle.command_words.specs.declared.command.Execution.TheVariants.{Exec, ExecMet, Drill, Jobs, Modes}
 use Rattle.run_tool.specs.declared.refusal.Refusal.{Refusal}
 use Rattle.run_tool.specs.declared.refusal.Refusal.TheVariants as why
 use Rattle.run_tool.specs.declared.status.Status.{Status}
@@ -22,7 +22,7 @@ use Rattle.run_tool.specs.Refusals.{status_of, refusal_line}
 use Rattle.run_tool.specs.Drill.{drilled, drill_plan, IsDrill, drill_text}
 use Rattle.run_tool.specs.Ends.{Streams, ErrorStream, IsUnread, IsQuiet, Tells, IsTold, StopsAs, Ends}
 use Rattle.run_tree.specs.Plans.{PlanContents}
-use Rattle.run_tool.specs.Input.{IsRun, IsRefusedSet, IsTooLongSet}
+use Rattle.run_tool.specs.Input.{IsSchedulable, IsRefusedSet, IsTooLongSet}
 use Rattle.run_tool.specs.Executions.{Crew, RanAll, GateStopped, JobStopped, NothingRose, name_at}
 use Rattle.run_tool.specs.ModeRuns.{WritesModesRun, RefusesModesRun, MayHaveRun}
 
@@ -49,7 +49,7 @@ RefusesRun met old new bytes refusal = RefusesText (schedule_rows met) bytes ref
 -- a set's schedule was run, and its text written
 abbrev pub RanSet : Bool → Option (List ℕ) → Option (List ℕ) → Crew → Crew → SetContents → Type 0
 RanSet met out out' old new s =
-    (scale : ℕ) × IsRun s scale × HasRoom (schedule_rows met) s scale × Appends out out' (text_of (schedule_rows met) s scale)
+    (scale : ℕ) × IsSchedulable s scale × HasRoom (schedule_rows met) s scale × Appends out out' (text_of (schedule_rows met) s scale)
     × RanAll (plan_of s scale) old new
 
 -- why running a plan's schedule stopped
@@ -62,13 +62,13 @@ StopsInRun p old new _ = ⊥
 -- why a set's schedule wasn't run, or its text not written
 abbrev pub StopsAtRun : Bool → Option (List ℕ) → Option (List ℕ) → ℕ → ℕ → Crew → Crew → SetContents → Refusal → Type 0
 StopsAtRun met out out' faults faults' old new s why.WriteFault =
-    (scale : ℕ) × IsRun s scale × HasRoom (schedule_rows met) s scale × TookPart out out' (text_of (schedule_rows met) s scale)
+    (scale : ℕ) × IsSchedulable s scale × HasRoom (schedule_rows met) s scale × TookPart out out' (text_of (schedule_rows met) s scale)
     × Rose faults faults' × RanAll (plan_of s scale) old new
 StopsAtRun met out out' faults faults' old new s (why.GateFault row name) =
-    (scale : ℕ) × IsRun s scale × HasRoom (schedule_rows met) s scale × StopsInRun (plan_of s scale) old new (why.GateFault row name)
+    (scale : ℕ) × IsSchedulable s scale × HasRoom (schedule_rows met) s scale × StopsInRun (plan_of s scale) old new (why.GateFault row name)
     × Keeps out out'
 StopsAtRun met out out' faults faults' old new s (why.JobFault row name) =
-    (scale : ℕ) × IsRun s scale × HasRoom (schedule_rows met) s scale × StopsInRun (plan_of s scale) old new (why.JobFault row name)
+    (scale : ℕ) × IsSchedulable s scale × HasRoom (schedule_rows met) s scale × StopsInRun (plan_of s scale) old new (why.JobFault row name)
     × Keeps out out'
 StopsAtRun met out out' faults faults' old new s (why.TooLong rows) = IsTooLongSet (schedule_rows met) s rows × Keeps out out'
 StopsAtRun met out out' faults faults' old new s refusal = IsRefusedSet s refusal × Keeps out out'
@@ -102,7 +102,7 @@ loaded_crew text scale tasks c = record c { jobs = loaded scale text.programs ta
 
 -- the programs of the first tasks, of none or of all, were loaded, and else nothing was done: no gate was called, and no job worked
 abbrev pub HasLoaded : JobTextHeld → SetContents → Crew → Crew → Type 0
-HasLoaded text s old new = (scale n : ℕ) × IsRun s scale × (new ≡ loaded_crew text scale (take n s.tasks) old)
+HasLoaded text s old new = (scale n : ℕ) × IsSchedulable s scale × (new ≡ loaded_crew text scale (take n s.tasks) old)
 
 -- what is told of these bytes is written once the gates and the jobs, with their programs, have run the whole schedule of their set
 abbrev pub WritesJobsRun : Crew → Crew → List ℕ → Status → List ℕ → Type 0

@@ -14,6 +14,8 @@ use Rattle.sched_edges.specs.declared.gates.Gate.{Ghosts as GateTells}
 use Rattle.sched_edges.specs.declared.jobs.Job.{Ghosts as JobTells}
 use Rattle.sched_edges.specs.Gates.{grown}
 use Rattle.sched_edges.specs.Jobs.{JobPlaces}
+-- a place holds this: a job, or what a kit shows of its gate
+pub use Rattle.sched_edges.specs.Jobs.{JobAt as Holds}
 pub use Rattle.job_vm.specs.Seen.{JobSeen, jobs_of}
 use Rattle.run_tree.specs.Plans.{PlanContents, stop_of}
 use Rattle.exec_book.specs.PlanRows.{plan_rows}
@@ -40,13 +42,9 @@ crew gates jobs = record { gates = gates; jobs = jobs }
 abbrev pub crew_of : {G J A : Type 0} → GateTells G → JobTells J → Vec (Kit G) A → JobPlaces J → Crew
 crew_of gate job kits jobs = crew (gates_of gate.ran gate.faults kits.items) (jobs_of job.id job.used job.faults job.made jobs.places)
 
--- place i holds this
-abbrev pub Holds : {T : Type 0} → List (Option T) → ℕ → T → Type 0
-Holds places i t = slice_get places i ≡ Some (Some t)
-
 -- there is a gate for each of 32 processors, which has run nothing yet where it tells its rows, and 256 jobs, which have
 -- worked no tick
-pub record IsReady (c : Crew) : Type 0 where
+pub record IsFreshCrew (c : Crew) : Type 0 where
   pub gates : (p : ℕ) → p < 32 → (g : GateSeen) × Holds c.gates p g × IfSome g.ran (λ rows. rows ≡ [])
   pub count : length c.jobs ≡ 256
   pub jobs : (i : ℕ) → i < 256 → (j : JobSeen) × Holds c.jobs i j × (j.id ≡ i) × (j.used ≡ 0)

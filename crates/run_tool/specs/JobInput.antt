@@ -11,7 +11,7 @@ use Rattle.run_tool.specs.declared.refusal.Refusal.{Refusal}
 use Rattle.run_tool.specs.declared.refusal.Refusal.TheVariants as why
 use Rattle.run_tool.specs.SetTexts.{schedule_rows, plan_of, HasRoom}
 use Rattle.run_tool.specs.JobPrograms.{ReadsJobs, HasBadProgram, set_bytes, result_text}
-use Rattle.run_tool.specs.Input.{IsRun, IsRefusedSet, IsTooLongSet}
+use Rattle.run_tool.specs.Input.{IsSchedulable, IsRefusedSet, IsTooLongSet}
 use Rattle.run_tool.specs.Executions.{Crew, RanAll}
 use Rattle.run_tool.specs.Executed.{StopsInRun, loaded_crew, HasLoaded}
 
@@ -33,20 +33,20 @@ GaveNoJobs left left' faults faults' limit _ = ⊥
 -- the schedule of a set was run with the programs of a job text, and what they computed was written
 abbrev pub RanJobs : JobTextHeld → Option (List ℕ) → Option (List ℕ) → Crew → Crew → SetContents → Type 0
 RanJobs text out out' old new s =
-    (scale : ℕ) × IsRun s scale × HasRoom (schedule_rows false) s scale × Appends out out' (result_text text (plan_of s scale) old.jobs)
+    (scale : ℕ) × IsSchedulable s scale × HasRoom (schedule_rows false) s scale × Appends out out' (result_text text (plan_of s scale) old.jobs)
     × RanAll (plan_of s scale) (loaded_crew text scale s.tasks old) new
 
 -- why the schedule wasn't run, or the text not written. Where memory was refused, no gate was called and no job worked, and the
 -- programs of the first tasks may have been loaded
 abbrev pub StopsAtJobs : JobTextHeld → Option (List ℕ) → Option (List ℕ) → ℕ → ℕ → Crew → Crew → SetContents → Refusal → Type 0
 StopsAtJobs text out out' faults faults' old new s why.WriteFault =
-    (scale : ℕ) × IsRun s scale × HasRoom (schedule_rows false) s scale × TookPart out out' (result_text text (plan_of s scale) old.jobs)
+    (scale : ℕ) × IsSchedulable s scale × HasRoom (schedule_rows false) s scale × TookPart out out' (result_text text (plan_of s scale) old.jobs)
     × Rose faults faults' × RanAll (plan_of s scale) (loaded_crew text scale s.tasks old) new
 StopsAtJobs text out out' faults faults' old new s (why.GateFault row name) =
-    (scale : ℕ) × IsRun s scale × HasRoom (schedule_rows false) s scale
+    (scale : ℕ) × IsSchedulable s scale × HasRoom (schedule_rows false) s scale
     × StopsInRun (plan_of s scale) (loaded_crew text scale s.tasks old) new (why.GateFault row name) × Keeps out out'
 StopsAtJobs text out out' faults faults' old new s (why.JobFault row name) =
-    (scale : ℕ) × IsRun s scale × HasRoom (schedule_rows false) s scale
+    (scale : ℕ) × IsSchedulable s scale × HasRoom (schedule_rows false) s scale
     × StopsInRun (plan_of s scale) (loaded_crew text scale s.tasks old) new (why.JobFault row name) × Keeps out out'
 StopsAtJobs text out out' faults faults' old new s (why.TooLong rows) = IsTooLongSet (schedule_rows false) s rows × Keeps out out'
 StopsAtJobs text out out' faults faults' old new s why.NoMemory = ((new ≡ old) ⊎ HasLoaded text s old new) × Keeps out out'

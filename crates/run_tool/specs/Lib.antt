@@ -1,6 +1,4 @@
 pub mod Status
-pub mod Words
-pub mod CommandLine
 pub mod Refusals
 pub mod RateText
 pub mod Faults

@@ -183,19 +183,3 @@ place_text (place.Task i) = 32 ∷ (codes "task" ++ (32 ∷ decimal i))
 -- what stands before an unknown key in its line
 abbrev pub key_start : Place → List ℕ
 key_start p = ((codes "refused" ++ (32 ∷ (decimal (code_of status.BadInput) ++ (32 ∷ codes "UnknownKey")))) ++ place_text p) ++ 32 ∷ []
-
--- whether the line of bytes that are no set is short: any but that of an unknown key, whose text may be long
-abbrev pub IsShortSet : ReadSet → Type 0
-IsShortSet (set.UnknownKey p key) = ⊥
-IsShortSet _ = Unit {0}
-
--- whether the bytes were refused for another reason than that they, or a piece of them, are no set
-abbrev pub IsNoBadSet : Refusal → Type 0
-IsNoBadSet (BadSet refusal) = ⊥
-IsNoBadSet (OfMode j refusal) = ⊥
-IsNoBadSet _ = Unit {0}
-
--- the same of the piece of a mode
-abbrev pub IsJoined : ModeRefusal → Type 0
-IsJoined (mode.BadSet refusal) = ⊥
-IsJoined _ = Unit {0}

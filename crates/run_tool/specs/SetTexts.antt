@@ -109,50 +109,58 @@ WritesSoundly what bytes status text =
     (status ≡ Done) × ((s : SetContents) × (scale : ℕ) × ReadsSet bytes s scale × Fits scale s × HasRoom what s scale
     × (text ≡ text_of what s scale) × IsSound what s scale)
 
--- these bytes are refused where a set that fits is wanted
-abbrev pub RefusesSet : List ℕ → Refusal → Type 0
-RefusesSet bytes (BadSet refusal) = set_read_from bytes ≡ Err refusal
-RefusesSet bytes (ScaleTooLarge task) = (s : SetContents) × (set_read_from bytes ≡ Ok s) × PassesAt (2 ^ 94) s.tasks task
-RefusesSet bytes (Overload total room) =
-    (s : SetContents) × (scale : ℕ) × ReadsSet bytes s scale × (room < total) × (total ≡ total_of scale s.tasks) × (room ≡ room_of scale s)
-RefusesSet bytes _ = ⊥
+-- the set fits, with this scale
+pub record IsSchedulable (s : SetContents) (scale : ℕ) : Type 0 where
+  pub is_scale : IsScale s.tasks scale
+  pub within : scale ≤ 2 ^ 94
+  pub fits : Fits scale s
 
--- a set that fits whose schedule has too many rows; `rows` is the least multiple of the processors above the limit
-abbrev pub HasTooManyRows : List ℕ → ℕ → Type 0
-HasTooManyRows bytes rows =
-    (s : SetContents) × (scale : ℕ) × ReadsSet bytes s scale × Fits scale s × (row_limit < rows_of (plan_of s scale))
+-- why a set doesn't fit
+abbrev pub IsUnfit : SetContents → Refusal → Type 0
+IsUnfit s (ScaleTooLarge task) = PassesAt (2 ^ 94) s.tasks task
+IsUnfit s (Overload total room) =
+    (scale : ℕ) × IsScale s.tasks scale × (scale ≤ 2 ^ 94) × (room < total) × (total ≡ total_of scale s.tasks) × (room ≡ room_of scale s)
+IsUnfit s _ = ⊥
+
+-- the schedule of a set that fits has too many rows; `rows` is the least multiple of the processors above the limit
+abbrev pub IsTooLongPlan : SetContents → ℕ → Type 0
+IsTooLongPlan s rows =
+    (scale : ℕ) × IsSchedulable s scale × (row_limit < rows_of (plan_of s scale))
     × (rows ≡ (row_limit / (plan_of s scale).tree.processors + 1) * (plan_of s scale).tree.processors)
 
 -- the same of its wrapped schedule
-abbrev pub HasTooManyWrapped : List ℕ → ℕ → Type 0
-HasTooManyWrapped bytes rows =
-    (s : SetContents) × (scale : ℕ) × ReadsSet bytes s scale × Fits scale s × (row_limit < wrapped_rows_of s scale)
-    × (rows ≡ (row_limit / s.processors + 1) * s.processors)
+abbrev pub IsTooLongWrap : SetContents → ℕ → Type 0
+IsTooLongWrap s rows =
+    (scale : ℕ) × IsSchedulable s scale × (row_limit < wrapped_rows_of s scale) × (rows ≡ (row_limit / s.processors + 1) * s.processors)
 
--- a set that fits whose schedule has 2 ^ 64 ticks or more
-abbrev pub HasTooManyTicks : List ℕ → ℕ → Type 0
-HasTooManyTicks bytes ticks =
-    (s : SetContents) × (scale : ℕ) × ReadsSet bytes s scale × Fits scale s × (2 ^ 64 ≤ ticks) × (ticks ≡ stop_of (plan_of s scale))
+-- the schedule of a set that fits has 2 ^ 64 ticks or more
+abbrev pub IsTooWidePlan : SetContents → ℕ → Type 0
+IsTooWidePlan s ticks = (scale : ℕ) × IsSchedulable s scale × (2 ^ 64 ≤ ticks) × (ticks ≡ stop_of (plan_of s scale))
 
--- a set whose schedule has fewer
-abbrev pub HasFewTicks : List ℕ → Type 0
-HasFewTicks bytes = (s : SetContents) × (scale : ℕ) × ReadsSet bytes s scale × (stop_of (plan_of s scale) < 2 ^ 64)
+-- it has fewer
+abbrev pub IsNarrowPlan : SetContents → Type 0
+IsNarrowPlan s = (scale : ℕ) × IsSchedulable s scale × (stop_of (plan_of s scale) < 2 ^ 64)
 
--- a set of these bytes fits, and doesn't have this text for its many rows
-abbrev pub HasNoRoom : SetText → List ℕ → ℕ → Type 0
-HasNoRoom rates bytes rows = ⊥
-HasNoRoom server_tree bytes rows = ⊥
-HasNoRoom (schedule_rows met) bytes rows = HasTooManyRows bytes rows
-HasNoRoom wrapped_rows bytes rows = HasTooManyWrapped bytes rows
-HasNoRoom c_table bytes rows = HasFewTicks bytes × HasTooManyRows bytes rows
+-- the set fits, and doesn't have this text for its many rows
+abbrev pub IsTooLongSet : SetText → SetContents → ℕ → Type 0
+IsTooLongSet rates s rows = ⊥
+IsTooLongSet server_tree s rows = ⊥
+IsTooLongSet (schedule_rows met) s rows = IsTooLongPlan s rows
+IsTooLongSet wrapped_rows s rows = IsTooLongWrap s rows
+IsTooLongSet c_table s rows = IsNarrowPlan s × IsTooLongPlan s rows
 
--- a set of these bytes fits, and doesn't have this text for its many ticks
-abbrev pub HasNoType : SetText → List ℕ → ℕ → Type 0
-HasNoType c_table bytes ticks = HasTooManyTicks bytes ticks
-HasNoType _ bytes ticks = ⊥
+-- the set fits, and doesn't have this text for its many ticks
+abbrev pub IsTooWideSet : SetText → SetContents → ℕ → Type 0
+IsTooWideSet c_table s ticks = IsTooWidePlan s ticks
+IsTooWideSet _ s ticks = ⊥
+
+-- why a set doesn't have this text
+abbrev pub LacksText : SetText → SetContents → Refusal → Type 0
+LacksText what s (TooLong rows) = IsTooLongSet what s rows
+LacksText what s (TooWide ticks) = IsTooWideSet what s ticks
+LacksText what s refusal = IsUnfit s refusal
 
 -- these bytes are refused where this text of a set is wanted
 abbrev pub RefusesText : SetText → List ℕ → Refusal → Type 0
-RefusesText what bytes (TooLong rows) = HasNoRoom what bytes rows
-RefusesText what bytes (TooWide ticks) = HasNoType what bytes ticks
-RefusesText what bytes refusal = RefusesSet bytes refusal
+RefusesText what bytes (BadSet refusal) = set_read_from bytes ≡ Err refusal
+RefusesText what bytes refusal = (s : SetContents) × (set_read_from bytes ≡ Ok s) × LacksText what s refusal

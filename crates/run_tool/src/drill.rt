@@ -10,13 +10,13 @@ ghost use Rattle.trace_lines.specs.Merging.{merged_lanes};
 ghost use Rattle.trace_check.specs.RoundTrip.{trace_again};
 ghost use Rattle.stat_report.specs.Report.{IsValidTrace};
 ghost use Rattle.run_tool.specs.Drill.{drilled, drill_plan, summary_by};
-ghost use Rattle.run_tool.specs.Executions.{crew_of, IsReady, AreBack};
+ghost use Rattle.run_tool.specs.Executions.{crew_of, IsFreshCrew, AreBack};
 ghost use Rattle.run_tool.specs.Executed.{RanDrill, StopsAtDrill};
 
 use crate::exec::run_plan;
 use crate::refusal::Refusal;
 use crate::summary::{Summary, summary_of, write_summary};
-use crate::words::USUAL_WINDOW;
+use command_words::USUAL_WINDOW;
 use event_core::{CountFault, count_rounds};
 use exec_workers::Kit;
 use round_table::table_law;
@@ -40,7 +40,7 @@ pub(crate) fn drill<W: Sink, G: Gate + Send, X: Threads + Wait + Sync>(
     kits: &mut Vec<Kit<G>>,
     jobs: &mut Jobs,
 ) -> Result<(), Refusal>
-    requires ready { IsReady (crew_of G.Gate ⟦<BoxedJob as Job>⟧ kits.old jobs.old) }
+    requires ready { IsFreshCrew (crew_of G.Gate ⟦<BoxedJob as Job>⟧ kits.old jobs.old) }
     ensures done { OnOk result (RanDrill number (W.taken out.old) (W.taken out.new)
         (crew_of G.Gate ⟦<BoxedJob as Job>⟧ kits.old jobs.old)
         (crew_of G.Gate ⟦<BoxedJob as Job>⟧ kits.new jobs.new)) }
@@ -68,7 +68,7 @@ fn drawn_plan(alloc: Global, number: u64) -> Result<Plan, NoMemory>
     let set = make(alloc, &words)?;
     match compile(alloc, set) {
         Ok(plan) => {
-            let _lawful = plan.scale();
+            plan.know_lawful();
             Ok(plan)
         }
         Err(CompileFault::ScaleTooLarge { .. }) => unreachable!(),
@@ -105,7 +105,7 @@ fn judged(
 {
     table_law();
     merged_law();
-    let _lawful = table.rounds();
+    let _is_table = table.rounds();
     let trace = ReadTrace::of_table(alloc, plan.set(), plan.scale(), table)?;
     match summary_of(number, rounds, &trace) {
         Some(told) => Ok(told),

@@ -4,12 +4,12 @@ ghost use Rattle.sched_base.specs.Tables.{rounds_of as rounds_in};
 ghost use Rattle.run_tree.specs.Plans.{rounds_of};
 ghost use Rattle.sched_base.specs.Tables.{row_limit};
 ghost use Rattle.sched_base.specs.Lanes.{NamesOneOf};
-ghost use Rattle.trace_writer.specs.Conditions.{totals_of};
+ghost use Rattle.row_totals.specs.Sums.{totals_of};
 ghost use Rattle.exec_book.specs.PlanRows.{IsCompiled, plan_rows};
 ghost use Rattle.run_tool.specs.Commands.{set_limit};
 ghost use Rattle.run_tool.specs.Refusals.{status_of};
 ghost use Rattle.run_tool.specs.Ends.{streams_of, IsTold, StopsAs};
-ghost use Rattle.run_tool.specs.Executions.{crew_of, IsReady, AreBack, RanAll, name_at};
+ghost use Rattle.run_tool.specs.Executions.{crew_of, IsFreshCrew, AreBack, RanAll, name_at};
 ghost use Rattle.run_tool.specs.Executed.{WritesRun, RefusesRun, RanSet, StopsAtRun, StopsInRun, may_have_called};
 ghost use Rattle.run_tool.specs.declared.status.Status.TheVariants.{Done};
 
@@ -39,7 +39,7 @@ pub(crate) fn exec<R: Source, W: Sink, G: Gate + Send, X: Threads + Wait + Sync>
     kits: &mut Vec<Kit<G>>,
     jobs: &mut Jobs,
 ) -> Result<(), Refusal>
-    requires ready { IsReady (crew_of G.Gate ⟦<BoxedJob as Job>⟧ kits.old jobs.old) }
+    requires ready { IsFreshCrew (crew_of G.Gate ⟦<BoxedJob as Job>⟧ kits.old jobs.old) }
     requires some_window { 1 ≤ window }
     requires small_window { window ≤ 1024 }
     ensures done { OnOk result (IsTold set_limit (WritesRun met (crew_of G.Gate ⟦<BoxedJob as Job>⟧ kits.old jobs.old)
@@ -70,7 +70,7 @@ fn run_set<W: Sink, G: Gate + Send, X: Threads + Wait + Sync>(
     kits: &mut Vec<Kit<G>>,
     jobs: &mut Jobs,
 ) -> Result<(), Refusal>
-    requires ready { IsReady (crew_of G.Gate ⟦<BoxedJob as Job>⟧ kits.old jobs.old) }
+    requires ready { IsFreshCrew (crew_of G.Gate ⟦<BoxedJob as Job>⟧ kits.old jobs.old) }
     requires some_window { 1 ≤ window }
     requires small_window { window ≤ 1024 }
     ensures done { OnOk result (RanSet met (W.taken out.old) (W.taken out.new)
@@ -105,12 +105,12 @@ pub(crate) fn run_plan<G: Gate + Send, X: Threads + Wait + Sync>(
     requires few { rounds * plan.now.tree.processors ≤ row_limit }
     requires some_window { 1 ≤ window }
     requires small_window { window ≤ 1024 }
-    requires ready { IsReady (crew_of G.Gate ⟦<BoxedJob as Job>⟧ kits.old jobs.old) }
+    requires ready { IsFreshCrew (crew_of G.Gate ⟦<BoxedJob as Job>⟧ kits.old jobs.old) }
     ensures ran { OnOk result (RanAll plan.now (crew_of G.Gate ⟦<BoxedJob as Job>⟧ kits.old jobs.old)
         (crew_of G.Gate ⟦<BoxedJob as Job>⟧ kits.new jobs.new)) }
     ensures lanes { IfOk result (λ executed. executed.table.lanes ≡ plan_rows plan.now) }
     ensures few { IfOk result (λ executed. length executed.table.lanes * rounds_in executed.table.lanes ≤ row_limit) }
-    ensures totals { IfOk result (λ executed. executed.totals.ticks ≡ totals_of plan.now.set.tasks (plan_rows plan.now)) }
+    ensures totals { IfOk result (λ executed. executed.totals.ticks ≡ totals_of (length plan.now.set.tasks) (plan_rows plan.now)) }
     ensures stops { IfErr result (StopsInRun plan.now (crew_of G.Gate ⟦<BoxedJob as Job>⟧ kits.old jobs.old)
         (crew_of G.Gate ⟦<BoxedJob as Job>⟧ kits.new jobs.new)) }
     ensures uncalled { IfErr result (λ refusal. may_have_called (status_of refusal) ≡ false →
@@ -119,7 +119,7 @@ pub(crate) fn run_plan<G: Gate + Send, X: Threads + Wait + Sync>(
         (crew_of G.Gate ⟦<BoxedJob as Job>⟧ kits.new jobs.new) }
 {
     table_law();
-    let _lawful = plan.scale();
+    plan.know_lawful();
     match execute(rt, alloc, plan, rounds, window, kits, jobs) {
         Ok(executed) => Ok(executed),
         Err(

@@ -2,17 +2,17 @@
 ghost use Rattle.std.specs.Prelude.{◌≡◌, false, OnOk, IfErr, IfOk};
 ghost use Rattle.run_tool.specs.Refusals.{status_of};
 ghost use Rattle.run_tool.specs.Ends.{streams_of};
-ghost use Rattle.run_tool.specs.Executions.{crew_of, IsReady, AreBack};
+ghost use Rattle.run_tool.specs.Executions.{crew_of, IsFreshCrew, AreBack};
 ghost use Rattle.run_tool.specs.Executed.{ToldRun, StopsRun, may_have_run};
 ghost use Rattle.run_tool.specs.JobInput.{GaveJobs, GaveNoJobs, RanJobs, StopsAtJobs};
-ghost use Rattle.run_tool.specs.declared.command.Command.TheVariants.{Execute};
-ghost use Rattle.run_tool.specs.declared.command.Execution.TheVariants.{Jobs};
+ghost use Rattle.command_words.specs.declared.command.Command.TheVariants.{Execute};
+ghost use Rattle.command_words.specs.declared.command.Execution.TheVariants.{Jobs};
 
 use crate::exec::run_plan;
 use crate::input::SET_LIMIT;
 use crate::plan::plan_of;
 use crate::refusal::Refusal;
-use crate::words::USUAL_WINDOW;
+use command_words::USUAL_WINDOW;
 use event_core::count_rounds;
 use exec_workers::Kit;
 use job_vm::{JobText, first_stray, load_programs, read_jobs, write_jobs};
@@ -33,7 +33,7 @@ pub(crate) fn run_jobs<R: Source, W: Sink, G: Gate + Send, X: Threads + Wait + S
     kits: &mut Vec<Kit<G>>,
     jobs: &mut Jobs,
 ) -> Result<(), Refusal>
-    requires ready { IsReady (crew_of G.Gate ⟦<BoxedJob as Job>⟧ kits.old jobs.old) }
+    requires ready { IsFreshCrew (crew_of G.Gate ⟦<BoxedJob as Job>⟧ kits.old jobs.old) }
     ensures done { OnOk result (ToldRun Jobs (streams_of R.Source W.Sink source.old out.old)
         (streams_of R.Source W.Sink source.new out.new) (crew_of G.Gate ⟦<BoxedJob as Job>⟧ kits.old jobs.old)
         (crew_of G.Gate ⟦<BoxedJob as Job>⟧ kits.new jobs.new)) }
@@ -74,7 +74,7 @@ fn run_programs<W: Sink, G: Gate + Send, X: Threads + Wait + Sync>(
     kits: &mut Vec<Kit<G>>,
     jobs: &mut Jobs,
 ) -> Result<(), Refusal>
-    requires ready { IsReady (crew_of G.Gate ⟦<BoxedJob as Job>⟧ kits.old jobs.old) }
+    requires ready { IsFreshCrew (crew_of G.Gate ⟦<BoxedJob as Job>⟧ kits.old jobs.old) }
     ensures done { OnOk result (RanJobs text.now (W.taken out.old) (W.taken out.new)
         (crew_of G.Gate ⟦<BoxedJob as Job>⟧ kits.old jobs.old) (crew_of G.Gate ⟦<BoxedJob as Job>⟧ kits.new jobs.new)
         set) }

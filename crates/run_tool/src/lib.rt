@@ -4,8 +4,6 @@
 mod batch;
 mod check;
 mod closing;
-mod command;
-mod command_line;
 mod draw;
 mod drill;
 mod exec;
@@ -30,15 +28,14 @@ mod table;
 mod top;
 mod trace;
 mod tree;
-mod words;
 mod wrap;
 
 pub use closing::{close_flushed, close_run};
-pub use command::{Command, Execution, Reading};
+pub use command_words::{Command, Execution, Reading};
 pub use mode_refusal::ModeRefusal;
 pub use rate_text::write_rate;
 pub use refusal::Refusal;
 pub use running::run;
 pub use sound::{follow_law, sound_law};
 pub use status::Status;
-pub use top::run_still;
+pub use top::{run_reading, run_still};

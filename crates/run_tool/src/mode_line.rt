@@ -3,13 +3,13 @@ ghost use Rattle.std.specs.Prelude.{◌≡◌, ◌≤◌, ◌∷◌, [], length,
 ghost use Rattle.sched_edges.specs.Causes.{HasCause};
 ghost use Rattle.sched_edges.specs.Lines.{line_of};
 ghost use Rattle.sched_edges.specs.Streams.{Wrote};
-ghost use Rattle.run_tool.specs.Refusals.{refusal_line, mode_line, set_start, IsJoined};
+ghost use Rattle.run_tool.specs.Refusals.{refusal_line, mode_line, set_start};
 ghost use Rattle.run_tool.specs.declared.refusal.Refusal.TheVariants.{OfMode};
 ghost use Rattle.run_tool.specs.declared.mode_refusal.ModeRefusal.TheVariants.{NotJoined};
 
 use crate::mode_refusal::ModeRefusal;
 use crate::refusal_line::{
-    add_number, begin, gate_line, job_line, overload_line, rows_line, write_set_refusal,
+    add_number, begin, gate_line, job_line, overload_line, rows_line, write_line, write_set_refusal,
 };
 use crate::status::Status;
 use mode_switch::ModeKind;
@@ -48,21 +48,9 @@ fn write_mode_line<W: Sink>(refusal: &ModeRefusal, out: &mut W) -> Result<(), Fa
 {
     match refusal {
         ModeRefusal::BadSet(refusal) => write_set_refusal(refusal, out),
-        _ => write_all(out, mode_line(refusal).as_slice()),
-    }
-}
-
-// The same, where the bytes of the mode's piece are a set.
-#[tactic(auto, unfolding(crate::specs::Refusals::refusal_line, crate::specs::Refusals::mode_line))]
-fn mode_line(refusal: &ModeRefusal) -> Line
-    requires { IsJoined refusal.now }
-    ensures { result ≡ mode_line refusal.now }
-{
-    match refusal {
-        ModeRefusal::BadSet(_) => unreachable!(),
-        ModeRefusal::NotJoined(kind) => kind_line(*kind),
-        ModeRefusal::GateFault { row, name } => gate_line(row, name),
-        ModeRefusal::JobFault { row, name } => job_line(row, name),
+        ModeRefusal::NotJoined(kind) => write_line(kind_line(*kind), out),
+        ModeRefusal::GateFault { row, name } => write_line(gate_line(row, name), out),
+        ModeRefusal::JobFault { row, name } => write_line(job_line(row, name), out),
     }
 }
 

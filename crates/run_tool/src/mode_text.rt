@@ -10,7 +10,7 @@ ghost use Rattle.mode_switch.specs.declared.mode.Mode.{Mode};
 ghost use Rattle.mode_switch.specs.Runs.{IsRunOf};
 ghost use Rattle.run_tree.specs.Plans.{rounds_of};
 ghost use Rattle.trace_lines.specs.Conditions.{AreOnTime};
-ghost use Rattle.trace_writer.specs.Conditions.{totals_of};
+ghost use Rattle.row_totals.specs.Sums.{totals_of};
 ghost use Rattle.run_tool.specs.ModeTexts.{mode_head, mode_text, mode_part, mode_parts, modes_head, modes_text};
 
 use mode_switch::{Modes, ModesRun};
@@ -83,7 +83,7 @@ fn write_rows<W: Sink>(
     requires on_time { AreOnTime plan.now.set.tasks }
     requires few { rounds_of plan.now * plan.now.tree.processors ≤ row_limit }
     requires lanes { table.now.lanes ≡ plan_rows plan.now }
-    requires totals { totals.now ≡ totals_of plan.now.set.tasks (plan_rows plan.now) }
+    requires totals { totals.now ≡ totals_of (length plan.now.set.tasks) (plan_rows plan.now) }
     ensures wrote { Wrote (W.taken out.old) (W.taken out.new) (mode_text plan.now) result }
     ensures cause { HasCause (W.faults out.old) (W.faults out.new) result }
 {

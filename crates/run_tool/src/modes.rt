@@ -6,20 +6,20 @@ ghost use Rattle.task_reader.specs.Reading.{set_read_from};
 ghost use Rattle.run_tool.specs.Commands.{set_limit};
 ghost use Rattle.run_tool.specs.Ends.{streams_of};
 ghost use Rattle.run_tool.specs.Executed.{ToldRun, StopsRun, may_have_run};
-ghost use Rattle.run_tool.specs.Executions.{crew_of, IsReady, AreBack};
+ghost use Rattle.run_tool.specs.Executions.{crew_of, IsFreshCrew, AreBack};
 ghost use Rattle.run_tool.specs.ModeInput.{GaveModes, GaveNoModes, RefusesPiece, RefusesPieces};
 ghost use Rattle.run_tool.specs.ModeRuns.{RanThrough, StopsInModes};
 ghost use Rattle.run_tool.specs.ModeTexts.{ReadsSets};
 ghost use Rattle.run_tool.specs.Refusals.{status_of};
-ghost use Rattle.run_tool.specs.declared.command.Command.TheVariants.{Execute};
-ghost use Rattle.run_tool.specs.declared.command.Execution.TheVariants.{Modes as TheModes};
+ghost use Rattle.command_words.specs.declared.command.Command.TheVariants.{Execute};
+ghost use Rattle.command_words.specs.declared.command.Execution.TheVariants.{Modes as TheModes};
 
 use crate::exec::name_at;
 use crate::input::SET_LIMIT;
 use crate::mode_refusal::ModeRefusal;
 use crate::mode_text::write_modes;
 use crate::refusal::Refusal;
-use crate::words::USUAL_WINDOW;
+use command_words::USUAL_WINDOW;
 use exec_workers::Kit;
 use mode_switch::{Modes, ModesFault, ModesRun, run_modes};
 use round_table::table_law;
@@ -40,7 +40,7 @@ pub(crate) fn modes<R: Source, W: Sink, G: Gate + Send, X: Threads + Wait + Sync
     kits: &mut Vec<Kit<G>>,
     jobs: &mut Jobs,
 ) -> Result<(), Refusal>
-    requires ready { IsReady (crew_of G.Gate ⟦<BoxedJob as Job>⟧ kits.old jobs.old) }
+    requires ready { IsFreshCrew (crew_of G.Gate ⟦<BoxedJob as Job>⟧ kits.old jobs.old) }
     ensures done { OnOk result (ToldRun TheModes (streams_of R.Source W.Sink source.old out.old)
         (streams_of R.Source W.Sink source.new out.new) (crew_of G.Gate ⟦<BoxedJob as Job>⟧ kits.old jobs.old)
         (crew_of G.Gate ⟦<BoxedJob as Job>⟧ kits.new jobs.new)) }
@@ -110,7 +110,7 @@ fn run_all<G: Gate + Send, X: Threads + Wait + Sync>(
     kits: &mut Vec<Kit<G>>,
     jobs: &mut Jobs,
 ) -> Result<ModesRun, Refusal>
-    requires ready { IsReady (crew_of G.Gate ⟦<BoxedJob as Job>⟧ kits.old jobs.old) }
+    requires ready { IsFreshCrew (crew_of G.Gate ⟦<BoxedJob as Job>⟧ kits.old jobs.old) }
     ensures ran { OnOk result (RanThrough modes.now.modes (crew_of G.Gate ⟦<BoxedJob as Job>⟧ kits.old jobs.old)
         (crew_of G.Gate ⟦<BoxedJob as Job>⟧ kits.new jobs.new)) }
     ensures runs { IfOk result (λ runs. AllZip IsRunOf modes.now.modes runs) }
@@ -120,7 +120,7 @@ fn run_all<G: Gate + Send, X: Threads + Wait + Sync>(
         (crew_of G.Gate ⟦<BoxedJob as Job>⟧ kits.new jobs.new) }
 {
     table_law();
-    let _lawful = modes.count();
+    let _are_modes = modes.count();
     match run_modes(rt, alloc, modes, USUAL_WINDOW, kits, jobs) {
         Ok(run) => Ok(run),
         Err(

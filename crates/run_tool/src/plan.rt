@@ -1,7 +1,7 @@
 //! Plans of the sets that fit.
 ghost use Rattle.std.specs.Prelude.{◌≡◌, IfOk, IfErr};
 ghost use Rattle.run_tree.specs.Compiled.{tree_of};
-ghost use Rattle.run_tool.specs.Input.{IsRun, IsRefusedSet};
+ghost use Rattle.run_tool.specs.Input.{IsSchedulable, IsRefusedSet};
 
 use crate::refusal::Refusal;
 use run_compile::compile;
@@ -12,7 +12,7 @@ use std::alloc::Global;
 /// The plan of a set, where it fits.
 pub(crate) fn plan_of(alloc: Global, set: TaskSet) -> Result<Plan, Refusal>
     ensures set { IfOk result (λ plan. plan.set ≡ set) }
-    ensures run { IfOk result (λ plan. IsRun set plan.tree.scale) }
+    ensures run { IfOk result (λ plan. IsSchedulable set plan.tree.scale) }
     ensures tree { IfOk result (λ plan. plan.tree ≡ tree_of plan.tree.scale set) }
     ensures refused { IfErr result (IsRefusedSet set) }
 {

@@ -1,18 +1,17 @@
 //! The top call, with the runtime, the gates and the jobs.
 ghost use Rattle.std.specs.Prelude.{◌≡◌, ◌≢◌, ◌↔◌, false, map, string_bytes, None, Some, OnOk, IfErr};
-ghost use Rattle.run_tool.specs.Words.{command_of, asks_to_execute, HasWindow};
+ghost use Rattle.command_words.specs.Words.{command_of, asks_to_execute, HasWindow};
 ghost use Rattle.run_tool.specs.Commands.{of_trace, output_of};
 ghost use Rattle.run_tool.specs.Refusals.{status_of};
 ghost use Rattle.run_tool.specs.Ends.{streams_of, error_of, IsDone, IsDoneSoundly, IsUsage, IsAnswered};
-ghost use Rattle.run_tool.specs.Executions.{crew_of, IsReady, AreBack};
+ghost use Rattle.run_tool.specs.Executions.{crew_of, IsFreshCrew, AreBack};
 ghost use Rattle.run_tool.specs.Executed.{ToldRun, StopsRun, EndsWith, NoneFailed, may_have_run};
-ghost use Rattle.run_tool.specs.declared.command.Command.{Command};
-ghost use Rattle.run_tool.specs.declared.command.Command.TheVariants.{Read, Execute};
-ghost use Rattle.run_tool.specs.declared.command.Reading.TheVariants.{Check};
+ghost use Rattle.command_words.specs.declared.command.Command.{Command};
+ghost use Rattle.command_words.specs.declared.command.Command.TheVariants.{Read, Execute};
+ghost use Rattle.command_words.specs.declared.command.Reading.TheVariants.{Check};
 ghost use Rattle.run_tool.specs.declared.status.Status.TheVariants.{Done, Invalid};
 
 use crate::batch::run_batch;
-use crate::command::Execution;
 use crate::drill::drill;
 use crate::exec::exec;
 use crate::jobs::run_jobs;
@@ -22,7 +21,7 @@ use crate::refusal_line::refuse;
 use crate::sound::{follow_law, sound_law};
 use crate::status::Status;
 use crate::top::run_still;
-use crate::words::{USUAL_WINDOW, asks_for_batch, asks_to_execute, execution_of};
+use command_words::{Execution, USUAL_WINDOW, asks_for_batch, asks_to_execute, execution_of};
 use exec_workers::Kit;
 use sched_edges::{BoxedJob, Gate, Job, Jobs, Sink, Source};
 use std::alloc::Global;
@@ -49,7 +48,7 @@ pub fn run<R: Source, W: Sink, E: Sink, G: Gate + Send, X: Threads + Wait + Sync
     kits: &mut Vec<Kit<G>>,
     jobs: &mut Jobs,
 ) -> Status
-    requires ready { IsReady (crew_of G.Gate ⟦<BoxedJob as Job>⟧ kits.old jobs.old) }
+    requires ready { IsFreshCrew (crew_of G.Gate ⟦<BoxedJob as Job>⟧ kits.old jobs.old) }
 
     // Usage comes exactly where the words are no command line, want of memory aside. All else is left as it was.
     ensures usage { result ≢ Status.NoMemory → ((result ≡ Status.Usage) ↔ (command_of (map string_bytes words.now) ≡ None)) }
@@ -125,7 +124,7 @@ fn perform<R: Source, W: Sink, G: Gate + Send, X: Threads + Wait + Sync>(
     kits: &mut Vec<Kit<G>>,
     jobs: &mut Jobs,
 ) -> Result<(), Refusal>
-    requires ready { IsReady (crew_of G.Gate ⟦<BoxedJob as Job>⟧ kits.old jobs.old) }
+    requires ready { IsFreshCrew (crew_of G.Gate ⟦<BoxedJob as Job>⟧ kits.old jobs.old) }
     requires window { HasWindow execution }
     ensures done { OnOk result (ToldRun execution (streams_of R.Source W.Sink source.old out.old)
         (streams_of R.Source W.Sink source.new out.new) (crew_of G.Gate ⟦<BoxedJob as Job>⟧ kits.old jobs.old)

@@ -1,5 +1,5 @@
 //! What the commands tell is sound.
-ghost use Rattle.run_tool.specs.Ends.{TellsTruth};
+ghost use Rattle.run_tool.specs.Ends.{IsAlwaysSound};
 ghost use Rattle.run_tool.specs.Commands.{SetText};
 ghost use Rattle.run_tool.specs.Follow.{FollowsTrees};
 ghost use Rattle.run_tool.specs.Followed.{FollowsAsTraced};
@@ -13,7 +13,7 @@ use wrap_sched::wrap_law;
 /// What is told of a set that fits is sound: the tree that `tree` writes is a reduction tree of the set, and the
 /// schedules that `trace` writes, by itself and by wrapping, are valid. This runs nothing: its clause is the law.
 pub fn sound_law()
-    ensures { (what : SetText) → TellsTruth what }
+    ensures { (what : SetText) → IsAlwaysSound what }
 {
     reading_law();
     tree_law();

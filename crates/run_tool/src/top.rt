@@ -1,15 +1,14 @@
 //! The top call for all commands but executions and `batch`.
 ghost use Rattle.std.specs.Prelude.{◌≡◌, ◌≢◌, ◌↔◌, false, map, string_bytes, None, Some, IfOk, IfErr};
-ghost use Rattle.run_tool.specs.Words.{command_of, asks_for_threads, ShowsSome};
+ghost use Rattle.command_words.specs.Words.{command_of, asks_for_threads, ShowsSome};
 ghost use Rattle.run_tool.specs.Ends.{streams_of, error_of, IsDone, IsDoneSoundly, IsUsage, Stops, Ends, IsAnswered};
 ghost use Rattle.run_tool.specs.Commands.{of_trace, output_of};
-ghost use Rattle.run_tool.specs.declared.command.Command.{Command};
-ghost use Rattle.run_tool.specs.declared.command.Command.TheVariants.{Read};
-ghost use Rattle.run_tool.specs.declared.command.Reading.TheVariants.{Check};
+ghost use Rattle.command_words.specs.declared.command.Command.{Command};
+ghost use Rattle.command_words.specs.declared.command.Command.TheVariants.{Read};
+ghost use Rattle.command_words.specs.declared.command.Reading.TheVariants.{Check};
 ghost use Rattle.run_tool.specs.declared.status.Status.TheVariants.{Done, Invalid};
 
 use crate::check::check;
-use crate::command::Reading;
 use crate::draw::draw;
 use crate::follow::follow;
 use crate::rate::rate;
@@ -20,8 +19,8 @@ use crate::status::Status;
 use crate::table::table;
 use crate::trace::trace;
 use crate::tree::tree;
-use crate::words::reading_of;
 use crate::wrap::trace_by_wrapping;
+use command_words::{Reading, reading_of};
 use sched_edges::{Sink, Source};
 use std::alloc::Global;
 
@@ -62,15 +61,46 @@ pub fn run_still<R: Source, W: Sink, E: Sink>(
     ensures answered { IsAnswered (command_of (map string_bytes words.now)) (R.left source.old)
         (streams_of R.Source W.Sink source.old out.old) (streams_of R.Source W.Sink source.new out.new) result }
 {
-    sound_law();
-    follow_law();
     match reading_of(alloc, words) {
         Err(_) => refuse(&Refusal::NoMemory, err),
         Ok(None) => refuse(&Refusal::Usage, err),
-        Ok(Some(reading)) => match read(alloc, reading, source, out) {
-            Ok(status) => status,
-            Err(refusal) => refuse(&refusal, err),
-        },
+        Ok(Some(reading)) => run_reading(alloc, reading, source, out, err),
+    }
+}
+
+/// The same for a command that reads, given as such: a caller that has no command line needs no words.
+pub fn run_reading<R: Source, W: Sink, E: Sink>(
+    alloc: Global,
+    reading: Reading,
+    source: &mut R,
+    out: &mut W,
+    err: &mut E,
+) -> Status
+    requires some { ShowsSome reading }
+
+    // Done: `out` took exactly the text that the command writes for the bytes that the source gave, and what it tells of a set
+    // or of a tree is sound.
+    ensures done { result ≡ Status.Done → IsDoneSoundly (output_of (Read reading)) Done
+        (streams_of R.Source W.Sink source.old out.old) (streams_of R.Source W.Sink source.new out.new) }
+
+    // Each status comes only for its reason, and `err` took its line.
+    ensures ends { Ends (output_of (Read reading))
+        (streams_of R.Source W.Sink source.old out.old) (streams_of R.Source W.Sink source.new out.new)
+        (error_of E.Sink err.old) (error_of E.Sink err.new) result }
+
+    // Only `check` tells that a trace isn't valid, and no status is that of a command line.
+    ensures invalid { result ≡ Status.Invalid → reading ≡ Check }
+    ensures usage { result ≢ Status.Usage }
+
+    // Where nothing fails, the answer for the bytes is given.
+    ensures answered { IsAnswered (Some (Read reading)) (R.left source.old)
+        (streams_of R.Source W.Sink source.old out.old) (streams_of R.Source W.Sink source.new out.new) result }
+{
+    sound_law();
+    follow_law();
+    match read(alloc, reading, source, out) {
+        Ok(status) => status,
+        Err(refusal) => refuse(&refusal, err),
     }
 }
 

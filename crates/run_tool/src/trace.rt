@@ -1,18 +1,17 @@
 //! The command `trace`.
 ghost use Rattle.std.specs.Prelude.{◌≡◌, ◌≤◌, ◌*◌, ◌||◌, ◌^◌, false, length, OnOk, IfErr, IfOk};
 ghost use Rattle.std.specs.List.{AllByRecursion};
-ghost use Rattle.sched_base.specs.Tables.{all_rows, row_limit, rounds_of as rounds_in};
+ghost use Rattle.sched_base.specs.Tables.{row_limit, rounds_of as rounds_in};
 ghost use Rattle.sched_base.specs.Lanes.{NamesOneOf, lanes_of};
 ghost use Rattle.sched_edges.specs.Causes.{HasCause};
 ghost use Rattle.sched_edges.specs.Streams.{Wrote};
 ghost use Rattle.run_tree.specs.Plans.{rounds_of, schedule_of};
 ghost use Rattle.event_core.specs.Counts.{IsCountFault};
-ghost use Rattle.merged_rows.specs.Sums.{totals_of as merged_totals};
 ghost use Rattle.merged_rows.specs.Lawful.{AreLawful};
 ghost use Rattle.merged_rounds.specs.Passes.{AreMergedOf};
 ghost use Rattle.trace_lines.specs.Merging.{merged_lanes};
 ghost use Rattle.trace_lines.specs.Text.{trace_text};
-ghost use Rattle.trace_writer.specs.Conditions.{totals_of};
+ghost use Rattle.row_totals.specs.Sums.{totals_of};
 ghost use Rattle.run_tool.specs.Commands.{schedule_rows, set_limit, schedule_text, some_late, version_of, WritesSet, RefusesText};
 ghost use Rattle.run_tool.specs.Ends.{streams_of, IsTold, StopsAs};
 ghost use Rattle.run_tool.specs.Input.{WroteSet, StopsAtSet};
@@ -69,7 +68,7 @@ fn write_set<W: Sink>(alloc: Global, set: TaskSet, met: bool, out: &mut W) -> Re
 fn merged_rows_of(alloc: Global, plan: &Plan) -> Result<(MergedRows, Vec<u128>), CountFault>
     ensures rows { IfOk result (λ made. AreMergedOf plan.now made.0.lanes) }
     ensures lawful { IfOk result (λ made. AreLawful plan.now.set made.0.lanes) }
-    ensures totals { IfOk result (λ made. made.1.items ≡ merged_totals (length plan.now.set.tasks) (all_rows made.0.lanes)) }
+    ensures totals { IfOk result (λ made. made.1.items ≡ totals_of (length plan.now.set.tasks) made.0.lanes) }
     ensures few { IfOk result (λ _. rounds_of plan.now * plan.now.tree.processors ≤ row_limit) }
     ensures fault { IfErr result (λ fault. IsCountFault plan.now fault) }
 {
@@ -89,7 +88,7 @@ fn write_merged_rows<W: Sink>(
     requires first_version { (met || some_late plan.now.set.tasks) ≡ false }
     requires rows { AreMergedOf plan.now rows.now.lanes }
     requires lawful { AreLawful plan.now.set rows.now.lanes }
-    requires totals { totals.now ≡ merged_totals (length plan.now.set.tasks) (all_rows rows.now.lanes) }
+    requires totals { totals.now ≡ totals_of (length plan.now.set.tasks) rows.now.lanes }
     ensures wrote { Wrote (W.taken out.old) (W.taken out.new) (schedule_text met plan.now) result }
     ensures cause { HasCause (W.faults out.old) (W.faults out.new) result }
 {
@@ -106,7 +105,7 @@ pub(crate) fn rows_of(
     requires few { rounds * plan.now.tree.processors ≤ row_limit }
     ensures lanes { IfOk result (λ made. made.0.lanes ≡ lanes_of plan.now.tree.processors (schedule_of plan.now)) }
     ensures few { IfOk result (λ made. length made.0.lanes * rounds_in made.0.lanes ≤ row_limit) }
-    ensures totals { IfOk result (λ made. made.1.ticks ≡ totals_of plan.now.set.tasks made.0.lanes) }
+    ensures totals { IfOk result (λ made. made.1.ticks ≡ totals_of (length plan.now.set.tasks) made.0.lanes) }
 {
     table_law();
     let table = table_of(alloc, plan, rounds)?;
@@ -124,7 +123,7 @@ pub(crate) fn write_rows<W: Sink>(
 ) -> Result<(), Failed>
     requires lanes { table.now.lanes ≡ lanes_of plan.now.tree.processors (schedule_of plan.now) }
     requires few { length table.now.lanes * rounds_in table.now.lanes ≤ row_limit }
-    requires totals { totals.now ≡ totals_of plan.now.set.tasks table.now.lanes }
+    requires totals { totals.now ≡ totals_of (length plan.now.set.tasks) table.now.lanes }
     ensures wrote { Wrote (W.taken out.old) (W.taken out.new) (schedule_text met plan.now) result }
     ensures cause { HasCause (W.faults out.old) (W.faults out.new) result }
 {
@@ -145,7 +144,7 @@ pub(crate) fn write_table<W: Sink>(
     requires processors { length table.now.lanes ≡ set.now.processors }
     requires names { AllByRecursion (λ rows. AllByRecursion (λ r. NamesOneOf set.now.tasks r.leaf) rows) table.now.lanes }
     requires few { length table.now.lanes * rounds_in table.now.lanes ≤ row_limit }
-    requires totals { totals.now ≡ totals_of set.now.tasks table.now.lanes }
+    requires totals { totals.now ≡ totals_of (length set.now.tasks) table.now.lanes }
     ensures wrote { Wrote (W.taken out.old) (W.taken out.new)
         (trace_text (version_of met set.now.tasks) set.now scale (merged_lanes table.now.lanes)) result }
     ensures cause { HasCause (W.faults out.old) (W.faults out.new) result }

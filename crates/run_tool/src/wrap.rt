@@ -2,17 +2,16 @@
 ghost use Rattle.std.specs.Prelude.{◌≡◌, ◌≤◌, ◌*◌, false, length, OnOk, IfOk, IfErr};
 ghost use Rattle.std.specs.List.{AllByRecursion};
 ghost use Rattle.sched_base.specs.Lanes.{NamesOneOf, lanes_of};
-ghost use Rattle.sched_base.specs.Tables.{all_rows, row_limit, rounds_of};
+ghost use Rattle.sched_base.specs.Tables.{row_limit, rounds_of};
 ghost use Rattle.sched_edges.specs.Causes.{HasCause};
 ghost use Rattle.sched_edges.specs.Streams.{Wrote};
-ghost use Rattle.merged_rows.specs.Sums.{totals_of as merged_totals};
-ghost use Rattle.trace_writer.specs.Conditions.{totals_of};
+ghost use Rattle.row_totals.specs.Sums.{totals_of};
 ghost use Rattle.merged_rows.specs.Lawful.{AreLawful};
 ghost use Rattle.wrap_sched.specs.Merged.{AreMergedOf};
 ghost use Rattle.wrap_sched.specs.Wrapped.{wrapped, wrapped_rounds};
 ghost use Rattle.run_tool.specs.Commands.{some_late, wrapped_rows, wrapped_text, set_limit, WritesSet, RefusesText};
 ghost use Rattle.run_tool.specs.Ends.{streams_of, IsTold, StopsAs};
-ghost use Rattle.run_tool.specs.Input.{IsRun, IsRefusedSet, WroteSet, StopsAtSet};
+ghost use Rattle.run_tool.specs.Input.{IsSchedulable, IsRefusedSet, WroteSet, StopsAtSet};
 ghost use Rattle.run_tool.specs.declared.status.Status.TheVariants.{Done};
 
 use crate::input::read_input;
@@ -60,7 +59,7 @@ fn write_set<W: Sink>(alloc: Global, set: &TaskSet, out: &mut W) -> Result<(), R
 
 // The scale of a set that fits, in ticks per unit.
 fn scale_to_run(set: &TaskSet) -> Result<u128, Refusal>
-    ensures run { IfOk result (IsRun set.now) }
+    ensures run { IfOk result (IsSchedulable set.now) }
     ensures refused { IfErr result (IsRefusedSet set.now) }
 {
     let scale = scale_of(set)?;
@@ -79,7 +78,7 @@ fn rows_of(
     scale: u128,
     rounds: u64,
 ) -> Result<(RowTable, Totals), NoMemory>
-    requires run { IsRun set.now scale }
+    requires run { IsSchedulable set.now scale }
     requires rounds { rounds ≡ wrapped_rounds scale set.now }
     requires few { rounds * set.now.processors ≤ row_limit }
     ensures lanes { IfOk result (λ made. made.0.lanes ≡ lanes_of set.now.processors (wrapped scale set.now)) }
@@ -87,10 +86,10 @@ fn rows_of(
     ensures names { IfOk result (λ made.
         AllByRecursion (λ rows. AllByRecursion (λ r. NamesOneOf set.now.tasks r.leaf) rows) made.0.lanes) }
     ensures few { IfOk result (λ made. length made.0.lanes * rounds_of made.0.lanes ≤ row_limit) }
-    ensures totals { IfOk result (λ made. made.1.ticks ≡ totals_of set.now.tasks made.0.lanes) }
+    ensures totals { IfOk result (λ made. made.1.ticks ≡ totals_of (length set.now.tasks) made.0.lanes) }
 {
     names_law();
-    let _lawful = set.processors();
+    set.know_lawful();
     let table = wrap(alloc, set, scale, rounds)?;
     let totals = totals_of(alloc, &table, set.count())?;
     Ok((table, totals))
@@ -102,11 +101,11 @@ fn merged_rows_of(
     set: &TaskSet,
     scale: u128,
 ) -> Result<(MergedRows, Vec<u128>), NoMemory>
-    requires run { IsRun set.now scale }
+    requires run { IsSchedulable set.now scale }
     requires few { wrapped_rounds scale set.now * set.now.processors ≤ row_limit }
     ensures rows { IfOk result (λ made. AreMergedOf scale set.now made.0.lanes) }
     ensures lawful { IfOk result (λ made. AreLawful set.now made.0.lanes) }
-    ensures totals { IfOk result (λ made. made.1.items ≡ merged_totals (length set.now.tasks) (all_rows made.0.lanes)) }
+    ensures totals { IfOk result (λ made. made.1.items ≡ totals_of (length set.now.tasks) made.0.lanes) }
 {
     let rows = merged_wrap(alloc, set, scale)?;
     let totals = totals_of_merged(alloc, &rows, set.count())?;
@@ -124,7 +123,7 @@ fn write_merged_rows<W: Sink>(
     requires first_version { some_late set.now.tasks ≡ false }
     requires rows { AreMergedOf scale set.now rows.now.lanes }
     requires lawful { AreLawful set.now rows.now.lanes }
-    requires totals { totals.now ≡ merged_totals (length set.now.tasks) (all_rows rows.now.lanes) }
+    requires totals { totals.now ≡ totals_of (length set.now.tasks) rows.now.lanes }
     ensures wrote { Wrote (W.taken out.old) (W.taken out.new) (wrapped_text set.now scale) result }
     ensures cause { HasCause (W.faults out.old) (W.faults out.new) result }
 {

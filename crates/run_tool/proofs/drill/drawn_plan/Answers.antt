@@ -33,4 +33,4 @@ returns-in-Ok-clause-few c =
     (small_by c.words_of-words.result whole c.drill_law.ensures.lawful c.drill_law.ensures.fits c.drill_law.ensures.small) in
     few_rows c.args.number c.in_ok-set.set c.in-Ok.plan
     (drawn_is c.args.number c.words_of-words.result c.in_ok-set.set c.words_of-words.ensures c.in_ok-set.ensures) small
-    c.in-Ok.ensures.set c.scale-lawful.ensures.lawful
+    c.in-Ok.ensures.set c.know_lawful.ensures.lawful

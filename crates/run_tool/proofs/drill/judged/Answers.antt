@@ -11,7 +11,7 @@ use Rattle.run_tool.proofs.drill.judged.Goals as goal
 pub unreachable-requires : goal.unreachable-requires
 unreachable-requires c =
     let p = c.args.plan.now in
-    let table : IsTable (plan_rows p) = subst (λ (lanes : List (List Row)). IsTable lanes) c.requires.lanes c.rounds-lawful.ensures.lawful in
+    let table : IsTable (plan_rows p) = subst (λ (lanes : List (List Row)). IsTable lanes) c.requires.lanes c.rounds-is_table.ensures.lawful in
     let is : c.in_ok-trace.trace ≡ trace_again p.set p.tree.scale (merged_lanes (plan_rows p)) =
     c.in_ok-trace.ensures.trace ∙ (λ i. trace_again (c.set.ensures.value i) (c.scale.ensures.value i) (merged_lanes (c.requires.lanes i))) in
     let bad : false ≡ true =

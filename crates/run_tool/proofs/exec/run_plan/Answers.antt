@@ -7,36 +7,36 @@ use Rattle.run_tool.proofs.exec.run_plan.Goals as goal
 
 pub execute-requires-clause-kits : goal.execute-requires-clause-kits
 execute-requires-clause-kits g c κs within =
-    kits_filled _ _ _ _ _ _ _ _ c.requires.ready c.args.plan.now.tree.processors c.scale-lawful.ensures.lawful.sized.few_processors
+    kits_filled _ _ _ _ _ _ _ _ c.requires.ready c.args.plan.now.tree.processors c.know_lawful.ensures.lawful.sized.few_processors
 
 pub execute-requires-clause-empty : goal.execute-requires-clause-empty
 execute-requires-clause-empty g c κs within =
-    kit_empty _ _ _ _ _ _ _ _ c.requires.ready c.args.plan.now.tree.processors c.scale-lawful.ensures.lawful.sized.few_processors
+    kit_empty _ _ _ _ _ _ _ _ c.requires.ready c.args.plan.now.tree.processors c.know_lawful.ensures.lawful.sized.few_processors
 
 pub execute-requires-clause-jobs : goal.execute-requires-clause-jobs
-execute-requires-clause-jobs g c κs within = jobs_fresh _ _ _ _ _ _ _ _ c.requires.ready _ c.scale-lawful.ensures.lawful.lawful.few_tasks
+execute-requires-clause-jobs g c κs within = jobs_fresh _ _ _ _ _ _ _ _ c.requires.ready _ c.know_lawful.ensures.lawful.lawful.few_tasks
 
 pub name_at-requires : goal.name_at-requires
 name_at-requires g c = subst (λ (s : SetContents). NamesOneOf s.tasks c.in-Err-Gate.row.leaf) (sym c.set.ensures.value)
-    (gate_named _ _ _ _ _ _ c.args.plan.now _ _ _ _ c.scale-lawful.ensures.lawful c.requires.ready
-    (c.table_law.ensures.lanes c.args.plan.now c.scale-lawful.ensures.lawful) c.execute.result c.execute.ensures.outcome _ c.in-Err-Gate.row _
+    (gate_named _ _ _ _ _ _ c.args.plan.now _ _ _ _ c.know_lawful.ensures.lawful c.requires.ready
+    (c.table_law.ensures.lanes c.args.plan.now c.know_lawful.ensures.lawful) c.execute.result c.execute.ensures.outcome _ c.in-Err-Gate.row _
     (c.in-Err-Gate.is ∙ ap Err c.in-Err-Gate.field-0-is))
 
 pub name_at-requires-in-Err-Job : goal.name_at-requires-in-Err-Job
 name_at-requires-in-Err-Job g c = subst (λ (s : SetContents). NamesOneOf s.tasks c.in-Err-Job.row.leaf) (sym c.set-in-Err-Job.ensures.value)
-    (job_named _ _ _ _ _ _ c.args.plan.now _ _ _ _ c.scale-lawful.ensures.lawful c.requires.ready
-    (c.table_law.ensures.lanes c.args.plan.now c.scale-lawful.ensures.lawful) c.execute.result c.execute.ensures.outcome _ _ c.in-Err-Job.row _
+    (job_named _ _ _ _ _ _ c.args.plan.now _ _ _ _ c.know_lawful.ensures.lawful c.requires.ready
+    (c.table_law.ensures.lanes c.args.plan.now c.know_lawful.ensures.lawful) c.execute.result c.execute.ensures.outcome _ _ c.in-Err-Job.row _
     (c.in-Err-Job.is ∙ ap Err c.in-Err-Job.field-0-is))
 
 pub returns-in-Ok-clause-ran : goal.returns-in-Ok-clause-ran
 returns-in-Ok-clause-ran g c =
-    all_by _ _ _ _ _ _ c.args.plan.now _ _ _ _ c.scale-lawful.ensures.lawful c.requires.ready
-    (c.table_law.ensures.lanes c.args.plan.now c.scale-lawful.ensures.lawful) c.execute.result c.execute.ensures.outcome c.in-Ok.executed c.in-Ok.is
+    all_by _ _ _ _ _ _ c.args.plan.now _ _ _ _ c.know_lawful.ensures.lawful c.requires.ready
+    (c.table_law.ensures.lanes c.args.plan.now c.know_lawful.ensures.lawful) c.execute.result c.execute.ensures.outcome c.in-Ok.executed c.in-Ok.is
 
 pub returns-in-Ok-clause-few : goal.returns-in-Ok-clause-few
-returns-in-Ok-clause-few g c = few_rows c.args.plan.now c.scale-lawful.ensures.lawful c.in-Ok.executed.table.lanes
-    (rows_by _ _ _ _ _ _ c.args.plan.now _ _ _ _ c.scale-lawful.ensures.lawful c.requires.ready
-    (c.table_law.ensures.lanes c.args.plan.now c.scale-lawful.ensures.lawful) c.execute.result c.execute.ensures.outcome c.in-Ok.executed c.in-Ok.is)
+returns-in-Ok-clause-few g c = few_rows c.args.plan.now c.know_lawful.ensures.lawful c.in-Ok.executed.table.lanes
+    (rows_by _ _ _ _ _ _ c.args.plan.now _ _ _ _ c.know_lawful.ensures.lawful c.requires.ready
+    (c.table_law.ensures.lanes c.args.plan.now c.know_lawful.ensures.lawful) c.execute.result c.execute.ensures.outcome c.in-Ok.executed c.in-Ok.is)
     c.args.rounds c.requires.rounds c.requires.few
 
 pub returns-in-Ok-clause-back : goal.returns-in-Ok-clause-back
@@ -44,8 +44,8 @@ returns-in-Ok-clause-back g c = back_by _ _ _ _ _ _ c.args.plan.now _ _ _ _ c.ex
 
 pub returns-in-Err-Gate-clause-stops : goal.returns-in-Err-Gate-clause-stops
 returns-in-Err-Gate-clause-stops g c = (
-  gate_by _ _ _ _ _ _ c.args.plan.now _ _ _ _ c.scale-lawful.ensures.lawful c.requires.ready
-      (c.table_law.ensures.lanes c.args.plan.now c.scale-lawful.ensures.lawful) c.execute.result c.execute.ensures.outcome _ c.in-Err-Gate.row _
+  gate_by _ _ _ _ _ _ c.args.plan.now _ _ _ _ c.know_lawful.ensures.lawful c.requires.ready
+      (c.table_law.ensures.lanes c.args.plan.now c.know_lawful.ensures.lawful) c.execute.result c.execute.ensures.outcome _ c.in-Err-Gate.row _
       (c.in-Err-Gate.is ∙ ap Err c.in-Err-Gate.field-0-is),
   c.name_at.ensures ∙ ap (λ (s : SetContents). name_at s.tasks c.in-Err-Gate.row.leaf) c.set.ensures.value,
 )
@@ -55,8 +55,8 @@ returns-in-Err-Gate-clause-back g c = back_by _ _ _ _ _ _ c.args.plan.now _ _ _ 
 
 pub returns-in-Err-Job-clause-stops : goal.returns-in-Err-Job-clause-stops
 returns-in-Err-Job-clause-stops g c = (
-  job_by _ _ _ _ _ _ c.args.plan.now _ _ _ _ c.scale-lawful.ensures.lawful c.requires.ready
-      (c.table_law.ensures.lanes c.args.plan.now c.scale-lawful.ensures.lawful) c.execute.result c.execute.ensures.outcome _ _ c.in-Err-Job.row _
+  job_by _ _ _ _ _ _ c.args.plan.now _ _ _ _ c.know_lawful.ensures.lawful c.requires.ready
+      (c.table_law.ensures.lanes c.args.plan.now c.know_lawful.ensures.lawful) c.execute.result c.execute.ensures.outcome _ _ c.in-Err-Job.row _
       (c.in-Err-Job.is ∙ ap Err c.in-Err-Job.field-0-is),
   c.name_at-in-Err-Job.ensures ∙ ap (λ (s : SetContents). name_at s.tasks c.in-Err-Job.row.leaf) c.set-in-Err-Job.ensures.value,
 )

@@ -6,17 +6,17 @@ use Rattle.run_tool.proofs.modes.run_all.Goals as goal
 pub run_modes-requires-clause-kits : goal.run_modes-requires-clause-kits
 run_modes-requires-clause-kits g c κs within =
     filled_by g.G.Gate _ c.table_law.ensures.lanes (record { kits = c.args.kits.now.items; places = c.args.jobs.now.places })
-    c.args.modes.now.processors c.count-lawful.ensures.lawful.few_processors (ready_staffed _ c.requires.ready)
+    c.args.modes.now.processors c.count-are_modes.ensures.lawful.few_processors (ready_staffed _ c.requires.ready)
 
 pub run_modes-requires-clause-jobs : goal.run_modes-requires-clause-jobs
 run_modes-requires-clause-jobs g c κs within =
     own_jobs g.G.Gate _ c.table_law.ensures.lanes (record { kits = c.args.kits.now.items; places = c.args.jobs.now.places })
-    c.args.modes.now.modes (plans_lawful _ _ c.count-lawful.ensures.lawful.each) (ready_staffed _ c.requires.ready)
+    c.args.modes.now.modes (plans_lawful _ _ c.count-are_modes.ensures.lawful.each) (ready_staffed _ c.requires.ready)
 
 pub plan-requires : goal.plan-requires
 plan-requires g c =
     let failed =
-    gate_by g.G.Gate _ c.table_law.ensures.lanes c.args.modes.now.modes (plans_lawful _ _ c.count-lawful.ensures.lawful.each)
+    gate_by g.G.Gate _ c.table_law.ensures.lanes c.args.modes.now.modes (plans_lawful _ _ c.count-are_modes.ensures.lawful.each)
     (record { kits = c.args.kits.now.items; places = c.args.jobs.now.places }) _ c.requires.ready c.run_modes.result
     c.run_modes.ensures.outcome c.in-Err-Gate.mode _ c.in-Err-Gate.row (c.in-Err-Gate.is ∙ ap Err c.in-Err-Gate.field-0-is) in
     slice_get_within c.args.modes.now.modes c.in-Err-Gate.mode failed.mode failed.at
@@ -24,7 +24,7 @@ plan-requires g c =
 pub name_at-requires : goal.name_at-requires
 name_at-requires g c =
     let failed =
-    gate_by g.G.Gate _ c.table_law.ensures.lanes c.args.modes.now.modes (plans_lawful _ _ c.count-lawful.ensures.lawful.each)
+    gate_by g.G.Gate _ c.table_law.ensures.lanes c.args.modes.now.modes (plans_lawful _ _ c.count-are_modes.ensures.lawful.each)
     (record { kits = c.args.kits.now.items; places = c.args.jobs.now.places }) _ c.requires.ready c.run_modes.result
     c.run_modes.ensures.outcome c.in-Err-Gate.mode _ c.in-Err-Gate.row (c.in-Err-Gate.is ∙ ap Err c.in-Err-Gate.field-0-is) in
     names_one c.args.modes.now.modes c.in-Err-Gate.mode failed.mode c.plan.result.now c.set.result.now c.in-Err-Gate.row.leaf
@@ -33,7 +33,7 @@ name_at-requires g c =
 pub plan-requires-in-Err-Job : goal.plan-requires-in-Err-Job
 plan-requires-in-Err-Job g c =
     let failed =
-    job_by g.G.Gate _ c.table_law.ensures.lanes c.args.modes.now.modes (plans_lawful _ _ c.count-lawful.ensures.lawful.each)
+    job_by g.G.Gate _ c.table_law.ensures.lanes c.args.modes.now.modes (plans_lawful _ _ c.count-are_modes.ensures.lawful.each)
     (record { kits = c.args.kits.now.items; places = c.args.jobs.now.places }) _ c.requires.ready c.run_modes.result
     c.run_modes.ensures.outcome c.in-Err-Job.mode _ _ c.in-Err-Job.row (c.in-Err-Job.is ∙ ap Err c.in-Err-Job.field-0-is) in
     slice_get_within c.args.modes.now.modes c.in-Err-Job.mode failed.mode failed.at
@@ -41,7 +41,7 @@ plan-requires-in-Err-Job g c =
 pub name_at-requires-in-Err-Job : goal.name_at-requires-in-Err-Job
 name_at-requires-in-Err-Job g c =
     let failed =
-    job_by g.G.Gate _ c.table_law.ensures.lanes c.args.modes.now.modes (plans_lawful _ _ c.count-lawful.ensures.lawful.each)
+    job_by g.G.Gate _ c.table_law.ensures.lanes c.args.modes.now.modes (plans_lawful _ _ c.count-are_modes.ensures.lawful.each)
     (record { kits = c.args.kits.now.items; places = c.args.jobs.now.places }) _ c.requires.ready c.run_modes.result
     c.run_modes.ensures.outcome c.in-Err-Job.mode _ _ c.in-Err-Job.row (c.in-Err-Job.is ∙ ap Err c.in-Err-Job.field-0-is) in
     names_one c.args.modes.now.modes c.in-Err-Job.mode failed.mode c.plan-in-Err-Job.result.now c.set-in-Err-Job.result.now c.in-Err-Job.row.leaf
@@ -49,7 +49,7 @@ name_at-requires-in-Err-Job g c =
 
 pub returns-in-Ok-clause-ran : goal.returns-in-Ok-clause-ran
 returns-in-Ok-clause-ran g c =
-    ran_by g.G.Gate _ c.table_law.ensures.lanes c.args.modes.now.modes (plans_lawful _ _ c.count-lawful.ensures.lawful.each)
+    ran_by g.G.Gate _ c.table_law.ensures.lanes c.args.modes.now.modes (plans_lawful _ _ c.count-are_modes.ensures.lawful.each)
     (record { kits = c.args.kits.now.items; places = c.args.jobs.now.places }) _ c.requires.ready c.run_modes.result
     c.run_modes.ensures.outcome c.in-Ok.run' c.in-Ok.is
 
@@ -59,7 +59,7 @@ returns-in-Ok-clause-back g c = back_at g.G.Gate _ c.table_law.ensures.lanes _ _
 pub returns-in-Err-Gate-clause-stops : goal.returns-in-Err-Gate-clause-stops
 returns-in-Err-Gate-clause-stops g c =
     let failed =
-    gate_by g.G.Gate _ c.table_law.ensures.lanes c.args.modes.now.modes (plans_lawful _ _ c.count-lawful.ensures.lawful.each)
+    gate_by g.G.Gate _ c.table_law.ensures.lanes c.args.modes.now.modes (plans_lawful _ _ c.count-are_modes.ensures.lawful.each)
     (record { kits = c.args.kits.now.items; places = c.args.jobs.now.places }) _ c.requires.ready c.run_modes.result
     c.run_modes.ensures.outcome c.in-Err-Gate.mode _ c.in-Err-Gate.row (c.in-Err-Gate.is ∙ ap Err c.in-Err-Gate.field-0-is) in
     failed.stops c.name_at.result
@@ -72,7 +72,7 @@ returns-in-Err-Gate-clause-back g c = back_at g.G.Gate _ c.table_law.ensures.lan
 pub returns-in-Err-Job-clause-stops : goal.returns-in-Err-Job-clause-stops
 returns-in-Err-Job-clause-stops g c =
     let failed =
-    job_by g.G.Gate _ c.table_law.ensures.lanes c.args.modes.now.modes (plans_lawful _ _ c.count-lawful.ensures.lawful.each)
+    job_by g.G.Gate _ c.table_law.ensures.lanes c.args.modes.now.modes (plans_lawful _ _ c.count-are_modes.ensures.lawful.each)
     (record { kits = c.args.kits.now.items; places = c.args.jobs.now.places }) _ c.requires.ready c.run_modes.result
     c.run_modes.ensures.outcome c.in-Err-Job.mode _ _ c.in-Err-Job.row (c.in-Err-Job.is ∙ ap Err c.in-Err-Job.field-0-is) in
     failed.stops c.name_at-in-Err-Job.result
@@ -84,7 +84,7 @@ returns-in-Err-Job-clause-back g c = back_at g.G.Gate _ c.table_law.ensures.lane
 
 pub returns-in-Err-NoMemory-clause-stops : goal.returns-in-Err-NoMemory-clause-stops
 returns-in-Err-NoMemory-clause-stops g c =
-    memory_by g.G.Gate _ c.table_law.ensures.lanes c.args.modes.now.modes (plans_lawful _ _ c.count-lawful.ensures.lawful.each)
+    memory_by g.G.Gate _ c.table_law.ensures.lanes c.args.modes.now.modes (plans_lawful _ _ c.count-are_modes.ensures.lawful.each)
     (record { kits = c.args.kits.now.items; places = c.args.jobs.now.places }) _ c.requires.ready c.run_modes.result
     c.run_modes.ensures.outcome (c.in-Err-NoMemory.is ∙ ap Err c.in-Err-NoMemory.field-0-is)
 

@@ -1,7 +1,7 @@
 use Rattle.std.proofs.Common.{◌≡◌, ◌∙◌, true, false, Some, sym, ap}
 use Rattle.std.proofs.lemmas.Result.{IfErr-weaker}
-use Rattle.run_tool.specs.declared.command.Command.TheVariants.{Execute}
-use Rattle.run_tool.specs.declared.command.Execution.{Execution}
+use Rattle.command_words.specs.declared.command.Command.TheVariants.{Execute}
+use Rattle.command_words.specs.declared.command.Execution.{Execution}
 use Rattle.run_tool.specs.Ends.{streams}
 use Rattle.run_tool.specs.Executed.{may_have_run}
 use Rattle.run_tool.specs.Refusals.{status_of}

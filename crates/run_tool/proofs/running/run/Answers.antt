@@ -1,9 +1,8 @@
 use Rattle.std.proofs.Common.{◌≡◌, ◌∙◌, ℕ, List, Some, true, refl, map, string_bytes, sym, rules}
-use Rattle.run_tool.specs.Words.{command_of, asks_to_execute, asks_for_batch}
-use Rattle.run_tool.specs.declared.command.Command.TheVariants.{Execute}
+use Rattle.command_words.specs.Words.{command_of, asks_to_execute, asks_for_batch}
+use Rattle.command_words.specs.declared.command.Command.TheVariants.{Execute}
 use Rattle.run_tool.proofs.AnswerLemmas.{done_answered, stops_answered, unread_answered}
-use Rattle.run_tool.proofs.CommandLineLemmas.{some_is}
-use Rattle.run_tool.proofs.WordLemmas.{batch_runs_none}
+use Rattle.command_words.proofs.WordLemmas.{some_is, batch_runs_none}
 use Rattle.run_tool.proofs.RunLemmas.{done_is, stop_is, none_failed, ends_still, ends_unread, ends_done, ends_stopped, unread_same, uncalled_by}
 use Rattle.run_tool.specs.Commands.{output_of}
 use Rattle.run_tool.proofs.SoundLemmas.{done_soundly}

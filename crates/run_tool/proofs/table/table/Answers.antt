@@ -4,7 +4,7 @@ use Rattle.sched_base.specs.Sets.{SetContents}
 use Rattle.run_tool.specs.declared.refusal.Refusal.{Refusal}
 use Rattle.run_tool.specs.declared.refusal.Refusal.TheVariants as why
 use Rattle.run_tool.specs.declared.status.Status.TheVariants.{Done}
-use Rattle.run_tool.specs.Commands.{c_table, set_limit, text_of, WritesSet, RefusesText}
+use Rattle.run_tool.specs.Commands.{c_table, set_limit, text_of, ReadsSet, WritesSet, RefusesText}
 use Rattle.run_tool.specs.Ends.{Streams, streams_of, StopsAs}
 use Rattle.run_tool.specs.Input.{GaveSet, StopsAtSet}
 use Rattle.run_tool.proofs.table.table.Goals as goal
@@ -15,36 +15,14 @@ stopped : (old new : Streams) (s : SetContents) (r : Refusal) → GaveSet old.le
 stopped old new s why.WriteFault gave stops =
     let (bytes, all, read) = gave.gave in
     let (scale, run, room, took, rose) = stops in
-    (bytes, text_of c_table s scale, Done, all, (refl, (s, scale, record { read = read; is_scale = run.is_scale; within = run.within }, run.fits, room, refl)), took, rose)
-stopped old new s (why.TooLong rows) gave stops =
-    let (bytes, all, read) = gave.gave in
-    let (long, keeps) = stops in
-    let (other, narrow, few) = long.0 in
-    let (scale, run, over, is) = long.1 in (
-      bytes,
-      all,
-      (
-        (s, other, record { read = read; is_scale = narrow.is_scale; within = narrow.within }, few),
-        (s, scale, record { read = read; is_scale = run.is_scale; within = run.within }, run.fits, over, is),
-      ),
-      keeps,
-    )
-stopped old new s (why.TooWide ticks) gave stops =
-    let (bytes, all, read) = gave.gave in
-    let (wide, keeps) = stops in
-    let (scale, run, over, is) = wide in
-    (bytes, all, (s, scale, record { read = read; is_scale = run.is_scale; within = run.within }, run.fits, over, is), keeps)
-stopped old new s (why.ScaleTooLarge task) gave stops =
-    let (bytes, all, read) = gave.gave in
-    let (passes, keeps) = stops in
-    (bytes, all, (s, read, passes), keeps)
-stopped old new s (why.Overload total room) gave stops =
-    let (bytes, all, read) = gave.gave in
-    let (refused, keeps) = stops in
-    let (scale, is_scale, within, over, is_total, is_room) = refused in
-    (bytes, all, (s, scale, record { read = read; is_scale = is_scale; within = within }, over, is_total, is_room), keeps)
+    let reads : ReadsSet bytes s scale = record { read = read; is_scale = run.is_scale; within = run.within } in
+    (bytes, text_of c_table s scale, Done, all, (refl, (s, scale, reads, run.fits, room, refl)), took, rose)
 stopped old new s why.NoMemory gave stops = stops.1
-stopped old new s _ gave stops = absurd stops.0
+stopped old new s why.Usage gave stops = absurd stops.0
+stopped old new s why.ReadFault gave stops = absurd stops.0
+stopped old new s (why.BadSet q) gave stops = absurd stops.0
+stopped old new s (why.InputTooLong count) gave stops = absurd stops.0
+stopped old new s _ gave stops = let (bytes, all, read) = gave.gave in (bytes, all, (s, read, stops.0), stops.1)
 
 pub returns-clause-stops : goal.returns-clause-stops
 returns-clause-stops g c =

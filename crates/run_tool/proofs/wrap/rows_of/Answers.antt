@@ -16,4 +16,4 @@ returns-clause-few c =
 pub returns-clause-names : goal.returns-clause-names
 returns-clause-names c =
     rw c.in_ok-table.ensures.lanes
-    (c.names_law.ensures.lanes c.args.set.now c.args.scale c.processors-lawful.ensures.lawful c.requires.run.is_scale c.requires.run.fits)
+    (c.names_law.ensures.lanes c.args.set.now c.args.scale c.know_lawful.ensures.lawful c.requires.run.is_scale c.requires.run.fits)

@@ -1,0 +1,6 @@
+pub mod WordLemmas
+mod ValueLemmas
+mod DrawLineLemmas
+mod CommandLineLemmas
+mod SpellingLemmas
+mod DrawLemmas
