@@ -1,8 +1,9 @@
 #!/bin/sh
 # Tries the examples in C and Python. The program in C that follows a table is compiled by each C compiler that is there, and run on the table of the
 # three tasks; the tables of further sets, and of a set without tasks, are compiled without a warning. Then the library for C is built, its rounds of
-# the three tasks are compared with those that were worked by hand, those of further sets follow each other, and the module for Python and the sweep are
-# tried by what their documentation shows. What isn't there, or can't be built within twenty minutes, is said, and isn't tried.
+# the three tasks are compared with those that were worked by hand, those of further sets follow each other, what its commands answer is compared with
+# what the program writes, from C and from Python, and the module for Python and the sweep are tried by what their documentation shows. What isn't there,
+# or can't be built within ten minutes, is said, and isn't tried.
 top=$(cd "$(dirname "$0")/.." && pwd)
 program=$top/crates/furnacelime/out/furnacelime
 library=$top/crates/furnacelime_c/out/libfurnacelime_c.a
@@ -51,6 +52,47 @@ try_rounds() {
     echo "examples: rounds.c was compiled by $1 and run"
 }
 
+# same COMMAND FILE WORDS..: does a command over a file by the library and by the program, with these words, and compares statuses and texts.
+# FROM and UNITS stand behind the file where `numbers` has them.
+same() {
+    name=$1 file=$2
+    shift 2
+    "$work/commands" "$name" "$file" $numbers >"$work/told" 2>"$work/line"
+    status=$?
+    "$program" "$@" <"$file" >"$work/wanted" 2>"$work/wanted-line"
+    { [ $? = $status ] && cmp -s "$work/told" "$work/wanted" && cmp -s "$work/line" "$work/wanted-line"; } || fail "fl_$name answers $file otherwise"
+}
+
+# Does each command by the library, with one compiler.
+try_commands() {
+    "$1" -std=c99 -Wall -Wextra -pedantic -Werror -O2 -I "$top/include" -o "$work/commands" "$top/examples/c/commands.c" \
+        "$library" "$kit/c/liblibc_c.a" || { fail "$1 does not compile commands.c"; return; }
+    numbers=
+    for set in three-tasks quadcopter engine-controller video-wall overloaded scale-too-large; do
+        for command in rate tree trace table; do same $command "$top/examples/$set.toml" $command; done
+        same trace-met "$top/examples/$set.toml" trace --met
+        same trace-wrap "$top/examples/$set.toml" trace --by wrap
+    done
+    "$program" trace <"$top/examples/video-wall.toml" >"$work/valid.trace"
+    sed '/^row 1 /s/ \([0-9]*\) / 0 /' "$work/valid.trace" >"$work/invalid.trace"
+    for trace in valid.trace invalid.trace; do
+        same check "$work/$trace" check
+        same draw "$work/$trace" draw
+    done
+    same follow "$top/examples/by-hand.tree" follow
+    same follow "$work/valid.trace" follow
+    same check /dev/null check
+    numbers='2 3'
+    same draw "$work/valid.trace" draw --from 2 --units 3
+    echo "examples: commands.c was compiled by $1 and run"
+}
+
+# same_from_python CALL FILE WORD: calls the module with the text of a file, and compares what it gives with what the program writes.
+same_from_python() {
+    (cd "$top/examples/python" && python3 -c "import sys, furnacelime; text = sys.stdin.read(); sys.stdout.write(furnacelime.$1)" <"$2" >"$work/told") &&
+        "$program" "$3" <"$2" | cmp -s - "$work/told" || fail "furnacelime.$1 of Python answers $2 otherwise"
+}
+
 # Uses the library from Python, as a shared library that one compiler makes of it.
 try_python() {
     FURNACELIME_LIBRARY=$work/libfurnacelime.so PYTHONDONTWRITEBYTECODE=1
@@ -61,6 +103,13 @@ try_python() {
         (cd "$top" && python3 -m doctest "examples/python/$module.py") || fail "$module.py tells other than it says"
     done
     [ "$(python3 "$top/examples/python/sweep.py" 4 5 | wc -l)" -eq 7 ] || fail "sweep.py prints no table"
+    if [ -x "$program" ]; then
+        for command in rate tree table trace_text; do same_from_python "$command(text)" "$top/examples/video-wall.toml" "${command%_text}"; done
+        same_from_python "follow(text)" "$top/examples/by-hand.tree" follow
+        "$program" trace <"$top/examples/video-wall.toml" >"$work/valid.trace"
+        same_from_python "check(text)[1]" "$work/valid.trace" check
+        same_from_python "draw(text)" "$work/valid.trace" draw
+    fi
     echo "examples: furnacelime.py and sweep.py were run"
 }
 
@@ -71,9 +120,12 @@ else
 fi
 
 command -v rt >/dev/null && kit=$(dirname "$(dirname "$(readlink -f "$(command -v rt)")")") &&
-    (cd "$top/crates/furnacelime_c" && timeout 20m rt lib >/dev/null 2>&1)
+    (cd "$top/crates/furnacelime_c" && timeout 10m rt lib >/dev/null 2>&1)
 if [ -f "$library" ] && [ -n "$kit" ]; then
-    for compiler in $compilers; do try_rounds "$compiler"; done
+    for compiler in $compilers; do
+        try_rounds "$compiler"
+        [ -x "$program" ] && try_commands "$compiler"
+    done
     if python3 -c 'import ctypes, tomllib' 2>/dev/null; then
         try_python "$compiler"
     else

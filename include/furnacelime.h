@@ -7,14 +7,16 @@
  *    of a fork of a process with threads.
  *  - malloc, realloc and free come from one allocator, and align a block to each power of two up to 16 that divides its size.
  *  - A struct fl_plan is FL_NO_PLAN before fl_open, and no other part of the program changes or copies it; fl_close gives its memory back.
+ *  - A struct fl_text that a call wrote is given back by fl_free, once.
  *
- * No call starts a thread or waits, and each returns. Between two calls an open plan holds memory, and nothing else is kept.
+ * No call starts a thread or waits, and each returns. Between two calls an open plan and a text hold memory, and nothing else is kept.
  */
 #ifndef FURNACELIME_H
 #define FURNACELIME_H
 
 #include <stddef.h>
 #include <stdint.h>
+#include <stdlib.h>
 
 #ifdef __cplusplus
 extern "C" {
@@ -23,11 +25,15 @@ extern "C" {
 /* How a call ended. Numbers below 64 are the program's exit statuses. */
 enum fl_status {
     FL_DONE = 0,
+    FL_INVALID = 1,         /* fl_check: the rows are no valid schedule, and the text says where and why */
     FL_NO_MEMORY = 5,
-    FL_BAD_INPUT = 6,       /* the bytes are no task set */
+    FL_BAD_INPUT = 6,       /* the bytes are no task set, for fl_check and fl_draw no trace text, for fl_follow no tree text */
     FL_OVERLOAD = 7,        /* the tasks ask for more than the processors have */
     FL_SCALE_TOO_LARGE = 8, /* a unit would have more than 2^94 ticks */
-    FL_INPUT_TOO_LONG = 12, /* more than 1,048,576 bytes */
+    FL_TOO_LONG = 9,        /* the schedule has more than 2,097,152 rows, one for each processor and round */
+    FL_INPUT_TOO_LONG = 12, /* more than 1,048,576 bytes, or for fl_check and fl_draw more than 536,870,912 */
+    FL_BAD_TREE = 16,       /* fl_follow: the tree is no reduction tree of its set */
+    FL_TOO_WIDE = 17,       /* fl_table: the schedule has 2^64 ticks or more */
     FL_WRONG_CALL = 64,     /* a null pointer beside a length that isn't 0, a length past PTRDIFF_MAX, a plan that is open already or isn't
                                open, or too little room for the tasks: nothing was done */
     FL_OVER = 65            /* fl_next: the last round was told before */
@@ -37,6 +43,148 @@ enum fl_status {
 static inline int fl_is_area(const void *at, size_t length)
 {
     return length <= PTRDIFF_MAX && (at || !length);
+}
+
+/* ---- The program's commands that take no lock, over bytes in memory.
+ *
+ *     struct fl_text text;
+ *     int status = fl_trace(set, length, &text);
+ *     fwrite(text.bytes, 1, text.length, status == FL_DONE ? stdout : stderr);
+ *     fl_free(&text);
+ */
+
+/* What a command answers: at FL_DONE and FL_INVALID its text, at another status the line that says why there is none. At FL_NO_MEMORY and
+ * FL_WRONG_CALL there is no text. Behind it stands a byte of 0, which isn't counted; where there is no text, `bytes` may be a null pointer. */
+struct fl_text {
+    char *bytes;
+    size_t length;
+};
+
+/* What is asked: the number of a command, and which units fl_draw draws. */
+struct fl_question {
+    uint32_t command;
+    uint64_t from;
+    uint64_t units;
+};
+
+enum fl_command {
+    FL_RATE = 1,
+    FL_TREE = 2,
+    FL_TRACE = 3,
+    FL_TRACE_MET = 4,
+    FL_TRACE_WRAP = 5,
+    FL_TABLE = 6,
+    FL_CHECK = 7,
+    FL_FOLLOW = 8,
+    FL_DRAW = 9
+};
+
+/* An answer that is kept until its text is told. */
+struct fl_answer {
+    void *at;
+};
+
+uint8_t furnacelime_ask(const struct fl_question *question, const uint8_t *bytes, size_t length, struct fl_answer *kept, size_t *text_length);
+uint8_t furnacelime_tell(struct fl_answer answer, uint8_t *text, size_t room);
+
+/* Asks, and makes room for the text. */
+static inline int fl_ask(struct fl_question question, const void *bytes, size_t length, struct fl_text *text)
+{
+    struct fl_answer answer = {NULL};
+    uint8_t none = 0;
+    int status;
+    if (text) {
+        text->bytes = NULL;
+        text->length = 0;
+    }
+    if (!text || !fl_is_area(bytes, length))
+        return FL_WRONG_CALL;
+    status = furnacelime_ask(&question, bytes ? (const uint8_t *)bytes : &none, length, &answer, &text->length);
+    if (!answer.at)
+        return status;
+    text->bytes = (char *)malloc(text->length + 1);
+    if (!text->bytes) {
+        furnacelime_tell(answer, &none, 0); /* gives the answer back */
+        text->length = 0;
+        return FL_NO_MEMORY;
+    }
+    furnacelime_tell(answer, (uint8_t *)text->bytes, text->length);
+    text->bytes[text->length] = 0;
+    return status;
+}
+
+static inline int fl_ask_plainly(enum fl_command command, const void *bytes, size_t length, struct fl_text *text)
+{
+    struct fl_question question = {0, 0, 0};
+    question.command = (uint32_t)command;
+    return fl_ask(question, bytes, length, text);
+}
+
+/* Of a task set: its scale, rates, total and room. */
+static inline int fl_rate(const void *set, size_t length, struct fl_text *text)
+{
+    return fl_ask_plainly(FL_RATE, set, length, text);
+}
+
+/* Of a task set: its tree of servers and duals. */
+static inline int fl_tree(const void *set, size_t length, struct fl_text *text)
+{
+    return fl_ask_plainly(FL_TREE, set, length, text);
+}
+
+/* Of a task set: its schedule, as a trace text. */
+static inline int fl_trace(const void *set, size_t length, struct fl_text *text)
+{
+    return fl_ask_plainly(FL_TRACE, set, length, text);
+}
+
+/* The same, with when each period was done. */
+static inline int fl_trace_met(const void *set, size_t length, struct fl_text *text)
+{
+    return fl_ask_plainly(FL_TRACE_MET, set, length, text);
+}
+
+/* Of a task set: its wrapped schedule, as a trace text. */
+static inline int fl_trace_wrap(const void *set, size_t length, struct fl_text *text)
+{
+    return fl_ask_plainly(FL_TRACE_WRAP, set, length, text);
+}
+
+/* Of a task set: its schedule as C source. */
+static inline int fl_table(const void *set, size_t length, struct fl_text *text)
+{
+    return fl_ask_plainly(FL_TABLE, set, length, text);
+}
+
+/* Of a trace text: whether its rows are a valid schedule of its set. */
+static inline int fl_check(const void *trace, size_t length, struct fl_text *text)
+{
+    return fl_ask_plainly(FL_CHECK, trace, length, text);
+}
+
+/* Of a tree text: the schedule of its tree, as a trace text. */
+static inline int fl_follow(const void *tree, size_t length, struct fl_text *text)
+{
+    return fl_ask_plainly(FL_FOLLOW, tree, length, text);
+}
+
+/* Of a trace text: a picture of it as SVG, from this unit on, of at most so many units; 0 for as many as are easily looked at. */
+static inline int fl_draw(const void *trace, size_t length, uint64_t from, uint64_t units, struct fl_text *text)
+{
+    struct fl_question question = {FL_DRAW, 0, 0};
+    question.from = from;
+    question.units = units;
+    return fl_ask(question, trace, length, text);
+}
+
+/* Gives the memory of a text back. */
+static inline void fl_free(struct fl_text *text)
+{
+    if (text) {
+        free(text->bytes);
+        text->bytes = NULL;
+        text->length = 0;
+    }
 }
 
 /* ---- The schedule of a task set round by round, of any length. Between two rounds nothing changes.
@@ -94,7 +242,7 @@ static inline int fl_open(struct fl_plan *plan, const void *set, size_t length, 
     return furnacelime_open(set ? (const uint8_t *)set : &none, length, plan, about);
 }
 
-/* Tells the next round, and the task on each processor of the set: `tasks` has room for that many numbers. It takes and gives no memory. */
+/* Tells the next round, and the task on each processor of the set: `tasks` has room for that many numbers. It never answers FL_NO_MEMORY. */
 static inline int fl_next(struct fl_plan *plan, struct fl_round *round, uint32_t *tasks, size_t room)
 {
     if (!plan || !plan->at || !round || !tasks || room > PTRDIFF_MAX / sizeof *tasks)

@@ -1,14 +1,19 @@
 """The proved schedules of Furnacelime, from Python, by its library for C.
 
     >>> import furnacelime
-    >>> furnacelime.trace(open("examples/three-tasks.toml").read())
+    >>> three_tasks = open("examples/three-tasks.toml").read()
+    >>> furnacelime.trace(three_tasks)
     [(0, 0, 3, 'b'), (0, 3, 9, 'a'), (1, 0, 6, 'c'), (1, 6, 9, 'b')]
-    >>> furnacelime.trace(open("examples/overloaded.toml").read())
+    >>> furnacelime.check(furnacelime.trace_text(three_tasks).replace("row 1 6 9 b", "row 1 5 8 b"))
+    (False, 'invalid line 12 processor-overlap\\n')
+    >>> furnacelime.rate(open("examples/overloaded.toml").read())
     Traceback (most recent call last):
-    furnacelime.Refused: refused with status 7
+    furnacelime.Refused: refused 7 Overload total 7 room 6
 
-A set is text in TOML, as the program reads it; one that is refused raises `Refused`, with the program's status. Times are in ticks, of
-which a unit has `Plan(set_text).scale`. The library is sought beside this file, or where the variable FURNACELIME_LIBRARY says.
+`rate`, `tree`, `trace_text` and `table` take a task set as the program reads it, text in TOML, and give the program's text; `follow` takes a tree
+text, `check` and `draw` a trace text. What the program refuses raises `Refused`, with its line and its status. `trace` gives the rows of a set's
+schedule as tuples, and a `Plan` its rounds. Times are in ticks, of which a unit has `Plan(set_text).scale`. The library is sought beside this file,
+or where the variable FURNACELIME_LIBRARY says.
 """
 import ctypes
 import os
@@ -16,13 +21,18 @@ import threading
 import tomllib
 
 _OVER, _NO_TASK, _PROCESSORS = 65, 2**32 - 1, 32
+_COMMANDS = ["rate", "tree", "trace", "trace_met", "trace_wrap", "table", "check", "follow", "draw"]  # numbered from 1
 _HERE = os.path.dirname(os.path.abspath(__file__))
 _library = ctypes.CDLL(os.environ.get("FURNACELIME_LIBRARY") or os.path.join(_HERE, "libfurnacelime.so"))
 _one_call = threading.Lock()  # no two threads may be inside the library at once
 
 
-class _Plan(ctypes.Structure):
+class _Handle(ctypes.Structure):
     _fields_ = [("at", ctypes.c_void_p)]
+
+
+class _Question(ctypes.Structure):
+    _fields_ = [("command", ctypes.c_uint32), ("first", ctypes.c_uint64), ("units", ctypes.c_uint64)]
 
 
 class _Ticks(ctypes.Structure):
@@ -40,22 +50,82 @@ class _Round(ctypes.Structure):
     _fields_ = [("start", _Ticks), ("end", _Ticks)]
 
 
-_library.furnacelime_open.restype = ctypes.c_uint8
-_library.furnacelime_open.argtypes = [ctypes.c_char_p, ctypes.c_size_t, ctypes.POINTER(_Plan), ctypes.POINTER(_About)]
-_library.furnacelime_next.restype = ctypes.c_uint8
-_library.furnacelime_next.argtypes = [
-    _Plan, ctypes.POINTER(_Plan), ctypes.POINTER(ctypes.c_uint32), ctypes.c_size_t, ctypes.POINTER(_Round)
-]
-_library.furnacelime_close.restype = None
-_library.furnacelime_close.argtypes = [_Plan]
+def _export(name, result, *arguments):
+    export = getattr(_library, "furnacelime_" + name)
+    export.restype, export.argtypes = result, arguments
+    return export
+
+
+_pointer, _bytes, _size, _status = ctypes.POINTER, ctypes.c_char_p, ctypes.c_size_t, ctypes.c_uint8
+_ask = _export("ask", _status, _pointer(_Question), _bytes, _size, _pointer(_Handle), _pointer(_size))
+_tell = _export("tell", _status, _Handle, _bytes, _size)
+_open = _export("open", _status, _bytes, _size, _pointer(_Handle), _pointer(_About))
+_next = _export("next", _status, _Handle, _pointer(_Handle), _pointer(ctypes.c_uint32), _size, _pointer(_Round))
+_close = _export("close", None, _Handle)
 
 
 class Refused(Exception):
-    """A set that is refused, with the program's status."""
+    """What the program refuses, with its status and its line."""
 
-    def __init__(self, status):
-        super().__init__(f"refused with status {status}")
+    def __init__(self, status, line=""):
+        super().__init__(line.rstrip() or f"refused with status {status}")
         self.status = status
+
+
+def _answer(command, text, first=0, units=0):
+    """The status of a command, which is 0 or 1, and its text."""
+    given, kept, length = text.encode(), _Handle(), _size()
+    with _one_call:
+        status = _ask(_Question(_COMMANDS.index(command) + 1, first, units), given, len(given), kept, length)
+        told = ctypes.create_string_buffer(length.value + 1)
+        if kept.at:
+            _tell(kept, told, length.value)
+    if status > 1:
+        raise Refused(status, told.raw[:-1].decode())
+    return status, told.raw[:-1].decode()
+
+
+def rate(set_text):
+    """The scale, the rates, their total and the room."""
+    return _answer("rate", set_text)[1]
+
+
+def tree(set_text):
+    """The tree of servers and duals."""
+    return _answer("tree", set_text)[1]
+
+
+def table(set_text):
+    """The schedule as C source."""
+    return _answer("table", set_text)[1]
+
+
+def trace_text(set_text, kind="trace"):
+    """The trace text of the schedule; of kind `trace_met` with when each period was done, of `trace_wrap` that of the wrapped schedule."""
+    return _answer(kind, set_text)[1]
+
+
+def trace(set_text):
+    """The rows of the schedule, processor by processor: (processor, start, end, task), with None where it is idle."""
+    words = [line.split() for line in trace_text(set_text).splitlines()]
+    rows = [row[1:] for row in words if row[0] == "row"]
+    return [(int(processor), int(start), int(end), None if name == "-" else name) for processor, start, end, name in rows]
+
+
+def follow(tree_text):
+    """The trace text of the schedule of a tree."""
+    return _answer("follow", tree_text)[1]
+
+
+def check(trace_text):
+    """Whether the rows of a trace text are a valid schedule of its set, and the report, or the line that says where they aren't and why."""
+    status, text = _answer("check", trace_text)
+    return status == 0, text
+
+
+def draw(trace_text, first=0, units=0):
+    """A picture of a trace text as SVG, from this unit on, of at most so many units; 0 for as many as are easily looked at."""
+    return _answer("draw", trace_text, first, units)[1]
 
 
 class Plan:
@@ -67,9 +137,9 @@ class Plan:
         self.names = [task["name"] for task in tomllib.loads(set_text)["task"]]
 
     def _open(self):
-        plan, about = _Plan(), _About()
+        plan, about = _Handle(), _About()
         with _one_call:
-            status = _library.furnacelime_open(self._set, len(self._set), plan, about)
+            status = _open(self._set, len(self._set), plan, about)
         if status:
             raise Refused(status)
         self.scale, self.end, self.processors = int(about.scale), int(about.end), about.processors
@@ -78,31 +148,17 @@ class Plan:
     @staticmethod
     def _close(plan):
         with _one_call:
-            _library.furnacelime_close(plan)
+            _close(plan)
 
     def __iter__(self):
         plan, told, tasks = self._open(), _Round(), (ctypes.c_uint32 * _PROCESSORS)()
         try:
             while True:
                 with _one_call:
-                    status = _library.furnacelime_next(plan, plan, tasks, _PROCESSORS, told)
+                    status = _next(plan, plan, tasks, _PROCESSORS, told)
                 if status == _OVER:
                     return
                 names = [None if task == _NO_TASK else self.names[task] for task in tasks[: self.processors]]
                 yield int(told.start), int(told.end), names
         finally:
             self._close(plan)
-
-
-def trace(set_text):
-    """The rows of the schedule, processor by processor: (processor, start, end, task), with None where it is idle."""
-    plan = Plan(set_text)
-    rows = [[] for _ in range(plan.processors)]
-    for start, end, names in plan:
-        for processor, name in enumerate(names):
-            if rows[processor] and rows[processor][-1][3] == name:
-                start_of_row = rows[processor].pop()[1]
-            else:
-                start_of_row = start
-            rows[processor].append((processor, start_of_row, end, name))
-    return [row for of_processor in rows for row in of_processor]

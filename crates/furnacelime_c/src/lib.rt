@@ -2,4 +2,5 @@
 //! `include/furnacelime.h` declares what it exports.
 #![tactic(auto)]
 
+mod answers;
 mod rounds;

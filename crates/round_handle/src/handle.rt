@@ -4,7 +4,7 @@ ghost use Rattle.std.specs.declared.option.Option.{Option};
 ghost use Rattle.round_steps.specs.Steps.{StepsHeld};
 ghost use Rattle.round_handle.specs.Owned.{owned_at};
 
-use crate::raw_box::RawBox;
+use raw_parts::RawBox;
 use round_steps::Steps;
 use std::alloc::Global;
 use std::marker::Model;

@@ -1,7 +1,6 @@
-//! Steps behind a pointer, for those who can hold nothing else. The only code of the repository that has raw pointers.
+//! Steps behind a pointer, for those who can hold nothing else.
 #![tactic(auto)]
 
 mod handle;
-mod raw_box;
 
 pub use handle::Handle;

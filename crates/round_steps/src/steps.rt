@@ -10,7 +10,7 @@ use crate::faults::OpenFault;
 use event_core::Core;
 use run_compile::compile;
 use run_tree::Plan;
-use sched_base::{Leaf, NoMemory, Row};
+use sched_base::{Leaf, Row, blank_rows};
 use std::alloc::Global;
 use std::marker::Model;
 use task_reader::read_set;
@@ -55,7 +55,7 @@ impl Steps {
         let set = read_set(alloc, bytes)?;
         let plan = compile(alloc, set)?;
         let core = Core::new(alloc, &plan)?;
-        let rows = blank_rows(alloc, &plan)?;
+        let rows = blank_rows(alloc, plan.tree().processors())?;
         Ok(Steps { plan, core, rows })
     }
 
@@ -87,7 +87,7 @@ impl Steps {
         self.plan.tree().processors()
     }
 
-    /// Goes on by the next round, and says whether there was one. It takes no memory.
+    /// Goes on by the next round, and says whether there was one. It never answers that memory was refused.
     pub fn go_on(&mut self) -> bool
         ensures plan { self.new.plan ≡ self.old.plan }
         ensures over { result ≡ false → (self.new ≡ self.old) × (stop_of self.old.plan ≤ self.old.core.tick) }
@@ -130,17 +130,4 @@ fn task_shown(leaf: Leaf) -> u32
         Leaf::Task(task) => task.0,
         Leaf::Idle(_) | Leaf::Wait(_) | Leaf::Empty => NO_TASK,
     }
-}
-
-// Rows to be overwritten.
-fn blank_rows(alloc: Global, plan: &Plan) -> Result<Vec<Row>, NoMemory>
-    ensures { IfOk result (λ v. length v.items ≡ plan.now.tree.processors) }
-{
-    let blank = Row {
-        processor: 0,
-        start: 0,
-        end: 0,
-        leaf: Leaf::Empty,
-    };
-    Ok(vec![in alloc; blank; plan.tree().processors() as usize]?)
 }

@@ -22,7 +22,7 @@ use Rattle.std_heap.specs.contracts.Global as Heap
 use Rattle.std_heap.specs.contracts.GlobalAllocator.TheImpl.{ghosts}
 use Rattle.std_heap.proofs.Global.TheLaws as heap
 use Rattle.round_steps.specs.contracts.steps.Steps.{the_row}
-use Rattle.round_handle.proofs.BoxValues.{both, RawBox, box_good, parts_out}
+use Rattle.raw_parts.proofs.BoxValues.{both, RawBox, box_good, parts_out}
 use Rattle.round_handle.specs.contracts.handle.Handle as handle
 use Rattle.round_handle.proofs.HandleValues.{one, handle_in}
 use Rattle.round_handle.specs.contracts.handle.Handle.hide.{ended, clauses}

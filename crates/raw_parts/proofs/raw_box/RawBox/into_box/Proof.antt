@@ -31,13 +31,13 @@ use Rattle.core.proofs.cell.Inside.{Good}
 use Rattle.std_alloc.proofs.BoxSteps.Form as box
 use Rattle.std_alloc.proofs.BoxSteps.Steps.{box_out, box_in}
 use Rattle.std.proofs.raw_atomic.Walks.{proved_at, leaves}
-use Rattle.round_handle.proofs.BoxValues.{both, RawBox, box_good, parts_out}
+use Rattle.raw_parts.proofs.BoxValues.{both, RawBox, box_good, parts_out}
 use Rattle.std_alloc.specs.contracts.boxed.Box.from_raw as callee
 use Rattle.std_alloc.proofs.boxed.Box.from_raw.Met.{met}
-use Rattle.round_handle.specs.contracts.raw_box.RawBox.into_box.{ended, clauses}
-use Rattle.round_handle.specs.contracts.raw_box.RawBox.into_box.Key.{name as #self}
-use Rattle.round_handle.proofs.raw_box.RawBox.into_box.Statement.{statement}
-use Rattle.round_handle.proofs.raw_box.RawBox.into_box.Code as code
+use Rattle.raw_parts.specs.contracts.raw_box.RawBox.into_box.{ended, clauses}
+use Rattle.raw_parts.specs.contracts.raw_box.RawBox.into_box.Key.{name as #self}
+use Rattle.raw_parts.proofs.raw_box.RawBox.into_box.Statement.{statement}
+use Rattle.raw_parts.proofs.raw_box.RawBox.into_box.Code as code
 
 pub into_box_spec : {M : Type 1} → statement M
 into_box_spec 𝓤 𝓛 𝓜 𝓡 wired T A L LA g d dx dd allocator glue glued =
