@@ -1,54 +1,18 @@
 //! The rounds of worked sets.
-ghost use Rattle.std.specs.Prelude.{◌≡◌, [], ◌∷◌, ◌++◌, length, vec_len, IfOk, OnOk};
+ghost use Rattle.std.specs.Prelude.{◌≡◌, length};
 ghost use Rattle.event_core.specs.Cores.{IsCoreOf};
 
 use event_core::{Core, CountFault, count_rounds};
 use run_plain::plan_of;
 use run_tree::Plan;
-use sched_base::{Leaf, Row, TaskSet, lawful_name};
-use std::alloc::{AllocError, Global};
+use sched_base::{Leaf, Row, blank_rows};
 use std::process::Abort;
 use std::test::Fail;
 
-mod by_hand;
 mod merged;
 mod plain;
 mod tables;
-
-/// Adds a task, once it is seen that it may be added.
-fn add(
-    rt: &impl Abort,
-    set: &mut TaskSet,
-    name: &[u8],
-    work: u64,
-    period: u64,
-    offset: u64,
-) -> Result<(), Fail>
-    ensures { OnOk result (set.new ≡ record set.old {
-      tasks = set.old.tasks ++
-          (record { name = name.now; work = work; period = period; offset = offset }) ∷ [];
-    }) }
-{
-    assert!(rt; lawful_name(name));
-    assert!(rt; set.find(name).is_none());
-    assert!(rt; set.count() < 256);
-    assert!(rt; 1 <= work && work <= period && period < 1 << 32 && offset < 1 << 32);
-    set.add_late(name, work, period, offset)?;
-    Ok(())
-}
-
-/// Rows to be overwritten.
-fn blank_rows(alloc: Global, count: usize) -> Result<Vec<Row>, AllocError>
-    ensures { IfOk result (λ v. vec_len v ≡ count) }
-{
-    let blank = Row {
-        processor: 0,
-        start: 0,
-        end: 0,
-        leaf: Leaf::Empty,
-    };
-    vec![in alloc; blank; count]
-}
+mod trees;
 
 /// A leaf as one letter: a task by its small letter, one that waits by its capital, an idle leaf by a dot.
 fn letter(leaf: Leaf) -> u8 {
@@ -143,7 +107,7 @@ fn runs_worked_sets(rt: HostRuntime) -> Result<(), Fail> {
     ];
     for (processors, horizon, tasks, count, starts, lanes) in rows {
         let plan = plan_of(rt.alloc(), processors, horizon, tasks)?;
-        let mut rows = blank_rows(rt.alloc(), plan.tree().processors() as usize)?;
+        let mut rows = blank_rows(rt.alloc(), plan.tree().processors())?;
         let mut core = Core::new(rt.alloc(), &plan)?;
         run_rounds(&rt, &plan, &mut core, &mut rows, starts, lanes);
         assert_eq!(rt; count_rounds(rt.alloc(), &plan), Ok(count));

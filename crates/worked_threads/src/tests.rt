@@ -1,5 +1,5 @@
 //! Executions by the top call: what the tests share.
-ghost use Rattle.run_tool.specs.Executions.{crew_of, IsReady};
+ghost use Rattle.run_tool.specs.Executions.{crew_of, IsFreshCrew};
 
 mod drops;
 mod meetings;
@@ -38,7 +38,7 @@ fn call<G: Gate + Send, X: Threads + Wait + Sync>(
     kits: &mut Vec<Kit<G>>,
     jobs: &mut Jobs,
 ) -> Result<Left, Fail>
-    requires ready { IsReady (crew_of G.Gate ⟦<BoxedJob as Job>⟧ kits.old jobs.old) }
+    requires ready { IsFreshCrew (crew_of G.Gate ⟦<BoxedJob as Job>⟧ kits.old jobs.old) }
 {
     let mut source = MemSource::new(alloc, input.as_bytes(), &[])?;
     let mut out = MemSink::new(alloc, 4096, &[])?;

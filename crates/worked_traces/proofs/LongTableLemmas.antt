@@ -6,8 +6,7 @@ use Rattle.sched_base.specs.declared.rows.Row.{Row}
 use Rattle.sched_base.specs.declared.sets.Task as declared
 use Rattle.sched_base.specs.Tables.{IsRound, end_after, row_ticks, ticks_in}
 use Rattle.sched_base.proofs.SetLemmas.{AllByRecursion-push}
-use Rattle.trace_lines.specs.Conditions.{NameTasks, IsAmong}
-use Rattle.trace_writer.specs.Conditions.{totals_of}
+use Rattle.row_totals.specs.Sums.{IsAmong, NamesAmong, totals_of}
 use Rattle.worked_traces.specs.LongTables.{steady_row, steady_rows}
 
 pub length-steady : (n : ℕ) → length (steady_rows n) ≡ n
@@ -33,13 +32,13 @@ unfolding steady_rows
 ticks_in-steady zero = refl
 ticks_in-steady (suc n) = let rest = ticks_in-steady n in omega (arith, rest, ticks_in-push 0 (steady_rows n) (steady_row n))
 
-pub names-steady : (t : declared.Task) (n : ℕ) → NameTasks (t ∷ []) (steady_rows n)
+pub names-steady : (n : ℕ) → NamesAmong 1 (steady_rows n)
 unfolding steady_rows
-names-steady t zero = tt
-names-steady t (suc n) = AllByRecursion-push (λ r. IsAmong 1 r.leaf) (steady_rows n) (steady_row n) (names-steady t n) (omega arith)
+names-steady zero = tt
+names-steady (suc n) = AllByRecursion-push (λ r. IsAmong 1 r.leaf) (steady_rows n) (steady_row n) (names-steady n) (omega arith)
 
-pub totals-steady : (t : declared.Task) (n : ℕ) → n ∷ [] ≡ totals_of (t ∷ []) (steady_rows n ∷ [])
-totals-steady t n = ap (λ k. k ∷ []) (sym (ap (ticks_in 0) (append-nil (steady_rows n)) ∙ ticks_in-steady n))
+pub totals-steady : (n : ℕ) → n ∷ [] ≡ totals_of 1 (steady_rows n ∷ [])
+totals-steady n = ap (λ k. k ∷ []) (sym (ap (ticks_in 0) (append-nil (steady_rows n)) ∙ ticks_in-steady n))
 
 -- the one row of a round
 at_one : (r q : Row) (p : ℕ) → slice_get (r ∷ []) p ≡ Some q → (p ≡ 0) × (q ≡ r)

@@ -10,126 +10,130 @@ use std::test::Fail;
 
 /// The trace of three tasks of rate 2/3.
 const ROWS: &str =
-    "run-trace 1\nprocessors 2\nhorizon 3\nscale 3\ntasks 3\ntask a 2 3\ntask b 2 3\ntask c 2 3\nrow 0 0 3 b\nrow 0 3 9 a\nrow 1 0 6 c\nrow 1 6 9 b\ntotal a 6\ntotal b 6\ntotal c 6\nrows 4\n";
+    "run-trace 1\nprocessors 2\nhorizon 3\nscale 3\ntasks 3\ntask a 2 3\ntask b 2 3\ntask c 2 3\nrow 0 0 3 b\n\
+        row 0 3 9 a\nrow 1 0 6 c\nrow 1 6 9 b\ntotal a 6\ntotal b 6\ntotal c 6\nrows 4\n";
 
 const STYLE: &str =
     "<style>text{font:125px ui-monospace,DejaVu Sans Mono,monospace}.h{font-size:180px;font-weight:bold}
-.n,.a,.u,.s{fill:#444}.l,.s,.e,.u,.ok,.bad{text-anchor:end}.m,.a,.k{text-anchor:middle}.l,.e{font-size:115px}
-.ok,.bad{font-size:160px;fill:#00603f}.e{font-weight:bold}.e,.bad{fill:#b00000}.q,.s{font-size:85px}
-.k{font-size:95px}.p{fill:#f2f2f2}.g,.b,.r,.f,.o{fill:none;stroke:#bbb;stroke-width:6}.b{stroke:#999}
+.n,.a,.u,.s{fill:#444}.l,.s,.e,.u,.ok,.bad{text-anchor:end}.m,.a{text-anchor:middle}.l,.e{font-size:115px}
+.ok,.bad{font-size:160px;fill:#00603f}.e{font-weight:bold}.e,.bad{fill:#b00000}.q,.s{font-size:85px}.j{font-size:45px}
+.s.x,.s.y{font-size:110px}.p{fill:#f2f2f2}.g,.b,.r,.f,.o{fill:none;stroke:#bbb;stroke-width:6}.b{stroke:#999}
 .r,.o{stroke:#000;stroke-width:14}.o{fill:#fff}.f{stroke:#b00000;stroke-width:24}.w{fill:#b00000}
-.c0{fill:#0072b2}.c1{fill:#e69f00}.c2{fill:#009e73}.c3{fill:#cc79a7}
-.c4{fill:#56b4e9}.c5{fill:#d55e00}.c6{fill:#f0e442}.c7{fill:#595959}.i0,.i7{fill:#fff}
-.v1,.v2,.v3{stroke:#000;stroke-width:12}.v2{stroke-dasharray:40}.v3{stroke-dasharray:160 60}
-@media(max-width:700px){.h{font-size:300px}.n,.u{font-size:190px}.ok,.bad{font-size:260px}}</style>
+.c0{color:#0072b2}.c1{color:#e69f00}.c2{color:#009e73}.c3{color:#cc79a7}
+.c4{color:#56b4e9}.c5{color:#d55e00}.c6{color:#f0e442}.c7{color:#595959}
+.m{dominant-baseline:central;stroke:currentColor;stroke-width:.2em;paint-order:stroke}.m.c0,.m.c7{fill:#fff}
+.v0,.v1,.v2,.v3{fill:currentColor}.v1,.v2,.v3{stroke:#000;stroke-width:12}
+.v2{stroke-dasharray:40}.v3{stroke-dasharray:160 60}
+@media(max-width:900px){.h{font-size:300px}.n,.u{font-size:190px}.ok,.bad{font-size:260px}
+.x{font-size:230px}.y{font-size:165px}.s.x{font-size:185px}.s.y{font-size:145px}}</style>
 ";
 
 // Its unit 1.
 const UNIT_ABOVE: &str = "<svg xmlns='http://www.w3.org/2000/svg' role='img' aria-labelledby='t d'
- viewBox='0 0 12000 3330'>
+ viewBox='0 0 12000 3670'>
 <title id='t'>Schedule of 3 tasks on 2 processors</title>
 <desc id='d'>A lane for each processor, and below them one for each task;
 units 1 to 2 of 3; valid</desc>
 ";
 
-const UNIT_BELOW: &str = "<rect width='12000' height='3330' fill='#fff'/>
+const UNIT_BELOW: &str = "<rect width='12000' height='3670' fill='#fff'/>
 <text class='h' x='250' y='330'>3 tasks on 2 processors</text>
 <text class='n' x='250' y='560'>units 1 to 2 of 3</text>
 <text class='u' x='11600' y='560'>one unit is 3 ticks</text>
 <text class='ok' x='11600' y='330'>valid</text>
-<text class='l' x='1780' y='1115'>cpu 0</text>
-<rect class='p' x='1900' y='900' width='9700' height='340'/>
-<text class='l' x='1780' y='1535'>cpu 1</text>
-<rect class='p' x='1900' y='1320' width='9700' height='340'/>
-<path class='g' d='M1900 780V2930'/>
-<text class='a' x='1900' y='730'>1</text>
-<path class='g' d='M11600 780V2930'/>
-<text class='a' x='11600' y='730'>2</text>
-<rect class='c0 v0' x='1900' y='900' width='9700' height='340'/>
-<text class='m i0' x='6750' y='1115'>a</text>
-<rect class='c0 v0' x='1900' y='2030' width='9700' height='170'/>
-<text class='k i0' x='6750' y='2150'>0</text>
-<rect class='c2 v0' x='1900' y='1320' width='9700' height='340'/>
-<text class='m i2' x='6750' y='1535'>c</text>
-<rect class='c2 v0' x='1900' y='2670' width='9700' height='170'/>
-<text class='k i2' x='6750' y='2790'>1</text>
-<text class='l' x='1780' y='2075'>a</text>
-<text class='s' x='1780' y='2185'>2/3</text>
-<path class='b' d='M1900 2200H11600'/>
-<text class='l' x='1780' y='2395'>b</text>
-<text class='s' x='1780' y='2505'>2/3</text>
-<path class='b' d='M1900 2520H11600'/>
-<text class='l' x='1780' y='2715'>c</text>
-<text class='s' x='1780' y='2825'>2/3</text>
-<path class='b' d='M1900 2840H11600'/>
-<circle class='o' cx='11600' cy='2840' r='40'/>
-<text class='n' x='250' y='3130'>arrow: release, and deadline of the job before; ring: the period has its work; red: at fault</text>
+<text class='l x' x='1780' y='1215'>cpu 0</text>
+<rect class='p' x='1900' y='1000' width='9700' height='340'/>
+<text class='l x' x='1780' y='1635'>cpu 1</text>
+<rect class='p' x='1900' y='1420' width='9700' height='340'/>
+<path class='g' d='M1900 880V3270'/>
+<text class='a x' x='1900' y='840'>1</text>
+<path class='g' d='M11600 880V3270'/>
+<text class='a x' x='11600' y='840'>2</text>
+<rect class='c0 v0' x='1900' y='1000' width='9700' height='340'/>
+<rect class='c0 v0' x='1900' y='2140' width='9700' height='230'/>
+<rect class='c2 v0' x='1900' y='1420' width='9700' height='340'/>
+<rect class='c2 v0' x='1900' y='2940' width='9700' height='230'/>
+<text class='l x' x='1780' y='2240'>a</text>
+<text class='s x' x='1780' y='2420'>2/3</text>
+<path class='b' d='M1900 2370H11600'/>
+<text class='l x' x='1780' y='2640'>b</text>
+<text class='s x' x='1780' y='2820'>2/3</text>
+<path class='b' d='M1900 2770H11600'/>
+<text class='l x' x='1780' y='3040'>c</text>
+<text class='s x' x='1780' y='3220'>2/3</text>
+<path class='b' d='M1900 3170H11600'/>
+<circle class='o' cx='11600' cy='3170' r='40'/>
+<text class='m c0 x' x='6750' y='1170'>a</text>
+<text class='m c0 x' x='6750' y='2255'>0</text>
+<text class='m c2 x' x='6750' y='1590'>c</text>
+<text class='m c2 x' x='6750' y='3055'>1</text>
+<text class='n' x='250' y='3470'>arrow: release, and deadline of the job before; ring: the period has its work; red: at fault</text>
 </svg>
 ";
 
 // The whole of it, where the last row begins before the one before it ends.
 const OVERLAP_ABOVE: &str =
     "<svg xmlns='http://www.w3.org/2000/svg' role='img' aria-labelledby='t d'
- viewBox='0 0 12000 3330'>
+ viewBox='0 0 12000 3670'>
 <title id='t'>Schedule of 3 tasks on 2 processors</title>
 <desc id='d'>A lane for each processor, and below them one for each task;
 units 0 to 3 of 3; line 12: processor-overlap</desc>
 ";
 
-const OVERLAP_BELOW: &str = "<rect width='12000' height='3330' fill='#fff'/>
+const OVERLAP_BELOW: &str = "<rect width='12000' height='3670' fill='#fff'/>
 <text class='h' x='250' y='330'>3 tasks on 2 processors</text>
 <text class='n' x='250' y='560'>units 0 to 3 of 3</text>
 <text class='u' x='11600' y='560'>one unit is 3 ticks</text>
 <text class='bad' x='11600' y='330'>line 12: processor-overlap</text>
-<text class='l' x='1780' y='1115'>cpu 0</text>
-<rect class='p' x='1900' y='900' width='9700' height='340'/>
-<text class='l' x='1780' y='1535'>cpu 1</text>
-<rect class='p' x='1900' y='1320' width='9700' height='340'/>
-<path class='g' d='M1900 780V2930'/>
-<text class='a' x='1900' y='730'>0</text>
-<path class='g' d='M5133 780V2930'/>
-<text class='a' x='5133' y='730'>1</text>
-<path class='g' d='M8366 780V2930'/>
-<text class='a' x='8366' y='730'>2</text>
-<path class='g' d='M11600 780V2930'/>
-<text class='a' x='11600' y='730'>3</text>
-<rect class='c1 v0' x='1900' y='900' width='3233' height='340'/>
-<text class='m i1' x='3516' y='1115'>b</text>
-<rect class='c1 v0' x='1900' y='2350' width='3233' height='170'/>
-<text class='k i1' x='3516' y='2470'>0</text>
-<rect class='c0 v0' x='5133' y='900' width='6467' height='340'/>
-<text class='m i0' x='8366' y='1115'>a</text>
-<rect class='c0 v0' x='5133' y='2030' width='6467' height='170'/>
-<text class='k i0' x='8366' y='2150'>0</text>
-<rect class='c2 v0' x='1900' y='1320' width='6466' height='340'/>
-<text class='m i2' x='5133' y='1535'>c</text>
-<rect class='c2 v0' x='1900' y='2670' width='6466' height='170'/>
-<text class='k i2' x='5133' y='2790'>1</text>
-<rect class='c1 v0' x='7288' y='1320' width='3234' height='340'/>
-<text class='m i1' x='8905' y='1535'>b</text>
-<rect class='c1 v0' x='7288' y='2350' width='3234' height='170'/>
-<text class='k i1' x='8905' y='2470'>1</text>
-<text class='l' x='1780' y='2075'>a</text>
-<text class='s' x='1780' y='2185'>2/3</text>
-<path class='b' d='M1900 2200H11600'/>
-<path class='r' d='M1900 2200v-230m-45 70l45-70l45 70'/>
-<circle class='o' cx='11600' cy='2200' r='40'/>
-<path class='r' d='M11600 2200v-230m-45 70l45-70l45 70'/>
-<text class='l' x='1780' y='2395'>b</text>
-<text class='s' x='1780' y='2505'>2/3</text>
-<path class='b' d='M1900 2520H11600'/>
-<path class='r' d='M1900 2520v-230m-45 70l45-70l45 70'/>
-<circle class='o' cx='10522' cy='2520' r='40'/>
-<path class='r' d='M11600 2520v-230m-45 70l45-70l45 70'/>
-<text class='l' x='1780' y='2715'>c</text>
-<text class='s' x='1780' y='2825'>2/3</text>
-<path class='b' d='M1900 2840H11600'/>
-<path class='r' d='M1900 2840v-230m-45 70l45-70l45 70'/>
-<circle class='o' cx='8366' cy='2840' r='40'/>
-<path class='r' d='M11600 2840v-230m-45 70l45-70l45 70'/>
-<rect class='f' x='7288' y='1320' width='3234' height='340'/>
-<rect class='f' x='7288' y='2350' width='3234' height='170'/>
-<text class='n' x='250' y='3130'>arrow: release, and deadline of the job before; ring: the period has its work; red: at fault</text>
+<text class='l x' x='1780' y='1215'>cpu 0</text>
+<rect class='p' x='1900' y='1000' width='9700' height='340'/>
+<text class='l x' x='1780' y='1635'>cpu 1</text>
+<rect class='p' x='1900' y='1420' width='9700' height='340'/>
+<path class='g' d='M1900 880V3270'/>
+<text class='a x' x='1900' y='840'>0</text>
+<path class='g' d='M5133 880V3270'/>
+<text class='a x' x='5133' y='840'>1</text>
+<path class='g' d='M8366 880V3270'/>
+<text class='a x' x='8366' y='840'>2</text>
+<path class='g' d='M11600 880V3270'/>
+<text class='a x' x='11600' y='840'>3</text>
+<rect class='c1 v0' x='1900' y='1000' width='3233' height='340'/>
+<rect class='c1 v0' x='1900' y='2540' width='3233' height='230'/>
+<rect class='c0 v0' x='5133' y='1000' width='6467' height='340'/>
+<rect class='c0 v0' x='5133' y='2140' width='6467' height='230'/>
+<rect class='c2 v0' x='1900' y='1420' width='6466' height='340'/>
+<rect class='c2 v0' x='1900' y='2940' width='6466' height='230'/>
+<rect class='c1 v0' x='7288' y='1420' width='3234' height='340'/>
+<rect class='c1 v0' x='7288' y='2540' width='3234' height='230'/>
+<text class='l x' x='1780' y='2240'>a</text>
+<text class='s x' x='1780' y='2420'>2/3</text>
+<path class='b' d='M1900 2370H11600'/>
+<path class='r' d='M1900 2370v-290m-45 70l45-70l45 70'/>
+<circle class='o' cx='11600' cy='2370' r='40'/>
+<path class='r' d='M11600 2370v-290m-45 70l45-70l45 70'/>
+<text class='l x' x='1780' y='2640'>b</text>
+<text class='s x' x='1780' y='2820'>2/3</text>
+<path class='b' d='M1900 2770H11600'/>
+<path class='r' d='M1900 2770v-290m-45 70l45-70l45 70'/>
+<circle class='o' cx='10522' cy='2770' r='40'/>
+<path class='r' d='M11600 2770v-290m-45 70l45-70l45 70'/>
+<text class='l x' x='1780' y='3040'>c</text>
+<text class='s x' x='1780' y='3220'>2/3</text>
+<path class='b' d='M1900 3170H11600'/>
+<path class='r' d='M1900 3170v-290m-45 70l45-70l45 70'/>
+<circle class='o' cx='8366' cy='3170' r='40'/>
+<path class='r' d='M11600 3170v-290m-45 70l45-70l45 70'/>
+<rect class='f' x='7288' y='1420' width='3234' height='340'/>
+<rect class='f' x='7288' y='2540' width='3234' height='230'/>
+<text class='m c1 x' x='3516' y='1170'>b</text>
+<text class='m c1 x' x='3516' y='2655'>0</text>
+<text class='m c0 x' x='8366' y='1170'>a</text>
+<text class='m c0 x' x='8366' y='2255'>0</text>
+<text class='m c2 x' x='5133' y='1590'>c</text>
+<text class='m c2 x' x='5133' y='3055'>1</text>
+<text class='m c1 x' x='8905' y='1590'>b</text>
+<text class='m c1 x' x='8905' y='2655'>1</text>
+<text class='n' x='250' y='3470'>arrow: release, and deadline of the job before; ring: the period has its work; red: at fault</text>
 </svg>
 ";
 
@@ -280,7 +284,7 @@ fn streams_that_fail(rt: HostRuntime) -> Result<(), Fail> {
         (
             Outside { out: &[3], ..SURE },
             Status::WriteFault,
-            "<svg xmlns='http://www.w3.org/2000/svg' role='img' aria-labelledby='t d'\n viewBox='0 0 12000 3330'>\n",
+            "<svg xmlns='http://www.w3.org/2000/svg' role='img' aria-labelledby='t d'\n viewBox='0 0 12000 3670'>\n",
             "refused 4 WriteFault\n",
         ),
     ];

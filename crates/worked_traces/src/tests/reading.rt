@@ -85,11 +85,15 @@ fn texts_alone(rt: HostRuntime) {
         ),
         // Offsets, with the line feed after the last line missing.
         (
-            b"run-trace 2\nprocessors 1\nhorizon 5\nscale 2\ntasks 2\ntask a 1 2 1\ntask b 1 2 0\nrow 0 0 1 -\nrow 0 1 3 b\nrow 0 3 5 a\nrow 0 5 7 b\nrow 0 7 9 a\nrow 0 9 10 b\ntotal a 4\ntotal b 5\nmet a 0 5\nmet a 1 9\nmet b 0 3\nmet b 1 7\nrows 6",
+            b"run-trace 2\nprocessors 1\nhorizon 5\nscale 2\ntasks 2\ntask a 1 2 1\ntask b 1 2 0\nrow 0 0 1 -\nrow 0 1 3 b\n\
+                row 0 3 5 a\nrow 0 5 7 b\nrow 0 7 9 a\nrow 0 9 10 b\ntotal a 4\ntotal b 5\nmet a 0 5\nmet a 1 9\nmet b 0 3\n\
+                met b 1 7\nrows 6",
             Outcome::Valid,
         ),
         (
-            b"run-trace 2\nprocessors 1\nhorizon 5\nscale 2\ntasks 2\ntask a 1 2 1\ntask b 1 2 0\nrow 0 0 1 -\nrow 0 1 3 b\nrow 0 3 5 a\nrow 0 5 7 b\nrow 0 7 9 a\nrow 0 9 10 b\ntotal a 4\ntotal b 5\nmet a 0 4\nmet a 1 9\nmet b 0 3\nmet b 1 7\nrows 6\n",
+            b"run-trace 2\nprocessors 1\nhorizon 5\nscale 2\ntasks 2\ntask a 1 2 1\ntask b 1 2 0\nrow 0 0 1 -\nrow 0 1 3 b\n\
+                row 0 3 5 a\nrow 0 5 7 b\nrow 0 7 9 a\nrow 0 9 10 b\ntotal a 4\ntotal b 5\nmet a 0 4\nmet a 1 9\nmet b 0 3\n\
+                met b 1 7\nrows 6\n",
             Outcome::BadLine(16),
         ),
         // Before its offset.

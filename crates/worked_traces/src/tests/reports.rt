@@ -46,7 +46,8 @@ fn report_of(alloc: Global, text: &[u8]) -> Result<MemSink, NoReport> {
 }
 
 const THREE_TASKS: &str =
-    "run-trace 1\nprocessors 2\nhorizon 3\nscale 3\ntasks 3\ntask a 2 3\ntask b 2 3\ntask c 2 3\nrow 0 0 3 b\nrow 0 3 9 a\nrow 1 0 6 c\nrow 1 6 9 b\ntotal a 6\ntotal b 6\ntotal c 6\nrows 4\n";
+    "run-trace 1\nprocessors 2\nhorizon 3\nscale 3\ntasks 3\ntask a 2 3\ntask b 2 3\ntask c 2 3\nrow 0 0 3 b\nrow 0 3 9 a\n\
+        row 1 0 6 c\nrow 1 6 9 b\ntotal a 6\ntotal b 6\ntotal c 6\nrows 4\n";
 
 #[test]
 fn reports(rt: HostRuntime) -> Result<(), Fail> {
@@ -58,7 +59,8 @@ fn reports(rt: HostRuntime) -> Result<(), Fail> {
         ),
         // The same with rows in two parts, which are joined, and in no order.
         (
-            "run-trace 1\nprocessors 2\nhorizon 3\nscale 3\ntasks 3\ntask a 2 3\ntask b 2 3\ntask c 2 3\nrow 1 6 9 b\nrow 0 5 9 a\nrow 0 2 3 b\nrow 1 0 6 c\nrow 0 3 5 a\nrow 0 0 2 b\ntotal a 6\ntotal b 6\ntotal c 6\nrows 6\n",
+            "run-trace 1\nprocessors 2\nhorizon 3\nscale 3\ntasks 3\ntask a 2 3\ntask b 2 3\ntask c 2 3\nrow 1 6 9 b\n\
+                row 0 5 9 a\nrow 0 2 3 b\nrow 1 0 6 c\nrow 0 3 5 a\nrow 0 0 2 b\ntotal a 6\ntotal b 6\ntotal c 6\nrows 6\n",
             "valid\nrows 6\npreemptions 1\nmigrations 1\nresponse a 9\nresponse b 9\nresponse c 6\nchart 0 baa\nchart 1 ccb\n",
         ),
         // One row over 4,294,967,295 periods.
@@ -68,7 +70,9 @@ fn reports(rt: HostRuntime) -> Result<(), Fail> {
         ),
         // An offset of one, and an idle row.
         (
-            "run-trace 2\nprocessors 1\nhorizon 5\nscale 2\ntasks 2\ntask a 1 2 1\ntask b 1 2 0\nrow 0 0 1 -\nrow 0 1 3 b\nrow 0 3 5 a\nrow 0 5 7 b\nrow 0 7 9 a\nrow 0 9 10 b\ntotal a 4\ntotal b 5\nmet a 0 5\nmet a 1 9\nmet b 0 3\nmet b 1 7\nrows 6\n",
+            "run-trace 2\nprocessors 1\nhorizon 5\nscale 2\ntasks 2\ntask a 1 2 1\ntask b 1 2 0\nrow 0 0 1 -\nrow 0 1 3 b\n\
+                row 0 3 5 a\nrow 0 5 7 b\nrow 0 7 9 a\nrow 0 9 10 b\ntotal a 4\ntotal b 5\nmet a 0 5\nmet a 1 9\nmet b 0 3\n\
+                met b 1 7\nrows 6\n",
             "valid\nrows 6\npreemptions 0\nmigrations 0\nresponse a 3\nresponse b 3\nchart 0 -baba\n",
         ),
         // The job that is open at the horizon moves: that counts, and when it was done does not. Between two jobs nothing counts.
@@ -102,6 +106,7 @@ fn counts_alone(rt: HostRuntime) -> Result<(), Fail> {
     assert_eq!(rt; migrations(&trace), 1);
     assert_eq!(rt; trace.set().count(), 3);
     assert_eq!(rt; response(&trace, 2), 6);
+    assert!(rt; trace.findings(1).is_some());
     Ok(())
 }
 

@@ -14,7 +14,7 @@ one_task old new none is = ap (λ (s : SetContents). s.tasks) is ∙ ap (λ ts. 
 pub write_met-requires-clause-names : goal.write_met-requires-clause-names
 write_met-requires-clause-names g c =
     let tasks = one_task c.start-set.result c.add.new.self c.start-set.ensures.tasks c.in_ok-add.ensures.ok in
-    rw (tasks, c.in_ok-table.ensures) (names-steady task 200000, tt)
+    rw (tasks, c.in_ok-table.ensures) (names-steady 200000, tt)
 
 pub write_met-requires-clause-few : goal.write_met-requires-clause-few
 write_met-requires-clause-few g c = rw (c.in_ok-table.ensures, length-steady 200000) (omega arith)
@@ -22,4 +22,4 @@ write_met-requires-clause-few g c = rw (c.in_ok-table.ensures, length-steady 200
 pub write_met-requires-clause-totals : goal.write_met-requires-clause-totals
 write_met-requires-clause-totals g c =
     let tasks = one_task c.start-set.result c.add.new.self c.start-set.ensures.tasks c.in_ok-add.ensures.ok in
-    rw (tasks, c.in_ok-table.ensures) (totals-steady task 200000)
+    rw (tasks, c.in_ok-table.ensures) (totals-steady 200000)

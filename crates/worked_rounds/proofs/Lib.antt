@@ -1,4 +1,0 @@
-pub mod NumberChecks
-pub mod TreeChecks
-pub mod HeldChecks
-pub mod ByHandLemmas

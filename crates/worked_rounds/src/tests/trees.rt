@@ -1,0 +1,47 @@
+//! The tree of a worked set, node by node.
+use run_plain::plan_of;
+use run_tree::{Kind, Tree};
+use sched_base::{Leaf, NodeId, TaskId};
+use std::process::Abort;
+use std::test::Fail;
+
+/// Compares node n with its kind, its rate, its members and its dual.
+fn assert_node(
+    rt: &impl Abort,
+    tree: &Tree,
+    n: u32,
+    kind: Kind,
+    rate: u128,
+    members: &[NodeId],
+    dual: Option<NodeId>,
+) {
+    assert!(rt; n < tree.nodes());
+    let node = NodeId(n);
+    assert_eq!(rt; tree.kind(node), kind, "{n}");
+    assert_eq!(rt; tree.rate(node), rate, "{n}");
+    assert_eq!(rt; tree.members(node), members, "{n}");
+    assert_eq!(rt; tree.dual(node), dual, "{n}");
+}
+
+/// Three tasks of rate 2/3 on two processors: each in a pack of its own, and the three duals in one pack.
+#[test]
+fn makes_the_tree_of_three_tasks(rt: HostRuntime) -> Result<(), Fail> {
+    let tasks = [("a", 2, 3, 0), ("b", 2, 3, 0), ("c", 2, 3, 0)];
+    let plan = plan_of(rt.alloc(), 2, 3, &tasks)?;
+    let tree = plan.tree();
+    assert_eq!(rt; (tree.processors(), tree.scale(), tree.levels()), (2, 3, 2));
+    assert_eq!(rt; tree.nodes(), 10);
+    // A pack stands just before its first member. Each member has its kind and its rate; a pack its members and its dual.
+    for j in 0..3 {
+        let pack = NodeId(2 * j);
+        let leaf = NodeId(2 * j + 1);
+        let dual = NodeId(7 + j);
+        let task = Kind::Leaf(Leaf::Task(TaskId(j)));
+        assert_node(&rt, tree, 2 * j, Kind::Pack(0), 2, &[leaf], Some(dual));
+        assert_node(&rt, tree, 2 * j + 1, task, 2, &[], None);
+        assert_node(&rt, tree, 7 + j, Kind::Dual(pack), 1, &[], None);
+    }
+    let duals = [NodeId(7), NodeId(8), NodeId(9)];
+    assert_node(&rt, tree, 6, Kind::Pack(1), 3, &duals, None);
+    Ok(())
+}
