@@ -14,7 +14,7 @@ ghost use Rattle.event_core.specs.States.{contents};
 use crate::begun::begin_one;
 use crate::cores::processor_count;
 use crate::kept::Serving;
-use crate::rounds::{is_member, node_count};
+use crate::rounds::node_count;
 use crate::rows::pack_count;
 use crate::states::State;
 use cpu_assign::Places;
@@ -33,7 +33,7 @@ fn room_of(plan: &Plan, n: NodeId) -> usize
     ensures some { 1 ≤ result }
     ensures few { result ≤ 2 ^ 32 }
 {
-    if is_member(plan, n) {
+    if plan.tree().is_member(n) {
         1
     } else {
         places_of(plan, n)
@@ -92,7 +92,7 @@ fn rest_members(plan: &Plan, runs: &mut [bool])
     ensures { (x : ℕ) → x < length plan.now.tree.nodes → slice_index_or runs.new x false ≡ is_pack (kind_at plan.now.tree x) }
 {
     for x in 0..node_count(plan) {
-        runs[x as usize] = !is_member(plan, NodeId(x));
+        runs[x as usize] = !plan.tree().is_member(NodeId(x));
     }
 }
 
@@ -154,7 +154,7 @@ fn begin_if(
     ensures pack { is_pack (kind_at plan.now.tree n.0) ≡ true → (dues.new.remains ≡ dues.old.remains) × (ready.new ≡ ready.old)
         × (stale.new ≡ stale.old) }
 {
-    if is_member(plan, n) {
+    if plan.tree().is_member(n) {
         begin_one(plan, calendar, n, dues, ready, stale);
     }
 }

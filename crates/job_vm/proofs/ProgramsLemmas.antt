@@ -5,7 +5,7 @@ use Rattle.std.specs.Prelude.{◌==◌}
 use Rattle.std.specs.List.{after_first}
 use Rattle.std.specs.Str.{bytes_eq}
 use Rattle.trace_text.specs.Words.{lines_of}
-use Rattle.job_vm.specs.Faults.{Stops, StopsAt}
+use Rattle.job_vm.specs.Faults.{NamesBadLine, NamesUnreadLine}
 use Rattle.job_vm.specs.declared.faults.JobTextFault.{JobTextFault}
 use Rattle.job_vm.specs.declared.faults.JobTextFault.TheVariants.{BadProgram, NoMemory}
 use Rattle.job_vm.specs.Programs.{Program, Progress, is_tasks, lengthened, line_read, programs_from, programs_of, behind_lines, job_text, reading}
@@ -53,7 +53,7 @@ reading_tasks bytes next at done lines more line so e tasks rest =
 
 -- a line was at fault
 pub reading_stops : (bytes : List ℕ) (at : ℕ) (done : Progress) (lines more : List (List ℕ)) (line : List ℕ) (f : JobTextFault) → programs_of (lines_of bytes) ≡ programs_from at done lines
-    → lines ≡ line ∷ more → is_tasks line ≡ false → StopsAt at (line_read at done line more) f → Stops (reading bytes) f
+    → lines ≡ line ∷ more → is_tasks line ≡ false → NamesUnreadLine at (line_read at done line more) f → NamesBadLine (reading bytes) f
 unfolding reading
 reading_stops bytes at done lines more line (BadProgram l) so e other s =
     ap (job_text bytes) (so ∙ line_stops at done lines more line e other s.1) ∙ ap Err (sym s.0)

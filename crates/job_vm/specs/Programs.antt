@@ -4,6 +4,7 @@ use Rattle.std.specs.Prelude.{◌++◌, length, codes}
 use Rattle.std.specs.Prelude.{Option, Some, None, option_map, option_and_then, is_some, Result, Ok, Err}
 use Rattle.std.specs.List.{list_all, after_first, position_or_len}
 use Rattle.std.specs.Str.{bytes_eq}
+use Rattle.sched_base.specs.Bytes.{line_feed}
 use Rattle.sched_base.specs.Names.{is_lawful_name}
 use Rattle.trace_text.specs.Words.{lines_of, after_word}
 use Rattle.job_vm.specs.Instructions.{instruction_of}
@@ -68,7 +69,7 @@ programs_from at done (line ∷ lines) =
 -- what stands behind the first n line feeds of a text; nothing where it has fewer
 abbrev pub behind_lines : ℕ → List ℕ → List ℕ
 behind_lines zero text = text
-behind_lines (suc n) text = after_first (λ b. b == 10) (behind_lines n text)
+behind_lines (suc n) text = after_first (λ b. b == line_feed) (behind_lines n text)
 
 -- what the text says, by its programs and the number of its line `tasks`
 abbrev pub job_text : List ℕ → Result (List Program × ℕ) ℕ → Result JobTextHeld ℕ

@@ -1,6 +1,6 @@
 //! The text that says which program each task's job runs.
 ghost use Rattle.std.specs.Prelude.{◌≡◌, ◌≤◌, ◌<◌, length, Ok, Some, IfOk, IfErr, option_map, slice_get};
-ghost use Rattle.job_vm.specs.Faults.{Stops};
+ghost use Rattle.job_vm.specs.Faults.{NamesBadLine};
 ghost use Rattle.job_vm.specs.Programs.{reading};
 
 use crate::faults::JobTextFault;
@@ -78,7 +78,7 @@ impl JobText {
 pub fn read_jobs(alloc: Global, bytes: &[u8]) -> Result<JobText, JobTextFault>
     ensures text { IfOk result (λ t. reading bytes.now ≡ Ok t) }
     ensures within { IfOk result (λ t. t.set_start ≤ length bytes.now) }
-    ensures fault { IfErr result (Stops (reading bytes.now)) }
+    ensures fault { IfErr result (NamesBadLine (reading bytes.now)) }
 {
     if bytes.is_empty() {
         return Err(JobTextFault::BadProgram { line: 1 });

@@ -1,8 +1,9 @@
 //! The programs of a job text, line by line.
 ghost use Rattle.std.specs.Prelude.{◌≡◌, ◌<◌, ◌^◌, ◌++◌, ◌∷◌, [], ◌==◌, length, Some, OnOk, IfOk, IfErr};
 ghost use Rattle.std.specs.List.{after_first};
+ghost use Rattle.sched_base.specs.Bytes.{line_feed};
 ghost use Rattle.trace_text.specs.Words.{lines_of};
-ghost use Rattle.job_vm.specs.Faults.{StopsAt};
+ghost use Rattle.job_vm.specs.Faults.{NamesUnreadLine};
 ghost use Rattle.job_vm.specs.Programs.{is_tasks, ends_program, instructions, is_new, begun, lengthened, line_read};
 
 use crate::faults::JobTextFault;
@@ -112,7 +113,7 @@ impl Programs {
     // Begins a program of this name.
     fn begin(&mut self, alloc: Global, at: u64, name: &[u8]) -> Result<(), JobTextFault>
         ensures begun { OnOk result (begun at self.old name.now ≡ Some self.new) }
-        ensures fault { IfErr result (StopsAt at (begun at self.old name.now)) }
+        ensures fault { IfErr result (NamesUnreadLine at (begun at self.old name.now)) }
     {
         if !lawful_name(name) || !self.is_new(name) {
             return Err(JobTextFault::BadProgram { line: at });
@@ -134,7 +135,7 @@ impl Programs {
     // A word more for the last program.
     fn lengthen(&mut self, at: u64, word: u64) -> Result<(), JobTextFault>
         ensures lengthened { OnOk result (lengthened self.old word ≡ Some self.new) }
-        ensures fault { IfErr result (StopsAt at (lengthened self.old word)) }
+        ensures fault { IfErr result (NamesUnreadLine at (lengthened self.old word)) }
     {
         let count = self.list.len();
         if count == 0 {
@@ -151,7 +152,7 @@ impl Programs {
 pub(crate) fn cut_line(text: &[u8]) -> (&[u8], &[u8])
     requires { 0 < length text.now }
     ensures line { lines_of text.now ≡ result.0.now ∷ lines_of result.1.now }
-    ensures rest { result.1.now ≡ after_first (λ b. b == 10) text.now }
+    ensures rest { result.1.now ≡ after_first (λ b. b == line_feed) text.now }
     ensures less { length result.1.now < length text.now }
 {
     let (line, rest) = first_line(text);
@@ -177,7 +178,7 @@ pub(crate) fn read_line(
 ) -> Result<usize, JobTextFault>
     ensures read { IfOk result (λ n. line_read at (record { programs = programs.old; count = count }) line.now (lines_of rest.now)
         ≡ Some (record { programs = programs.new; count = n })) }
-    ensures fault { IfErr result (StopsAt at (line_read at (record { programs = programs.old; count = count }) line.now (lines_of rest.now))) }
+    ensures fault { IfErr result (NamesUnreadLine at (line_read at (record { programs = programs.old; count = count }) line.now (lines_of rest.now))) }
 {
     match after_word(b"program", line) {
         Some(name) => {

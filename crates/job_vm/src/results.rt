@@ -1,6 +1,7 @@
 //! The text that tells what the jobs of a set have computed.
 ghost use Rattle.std.specs.Prelude.{◌≡◌, ◌≤◌, ◌<◌, ◌/◌, ◌++◌, ◌∷◌, ℕ, length, codes, decimal};
 ghost use Rattle.std.specs.List.{flat_map, range_with_len};
+ghost use Rattle.sched_base.specs.Bytes.{space};
 ghost use Rattle.sched_base.specs.Sets.{task_at};
 ghost use Rattle.sched_edges.specs.Causes.{HasCause};
 ghost use Rattle.sched_edges.specs.Jobs.{JobAt, computed};
@@ -77,7 +78,7 @@ fn write_job<W: Sink>(out: &mut W, name: &[u8], units: u128, numbers: &[u64]) ->
 }
 
 fn write_numbers<W: Sink>(out: &mut W, numbers: &[u64]) -> Result<(), Failed>
-    ensures wrote { Wrote (W.taken out.old) (W.taken out.new) (flat_map (λ n. 32 ∷ decimal n) numbers.now) result }
+    ensures wrote { Wrote (W.taken out.old) (W.taken out.new) (flat_map (λ n. space ∷ decimal n) numbers.now) result }
     ensures cause { HasCause (W.faults out.old) (W.faults out.new) result }
 {
     for number in numbers {
@@ -89,7 +90,7 @@ fn write_numbers<W: Sink>(out: &mut W, numbers: &[u64]) -> Result<(), Failed>
 // A task's line up to its units.
 fn start_of_line(name: &[u8], units: u128) -> Line
     requires name { length name.now ≤ 64 }
-    ensures { result ≡ codes "job " ++ (name.now ++ (32 ∷ decimal units)) }
+    ensures { result ≡ codes "job " ++ (name.now ++ (space ∷ decimal units)) }
 {
     let mut line = Line::new();
     line.text(b"job ");
@@ -101,7 +102,7 @@ fn start_of_line(name: &[u8], units: u128) -> Line
 
 // A further number of a line.
 fn word_of(number: u64) -> Line
-    ensures { result ≡ 32 ∷ decimal number }
+    ensures { result ≡ space ∷ decimal number }
 {
     let mut word = Line::new();
     word.space();

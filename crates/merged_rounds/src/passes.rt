@@ -25,8 +25,8 @@ pub fn merged_of(alloc: Global, plan: &Plan) -> Result<MergedRows, CountFault>
 {
     let mut kept = no_nodes(alloc, plan)?;
     let mut told = no_leaves(alloc, plan)?;
-    let mut core = Core::new(alloc, plan)?;
     let none = MergedRows::new(alloc, plan.tree().processors())?;
+    let mut core = Core::new(alloc, plan)?;
     merge_rounds(plan, &mut core, &mut kept, &mut told, none)
 }
 

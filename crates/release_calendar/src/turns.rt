@@ -49,18 +49,6 @@ pub(crate) fn node_at(begun: &[NodeId], count: usize, k: usize) -> NodeId
     begun[k]
 }
 
-// Whether node n is a leaf or a dual.
-fn is_member(plan: &Plan, n: NodeId) -> bool
-    requires { n.0 < length plan.now.tree.nodes }
-    ensures { result ≡ not (is_pack (kind_at plan.now.tree n.0)) }
-{
-    match plan.tree().kind(n) {
-        Kind::Leaf(_) => true,
-        Kind::Pack(_) => false,
-        Kind::Dual(_) => true,
-    }
-}
-
 // Whether node n is a leaf.
 fn is_leaf(plan: &Plan, n: NodeId) -> bool
     requires { n.0 < length plan.now.tree.nodes }
@@ -88,7 +76,7 @@ fn turn_node(plan: &Plan, n: NodeId, at: u64, begins: &mut [u64], ends: &mut [u1
     ensures packs { is_pack (kind_at plan.now.tree n.0) ≡ true → slice_index ends.new n.0 ≡ slice_index ends.old n.0 }
     ensures fit { EndsFit ends.old → EndsFit ends.new }
 {
-    if is_member(plan, n) {
+    if plan.tree().is_member(n) {
         if ends[n.0 as usize] == u128::from(at) {
             begins[n.0 as usize] = at;
             ends[n.0 as usize] = u128::from(next_boundary(plan, n, at));
@@ -162,7 +150,7 @@ fn part_node(plan: &Plan, n: NodeId, ends: &mut [u128])
     ensures member { is_pack (kind_at plan.now.tree n.0) ≡ false → ends.new ≡ ends.old }
     ensures pack { is_pack (kind_at plan.now.tree n.0) ≡ true → ends.new ≡ slice_set ends.old n.0 never }
 {
-    if !is_member(plan, n) {
+    if !plan.tree().is_member(n) {
         ends[n.0 as usize] = u128::from(NEVER);
     }
 }

@@ -1,3 +1,4 @@
+pub mod Bytes
 pub mod Counting
 pub mod Names
 pub mod Sets

@@ -1,10 +1,11 @@
 -- The lines that are written: words with a space between each two, and a line feed.
 use Rattle.std.specs.Prelude.{ℕ, List, [], ◌∷◌, ◌++◌, decimal}
+use Rattle.sched_base.specs.Bytes.{line_feed, space}
 
 -- what follows a line's first word: each further word after a space, and the line feed
 abbrev pub line_end : List (List ℕ) → List ℕ
-line_end [] = 10 ∷ []
-line_end (word ∷ words) = 32 ∷ (word ++ line_end words)
+line_end [] = line_feed ∷ []
+line_end (word ∷ words) = space ∷ (word ++ line_end words)
 
 -- the line of a first word and further words
 unfoldable pub line_of : List ℕ → List (List ℕ) → List ℕ

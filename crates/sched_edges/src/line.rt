@@ -1,6 +1,7 @@
 //! One line of a text, made without memory.
 ghost use Rattle.std.specs.Prelude.{◌≡◌, ◌≤◌, ◌<◌, ◌+◌, ◌++◌, ◌∷◌, [], length, decimal};
 ghost use Rattle.std.specs.Fmt.{signed_decimal};
+ghost use Rattle.sched_base.specs.Bytes.{line_feed, space};
 ghost use Rattle.sched_edges.specs.Lines.{word_line, number_line, numbers_line, named_line};
 
 use itoa::Buffer;
@@ -78,7 +79,7 @@ impl Line {
     /// Adds the space between two words.
     pub fn space(&mut self)
         requires { length self.old < 256 }
-        ensures { self.new ≡ self.old ++ 32 ∷ [] }
+        ensures { self.new ≡ self.old ++ space ∷ [] }
     {
         self.text(b" ");
     }
@@ -86,7 +87,7 @@ impl Line {
     /// Adds the line feed.
     pub fn end(&mut self)
         requires { length self.old < 256 }
-        ensures { self.new ≡ self.old ++ 10 ∷ [] }
+        ensures { self.new ≡ self.old ++ line_feed ∷ [] }
     {
         self.text(b"\n");
     }

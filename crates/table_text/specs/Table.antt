@@ -1,6 +1,7 @@
 -- The schedule of a set as a file of C99 that includes nothing but stdint.h, and that a compiler takes without a warning.
 use Rattle.std.specs.Prelude.{ℕ, ◌*◌, List, [], ◌∷◌, ◌++◌, length, codes}
 use Rattle.std.specs.List.{flat_map, concat, range_with_len}
+use Rattle.sched_base.specs.Bytes.{line_feed}
 use Rattle.sched_base.specs.declared.rows.Row.{Row}
 use Rattle.sched_base.specs.Sets.{SetContents}
 use Rattle.sched_base.specs.Tables.{lane_of}
@@ -8,7 +9,7 @@ use Rattle.table_text.specs.Lines.{width_of, ticks_line, task_line, row_line, la
 
 -- these lines, each with its line feed
 abbrev pub lines_text : List (List ℕ) → List ℕ
-lines_text lines = flat_map (λ line. line ++ 10 ∷ []) lines
+lines_text lines = flat_map (λ line. line ++ line_feed ∷ []) lines
 
 -- what the file is, and what a task is
 unfoldable pub opening_text : List ℕ

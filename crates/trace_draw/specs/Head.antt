@@ -2,6 +2,7 @@
 use Rattle.std.specs.Prelude.{ℕ, ◌+◌, ◌-◌, ◌*◌, ◌/◌, ◌==◌, nat_le, if◌then◌else◌}
 use Rattle.std.specs.Prelude.{List, [], ◌∷◌, ◌++◌, length, codes, decimal}
 use Rattle.std.specs.List.{flat_map, concat, range_with_len}
+use Rattle.sched_base.specs.Bytes.{line_feed}
 use Rattle.sched_base.specs.Sets.{SetContents}
 use Rattle.sched_edges.specs.Lines.{word_line}
 use Rattle.trace_rows.specs.declared.faults.FaultKind.{FaultKind}
@@ -59,16 +60,16 @@ verdict_look (Fault line kind) = codes "bad"
 
 -- the picture's size, its title, and a description
 unfoldable pub size_line : SetContents → List ℕ
-size_line s = codes " viewBox='0 0 12000 " ++ (decimal (height s) ++ (codes "'>" ++ 10 ∷ []))
+size_line s = codes " viewBox='0 0 12000 " ++ (decimal (height s) ++ (codes "'>" ++ line_feed ∷ []))
 
 unfoldable pub title_line : SetContents → List ℕ
-title_line s = codes "<title id='t'>Schedule of " ++ (size_text s ++ (codes "</title>" ++ 10 ∷ []))
+title_line s = codes "<title id='t'>Schedule of " ++ (size_text s ++ (codes "</title>" ++ line_feed ∷ []))
 
 unfoldable pub description_line : SetContents → Window → Verdict → List ℕ
-description_line s w v = units_text s w ++ (codes "; " ++ (verdict_text v ++ (codes "</desc>" ++ 10 ∷ [])))
+description_line s w v = units_text s w ++ (codes "; " ++ (verdict_text v ++ (codes "</desc>" ++ line_feed ∷ [])))
 
 unfoldable pub paper_line : SetContents → List ℕ
-paper_line s = codes "<rect width='12000' height='" ++ (decimal (height s) ++ (codes "' fill='#fff'/>" ++ 10 ∷ []))
+paper_line s = codes "<rect width='12000' height='" ++ (decimal (height s) ++ (codes "' fill='#fff'/>" ++ line_feed ∷ []))
 
 -- how the shapes look: the colours are told apart by colour-blind people, and each text by its contrast; on a narrow page the words above the plot
 -- are larger, and others where they have room

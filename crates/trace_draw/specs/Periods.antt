@@ -5,6 +5,7 @@ use Rattle.std.specs.List.{flat_map, concat, range_with_len}
 use Rattle.sched_base.specs.declared.sets.Task.{Task}
 use Rattle.sched_base.specs.Sets.{task_at}
 use Rattle.sched_base.specs.Valid.{period_start, served}
+use Rattle.trace_rows.specs.Faults.{first_task_line}
 use Rattle.trace_lines.specs.Finishes.{finish}
 use Rattle.trace_rows.specs.declared.faults.Verdict.{Verdict}
 use Rattle.trace_rows.specs.declared.faults.Verdict.TheVariants.{Valid, Fault}
@@ -60,7 +61,7 @@ numbers_text t = decimal t.work ++ (47 ∷ (decimal t.period ++ offset_text t.of
 -- whether the trace is at fault at the line of the total of task j
 abbrev pub is_at_fault : Trace → Verdict → ℕ → Bool
 is_at_fault t Valid j = Bool.false
-is_at_fault t (Fault line kind) j = line == 6 + length t.set.tasks + length t.rows + j
+is_at_fault t (Fault line kind) j = line == first_task_line + length t.set.tasks + length t.rows + j
 
 -- how small so many letters are, that they fit into the left margin
 abbrev pub shrunk : ℕ → List ℕ

@@ -5,7 +5,7 @@ use Rattle.sched_edges.specs.Lines.{word_line}
 use Rattle.sched_base.specs.Sets.{SetContents}
 use Rattle.trace_rows.specs.declared.faults.Verdict.{Verdict}
 use Rattle.trace_rows.specs.declared.faults.Verdict.TheVariants.{Valid, Fault}
-use Rattle.trace_rows.specs.Faults.{row_at}
+use Rattle.trace_rows.specs.Faults.{first_task_line, row_at}
 use Rattle.trace_check.specs.Traces.{Trace}
 use Rattle.trace_draw.specs.declared.rows.Part.TheVariants.{Boxes, Words}
 use Rattle.trace_draw.specs.declared.windows.Window.{Window}
@@ -24,7 +24,7 @@ framed_row t w i =
 -- the frames of the row at fault
 abbrev pub fault_text : Trace → Window → Verdict → List ℕ
 fault_text t w Valid = []
-fault_text t w (Fault line kind) = if nat_le (6 + length t.set.tasks) line then framed_row t w (line - (6 + length t.set.tasks)) else []
+fault_text t w (Fault line kind) = if nat_le (first_task_line + length t.set.tasks) line then framed_row t w (line - (first_task_line + length t.set.tasks)) else []
 
 -- what the marks mean, and the end
 abbrev pub closing_lines : SetContents → List (List ℕ)

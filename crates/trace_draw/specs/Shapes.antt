@@ -1,17 +1,18 @@
 -- The shapes of a picture, each a line of text. Lengths are tenths of a pixel.
 use Rattle.std.specs.Prelude.{ℕ, ◌+◌, ◌*◌, ◌/◌, ◌%◌, nat_le, if◌then◌else◌, List, [], ◌∷◌, ◌++◌, length, codes, decimal}
+use Rattle.sched_base.specs.Bytes.{line_feed, space}
 
 -- a filled box
 unfoldable pub box_line : List ℕ → ℕ → ℕ → ℕ → ℕ → List ℕ
 box_line look x y width height =
     codes "<rect class='" ++ (look ++ (codes "' x='" ++ (decimal x ++ (codes "' y='" ++ (decimal y
-    ++ (codes "' width='" ++ (decimal width ++ (codes "' height='" ++ (decimal height ++ (codes "'/>" ++ 10 ∷ []))))))))))
+    ++ (codes "' width='" ++ (decimal width ++ (codes "' height='" ++ (decimal height ++ (codes "'/>" ++ line_feed ∷ []))))))))))
 
 -- a text
 unfoldable pub label_line : List ℕ → ℕ → ℕ → List ℕ → List ℕ
 label_line look x y text =
     codes "<text class='" ++ (look ++ (codes "' x='" ++ (decimal x ++ (codes "' y='" ++ (decimal y
-    ++ (codes "'>" ++ (text ++ (codes "</text>" ++ 10 ∷ []))))))))
+    ++ (codes "'>" ++ (text ++ (codes "</text>" ++ line_feed ∷ []))))))))
 
 -- how large so many letters with this room may be on a narrow page: large, middle, or as everywhere
 abbrev pub grown : ℕ → ℕ → List ℕ
@@ -24,27 +25,27 @@ roomy_line look room x y text = label_line (look ++ grown (length text) room) x 
 
 -- an upright line from the axis down to y
 unfoldable pub grid_line : ℕ → ℕ → List ℕ
-grid_line x y = codes "<path class='g' d='M" ++ (decimal x ++ (codes " 880V" ++ (decimal y ++ (codes "'/>" ++ 10 ∷ []))))
+grid_line x y = codes "<path class='g' d='M" ++ (decimal x ++ (codes " 880V" ++ (decimal y ++ (codes "'/>" ++ line_feed ∷ []))))
 
 -- a line under the lane of a task
 unfoldable pub base_line : ℕ → List ℕ
-base_line y = codes "<path class='b' d='M1900 " ++ (decimal y ++ (codes "H11600'/>" ++ 10 ∷ []))
+base_line y = codes "<path class='b' d='M1900 " ++ (decimal y ++ (codes "H11600'/>" ++ line_feed ∷ []))
 
 -- an arrow that stands on y
 unfoldable pub arrow_line : ℕ → ℕ → List ℕ
-arrow_line x y = codes "<path class='r' d='M" ++ (decimal x ++ (32 ∷ (decimal y ++ (codes "v-290m-45 70l45-70l45 70'/>" ++ 10 ∷ []))))
+arrow_line x y = codes "<path class='r' d='M" ++ (decimal x ++ (space ∷ (decimal y ++ (codes "v-290m-45 70l45-70l45 70'/>" ++ line_feed ∷ []))))
 
 -- a ring
 unfoldable pub ring_line : ℕ → ℕ → List ℕ
-ring_line x y = codes "<circle class='o' cx='" ++ (decimal x ++ (codes "' cy='" ++ (decimal y ++ (codes "' r='40'/>" ++ 10 ∷ []))))
+ring_line x y = codes "<circle class='o' cx='" ++ (decimal x ++ (codes "' cy='" ++ (decimal y ++ (codes "' r='40'/>" ++ line_feed ∷ []))))
 
 -- the look of the boxes of task j: one of eight colours, and one of four borders
 abbrev pub task_look : ℕ → List ℕ
-task_look j = 99 ∷ (48 + j % 8) ∷ 32 ∷ 118 ∷ (48 + j / 8 % 4) ∷ []
+task_look j = 99 ∷ (48 + j % 8) ∷ space ∷ 118 ∷ (48 + j / 8 % 4) ∷ []
 
 -- the look of a text on them, which is edged with their colour
 abbrev pub text_look : ℕ → List ℕ
-text_look j = 109 ∷ 32 ∷ 99 ∷ (48 + j % 8) ∷ []
+text_look j = 109 ∷ space ∷ 99 ∷ (48 + j % 8) ∷ []
 
 -- how far from the top the lane of processor p begins
 abbrev pub lane_top : ℕ → ℕ

@@ -71,7 +71,8 @@ found_at found j = slice_index_or found j (record { preemptions = 0; migrations 
 
 -- this is what the rows of task j tell, in the order of start and place
 abbrev pub IsToldOfTask : SetContents → ℕ → List Row → ℕ → Findings → Type 0
-IsToldOfTask s scale rows j f = (ordered : List ℕ) × IsOrderOfTask rows j ordered × IsTold (periods_of s scale (task_at s.tasks j)) (map (row_at rows) ordered) f
+IsToldOfTask s scale rows j f =
+    (ordered : List ℕ) × IsOrderOfTask rows j ordered × IsTold (periods_of s scale (task_at s.tasks j)) (map (row_at rows) ordered) f
 
 -- these are what the rows of the first tasks tell
 abbrev pub AreTold : SetContents → ℕ → List Row → List Findings → Type 0

@@ -14,8 +14,6 @@ mod standing;
 mod supplied;
 mod supply;
 mod tally;
-#[cfg(test)]
-mod tests;
 mod walks;
 
 pub use entries::Entry;

@@ -1,5 +1,6 @@
 //! The lines of tasks and rows.
 ghost use Rattle.std.specs.Prelude.{◌≡◌, ◌≤◌, ◌++◌, ◌∷◌, codes, decimal, length};
+ghost use Rattle.sched_base.specs.Bytes.{space};
 ghost use Rattle.row_totals.specs.Sums.{IsAmong};
 ghost use Rattle.trace_lines.specs.Lines.{leaf_name, task_line, row_line};
 
@@ -30,7 +31,7 @@ pub(crate) fn line_of_task(version: Version, task: &Task) -> Line
 
 // The line of a task up to its period.
 fn start_of_task(task: &Task) -> Line
-    ensures text { result ≡ codes "task " ++ (task.now.name ++ (32 ∷ (decimal task.now.work ++ (32 ∷ decimal task.now.period)))) }
+    ensures text { result ≡ codes "task " ++ (task.now.name ++ (space ∷ (decimal task.now.work ++ (space ∷ decimal task.now.period)))) }
     ensures short { length result ≤ 128 }
 {
     let mut line = Line::new();

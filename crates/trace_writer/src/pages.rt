@@ -1,5 +1,6 @@
 //! Lines that go out together.
 ghost use Rattle.std.specs.Prelude.{◌≡◌, ◌≤◌, ◌<◌, ◌+◌, ◌++◌, ◌∷◌, ◌==◌, [], length, decimal};
+ghost use Rattle.sched_base.specs.Bytes.{line_feed, space};
 
 use crate::digits::put_number;
 use std::marker::Model;
@@ -78,7 +79,7 @@ impl Page {
     /// Adds the space between two words.
     pub(crate) fn space(&mut self)
         requires { length self.old < 4096 }
-        ensures { self.new ≡ self.old ++ 32 ∷ [] }
+        ensures { self.new ≡ self.old ++ space ∷ [] }
     {
         self.text(b" ");
     }
@@ -86,7 +87,7 @@ impl Page {
     /// Adds the line feed.
     pub(crate) fn end(&mut self)
         requires { length self.old < 4096 }
-        ensures { self.new ≡ self.old ++ 10 ∷ [] }
+        ensures { self.new ≡ self.old ++ line_feed ∷ [] }
     {
         self.text(b"\n");
     }

@@ -33,11 +33,15 @@ fn is_unfinished(tree: &ReadTree) -> bool
     false
 }
 
+/// The line of the first idle leaf of a tree text without tasks, counted from 1: the five lines of its head and `idles`
+/// come before it.
+const FIRST_IDLE_LINE: u64 = 7;
+
 // The first fault of a tree that was read.
 fn first_fault(alloc: Global, tree: &ReadTree) -> Result<Option<Fault>, NoMemory>
     ensures { IfOk result (IsFound (HasFault tree.now)) }
 {
-    let mut line = 7 + u64::from(tree.set().count()) + tree.idles().len() as u64;
+    let mut line = FIRST_IDLE_LINE + u64::from(tree.set().count()) + tree.idles().len() as u64;
     for l in 0..tree.levels() {
         if let Some(fault) = level_fault(alloc, tree, l, line)? {
             return Ok(Some(fault));

@@ -6,9 +6,9 @@ use Rattle.tree_reader.specs.declared.faults.TreeFault.{TreeFault}
 use Rattle.tree_reader.specs.declared.faults.TreeFault.TheVariants.{BadLine, NoMemory}
 
 -- the fault names the line at which the reading stops; want of memory is free
-abbrev pub Stops : {A : Type 0} → Result A ℕ → TreeFault → Type 0
-Stops reading (BadLine line) = reading ≡ Err line
-Stops reading NoMemory = Unit {0}
+abbrev pub NamesBadLine : {A : Type 0} → Result A ℕ → TreeFault → Type 0
+NamesBadLine reading (BadLine line) = reading ≡ Err line
+NamesBadLine reading NoMemory = Unit {0}
 
 -- a fault of the task lines, which both texts have
 abbrev pub same_fault : TraceFault → TreeFault

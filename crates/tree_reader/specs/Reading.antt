@@ -5,13 +5,14 @@ use Rattle.std.specs.Prelude.{List, [], ◌∷◌, ◌++◌}
 use Rattle.std.specs.Prelude.{Option, Some, None, length, codes, Result, Ok, Err}
 use Rattle.std.specs.List.{sum_by}
 use Rattle.sched_base.specs.Sets.{SetContents}
+use Rattle.trace_rows.specs.Faults.{first_task_line}
 use Rattle.trace_text.specs.Words.{lines_of, after_word}
 use Rattle.trace_lines.specs.declared.versions.Version.TheVariants.{One}
 use Rattle.trace_check.specs.Steps.{and_then, step, next_line, number_after, number_within}
 use Rattle.trace_check.specs.TaskLines.{tasks_from, is_scale}
 use Rattle.trace_check.specs.declared.head_lines.Head.{Head}
 use Rattle.trace_check.specs.Reading.{set_of}
-use Rattle.tree_check.specs.Written.{Pack, Written}
+use Rattle.tree_check.specs.Written.{first_idle_line, Pack, Written}
 use Rattle.tree_reader.specs.Packs.{pack_of, second_number}
 
 -- ---- the first five lines
@@ -83,9 +84,9 @@ levels_from scale at zero levels (line ∷ rest) =
 -- from the `idles` line on, which follows the tasks
 abbrev pub body : SetContents → ℕ → List (List ℕ) → Result Written ℕ
 body set scale lines =
-    and_then (next_line (6 + length set.tasks) (number_within (codes "idles") 0 1024) lines) (λ n.
-    and_then (idles_from (7 + length set.tasks) scale n.0 [] n.1) (λ i.
-    and_then (levels_from scale (7 + length set.tasks + length i.0) 0 [] i.1) (λ levels.
+    and_then (next_line (first_task_line + length set.tasks) (number_within (codes "idles") 0 1024) lines) (λ n.
+    and_then (idles_from (first_idle_line + length set.tasks) scale n.0 [] n.1) (λ i.
+    and_then (levels_from scale (first_idle_line + length set.tasks + length i.0) 0 [] i.1) (λ levels.
     Ok (record { set = set; scale = scale; idles = i.0; levels = levels }))))
 
 -- what a tree text says, or the least line at fault, the one after the last where it ends early. The scale, on line 4, is judged once all task

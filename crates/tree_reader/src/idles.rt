@@ -3,7 +3,7 @@ ghost use Rattle.std.specs.Prelude.{◌≡◌, ◌≤◌, ◌^◌, [], length, O
 ghost use Rattle.std.specs.List.{AllByRecursion};
 ghost use Rattle.trace_text.specs.Words.{lines_of};
 ghost use Rattle.tree_reader.specs.Reading.{idles_from};
-ghost use Rattle.tree_reader.specs.Faults.{Stops};
+ghost use Rattle.tree_reader.specs.Faults.{NamesBadLine};
 
 use crate::faults::TreeFault;
 use crate::packs::next_second;
@@ -23,7 +23,7 @@ pub(crate) fn read_idles<'a>(
     ensures read { IfOk result (λ p. idles_from first scale count [] (lines_of text.now) ≡ Ok (p.0.items, lines_of p.1.now)) }
     ensures count { IfOk result (λ p. length p.0.items ≡ count) }
     ensures each { IfOk result (λ p. AllByRecursion (λ r. (1 ≤ r) × (r ≤ scale)) p.0.items) }
-    ensures fault { IfErr result (Stops (idles_from first scale count [] (lines_of text.now))) }
+    ensures fault { IfErr result (NamesBadLine (idles_from first scale count [] (lines_of text.now))) }
 {
     let mut idles = Vec::new(alloc);
     let mut rest = text;

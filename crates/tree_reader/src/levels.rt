@@ -6,7 +6,7 @@ ghost use Rattle.trace_text.specs.Words.{lines_of, after_word};
 ghost use Rattle.trace_check.specs.Steps.{number_after};
 ghost use Rattle.tree_check.specs.Written.{IsWrittenPack, IsWrittenLevel};
 ghost use Rattle.tree_reader.specs.Reading.{packs_from, level_from, levels_from, ended, is_count, lines_so_far};
-ghost use Rattle.tree_reader.specs.Faults.{Stops};
+ghost use Rattle.tree_reader.specs.Faults.{NamesBadLine};
 
 use crate::faults::TreeFault;
 use crate::packs::{level_size, read_pack};
@@ -30,7 +30,7 @@ fn read_packs<'a>(
     ensures count { IfOk result (λ p. length p.0.items ≡ count) }
     ensures less { IfOk result (λ p. count + length p.1.now ≤ length text.now) }
     ensures each { IfOk result (λ p. AllByRecursion (IsWrittenPack scale level) p.0.items) }
-    ensures fault { IfErr result (Stops (packs_from scale level first count [] (lines_of text.now))) }
+    ensures fault { IfErr result (NamesBadLine (packs_from scale level first count [] (lines_of text.now))) }
 {
     let mut packs = Vec::new(alloc);
     let mut rest = text;
@@ -64,7 +64,7 @@ fn read_level<'a>(
     ensures read { IfOk result (λ p. level_from scale level at line.now (lines_of text.now) ≡ Ok (p.0.items, lines_of p.1.now)) }
     ensures less { IfOk result (λ p. length p.0.items + length p.1.now ≤ length text.now) }
     ensures lawful { IfOk result (λ p. IsWrittenLevel scale level p.0.items) }
-    ensures fault { IfErr result (Stops (level_from scale level at line.now (lines_of text.now))) }
+    ensures fault { IfErr result (NamesBadLine (level_from scale level at line.now (lines_of text.now))) }
 {
     match level_size(level, line) {
         Some(size) => read_packs(alloc, scale, level, size, at + 1, text),
@@ -94,7 +94,7 @@ fn end_of(levels: &[Level], at: u64, line: &[u8], rest: &[u8]) -> Result<(), Tre
     requires { at + 1 < 2 ^ 64 }
     ensures read { IfOk result (λ done. ended at levels.now (number_after (codes "levels") line.now) (lines_of rest.now) ≡ Ok levels.now) }
     ensures some { IfOk result (λ done. 0 < length levels.now) }
-    ensures fault { IfErr result (Stops (ended at levels.now (number_after (codes "levels") line.now) (lines_of rest.now))) }
+    ensures fault { IfErr result (NamesBadLine (ended at levels.now (number_after (codes "levels") line.now) (lines_of rest.now))) }
 {
     if !is_count(levels, number_after(b"levels", line)) {
         return Err(TreeFault::BadLine { line: at });
@@ -118,7 +118,7 @@ pub(crate) fn read_levels(
     ensures some { IfOk result (λ levels. 0 < length levels.items) }
     ensures lawful { IfOk result (λ levels. (l : ℕ) → l < length levels.items → IsWrittenLevel scale l (slice_index_or levels.items l [])) }
     ensures lines { IfOk result (λ levels. first + lines_so_far levels.items < 2 ^ 64) }
-    ensures fault { IfErr result (Stops (levels_from scale first 0 [] (lines_of text.now))) }
+    ensures fault { IfErr result (NamesBadLine (levels_from scale first 0 [] (lines_of text.now))) }
 {
     let mut levels: Vec<Level> = Vec::new(alloc);
     let mut at = first;

@@ -2,7 +2,7 @@
 ghost use Rattle.std.specs.Prelude.{◌≡◌, true, Ok, IfOk, IfErr};
 ghost use Rattle.trace_text.specs.Words.{lines_of};
 ghost use Rattle.trace_check.specs.TaskLines.{is_scale};
-ghost use Rattle.tree_reader.specs.Faults.{Stops};
+ghost use Rattle.tree_reader.specs.Faults.{NamesBadLine};
 ghost use Rattle.tree_reader.specs.Reading.{reading, body};
 
 use crate::faults::TreeFault;
@@ -19,7 +19,7 @@ use tree_check::ReadTree;
 fn read_body(alloc: Global, set: TaskSet, scale: u128, text: &[u8]) -> Result<ReadTree, TreeFault>
     requires { is_scale set.tasks scale ≡ true }
     ensures tree { IfOk result (λ t. body set scale (lines_of text.now) ≡ Ok t) }
-    ensures fault { IfErr result (Stops (body set scale (lines_of text.now))) }
+    ensures fault { IfErr result (NamesBadLine (body set scale (lines_of text.now))) }
 {
     let after_tasks = FIRST_TASK_LINE + u64::from(set.count());
     let (count, rest) = next_number(text, after_tasks, b"idles", 0, 1_024)?;
@@ -33,7 +33,7 @@ fn read_body(alloc: Global, set: TaskSet, scale: u128, text: &[u8]) -> Result<Re
 /// judged here.
 pub fn read_tree(alloc: Global, bytes: &[u8]) -> Result<ReadTree, TreeFault>
     ensures tree { IfOk result (λ t. reading bytes.now ≡ Ok t) }
-    ensures fault { IfErr result (Stops (reading bytes.now)) }
+    ensures fault { IfErr result (NamesBadLine (reading bytes.now)) }
 {
     let (head, rest) = read_head(bytes)?;
     let (set, rest) = read_tasks(alloc, &head, rest)?;

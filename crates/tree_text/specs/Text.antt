@@ -1,6 +1,7 @@
 -- The text of a plan's tree: what the set says, the idle leaves, and the packs of each level with their members.
 use Rattle.std.specs.Prelude.{ℕ, ◌==◌, Bool, false, List, [], ◌∷◌, ◌++◌, length, map, codes, decimal}
 use Rattle.std.specs.List.{flat_map, range_with_len, position_or_len}
+use Rattle.sched_base.specs.Bytes.{hyphen}
 use Rattle.sched_base.specs.declared.rows.Leaf.{Leaf}
 use Rattle.sched_base.specs.declared.rows.Leaf.TheVariants.{Task, Wait, Idle, Empty}
 use Rattle.sched_base.specs.declared.sets.Task as declared
@@ -59,7 +60,7 @@ place_in_level t p = position_or_len (λ q. q == p) (packs_at t (level t p))
 abbrev pub leaf_word : List declared.Task → Leaf → List ℕ
 leaf_word tasks (Task id) = (task_at tasks id.0).name
 leaf_word tasks (Wait id) = []
-leaf_word tasks (Idle number) = 45 ∷ decimal number
+leaf_word tasks (Idle number) = hyphen ∷ decimal number
 leaf_word tasks Empty = []
 
 -- a dual is told by ~j, where its primal is pack j of the level below; no pack stands in another

@@ -1,5 +1,6 @@
 //! The words of members.
 ghost use Rattle.std.specs.Prelude.{◌≡◌, ◌<◌, ◌∷◌, decimal};
+ghost use Rattle.sched_base.specs.Bytes.{space};
 ghost use Rattle.run_tree.specs.Tree.{IsPack, IsMember, level as level_in};
 ghost use Rattle.run_tree.specs.TreeOfSet.{IsKnown};
 ghost use Rattle.tree_text.specs.Text.{leaf_word, member_word, place_in_level};
@@ -12,7 +13,7 @@ use sched_edges::Line;
 #[tactic(auto, unfolding(crate::specs::Text::member_word))]
 pub(crate) fn spaced_word(plan: &Plan, member: NodeId) -> Line
     requires { IsMember plan.now.tree member.0 }
-    ensures { result ≡ 32 ∷ member_word plan.now member.0 }
+    ensures { result ≡ space ∷ member_word plan.now member.0 }
 {
     match plan.tree().kind(member) {
         Kind::Leaf(leaf) => spaced_leaf(plan.set(), leaf),
@@ -24,7 +25,7 @@ pub(crate) fn spaced_word(plan: &Plan, member: NodeId) -> Line
 // A leaf: its task's name, or its number as an idle leaf after `-`.
 fn spaced_leaf(set: &TaskSet, leaf: Leaf) -> Line
     requires { IsKnown set.now.tasks leaf }
-    ensures { result ≡ 32 ∷ leaf_word set.now.tasks leaf }
+    ensures { result ≡ space ∷ leaf_word set.now.tasks leaf }
 {
     let mut line = Line::new();
     line.space();
@@ -42,7 +43,7 @@ fn spaced_leaf(set: &TaskSet, leaf: Leaf) -> Line
 // A dual: the place of its primal in the level below after `~`.
 fn spaced_dual(tree: &Tree, primal: NodeId) -> Line
     requires { IsPack tree.now primal.0 }
-    ensures { result ≡ 32 ∷ 126 ∷ decimal (place_in_level tree.now primal.0) }
+    ensures { result ≡ space ∷ 126 ∷ decimal (place_in_level tree.now primal.0) }
 {
     let mut line = Line::new();
     line.text(b" ~");

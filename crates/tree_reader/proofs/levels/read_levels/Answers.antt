@@ -4,7 +4,7 @@ use Rattle.std.proofs.lemmas.List.Sums.{sum_by_push}
 use Rattle.trace_text.specs.Words.{lines_of}
 use Rattle.trace_check.proofs.TaskLemmas.{no_lines}
 use Rattle.tree_check.specs.Written.{Pack, IsWrittenLevel}
-use Rattle.tree_reader.specs.Faults.{Stops}
+use Rattle.tree_reader.specs.Faults.{NamesBadLine}
 use Rattle.tree_reader.specs.Reading.{level_from, levels_from, lines_so_far}
 use Rattle.tree_reader.proofs.ReadingLemmas.{levels_more, levels_stop, levels_done, stops_same, lawful_more}
 use Rattle.tree_reader.proofs.levels.read_levels.Goals as goal
@@ -41,6 +41,6 @@ returns-in-Err-read_level-clause-fault c =
     let items = c.loop-rest.levels.items in
     let lines = lines_of c.loop-rest.rest.now in
     let count : c.len.result ≡ length items = omega (arith, c.len.ensures, c.loop-rest.levels.ok.0) in
-    let level = subst (λ (k : ℕ). Stops (level_from c.args.scale k c.loop-rest.at c.first_line.result.0.now (lines_of c.first_line.result.1.now)) c.in-Err-read_level.fault) count c.in-Err-read_level.ensures.fault in
+    let level = subst (λ (k : ℕ). NamesBadLine (level_from c.args.scale k c.loop-rest.at c.first_line.result.0.now (lines_of c.first_line.result.1.now)) c.in-Err-read_level.fault) count c.in-Err-read_level.ensures.fault in
     stops_same (levels_from c.args.scale c.args.first 0 [] (lines_of c.args.text.now)) (levels_from c.args.scale c.loop-rest.at 0 items lines) c.in-Err-read_level.fault c.loop-rest.invariant.0
     (levels_stop c.args.scale c.loop-rest.at items lines (lines_of c.first_line.result.1.now) c.first_line.result.0.now c.in-Err-read_level.fault c.first_line.ensures.line (sym c.if-begins_end.ensures) level)
