@@ -2,7 +2,8 @@
 ghost use Rattle.std.specs.Prelude.{◌≡◌, ℕ, false, List, map, string_bytes, codes, Some, None, IfOk, option_map};
 ghost use Rattle.clap.specs.Words.{app_of, rule_of, subcommand_of, subcommand_rows_of, first_of, found_of, one_of, rows_of};
 ghost use Rattle.command_words.specs.Words.{command_of, drawn, exec_with, drill_with};
-ghost use Rattle.command_words.specs.CommandLine.{met, by, from_option, units_option, window, number, parser, Spells};
+ghost use Rattle.command_words.specs.CommandLine.{met, by, from_option, units_option, window, number, Spells};
+ghost use Rattle.command_words.specs.CommandLine.{program, with_tree, with_trace, with_follow, with_draw, with_batch, with_exec, with_drill, parser};
 ghost use Rattle.command_words.specs.declared.command.Command.{Command};
 ghost use Rattle.command_words.specs.declared.command.Command.TheVariants.{Read, Execute};
 ghost use Rattle.command_words.specs.declared.command.Reading.TheVariants.{Trace, TraceMet, TraceWrap};
@@ -31,33 +32,84 @@ pub(crate) fn read_line(alloc: Global, words: &[String]) -> Result<Option<Comman
 fn parser<'a>(alloc: Global) -> Result<clap::Command<'a>, AllocError>
     ensures { IfOk result (λ p. app_of p ≡ parser) }
 {
-    let trace = clap::Command::new(alloc, "trace")
-        .arg(met(alloc))?
-        .arg(by(alloc))?;
-    let draw = clap::Command::new(alloc, "draw")
-        .arg(from_option(alloc))?
-        .arg(units_option(alloc))?;
+    with_drill(alloc)?
+        .subcommand(clap::Command::new(alloc, "jobs"))?
+        .subcommand(clap::Command::new(alloc, "modes"))
+}
+
+// The program with its commands up to `drill`.
+fn with_drill<'a>(alloc: Global) -> Result<clap::Command<'a>, AllocError>
+    ensures { IfOk result (λ p. app_of p ≡ with_drill) }
+{
+    let drill = clap::Command::new(alloc, "drill").arg(number(alloc))?;
+    with_exec(alloc)?.subcommand(drill)
+}
+
+// The program with its commands up to `exec`.
+fn with_exec<'a>(alloc: Global) -> Result<clap::Command<'a>, AllocError>
+    ensures { IfOk result (λ p. app_of p ≡ with_exec) }
+{
     let exec = clap::Command::new(alloc, "exec")
         .arg(met(alloc))?
         .arg(window(alloc))?;
-    let drill = clap::Command::new(alloc, "drill").arg(number(alloc))?;
+    with_batch(alloc)?.subcommand(exec)
+}
+
+// The program with its commands up to `batch`.
+fn with_batch<'a>(alloc: Global) -> Result<clap::Command<'a>, AllocError>
+    ensures { IfOk result (λ p. app_of p ≡ with_batch) }
+{
+    with_draw(alloc)?.subcommand(clap::Command::new(alloc, "batch"))
+}
+
+// The program with its commands up to `draw`.
+fn with_draw<'a>(alloc: Global) -> Result<clap::Command<'a>, AllocError>
+    ensures { IfOk result (λ p. app_of p ≡ with_draw) }
+{
+    let draw = clap::Command::new(alloc, "draw")
+        .arg(from_option(alloc))?
+        .arg(units_option(alloc))?;
+    with_follow(alloc)?.subcommand(draw)
+}
+
+// The program with its commands up to `follow`.
+fn with_follow<'a>(alloc: Global) -> Result<clap::Command<'a>, AllocError>
+    ensures { IfOk result (λ p. app_of p ≡ with_follow) }
+{
+    with_trace(alloc)?
+        .subcommand(clap::Command::new(alloc, "table"))?
+        .subcommand(clap::Command::new(alloc, "check"))?
+        .subcommand(clap::Command::new(alloc, "follow"))
+}
+
+// The program with its commands up to `trace`.
+fn with_trace<'a>(alloc: Global) -> Result<clap::Command<'a>, AllocError>
+    ensures { IfOk result (λ p. app_of p ≡ with_trace) }
+{
+    let trace = clap::Command::new(alloc, "trace")
+        .arg(met(alloc))?
+        .arg(by(alloc))?;
+    with_tree(alloc)?.subcommand(trace)
+}
+
+// The program with its commands up to `tree`.
+fn with_tree<'a>(alloc: Global) -> Result<clap::Command<'a>, AllocError>
+    ensures { IfOk result (λ p. app_of p ≡ with_tree) }
+{
+    program(alloc)
+        .subcommand(clap::Command::new(alloc, "rate"))?
+        .subcommand(clap::Command::new(alloc, "tree"))
+}
+
+// The program, which wants a command and has no words of help.
+fn program<'a>(alloc: Global) -> clap::Command<'a>
+    ensures { app_of result ≡ program }
+{
     clap::Command::new(alloc, "furnacelime")
         .no_binary_name(true)
         .disable_help_flag(true)
         .disable_help_subcommand(true)
         .subcommand_required(true)
-        .subcommand(clap::Command::new(alloc, "rate"))?
-        .subcommand(clap::Command::new(alloc, "tree"))?
-        .subcommand(trace)?
-        .subcommand(clap::Command::new(alloc, "table"))?
-        .subcommand(clap::Command::new(alloc, "check"))?
-        .subcommand(clap::Command::new(alloc, "follow"))?
-        .subcommand(draw)?
-        .subcommand(clap::Command::new(alloc, "batch"))?
-        .subcommand(exec)?
-        .subcommand(drill)?
-        .subcommand(clap::Command::new(alloc, "jobs"))?
-        .subcommand(clap::Command::new(alloc, "modes"))
 }
 
 // The option `--met`.
