@@ -3,47 +3,15 @@ use Rattle.std.proofs.Common.{◌≡◌, ◌≢◌, ◌⊎◌, inl, inr, ℕ, �
 use Rattle.std.proofs.Common.{sym, ◌∙◌, ap, subst, arith, append-nil, length-append}
 use Rattle.sched_edges.specs.Causes.{Rose}
 use Rattle.sched_edges.specs.Streams.{GaveAll, GaveCount}
-use Rattle.command_words.specs.declared.command.Command.TheVariants.{Read}
 use Rattle.command_words.specs.declared.command.Reading.{Reading}
-use Rattle.command_words.specs.declared.command.Reading.TheVariants.{Rate, Tree, Trace, TraceMet, TraceWrap, Table, Check, Follow, Draw}
-use Rattle.run_tool.specs.declared.refusal.Refusal.{Refusal}
-use Rattle.run_tool.specs.declared.refusal.Refusal.TheVariants as why
-use Rattle.run_tool.specs.declared.status.Status.{Status}
-use Rattle.run_tool.specs.declared.status.Status.TheVariants as status
-use Rattle.run_tool.specs.Commands.{Output, output_of, limit_of, Writes, Refuses}
-use Rattle.run_tool.specs.Ends.{Streams, ErrorStream, streams, error_stream, Tells, StopsAs, Stops, IsAnswer, AnswersBytes, Answers, Ends}
-use Rattle.run_tool.specs.Refusals.{status_of, refusal_line}
+use Rattle.still_commands.specs.declared.refusal.Refusal.{Refusal}
+use Rattle.still_commands.specs.declared.refusal.Refusal.TheVariants as why
+use Rattle.still_commands.specs.declared.status.Status.{Status}
+use Rattle.still_commands.specs.declared.status.Status.TheVariants as status
+use Rattle.still_commands.specs.Commands.{Output, output_of, limit_of, Writes, Refuses}
+use Rattle.still_commands.specs.Ends.{Streams, ErrorStream, streams, error_stream, Tells, StopsAs, Stops, IsAnswer, Answers, Ends}
+use Rattle.still_commands.specs.Refusals.{status_of, refusal_line}
 use Rattle.byte_calls.specs.Answers.{IsWhyNot, IsAnswered}
-
--- what a reading tells
-abbrev pub told_by : Reading → Output
-told_by reading = output_of (Read reading)
-
--- ---- a reading is no drill
-
-stops_as : (r : Reading) (old new : Streams) (refusal : Refusal) → Stops (told_by r) old new refusal
-    → StopsAs (limit_of (told_by r)) (Writes (told_by r)) (Refuses (told_by r)) old new refusal
-stops_as Rate old new refusal stops = stops
-stops_as Tree old new refusal stops = stops
-stops_as Trace old new refusal stops = stops
-stops_as TraceMet old new refusal stops = stops
-stops_as TraceWrap old new refusal stops = stops
-stops_as Table old new refusal stops = stops
-stops_as Check old new refusal stops = stops
-stops_as Follow old new refusal stops = stops
-stops_as (Draw asked) old new refusal stops = stops
-
-answers_as : (r : Reading) (left : Option (List ℕ)) (old new : Streams) (s : Status) → Answers (told_by r) left old new s
-    → AnswersBytes (told_by r) left old new s
-answers_as Rate left old new s answers = answers
-answers_as Tree left old new s answers = answers
-answers_as Trace left old new s answers = answers
-answers_as TraceMet left old new s answers = answers
-answers_as TraceWrap left old new s answers = answers
-answers_as Table left old new s answers = answers
-answers_as Check left old new s answers = answers
-answers_as Follow left old new s answers = answers
-answers_as (Draw asked) left old new s answers = answers
 
 -- ---- what was read and written
 
@@ -125,25 +93,25 @@ took line = error_stream (Some line) 0
 -- a refusal of a reading
 abbrev Stopped : Reading → List ℕ → List ℕ → List ℕ → List ℕ → Status → Type 0
 Stopped r bytes left out line s =
-    (refusal : Refusal) × (status_of refusal ≡ s) × Stops (told_by r) (before bytes) (after left out) refusal
+    (refusal : Refusal) × (status_of refusal ≡ s) × Stops (output_of r) (before bytes) (after left out) refusal
     × Tells quiet (took line) (refusal_line refusal)
 
 -- and how it is answered
 abbrev Answered : Reading → List ℕ → List ℕ → Status → Type 0
 Answered r bytes line s =
-    (refusal : Refusal) × (status_of refusal ≡ s) × IsWhyNot (told_by r) bytes refusal × (line ≡ refusal_line refusal)
+    (refusal : Refusal) × (status_of refusal ≡ s) × IsWhyNot (output_of r) bytes refusal × (line ≡ refusal_line refusal)
 
 stopped_answered : (r : Reading) (bytes left out line : List ℕ) (s : Status) → s ≢ status.NoMemory → Stopped r bytes left out line s
     → Answered r bytes line s
 stopped_answered r bytes left out line s memory stopped =
     let (refusal, is, stops, tells) = stopped in
-    let reason : IsWhyNot (told_by r) bytes refusal =
-    why_not (told_by r) bytes left out refusal (stops_as r (before bytes) (after left out) refusal stops) (λ e. memory (sym is ∙ e)) in
+    let reason : IsWhyNot (output_of r) bytes refusal =
+    why_not (output_of r) bytes left out refusal stops (λ e. memory (sym is ∙ e)) in
     (refusal, is, reason, whole_line (refusal_line refusal) line tells)
 
 -- a reading that is refused is answered with the line of the refusal
 refused_answered : (r : Reading) (s : Status) (bytes left out line : List ℕ) → s ≢ status.Done → s ≢ status.Invalid → s ≢ status.NoMemory
-    → Ends (told_by r) (before bytes) (after left out) quiet (took line) s → IsAnswered (told_by r) bytes s line
+    → Ends (output_of r) (before bytes) (after left out) quiet (took line) s → IsAnswered (output_of r) bytes s line
 refused_answered r status.Done bytes left out line done invalid memory ends = absurd (done refl)
 refused_answered r status.Invalid bytes left out line done invalid memory ends = absurd (invalid refl)
 refused_answered r status.NoMemory bytes left out line done invalid memory ends = absurd (memory refl)
@@ -162,10 +130,9 @@ refused_answered r status.BadTree bytes left out line done invalid memory ends =
 refused_answered r status.TooWide bytes left out line done invalid memory ends = stopped_answered r bytes left out line status.TooWide memory ends
 
 -- where nothing failed, the answer for the bytes is given
-bytes_answered : (r : Reading) (s : Status) (bytes left out : List ℕ) → Answers (told_by r) (Some bytes) (before bytes) (after left out) s
-    → (answer : Status) → IsAnswer (told_by r) bytes answer → (s ≡ answer) ⊎ (s ≡ status.NoMemory)
-bytes_answered r s bytes left out answers =
-    answers_as r (Some bytes) (before bytes) (after left out) s answers no_fault no_fault
+bytes_answered : (r : Reading) (s : Status) (bytes left out : List ℕ) → Answers (output_of r) (Some bytes) (before bytes) (after left out) s
+    → (answer : Status) → IsAnswer (output_of r) bytes answer → (s ≡ answer) ⊎ (s ≡ status.NoMemory)
+bytes_answered r s bytes left out answers = answers no_fault no_fault
 
 -- ---- the same of streams that are known to be so
 
@@ -185,20 +152,20 @@ module _ (r : Reading) (bytes left left' out out' line line' : List ℕ) (faults
   is_took = λ i. error_stream (Some line') (is_quiets' i)
 
   pub refused_told : (s : Status) → s ≢ status.Done → s ≢ status.Invalid → s ≢ status.NoMemory
-      → Ends (told_by r) (streams (Some left) 0 (Some out) faults) (streams (Some left') 0 (Some out') faults') (error_stream (Some line) quiets)
-      (error_stream (Some line') quiets') s → IsAnswered (told_by r) bytes s line'
+      → Ends (output_of r) (streams (Some left) 0 (Some out) faults) (streams (Some left') 0 (Some out') faults') (error_stream (Some line) quiets)
+      (error_stream (Some line') quiets') s → IsAnswered (output_of r) bytes s line'
   refused_told s done invalid memory ends =
       refused_answered r s bytes left' out' line' done invalid memory
-      (subst (λ (x : ErrorStream). Ends (told_by r) (before bytes) (after left' out') quiet x s) is_took
-      (subst (λ (x : ErrorStream). Ends (told_by r) (before bytes) (after left' out') x (error_stream (Some line') quiets') s) is_quiet
-      (subst (λ (x : Streams). Ends (told_by r) (before bytes) x (error_stream (Some line) quiets) (error_stream (Some line') quiets') s) is_after
-      (subst (λ (x : Streams). Ends (told_by r) x (streams (Some left') 0 (Some out') faults') (error_stream (Some line) quiets)
+      (subst (λ (x : ErrorStream). Ends (output_of r) (before bytes) (after left' out') quiet x s) is_took
+      (subst (λ (x : ErrorStream). Ends (output_of r) (before bytes) (after left' out') x (error_stream (Some line') quiets') s) is_quiet
+      (subst (λ (x : Streams). Ends (output_of r) (before bytes) x (error_stream (Some line) quiets) (error_stream (Some line') quiets') s) is_after
+      (subst (λ (x : Streams). Ends (output_of r) x (streams (Some left') 0 (Some out') faults') (error_stream (Some line) quiets)
       (error_stream (Some line') quiets') s) is_before ends))))
 
   pub answered_told : (s : Status)
-      → Answers (told_by r) (Some left) (streams (Some left) 0 (Some out) faults) (streams (Some left') 0 (Some out') faults') s
-      → (answer : Status) → IsAnswer (told_by r) bytes answer → (s ≡ answer) ⊎ (s ≡ status.NoMemory)
+      → Answers (output_of r) (Some left) (streams (Some left) 0 (Some out) faults) (streams (Some left') 0 (Some out') faults') s
+      → (answer : Status) → IsAnswer (output_of r) bytes answer → (s ≡ answer) ⊎ (s ≡ status.NoMemory)
   answered_told s answers =
-      bytes_answered r s bytes left' out' (subst (λ (x : List ℕ). Answers (told_by r) (Some x) (before bytes) (after left' out') s) is_left
-      (subst (λ (x : Streams). Answers (told_by r) (Some left) (before bytes) x s) is_after
-      (subst (λ (x : Streams). Answers (told_by r) (Some left) x (streams (Some left') 0 (Some out') faults') s) is_before answers)))
+      bytes_answered r s bytes left' out' (subst (λ (x : List ℕ). Answers (output_of r) (Some x) (before bytes) (after left' out') s) is_left
+      (subst (λ (x : Streams). Answers (output_of r) (Some left) (before bytes) x s) is_after
+      (subst (λ (x : Streams). Answers (output_of r) (Some left) x (streams (Some left') 0 (Some out') faults') s) is_before answers)))

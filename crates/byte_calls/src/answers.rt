@@ -1,16 +1,15 @@
 //! A command over bytes.
 ghost use Rattle.std.specs.Prelude.{◌≡◌, ◌⊎◌, []};
 ghost use Rattle.command_words.specs.Words.{ShowsSome};
-ghost use Rattle.run_tool.specs.Commands.{output_of};
-ghost use Rattle.run_tool.specs.Ends.{IsAnswer};
-ghost use Rattle.command_words.specs.declared.command.Command.TheVariants.{Read};
-ghost use Rattle.run_tool.specs.declared.status.Status.{Status as Ended};
+ghost use Rattle.still_commands.specs.Commands.{output_of};
+ghost use Rattle.still_commands.specs.Ends.{IsAnswer};
+ghost use Rattle.still_commands.specs.declared.status.Status.{Status as Ended};
 ghost use Rattle.byte_calls.specs.Answers.{IsAnswered};
 
 use crate::streams::{ByteSink, ByteSource};
-use run_tool::{Reading, Status, run_reading};
 use std::alloc::Global;
 use std::marker::Model;
+use still_commands::{Reading, Status, run_reading};
 
 /// What a command answers to bytes: its status, and its text, or the line that says why there is none.
 #[derive(Drop)]
@@ -60,10 +59,10 @@ pub fn call(alloc: Global, reading: Reading, bytes: &[u8]) -> Answer
     requires some { ShowsSome reading }
 
     // The text is that of the command, what it tells of a set or of a tree is sound, and each refusal has its cause and its line.
-    ensures told { IsAnswered (output_of (Read reading)) bytes.now result.status result.text }
+    ensures told { IsAnswered (output_of reading) bytes.now result.status result.text }
 
     // The answer for the bytes is given, or memory was refused.
-    ensures answered { (answer : Ended) → IsAnswer (output_of (Read reading)) bytes.now answer
+    ensures answered { (answer : Ended) → IsAnswer (output_of reading) bytes.now answer
         → (result.status ≡ answer) ⊎ (result.status ≡ Status.NoMemory) }
 {
     let mut source = ByteSource::new(bytes);

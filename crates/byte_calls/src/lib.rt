@@ -3,7 +3,5 @@
 
 mod answers;
 mod streams;
-#[cfg(test)]
-mod tests;
 
 pub use answers::{Answer, call};

@@ -1,11 +1,8 @@
 //! The execution of a plan.
-ghost use Rattle.std.specs.Prelude.{◌≡◌, ◌≤◌, ◌<◌, ◌*◌, ℕ, None, length, slice_index_or, IfOk, OnOk};
+ghost use Rattle.std.specs.Prelude.{◌≡◌, ◌<◌, ◌*◌, ℕ, None, length, slice_index_or, IfOk, OnOk};
 ghost use Rattle.sched_edges.specs.Jobs.{JobAt};
-ghost use Rattle.run_tree.specs.Plans.{rounds_of};
-ghost use Rattle.sched_base.specs.Tables.{row_limit};
-ghost use Rattle.exec_book.specs.PlanRows.{IsCompiled, plan_rows};
 ghost use Rattle.exec_workers.specs.Kits.{AreFilled};
-ghost use Rattle.exec_workers.specs.Runs.{OutcomeOf, AreFresh, AreEmpty, GatesGrew, GatesList, GatesListFirst, JobsUsedAll};
+ghost use Rattle.exec_workers.specs.Runs.{IsExecutable, OutcomeOf, AreFresh, AreEmpty, GatesGrew, GatesList, GatesListFirst, JobsUsedAll};
 
 use crate::answers::{ExecFault, Executed};
 use crate::kits::Kit;
@@ -34,11 +31,7 @@ pub fn execute<G: Gate + Send, X: Threads + Wait + Sync>(
     kits: &mut Vec<Kit<G>>,
     jobs: &mut Jobs,
 ) -> Result<Executed, ExecFault>
-    requires compiled { IsCompiled plan.now }
-    requires rounds { rounds ≡ rounds_of plan.now }
-    requires few { rounds * plan.now.tree.processors ≤ row_limit }
-    requires some_window { 1 ≤ window }
-    requires small_window { window ≤ 1024 }
+    requires executable { IsExecutable plan.now rounds window }
     requires kits { AreFilled plan.now.tree.processors kits.old.items }
     requires empty { AreEmpty G.ran plan.now kits.old.items }
     requires jobs { AreFresh ⟦<BoxedJob as Job>⟧.id ⟦<BoxedJob as Job>⟧.used (length plan.now.set.tasks) jobs.old.places }
@@ -68,11 +61,7 @@ pub fn execute_on<G: Gate + Send, X: Threads + Wait + Sync>(
     kits: &mut Vec<Kit<G>>,
     jobs: &mut Jobs,
 ) -> Result<Executed, ExecFault>
-    requires compiled { IsCompiled plan.now }
-    requires rounds { rounds ≡ rounds_of plan.now }
-    requires few { rounds * plan.now.tree.processors ≤ row_limit }
-    requires some_window { 1 ≤ window }
-    requires small_window { window ≤ 1024 }
+    requires executable { IsExecutable plan.now rounds window }
     requires kits { AreFilled plan.now.tree.processors kits.old.items }
     requires jobs { AreFresh ⟦<BoxedJob as Job>⟧.id ⟦<BoxedJob as Job>⟧.used (length plan.now.set.tasks) jobs.old.places }
     ensures outcome { OutcomeOf G.Gate ⟦<BoxedJob as Job>⟧ plan.now kits.old kits.new jobs.old jobs.new result }
@@ -107,12 +96,8 @@ fn execute_in<G: Gate + Send, Q: PostLedger + Send + Sync, J: Job + Send, X: Thr
     requires name { blank.name ≡ Q.name }
     requires parts { blank.parts ≡ Q.parts }
     requires a_part_each { blank.parts ≡ plan.now.tree.processors }
-    requires compiled { IsCompiled plan.now }
+    requires executable { IsExecutable plan.now rounds window }
     requires set { plan.now.set ≡ Q.set }
-    requires rounds { rounds ≡ rounds_of plan.now }
-    requires few { rounds * plan.now.tree.processors ≤ row_limit }
-    requires some_window { 1 ≤ window }
-    requires small_window { window ≤ 1024 }
     requires kits { AreFilled plan.now.tree.processors kits.old.items }
     requires jobs { AreFresh J.id J.used (length plan.now.set.tasks) jobs.old.places }
     requires made { (t : ℕ) (job : J) → t < length plan.now.set.tasks → JobAt jobs.old.places t job → J.made job ≡ slice_index_or Q.made t None }

@@ -1,11 +1,8 @@
 //! The book of a run, opened with its ledger and with the jobs.
-ghost use Rattle.std.specs.Prelude.{◌≡◌, ◌≤◌, ◌<◌, ◌*◌, ℕ, None, Some, length, slice_get, slice_index_or, IfOk, IfErr, OnOk};
-ghost use Rattle.sched_base.specs.Tables.{row_limit};
+ghost use Rattle.std.specs.Prelude.{◌≡◌, ◌≤◌, ◌<◌, ℕ, None, Some, length, slice_get, slice_index_or, IfOk, IfErr, OnOk};
 ghost use Rattle.sched_edges.specs.Jobs.{JobAt};
-ghost use Rattle.run_tree.specs.Plans.{rounds_of};
-ghost use Rattle.exec_book.specs.PlanRows.{IsCompiled};
 ghost use Rattle.unit_ledger.specs.Seats.{seats_at_start};
-ghost use Rattle.exec_workers.specs.Runs.{AreFresh};
+ghost use Rattle.exec_workers.specs.Runs.{IsExecutable, AreFresh};
 
 use crate::stage::{lay_jobs, lift_jobs};
 use exec_book::{Book, JobsBack};
@@ -28,12 +25,8 @@ pub(crate) fn open_book<Q: PostLedger, J: Job>(
     requires name { blank.name ≡ Q.name }
     requires parts { blank.parts ≡ Q.parts }
     requires a_part_each { blank.parts ≡ plan.now.tree.processors }
-    requires compiled { IsCompiled plan.now }
+    requires executable { IsExecutable plan.now rounds window }
     requires set { plan.now.set ≡ Q.set }
-    requires rounds { rounds ≡ rounds_of plan.now }
-    requires few { rounds * plan.now.tree.processors ≤ row_limit }
-    requires some_window { 1 ≤ window }
-    requires small_window { window ≤ 1024 }
     requires jobs { AreFresh J.id J.used (length plan.now.set.tasks) jobs.old.places }
     requires made { (t : ℕ) (job : J) → t < length plan.now.set.tasks → JobAt jobs.old.places t job → J.made job ≡ slice_index_or Q.made t None }
     ensures seats { IfOk result (λ opened. opened.1 ≡ seats_at_start plan.now.tree.processors) }

@@ -2,14 +2,13 @@
 use Rattle.std.specs.Prelude.{◌≡◌, ◌⊎◌, ℕ, ◌<◌, ◌≤◌, ◌==◌, if◌then◌else◌, List, ◌++◌, length, drop, Some, None}
 use Rattle.std.specs.declared.option.Option.{Option}
 use Rattle.trace_draw.specs.declared.asking.Asked.{Asked}
-use Rattle.command_words.specs.declared.command.Command.TheVariants.{Read}
 use Rattle.command_words.specs.declared.command.Reading.{Reading}
 use Rattle.command_words.specs.declared.command.Reading.TheVariants.{Rate, Tree, Trace, TraceMet, TraceWrap, Table, Check, Follow, Draw}
-use Rattle.run_tool.specs.declared.status.Status.{Status}
-use Rattle.run_tool.specs.declared.status.Status.TheVariants.{NoMemory}
-use Rattle.run_tool.specs.Commands.{output_of}
-use Rattle.run_tool.specs.Ends.{IsAnswer}
-use Rattle.run_tool.specs.Status.{code_of}
+use Rattle.still_commands.specs.declared.status.Status.{Status}
+use Rattle.still_commands.specs.declared.status.Status.TheVariants.{NoMemory}
+use Rattle.still_commands.specs.Commands.{output_of}
+use Rattle.still_commands.specs.Ends.{IsAnswer}
+use Rattle.still_commands.specs.Status.{code_of}
 use Rattle.byte_calls.specs.Held.{AnswerHeld}
 use Rattle.byte_calls.specs.Answers.{IsAnswered}
 use Rattle.furnacelime_c.specs.declared.answers.Question.{Question}
@@ -34,8 +33,8 @@ reading_of q =
 
 -- the answer of a command to these bytes: its text and its status are as the program's, or memory was refused
 pub record IsAnswerOf (reading : Reading) (bytes : List ℕ) (answer : AnswerHeld) : Type 0 where
-  pub told : IsAnswered (output_of (Read reading)) bytes answer.status answer.text
-  pub answered : (status : Status) → IsAnswer (output_of (Read reading)) bytes status → (answer.status ≡ status) ⊎ (answer.status ≡ NoMemory)
+  pub told : IsAnswered (output_of reading) bytes answer.status answer.text
+  pub answered : (status : Status) → IsAnswer (output_of reading) bytes status → (answer.status ≡ status) ⊎ (answer.status ≡ NoMemory)
 
 -- a handle has the answer of the command that was asked for, and its status and the length of its text are told
 abbrev pub Gives : Question → List ℕ → Option AnswerHeld → ℕ → ℕ → Type 0

@@ -5,8 +5,8 @@ ghost use Rattle.furnacelime_c.specs.Answers.{reading_of, asked_by, Gives, IsNot
 
 use answer_handle::Handle;
 use byte_calls::call;
-use run_tool::Reading;
 use std::alloc::Global;
+use still_commands::Reading;
 use trace_draw::Asked;
 
 /// The status of a call that can't be done.

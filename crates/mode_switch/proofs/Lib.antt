@@ -1,5 +1,3 @@
-pub mod JoinLemmas
 pub mod MadeLemmas
-pub mod ModeLemmas
 pub mod RosterLemmas
 pub mod RunLemmas

@@ -33,7 +33,7 @@ use Rattle.exec_workers.proofs.HeadlineLemmas.{gate_first, gates_grew}
 use Rattle.exec_workers.proofs.ServeLemmas.{grown-nil}
 use Rattle.exec_workers.proofs.StageLemmas.{same_gate, same_job}
 use Rattle.exec_workers.proofs.WholeLemmas.{ticks_at_end}
-use Rattle.mode_switch.specs.declared.mode.Mode.{Mode}
+use Rattle.mode_join.specs.declared.mode.Mode.{Mode}
 use Rattle.mode_switch.specs.Runs.{Roster, HaveOwnJobs, HasBegun, RanMode, AreBack, IsRunOf}
 
 -- ---- jobs that begin anew

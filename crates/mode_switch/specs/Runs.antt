@@ -20,7 +20,7 @@ use Rattle.exec_workers.specs.declared.kits.Kit.{Kit}
 use Rattle.exec_workers.specs.Kits.{KitAt}
 use Rattle.exec_workers.specs.Lanes.{HasRisen}
 use Rattle.exec_workers.specs.Runs.{Outcome}
-use Rattle.mode_switch.specs.declared.mode.Mode.{Mode}
+use Rattle.mode_join.specs.declared.mode.Mode.{Mode}
 use Rattle.mode_switch.specs.declared.answers.ModesFault.{ModesFault}
 use Rattle.mode_switch.specs.declared.answers.ModesFault.TheVariants as fault
 

@@ -1,14 +1,9 @@
-//! Modes: several sets that follow each other on the same processors, and that switch where no period is open.
+//! Modes that were joined, run one after the other.
 #![tactic(auto)]
 
 mod answers;
-mod faults;
-mod joins;
-mod mode;
-mod modes;
 mod running;
 
 pub use answers::{ModesFault, ModesRun};
-pub use faults::{ModeFault, ModeKind};
-pub use modes::Modes;
+pub use mode_join::{ModeFault, ModeKind, Modes};
 pub use running::run_modes;

@@ -1,19 +1,17 @@
 //! Running modes, one after the other.
-ghost use Rattle.std.specs.Prelude.{◌≡◌, ◌≤◌, ◌<◌, ◌*◌, ℕ, [], Some, length, slice_set, IfOk, IfErr, OnOk};
+ghost use Rattle.std.specs.Prelude.{◌≡◌, ◌≤◌, ◌<◌, ℕ, [], Some, length, slice_set, IfOk, IfErr, OnOk};
 ghost use Rattle.std.specs.List.{AllByRecursion, AllZip};
-ghost use Rattle.sched_base.specs.Tables.{row_limit};
 ghost use Rattle.sched_edges.specs.Jobs.{JobAt};
 ghost use Rattle.job_vm.specs.Seen.{job_seen, seen};
 ghost use Rattle.job_vm.specs.Loading.{anew, loaded};
-ghost use Rattle.run_tree.specs.Plans.{rounds_of};
-ghost use Rattle.exec_book.specs.PlanRows.{IsCompiled};
 ghost use Rattle.exec_workers.specs.Kits.{AreFilled};
+ghost use Rattle.exec_workers.specs.Runs.{IsExecutable};
 ghost use Rattle.mode_switch.specs.Runs.{ModesOutcome, RanMode, GatesGrewThrough, GatesGrewFirst, IsRunOf, JobsUsedLast};
 ghost use Rattle.mode_switch.specs.Runs.{AreBack, NamesRisen, HaveOwnJobs, roster_of};
 
 use crate::answers::{ModesFault, ModesRun};
-use crate::modes::Modes;
 use exec_workers::{ExecFault, Executed, Kit, execute_on};
+use mode_join::Modes;
 use run_tree::Plan;
 use sched_base::TaskSet;
 use sched_edges::{BoxedJob, Gate, Job, JobList, Jobs};
@@ -80,11 +78,7 @@ fn run_mode<G: Gate + Send, X: Threads + Wait + Sync>(
     kits: &mut Vec<Kit<G>>,
     jobs: &mut Jobs,
 ) -> Result<Executed, ExecFault>
-    requires compiled { IsCompiled plan.now }
-    requires rounds { rounds ≡ rounds_of plan.now }
-    requires few { rounds * plan.now.tree.processors ≤ row_limit }
-    requires some_window { 1 ≤ window }
-    requires small_window { window ≤ 1024 }
+    requires executable { IsExecutable plan.now rounds window }
     requires kits { AreFilled plan.now.tree.processors kits.old.items }
     requires jobs { HaveOwnJobs ⟦<BoxedJob as Job>⟧.id (length plan.now.set.tasks) jobs.old.places }
     ensures { RanMode G.Gate ⟦<BoxedJob as Job>⟧ plan.now result (roster_of kits.old jobs.old) (roster_of kits.new jobs.new) }

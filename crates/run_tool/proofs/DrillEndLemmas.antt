@@ -4,7 +4,7 @@ use Rattle.std.specs.Io.KnownBytes.{Appends}
 use Rattle.sched_edges.specs.Causes.{Rose}
 use Rattle.sched_edges.specs.Streams.{TookPart}
 use Rattle.run_tree.specs.Plans.{PlanContents}
-use Rattle.run_tool.specs.declared.refusal.Refusal.TheVariants as why
+use Rattle.still_commands.specs.declared.refusal.Refusal.TheVariants as why
 use Rattle.run_tool.specs.Drill.{drill_plan, IsDrill, drill_text}
 use Rattle.run_tool.specs.Executions.{Crew, RanAll}
 use Rattle.run_tool.specs.Executed.{RanDrill, StopsAtDrill}

@@ -15,26 +15,26 @@ use Rattle.task_reader.specs.declared.refusals.ReadSet.{ReadSet}
 use Rattle.task_reader.specs.declared.refusals.ReadSet.TheVariants as set
 use Rattle.job_vm.specs.declared.faults.JobTextFault.{JobTextFault}
 use Rattle.job_vm.specs.declared.faults.JobTextFault.TheVariants as job_text
-use Rattle.job_vm.specs.Faults.{Stops}
+use Rattle.job_vm.specs.Faults.{NamesBadLine}
 use Rattle.job_vm.specs.Programs.{JobTextHeld, reading}
 use Rattle.job_vm.specs.Loading.{loaded}
 use Rattle.job_vm.specs.Results.{told_at, jobs_text}
 use Rattle.command_words.specs.declared.command.Execution.TheVariants.{Jobs}
-use Rattle.run_tool.specs.declared.refusal.Refusal.{Refusal}
-use Rattle.run_tool.specs.declared.refusal.Refusal.TheVariants as why
-use Rattle.run_tool.specs.declared.status.Status.TheVariants.{Done}
-use Rattle.run_tool.specs.Commands.{set_limit, schedule_rows, plan_of, rows_of, HasRoom}
+use Rattle.still_commands.specs.declared.refusal.Refusal.{Refusal}
+use Rattle.still_commands.specs.declared.refusal.Refusal.TheVariants as why
+use Rattle.still_commands.specs.declared.status.Status.TheVariants.{Done}
+use Rattle.still_commands.specs.Commands.{set_limit, schedule_rows, plan_of, rows_of, HasRoom}
 use Rattle.event_core.specs.declared.counts.CountFault.{CountFault}
 use Rattle.event_core.specs.declared.counts.CountFault.TheVariants as count_fault
 use Rattle.event_core.specs.Counts.{IsCountFault}
-use Rattle.run_tool.specs.Faults.{of_take, of_read_set, of_read_jobs, of_count}
-use Rattle.run_tool.specs.Input.{IsSchedulable, IsRefusedSet}
+use Rattle.still_commands.specs.Faults.{of_take, of_read_set, of_read_jobs, of_count}
+use Rattle.still_commands.specs.Input.{IsSchedulable, IsRefusedSet}
 use Rattle.run_tool.specs.JobPrograms.{ReadsJobs, IsJobsToRun, set_bytes, result_text}
-use Rattle.run_tool.specs.Ends.{Streams}
+use Rattle.still_commands.specs.Ends.{Streams}
 use Rattle.run_tool.specs.Executions.{GateSeen, JobSeen, Crew, crew, IsFreshCrew, RanAll}
 use Rattle.run_tool.proofs.LoadedLemmas.{results_are}
 use Rattle.run_tool.specs.Executed.{StopsInRun, loaded_crew, ToldRun, StopsRun, may_have_run}
-use Rattle.run_tool.specs.Refusals.{status_of}
+use Rattle.still_commands.specs.Refusals.{status_of}
 use Rattle.command_words.specs.declared.command.Command.TheVariants.{Execute}
 use Rattle.run_tool.specs.JobInput.{GaveJobs, GaveNoJobs, RanJobs, StopsAtJobs}
 
@@ -51,7 +51,7 @@ untaken_jobs left left' limit faults faults' take_fault.NoMemory long read few =
 
 -- bytes that were read and are no job text
 pub unread_jobs : (left left' : Option (List ℕ)) (limit faults faults' : ℕ) (bytes : List ℕ) (e : JobTextFault) → GaveAll left left' limit bytes
-    → Stops (reading bytes) e → GaveNoJobs left left' faults faults' limit (of_read_jobs e)
+    → NamesBadLine (reading bytes) e → GaveNoJobs left left' faults faults' limit (of_read_jobs e)
 unread_jobs left left' limit faults faults' bytes (job_text.BadProgram line) all stops = (bytes, all, inl stops)
 unread_jobs left left' limit faults faults' bytes job_text.NoMemory all stops = tt
 

@@ -1,12 +1,8 @@
-pub mod FollowLemmas
 pub mod ModeTextLemmas
+pub mod JobTextLemmas
+pub mod ExecutionAnswerLemmas
 pub mod LoadedLemmas
 pub mod JobRunLemmas
-pub mod FollowedLemmas
-pub mod AnswerLemmas
-pub mod LineLemmas
-pub mod TraceLemmas
-pub mod SoundLemmas
 pub mod RunLemmas
 pub mod CrewLemmas
 pub mod CrewEndLemmas
@@ -17,5 +13,4 @@ pub mod StopLemmas
 pub mod ClosingLemmas
 pub mod ModeRunLemmas
 pub mod ModeEndLemmas
-pub mod NumberedLemmas
 pub mod ModeRowLemmas

@@ -12,23 +12,23 @@ use Rattle.sched_edges.specs.declared.read.TakeFault.{TakeFault}
 use Rattle.sched_edges.specs.declared.read.TakeFault.TheVariants as take_fault
 use Rattle.task_reader.specs.Pieces.{pieces_of, bytes_in}
 use Rattle.task_reader.specs.Reading.{set_read_from}
-use Rattle.mode_switch.specs.declared.mode.Mode.{Mode}
-use Rattle.mode_switch.specs.declared.faults.ModeFault.{ModeFault}
-use Rattle.mode_switch.specs.declared.faults.ModeFault.TheVariants as join
-use Rattle.mode_switch.specs.Joining.{CanBeJoined, SaysOf}
-use Rattle.mode_switch.specs.Modes.{ModesContents, AreModes, PeriodsEndIn, sets_of}
+use Rattle.mode_join.specs.declared.mode.Mode.{Mode}
+use Rattle.mode_join.specs.declared.faults.ModeFault.{ModeFault}
+use Rattle.mode_join.specs.declared.faults.ModeFault.TheVariants as join
+use Rattle.mode_join.specs.Joining.{CanBeJoined, SaysOf}
+use Rattle.mode_join.specs.Modes.{ModesContents, AreModes, PeriodsEndIn, sets_of}
 use Rattle.command_words.specs.declared.command.Command.TheVariants.{Execute}
 use Rattle.command_words.specs.declared.command.Execution.TheVariants.{Modes}
-use Rattle.run_tool.specs.declared.mode_refusal.ModeRefusal.TheVariants as mode
-use Rattle.run_tool.specs.declared.refusal.Refusal.{Refusal}
-use Rattle.run_tool.specs.declared.refusal.Refusal.TheVariants as why
-use Rattle.run_tool.specs.declared.status.Status.TheVariants.{Done}
-use Rattle.run_tool.specs.Commands.{set_limit}
-use Rattle.run_tool.specs.Ends.{Streams}
+use Rattle.still_commands.specs.declared.mode_refusal.ModeRefusal.TheVariants as mode
+use Rattle.still_commands.specs.declared.refusal.Refusal.{Refusal}
+use Rattle.still_commands.specs.declared.refusal.Refusal.TheVariants as why
+use Rattle.still_commands.specs.declared.status.Status.TheVariants.{Done}
+use Rattle.still_commands.specs.Commands.{set_limit}
+use Rattle.still_commands.specs.Ends.{Streams}
 use Rattle.run_tool.specs.Executions.{Crew}
 use Rattle.run_tool.specs.Executed.{ToldRun, StopsRun, may_have_run}
-use Rattle.run_tool.specs.Faults.{of_take, of_join}
-use Rattle.run_tool.specs.Refusals.{status_of}
+use Rattle.still_commands.specs.Faults.{of_take, of_join}
+use Rattle.still_commands.specs.Refusals.{status_of}
 use Rattle.run_tool.specs.ModeInput.{RefusesPiece, RefusesPieces, GaveModes, GaveNoModes}
 use Rattle.run_tool.specs.ModeRuns.{RanThrough, StopsInModes}
 use Rattle.run_tool.specs.ModeTexts.{ReadsSets, IsFirstBad, modes_text}

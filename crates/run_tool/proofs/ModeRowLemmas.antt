@@ -6,8 +6,8 @@ use Rattle.sched_base.specs.Tables.{Table, row_limit}
 use Rattle.run_tree.specs.Plans.{PlanContents, rounds_of}
 use Rattle.exec_book.specs.PlanRows.{plan_rows}
 use Rattle.exec_workers.specs.declared.answers.Executed.{Executed}
-use Rattle.mode_switch.specs.declared.mode.Mode.{Mode}
-use Rattle.mode_switch.specs.Modes.{ModesContents, AreModes}
+use Rattle.mode_join.specs.declared.mode.Mode.{Mode}
+use Rattle.mode_join.specs.Modes.{ModesContents, AreModes}
 use Rattle.mode_switch.specs.Runs.{IsRunOf}
 use Rattle.mode_switch.proofs.RunLemmas.{IsNext, next_mode}
 use Rattle.trace_lines.specs.Conditions.{AreOnTime}

@@ -22,14 +22,14 @@ use Rattle.exec_workers.specs.declared.answers.Executed.{Executed}
 use Rattle.exec_workers.specs.declared.answers.ExecFault.TheVariants as exec
 use Rattle.exec_workers.specs.Kits.{AreFilled}
 use Rattle.exec_workers.specs.Runs.{AreFresh}
-use Rattle.mode_switch.specs.declared.mode.Mode.{Mode}
-use Rattle.mode_switch.specs.Modes.{IsMode}
+use Rattle.mode_join.specs.declared.mode.Mode.{Mode}
+use Rattle.mode_join.specs.Modes.{IsMode}
 use Rattle.mode_switch.specs.Runs.{Roster, RanMode, RanModes, StopsIn, ModesOutcome, rows_through, used_after}
 use Rattle.mode_switch.specs.declared.answers.ModesFault.{ModesFault}
 use Rattle.mode_switch.specs.declared.answers.ModesFault.TheVariants as fault
 use Rattle.mode_switch.specs.Runs as modes
-use Rattle.run_tool.specs.declared.mode_refusal.ModeRefusal.{ModeRefusal}
-use Rattle.run_tool.specs.declared.mode_refusal.ModeRefusal.TheVariants as mode
+use Rattle.still_commands.specs.declared.mode_refusal.ModeRefusal.{ModeRefusal}
+use Rattle.still_commands.specs.declared.mode_refusal.ModeRefusal.TheVariants as mode
 use Rattle.run_tool.specs.Executions.{GateSeen, JobSeen, Crew, crew, gates_of, jobs_of, Holds, IsFreshCrew, AreBack, RanAll, GateRose, JobRose, GateStopped, JobStopped, name_at}
 use Rattle.run_tool.specs.ModeRuns.{begun_crew, RanThrough, StopsInMode, StopsBetween}
 use Rattle.run_tool.proofs.CrewLemmas.{below_or, seen_gate, seen_job, gate_in_kit, kit_shown, job_in_place, place_shown}

@@ -7,18 +7,18 @@ use Rattle.sched_base.specs.Sets.{SetContents}
 use Rattle.task_reader.specs.declared.refusals.ReadSet.{ReadSet}
 use Rattle.task_reader.specs.Pieces.{pieces_of}
 use Rattle.task_reader.specs.Reading.{set_read_from}
-use Rattle.mode_switch.specs.declared.faults.ModeKind.{ModeKind}
-use Rattle.mode_switch.specs.declared.faults.ModeKind.TheVariants as kind
-use Rattle.mode_switch.specs.Joining.{IsRefused, rank}
-use Rattle.mode_switch.specs.Modes.{sets_of}
-use Rattle.run_tool.specs.declared.mode_refusal.ModeRefusal.{ModeRefusal}
-use Rattle.run_tool.specs.declared.mode_refusal.ModeRefusal.TheVariants as mode
-use Rattle.run_tool.specs.declared.refusal.Refusal.{Refusal}
-use Rattle.run_tool.specs.declared.refusal.Refusal.TheVariants as why
-use Rattle.run_tool.specs.declared.status.Status.{Status}
-use Rattle.run_tool.specs.declared.status.Status.TheVariants as status
+use Rattle.mode_join.specs.declared.faults.ModeKind.{ModeKind}
+use Rattle.mode_join.specs.declared.faults.ModeKind.TheVariants as kind
+use Rattle.mode_join.specs.Joining.{IsRefused, rank}
+use Rattle.mode_join.specs.Modes.{sets_of}
+use Rattle.still_commands.specs.declared.mode_refusal.ModeRefusal.{ModeRefusal}
+use Rattle.still_commands.specs.declared.mode_refusal.ModeRefusal.TheVariants as mode
+use Rattle.still_commands.specs.declared.refusal.Refusal.{Refusal}
+use Rattle.still_commands.specs.declared.refusal.Refusal.TheVariants as why
+use Rattle.still_commands.specs.declared.status.Status.{Status}
+use Rattle.still_commands.specs.declared.status.Status.TheVariants as status
 use Rattle.run_tool.specs.ModeTexts.{ReadsSets, WritesModes, IsFirstBad, RefusesMode, RefusesModes}
-use Rattle.run_tool.specs.Refusals.{status_of, set_status, kind_status}
+use Rattle.still_commands.specs.Refusals.{status_of, set_status, kind_status}
 
 -- ---- pieces that are sets
 

@@ -67,14 +67,17 @@ module _ {G : Type 0} (ran : G → Option (List Row)) (faults : G → ℕ) where
       ∙ map-append (λ kit. option_map (λ g. record { ran = ran g; faults = faults g }) kit.gate) kits (record { gate = Some gate } ∷ [])))
       (first_gates-more n (gates_of ran faults kits) (record { ran = ran gate; faults = faults gate }) first unrun)
 
+-- so many of 256 jobs have been made, and there is room for the others
+pub record AreMade (n room : ℕ) (jobs : List (Option JobSeen)) : Type 0 where
+  pub left : room + n ≡ 256
+  pub first : AreFirstJobs n jobs
+
 module _ {J : Type 0} (id used faults : J → ℕ) (made : J → Option (ℕ × List ℕ)) where
-  -- before the first job
-  pub no_jobs : (places : List (Option J)) → places ≡ [] → AreFirstJobs 0 (jobs_of id used faults made places)
+  no_jobs : (places : List (Option J)) → places ≡ [] → AreFirstJobs 0 (jobs_of id used faults made places)
   no_jobs places none =
       subst (λ places. AreFirstJobs 0 (jobs_of id used faults made places)) (sym none) (record { count = refl; unused = λ i within. absurd (omega (arith, within)) })
 
-  -- one job more, which has the next number and has worked no tick
-  pub more_jobs : (n : ℕ) (places places' : List (Option J)) (job : J) → AreFirstJobs n (jobs_of id used faults made places)
+  more_jobs : (n : ℕ) (places places' : List (Option J)) (job : J) → AreFirstJobs n (jobs_of id used faults made places)
       → places' ≡ places ++ Some job ∷ [] → id job ≡ n → used job ≡ 0
       → AreFirstJobs (n + 1) (jobs_of id used faults made places')
   more_jobs n places places' job first is own unused =
@@ -82,6 +85,19 @@ module _ {J : Type 0} (id used faults : J → ℕ) (made : J → Option (ℕ × 
       (sym (ap (jobs_of id used faults made) is
       ∙ map-append (λ place. option_map (λ j. record { id = id j; used = used j; faults = faults j; made = made j }) place) places (Some job ∷ [])))
       (first_jobs-more n (jobs_of id used faults made places) (record { id = id job; used = used job; faults = faults job; made = made job }) first own unused)
+
+  -- before the first job
+  pub no_jobs_made : (room : ℕ) (places : List (Option J)) → room ≡ 256 → places ≡ [] → AreMade 0 room (jobs_of id used faults made places)
+  no_jobs_made room places all none = record { left = omega (arith, all); first = no_jobs places none }
+
+  -- one job more, which has the next number and has worked no tick
+  pub one_more_made : (n room room' : ℕ) (places places' : List (Option J)) (job : J) → AreMade n room (jobs_of id used faults made places)
+      → room' + 1 ≡ room → places' ≡ places ++ Some job ∷ [] → id job ≡ n → used job ≡ 0
+      → AreMade (n + 1) room' (jobs_of id used faults made places')
+  one_more_made n room room' places places' job so_far less is own unused = record {
+    left = let left = so_far.left in omega (arith, left, less);
+    first = more_jobs n places places' job so_far.first is own unused;
+  }
 
 -- with the last gate and the last job all is ready
 pub are_ready : {gates : List (Option GateSeen)} {jobs : List (Option JobSeen)} (n m : ℕ) → 32 ≤ n → 256 ≡ m → AreFirstGates n gates

@@ -1,41 +1,52 @@
 -- What an execution told, and why it stopped, as the clauses of the top call say it.
-use Rattle.std.proofs.Common.{◌≡◌, inl, inr, ℕ, Bool, true, false, List, Option, Some, Result, refl, sym, ◌∙◌, subst, arith}
+use Rattle.std.proofs.Common.{◌≡◌, inl, inr, ℕ, Bool, true, false, List, Option, Some, Result, refl, sym, ◌∙◌, ap, subst, arith}
 use Rattle.std.proofs.Common.{None, Ok, Err}
 use Rattle.std.specs.Prelude.{OnOk, IfErr}
 use Rattle.std.specs.Io.KnownBytes.{Keeps}
 use Rattle.command_words.specs.declared.command.Command.{Command}
 use Rattle.command_words.specs.declared.command.Command.TheVariants.{Read, Batch, Execute}
+use Rattle.command_words.specs.declared.command.Reading.{Reading}
 use Rattle.command_words.specs.declared.command.Execution.{Execution}
 use Rattle.command_words.specs.declared.command.Execution.TheVariants.{Exec, ExecMet, Drill, Jobs, Modes}
-use Rattle.run_tool.specs.declared.refusal.Refusal.{Refusal}
-use Rattle.run_tool.specs.declared.refusal.Refusal.TheVariants as why
-use Rattle.run_tool.specs.declared.status.Status.{Status}
-use Rattle.run_tool.specs.declared.status.Status.TheVariants.{Done}
-use Rattle.command_words.specs.Words.{command_of, execution_of, asks_to_execute}
+use Rattle.still_commands.specs.declared.refusal.Refusal.{Refusal}
+use Rattle.still_commands.specs.declared.refusal.Refusal.TheVariants as why
+use Rattle.still_commands.specs.declared.status.Status.{Status}
+use Rattle.still_commands.specs.declared.status.Status.TheVariants.{Done}
+use Rattle.command_words.specs.Words.{command_of, reading_of, execution_of, asks_to_execute, asks_for_batch, asks_for_threads}
 use Rattle.run_tool.specs.Drill.{drill_text}
-use Rattle.run_tool.specs.Commands.{schedule_rows, output_of, set_limit, WritesSet, RefusesText}
-use Rattle.run_tool.specs.Refusals.{status_of}
-use Rattle.run_tool.specs.Refuse.{IsRefused}
-use Rattle.run_tool.specs.Ends.{Streams, ErrorStream, streams, IsUnread, IsQuiet, IsDone, IsTold, Stops, StopsAs, StopsDrill, Ends}
-use Rattle.command_words.proofs.WordLemmas.{executes, only_execute, not_executing}
+use Rattle.still_commands.specs.Commands.{schedule_rows, of_batch, output_of, set_limit, WritesSet, RefusesText}
+use Rattle.still_commands.specs.Refusals.{status_of}
+use Rattle.still_commands.specs.Refuse.{IsRefused}
+use Rattle.still_commands.specs.Ends.{Streams, ErrorStream, streams, IsUnread, IsQuiet, IsTold, StopsAs, Ends}
+use Rattle.command_words.proofs.WordLemmas.{executes, reads, batches, only_read, only_batch, only_execute}
 use Rattle.run_tool.specs.Executions.{Crew, AreBack, NothingRose}
 use Rattle.run_tool.specs.JobPrograms.{WritesResults, RefusesJobs}
-use Rattle.run_tool.specs.declared.mode_refusal.ModeRefusal.TheVariants as mode
+use Rattle.still_commands.specs.declared.mode_refusal.ModeRefusal.TheVariants as mode
 use Rattle.run_tool.specs.ModeRuns.{WritesModesRun, RefusesModesRun}
 use Rattle.run_tool.specs.ModeTexts.{WritesModes, RefusesModes}
 use Rattle.run_tool.proofs.LoadedLemmas.{rose_loaded}
+use Rattle.run_tool.proofs.ExecutionAnswerLemmas.{IsToldBy, StopsBy, StopsDrill}
 use Rattle.run_tool.specs.Executed.{WritesJobsRun, RefusesJobsRun}
 use Rattle.run_tool.specs.Executed.{WritesRun, RefusesRun, RanDrill, StopsAtDrill, ToldRun, StopsRun, EndsWith, NoneFailed, may_have_run}
 
 pub back_same : (c : Crew) → AreBack c c
 back_same c = record { gates = λ p g at. (g, at, omega arith); jobs = λ i j at. (j, at, refl, omega arith) }
 
--- how a command that executes nothing ends is how each command does
-pub ends_still : (words : List (List ℕ)) (c : Command) (old new : Streams) (err err' : ErrorStream) (b n : Crew) (status : Status)
-    → asks_to_execute words ≡ false → command_of words ≡ Some c → Ends (output_of c) old new err err' status → EndsWith c old new err err' b n status
-ends_still words (Read r) old new err err' b n status asks e ends = ends
-ends_still words Batch old new err err' b n status asks e ends = ends
-ends_still words (Execute x) old new err err' b n status asks e ends = absurd (not_executing words x asks e)
+-- how a command that reads ends is how each command does
+pub ends_reading : (words : List (List ℕ)) (k : Command) (old new : Streams) (err err' : ErrorStream) (b n : Crew) (status : Status)
+    → asks_for_threads words ≡ false → command_of words ≡ Some k
+    → ((r : Reading) → command_of words ≡ Some (Read r) → Ends (output_of r) old new err err' status) → EndsWith k old new err err' b n status
+ends_reading words k old new err err' b n status asks is ends =
+    let (r, own) = only_read (reading_of words) k (sym (reads words asks) ∙ is) in
+    subst (λ (x : Command). EndsWith x old new err err' b n status) own (ends r (is ∙ sym (ap Some own)))
+
+-- so is how `batch` ends
+pub ends_batch : (words : List (List ℕ)) (k : Command) (old new : Streams) (err err' : ErrorStream) (b n : Crew) (status : Status)
+    → asks_for_batch words ≡ true → command_of words ≡ Some k
+    → (command_of words ≡ Some Batch → Ends of_batch old new err err' status) → EndsWith k old new err err' b n status
+ends_batch words k old new err err' b n status asks is ends =
+    let own : k ≡ Batch = only_batch words k (sym (batches words asks) ∙ is) in
+    subst (λ (x : Command). EndsWith x old new err err' b n status) (sym own) (ends (is ∙ ap Some own))
 
 -- what was run was written
 weaker_writes : (met : Bool) (b n : Crew) (bytes : List ℕ) (status : Status) (text : List ℕ) → WritesRun met b n bytes status text
@@ -47,7 +58,7 @@ weaker_told : (met : Bool) (old new : Streams) (b n : Crew) → IsTold set_limit
 weaker_told met old new b n t = record { told = (t.told.0, t.told.1, t.told.2, weaker_writes met b n t.told.0 Done t.told.1 t.told.3, t.told.4) }
 
 -- what a drill ran was written
-drill_told : (number : ℕ) (old new : Streams) (b n : Crew) → ToldRun (Drill number) old new b n → IsDone (output_of (Execute (Drill number))) Done old new
+drill_told : (number : ℕ) (old new : Streams) (b n : Crew) → ToldRun (Drill number) old new b n → IsToldBy (Drill number) Done old new
 drill_told number old new b n t =
     let (unread, ran) = t in
     let (scale, is_scale, took, all) = ran in
@@ -67,7 +78,7 @@ weaker_modes b n bytes status text w = (w.0, (w.1.0, w.1.1, w.1.2))
 modes_told : (old new : Streams) (b n : Crew) → IsTold set_limit (WritesModesRun b n) Done old new → IsTold set_limit WritesModes Done old new
 modes_told old new b n t = record { told = (t.told.0, t.told.1, t.told.2, weaker_modes b n t.told.0 Done t.told.1 t.told.3, t.told.4) }
 
-pub done_is : (e : Execution) (old new : Streams) (b n : Crew) → ToldRun e old new b n → IsDone (output_of (Execute e)) Done old new
+pub done_is : (e : Execution) (old new : Streams) (b n : Crew) → ToldRun e old new b n → IsToldBy e Done old new
 done_is (Exec window) old new b n t = weaker_told false old new b n t
 done_is ExecMet old new b n t = weaker_told true old new b n t
 done_is Jobs old new b n t = jobs_told old new b n t
@@ -148,7 +159,7 @@ modes_stops old new b n (why.OfMode j (mode.NotJoined k)) quiet s = s
 modes_stops old new b n _ quiet s = s
 
 pub stop_is : (e : Execution) (old new : Streams) (b n : Crew) (r : Refusal) → NothingRose b n → StopsRun e old new b n r
-    → Stops (output_of (Execute e)) old new r
+    → StopsBy e old new r
 stop_is (Exec window) old new b n r quiet s = weaker_stops false old new b n r quiet s
 stop_is ExecMet old new b n r quiet s = weaker_stops true old new b n r quiet s
 stop_is Jobs old new b n r quiet s = jobs_stops old new b n r quiet s.0

@@ -5,10 +5,10 @@ use Rattle.sched_base.specs.Sets.{SetContents}
 use Rattle.sched_base.specs.Tables.{row_limit}
 use Rattle.run_tree.specs.Compiled.{tree_of}
 use Rattle.run_tree.specs.Plans.{PlanContents, rounds_of}
-use Rattle.run_tool.specs.declared.refusal.Refusal.{Refusal}
-use Rattle.run_tool.specs.declared.refusal.Refusal.TheVariants as why
-use Rattle.run_tool.specs.Commands.{plan_of, rows_of}
-use Rattle.run_tool.specs.Input.{IsSchedulable}
+use Rattle.still_commands.specs.declared.refusal.Refusal.{Refusal}
+use Rattle.still_commands.specs.declared.refusal.Refusal.TheVariants as why
+use Rattle.still_commands.specs.Commands.{plan_of, rows_of}
+use Rattle.still_commands.specs.Input.{IsSchedulable}
 use Rattle.run_tool.specs.Executions.{Crew}
 use Rattle.run_tool.specs.Executed.{StopsInRun, StopsAtRun}
 

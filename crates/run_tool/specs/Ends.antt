@@ -1,171 +1,43 @@
--- How a call ends: what was read, what was written, and why.
-use Rattle.std.specs.Prelude.{◌≡◌, ◌⊎◌, ℕ, ◌+◌, ◌≤◌, ◌<◌, List, length, Some, None}
-use Rattle.std.specs.declared.option.Option.{Option}
-use Rattle.std.specs.Io.KnownBytes.{Appends, Keeps}
+-- How a call of any command ends: what was read and written. What an execution does with the gates and the jobs is said beside.
+use Rattle.std.specs.Prelude.{◌≡◌, ◌⊎◌, ℕ, true, false, List, Option, Some}
+use Rattle.std.specs.Io.KnownBytes.{Appends}
 use Rattle.sched_edges.specs.Causes.{Rose}
-use Rattle.sched_edges.specs.declared.streams.Source.{Ghosts as SourceTells}
-use Rattle.sched_edges.specs.declared.streams.Sink.{Ghosts as SinkTells}
-use Rattle.sched_edges.specs.Streams.{GaveAll, GaveAtMost, GaveCount, TookPart}
 use Rattle.command_words.specs.declared.command.Command.{Command}
-use Rattle.run_tool.specs.declared.refusal.Refusal.{Refusal}
-use Rattle.run_tool.specs.declared.refusal.Refusal.TheVariants as why
-use Rattle.run_tool.specs.declared.status.Status.{Status}
-use Rattle.run_tool.specs.declared.status.Status.TheVariants.{Done, Invalid, Usage, NoMemory, BadInput, Overload, ScaleTooLarge, TooLong, InputTooLong}
-use Rattle.run_tool.specs.declared.status.Status.TheVariants.{ModeFault, BadTree, TooWide}
-use Rattle.sched_base.specs.Sets.{SetContents}
-use Rattle.sched_base.specs.Scale.{Fits}
+use Rattle.command_words.specs.declared.command.Command.TheVariants.{Read, Batch, Execute}
+use Rattle.command_words.specs.declared.command.Execution.{Execution}
+use Rattle.command_words.specs.declared.command.Execution.TheVariants.{Exec, ExecMet, Drill}
+use Rattle.still_commands.specs.declared.status.Status.{Status}
+use Rattle.still_commands.specs.declared.status.Status.TheVariants.{Done, NoMemory}
+use Rattle.still_commands.specs.Commands.{of_batch, output_of, set_limit}
+use Rattle.still_commands.specs.SetTexts.{schedule_rows, WritesSoundly}
+use Rattle.still_commands.specs.Ends.{Streams, IsUnread, IsTold, IsDoneSoundly, AnswersAs, IsAnswered}
 use Rattle.run_tool.specs.Drill.{WritesDrill}
-use Rattle.run_tool.specs.Commands.{SetText, Output, of_drill, output_of, limit_of, ReadsSet, Writes, CallsFor, Refuses, IsSound}
-use Rattle.run_tool.specs.Commands.{of_set, of_tree, set_limit}
-use Rattle.run_tool.specs.SetTexts.{WritesSoundly}
-use Rattle.run_tool.specs.Follow.{WritesFollowed}
-use Rattle.run_tool.specs.Refusals.{status_of, refusal_line}
-
--- the source and `out` at one moment; content is None where a stream doesn't tell it
-pub record Streams : Type 0 where
-  -- the bytes that the source has still to give
-  pub left : Option (List ℕ)
-  pub read_faults : ℕ
-  -- the bytes that `out` took
-  pub out : Option (List ℕ)
-  pub out_faults : ℕ
-
--- what contracts see of the source and `out`
-abbrev pub streams : Option (List ℕ) → ℕ → Option (List ℕ) → ℕ → Streams
-streams left read_faults out out_faults = record {
-  left = left;
-  read_faults = read_faults;
-  out = out;
-  out_faults = out_faults;
-}
-
--- what a source and a sink tell
-abbrev pub streams_of : {R W : Type 0} → SourceTells R → SinkTells W → R → W → Streams
-streams_of source_tells out_tells source out =
-    streams (source_tells.left source) (source_tells.faults source) (out_tells.taken out) (out_tells.faults out)
-
--- what contracts see of `err`
-pub record ErrorStream : Type 0 where
-  pub taken : Option (List ℕ)
-  pub faults : ℕ
-
-abbrev pub error_stream : Option (List ℕ) → ℕ → ErrorStream
-error_stream taken faults = record { taken = taken; faults = faults }
-
--- what the sink tells
-abbrev pub error_of : {E : Type 0} → SinkTells E → E → ErrorStream
-error_of tells err = error_stream (tells.taken err) (tells.faults err)
-
--- nothing was read, and the source didn't fail
-pub record IsUnread (old new : Streams) : Type 0 where
-  pub left : Keeps old.left new.left
-  pub faults : new.read_faults ≡ old.read_faults
-
--- nothing was written to `err`
-pub record IsQuiet (old new : ErrorStream) : Type 0 where
-  pub taken : Keeps old.taken new.taken
-  pub faults : new.faults ≡ old.faults
-
--- `err` took this line, or a first part of it where it failed; whether it failed changes nothing else
-pub record Tells (old new : ErrorStream) (line : List ℕ) : Type 0 where
-  pub told : Appends old.taken new.taken line ⊎ (TookPart old.taken new.taken line × Rose old.faults new.faults)
-
--- the source was read to its end, and `out` took the whole text that is written for its bytes with this status
-pub record IsTold (limit : ℕ) (Writes : List ℕ → Status → List ℕ → Type 0) (status : Status) (old new : Streams) : Type 0 where
-  pub told : (bytes text : List ℕ) × GaveAll old.left new.left limit bytes × Writes bytes status text × Appends old.out new.out text
-
--- why a text wasn't written, or not all of it, and what `out` took
-abbrev pub StopsAs : ℕ → (List ℕ → Status → List ℕ → Type 0) → (List ℕ → Refusal → Type 0) → Streams → Streams → Refusal → Type 0
-StopsAs limit Writes Refuses old new why.Usage = ⊥
-StopsAs limit Writes Refuses old new why.ReadFault =
-    Rose old.read_faults new.read_faults × GaveAtMost old.left new.left limit × Keeps old.out new.out
-StopsAs limit Writes Refuses old new (why.InputTooLong count) = (count ≡ limit + 1) × GaveCount old.left new.left count × Keeps old.out new.out
-StopsAs limit Writes Refuses old new why.NoMemory = Keeps old.out new.out
-StopsAs limit Writes Refuses old new why.WriteFault =
-    (bytes text : List ℕ) × (status : Status) × GaveAll old.left new.left limit bytes × Writes bytes status text
-    × TookPart old.out new.out text × Rose old.out_faults new.out_faults
-StopsAs limit Writes Refuses old new refusal =
-    (bytes : List ℕ) × GaveAll old.left new.left limit bytes × Refuses bytes refusal × Keeps old.out new.out
+use Rattle.run_tool.specs.Commands.{WritesExecution, CallsForExecution, RefusesExecution}
 
 -- nothing was read, and `out` took the whole text of a drill
 pub record IsDrilled (number : ℕ) (status : Status) (old new : Streams) : Type 0 where
   pub unread : IsUnread old new
   pub told : (text : List ℕ) × WritesDrill number status text × Appends old.out new.out text
 
--- why a drill stopped, and what `out` took of its text; nothing was read
-abbrev pub StopsDrill : ℕ → Streams → Streams → Refusal → Type 0
-StopsDrill number old new why.NoMemory = IsUnread old new × Keeps old.out new.out
-StopsDrill number old new why.WriteFault =
-    IsUnread old new × ((text : List ℕ) × WritesDrill number Done text × TookPart old.out new.out text) × Rose old.out_faults new.out_faults
-StopsDrill number old new _ = ⊥
+-- an execution told all that there is to tell, with this status: `out` took the whole text, and what it tells of a set is sound
+abbrev pub IsExecutionDone : Execution → Status → Streams → Streams → Type 0
+IsExecutionDone (Exec window) status old new = IsTold set_limit (WritesSoundly (schedule_rows false)) status old new
+IsExecutionDone ExecMet status old new = IsTold set_limit (WritesSoundly (schedule_rows true)) status old new
+IsExecutionDone (Drill number) status old new = IsDrilled number status old new
+IsExecutionDone e status old new = IsTold set_limit (WritesExecution e) status old new
 
--- all was told that there is to tell, with this status: `out` took the whole text
-abbrev pub IsDone : Output → Status → Streams → Streams → Type 0
-IsDone (of_drill number) status old new = IsDrilled number status old new
-IsDone output status old new = IsTold (limit_of output) (Writes output) status old new
+-- a command told all that there is to tell, with this status, and what the text tells of a set or of a tree is sound
+abbrev pub IsCommandDone : Command → Status → Streams → Streams → Type 0
+IsCommandDone (Read reading) status old new = IsDoneSoundly (output_of reading) status old new
+IsCommandDone Batch status old new = IsDoneSoundly of_batch status old new
+IsCommandDone (Execute e) status old new = IsExecutionDone e status old new
 
--- the same, and what the text tells of a set or of a tree is sound
-abbrev pub IsDoneSoundly : Output → Status → Streams → Streams → Type 0
-IsDoneSoundly (of_set what) status old new = IsTold set_limit (WritesSoundly what) status old new
-IsDoneSoundly of_tree status old new = IsTold set_limit WritesFollowed status old new
-IsDoneSoundly output status old new = IsDone output status old new
-
--- why a command that tells this stopped, and what `out` took of its text
-abbrev pub Stops : Output → Streams → Streams → Refusal → Type 0
-Stops (of_drill number) old new refusal = StopsDrill number old new refusal
-Stops output old new refusal = StopsAs (limit_of output) (Writes output) (Refuses output) old new refusal
-
--- what is told of each set that fits is sound
-abbrev pub IsAlwaysSound : SetText → Type 0
-IsAlwaysSound what = (bytes : List ℕ) (s : SetContents) (scale : ℕ) → ReadsSet bytes s scale → Fits scale s → IsSound what s scale
-
--- how a command that tells this ends with this status, and what `err` took
-abbrev pub Ends : Output → Streams → Streams → ErrorStream → ErrorStream → Status → Type 0
-Ends output old new err err' Done = IsDone output Done old new × IsQuiet err err'
-Ends output old new err err' Invalid = IsDone output Invalid old new × IsQuiet err err'
-Ends output old new err err' status =
-    (refusal : Refusal) × (status_of refusal ≡ status) × Stops output old new refusal × Tells err err' (refusal_line refusal)
-
--- words that are no command line: nothing was read or written, and `err` took the line that says so, or that there was no memory to
--- read the words
-pub record IsUsage (old new : Streams) (err err' : ErrorStream) (status : Status) : Type 0 where
-  pub unread : IsUnread old new
-  pub out : Keeps old.out new.out
-  pub out_faults : new.out_faults ≡ old.out_faults
-  pub line : ((status ≡ Usage) × Tells err err' (refusal_line why.Usage)) ⊎ ((status ≡ NoMemory) × Tells err err' (refusal_line why.NoMemory))
-
--- these bytes are refused with this status
-abbrev pub Refused : Output → List ℕ → Status → Type 0
-Refused output bytes status =
-    (length bytes ≤ limit_of output) × ((refusal : Refusal) × (status_of refusal ≡ status) × Refuses output bytes refusal)
-
--- the answer for these bytes, where nothing fails and memory is there
-abbrev pub IsAnswer : Output → List ℕ → Status → Type 0
-IsAnswer output bytes Done = (length bytes ≤ limit_of output) × CallsFor output bytes Done
-IsAnswer output bytes Invalid = (length bytes ≤ limit_of output) × CallsFor output bytes Invalid
-IsAnswer output bytes InputTooLong = limit_of output < length bytes
-IsAnswer output bytes BadInput = Refused output bytes BadInput
-IsAnswer output bytes Overload = Refused output bytes Overload
-IsAnswer output bytes ScaleTooLarge = Refused output bytes ScaleTooLarge
-IsAnswer output bytes TooLong = Refused output bytes TooLong
-IsAnswer output bytes ModeFault = Refused output bytes ModeFault
-IsAnswer output bytes BadTree = Refused output bytes BadTree
-IsAnswer output bytes TooWide = Refused output bytes TooWide
-IsAnswer output bytes _ = ⊥
-
--- where the source tells its bytes and nothing fails, their answer is given, or memory was refused
-abbrev pub AnswersBytes : Output → Option (List ℕ) → Streams → Streams → Status → Type 0
-AnswersBytes output None old new status = Unit {0}
-AnswersBytes output (Some bytes) old new status =
-    ¬ (Rose old.read_faults new.read_faults) → ¬ (Rose old.out_faults new.out_faults) →
-    (answer : Status) → IsAnswer output bytes answer → (status ≡ answer) ⊎ (status ≡ NoMemory)
-
--- a command that reads answers its bytes. A drill reads none: where nothing fails it is done, or memory was refused
-abbrev pub Answers : Output → Option (List ℕ) → Streams → Streams → Status → Type 0
-Answers (of_drill number) left old new status = ¬ (Rose old.out_faults new.out_faults) → (status ≡ Done) ⊎ (status ≡ NoMemory)
-Answers output left old new status = AnswersBytes output left old new status
+-- an execution answers its bytes. A drill reads none: where nothing fails it is done, or memory was refused
+abbrev pub ExecutionAnswers : Execution → Option (List ℕ) → Streams → Streams → Status → Type 0
+ExecutionAnswers (Drill number) left old new status = ¬ (Rose old.out_faults new.out_faults) → (status ≡ Done) ⊎ (status ≡ NoMemory)
+ExecutionAnswers e left old new status = AnswersAs set_limit (CallsForExecution e) (RefusesExecution e) left old new status
 
 -- the command that was asked for, if one was, answers
-abbrev pub IsAnswered : Option Command → Option (List ℕ) → Streams → Streams → Status → Type 0
-IsAnswered None left old new status = Unit {0}
-IsAnswered (Some c) left old new status = Answers (output_of c) left old new status
+abbrev pub IsCommandAnswered : Option Command → Option (List ℕ) → Streams → Streams → Status → Type 0
+IsCommandAnswered (Some (Execute e)) left old new status = ExecutionAnswers e left old new status
+IsCommandAnswered asked left old new status = IsAnswered asked left old new status

@@ -10,19 +10,19 @@ use Rattle.job_vm.specs.Programs.{JobTextHeld}
 use Rattle.job_vm.specs.Loading.{loaded}
 use Rattle.run_tool.specs.JobPrograms.{ReadsJobs, IsJobsToRun, result_text, RefusesJobs}
 use Rattle.command_words.specs.declared.command.Command.{Command}
-use Rattle.command_words.specs.declared.command.Command.TheVariants.{Execute}
+use Rattle.command_words.specs.declared.command.Command.TheVariants.{Read, Batch, Execute}
 use Rattle.command_words.specs.declared.command.Execution.{Execution}
 use Rattle.command_words.specs.declared.command.Execution.TheVariants.{Exec, ExecMet, Drill, Jobs, Modes}
-use Rattle.run_tool.specs.declared.refusal.Refusal.{Refusal}
-use Rattle.run_tool.specs.declared.refusal.Refusal.TheVariants as why
-use Rattle.run_tool.specs.declared.status.Status.{Status}
-use Rattle.run_tool.specs.declared.status.Status.TheVariants.{Done, WriteFault, NoMemory, GateFault, JobFault}
-use Rattle.run_tool.specs.Commands.{schedule_rows, output_of, set_limit, ReadsSet, HasRoom, text_of, plan_of, RefusesText}
-use Rattle.run_tool.specs.Refusals.{status_of, refusal_line}
+use Rattle.still_commands.specs.declared.refusal.Refusal.{Refusal}
+use Rattle.still_commands.specs.declared.refusal.Refusal.TheVariants as why
+use Rattle.still_commands.specs.declared.status.Status.{Status}
+use Rattle.still_commands.specs.declared.status.Status.TheVariants.{Done, WriteFault, NoMemory, GateFault, JobFault}
+use Rattle.still_commands.specs.Commands.{schedule_rows, of_batch, output_of, set_limit, ReadsSet, HasRoom, text_of, plan_of, RefusesText}
+use Rattle.still_commands.specs.Refusals.{status_of, refusal_line}
 use Rattle.run_tool.specs.Drill.{drilled, drill_plan, IsDrill, drill_text}
-use Rattle.run_tool.specs.Ends.{Streams, ErrorStream, IsUnread, IsQuiet, Tells, IsTold, StopsAs, Ends}
+use Rattle.still_commands.specs.Ends.{Streams, ErrorStream, IsUnread, IsQuiet, Tells, IsTold, StopsAs, Ends}
 use Rattle.run_tree.specs.Plans.{PlanContents}
-use Rattle.run_tool.specs.Input.{IsSchedulable, IsRefusedSet, IsTooLongSet}
+use Rattle.still_commands.specs.Input.{IsSchedulable, IsRefusedSet, IsTooLongSet}
 use Rattle.run_tool.specs.Executions.{Crew, RanAll, GateStopped, JobStopped, NothingRose, name_at}
 use Rattle.run_tool.specs.ModeRuns.{WritesModesRun, RefusesModesRun, MayHaveRun}
 
@@ -167,8 +167,9 @@ EndsRun e old new err err' before now status =
 
 -- how each command ends with this status, and what the gates and the jobs did
 abbrev pub EndsWith : Command → Streams → Streams → ErrorStream → ErrorStream → Crew → Crew → Status → Type 0
+EndsWith (Read reading) old new err err' before now status = Ends (output_of reading) old new err err' status
+EndsWith Batch old new err err' before now status = Ends of_batch old new err err' status
 EndsWith (Execute e) old new err err' before now status = EndsRun e old new err err' before now status
-EndsWith c old new err err' before now status = Ends (output_of c) old new err err' status
 
 -- no gate and no job failed, where the command calls any
 abbrev pub NoneFailed : Option Command → Crew → Crew → Type 0

@@ -8,19 +8,19 @@ use Rattle.run_tree.specs.Plans.{PlanContents, schedule_of}
 use Rattle.task_reader.specs.declared.refusals.ReadSet.{ReadSet}
 use Rattle.task_reader.specs.Pieces.{pieces_of}
 use Rattle.task_reader.specs.Reading.{set_read_from}
-use Rattle.mode_switch.specs.declared.mode.Mode.{Mode}
-use Rattle.mode_switch.specs.Joining.{CanBeJoined, IsRefused}
-use Rattle.mode_switch.specs.Modes.{ModesContents, AreModes, PeriodsEndIn, sets_of}
+use Rattle.mode_join.specs.declared.mode.Mode.{Mode}
+use Rattle.mode_join.specs.Joining.{CanBeJoined, IsRefused}
+use Rattle.mode_join.specs.Modes.{ModesContents, AreModes, PeriodsEndIn, sets_of}
 use Rattle.trace_lines.specs.declared.versions.Version.TheVariants.{One}
 use Rattle.trace_lines.specs.Merging.{merged_lanes}
 use Rattle.trace_lines.specs.Text.{trace_text}
-use Rattle.run_tool.specs.declared.mode_refusal.ModeRefusal.{ModeRefusal}
-use Rattle.run_tool.specs.declared.mode_refusal.ModeRefusal.TheVariants as mode
-use Rattle.run_tool.specs.declared.refusal.Refusal.{Refusal}
-use Rattle.run_tool.specs.declared.refusal.Refusal.TheVariants.{OfMode}
-use Rattle.run_tool.specs.declared.status.Status.{Status}
-use Rattle.run_tool.specs.Numbered.{numbered}
-use Rattle.run_tool.specs.declared.status.Status.TheVariants.{Done}
+use Rattle.still_commands.specs.declared.mode_refusal.ModeRefusal.{ModeRefusal}
+use Rattle.still_commands.specs.declared.mode_refusal.ModeRefusal.TheVariants as mode
+use Rattle.still_commands.specs.declared.refusal.Refusal.{Refusal}
+use Rattle.still_commands.specs.declared.refusal.Refusal.TheVariants.{OfMode}
+use Rattle.still_commands.specs.declared.status.Status.{Status}
+use Rattle.still_commands.specs.Numbered.{numbered}
+use Rattle.still_commands.specs.declared.status.Status.TheVariants.{Done}
 
 -- ---- what is read
 

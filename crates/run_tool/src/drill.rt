@@ -14,7 +14,6 @@ ghost use Rattle.run_tool.specs.Executions.{crew_of, IsFreshCrew, AreBack};
 ghost use Rattle.run_tool.specs.Executed.{RanDrill, StopsAtDrill};
 
 use crate::exec::run_plan;
-use crate::refusal::Refusal;
 use crate::summary::{Summary, summary_of, write_summary};
 use command_words::USUAL_WINDOW;
 use event_core::{CountFault, count_rounds};
@@ -27,6 +26,7 @@ use sched_edges::{BoxedJob, Gate, Job, Jobs, Sink};
 use std::alloc::Global;
 use std::sync::Wait;
 use std::thread::Threads;
+use still_commands::Refusal;
 use task_gen::{drill_law, make, words_of};
 use trace_check::{ReadTrace, merged_law};
 

@@ -1,22 +1,18 @@
 //! The command `exec`.
 ghost use Rattle.std.specs.Prelude.{◌≡◌, ◌≤◌, ◌*◌, false, length, OnOk, IfErr, IfOk};
 ghost use Rattle.sched_base.specs.Tables.{rounds_of as rounds_in};
-ghost use Rattle.run_tree.specs.Plans.{rounds_of};
 ghost use Rattle.sched_base.specs.Tables.{row_limit};
 ghost use Rattle.sched_base.specs.Lanes.{NamesOneOf};
 ghost use Rattle.row_totals.specs.Sums.{totals_of};
-ghost use Rattle.exec_book.specs.PlanRows.{IsCompiled, plan_rows};
-ghost use Rattle.run_tool.specs.Commands.{set_limit};
-ghost use Rattle.run_tool.specs.Refusals.{status_of};
-ghost use Rattle.run_tool.specs.Ends.{streams_of, IsTold, StopsAs};
+ghost use Rattle.exec_book.specs.PlanRows.{plan_rows};
+ghost use Rattle.exec_workers.specs.Runs.{IsExecutable};
+ghost use Rattle.still_commands.specs.Commands.{set_limit};
+ghost use Rattle.still_commands.specs.Refusals.{status_of};
+ghost use Rattle.still_commands.specs.Ends.{streams_of, IsTold, StopsAs};
 ghost use Rattle.run_tool.specs.Executions.{crew_of, IsFreshCrew, AreBack, RanAll, name_at};
 ghost use Rattle.run_tool.specs.Executed.{WritesRun, RefusesRun, RanSet, StopsAtRun, StopsInRun, may_have_called};
-ghost use Rattle.run_tool.specs.declared.status.Status.TheVariants.{Done};
+ghost use Rattle.still_commands.specs.declared.status.Status.TheVariants.{Done};
 
-use crate::input::read_input;
-use crate::plan::plan_of;
-use crate::refusal::Refusal;
-use crate::trace::write_rows;
 use event_core::count_rounds;
 use exec_workers::{ExecFault, Executed, Kit, execute};
 use round_table::table_law;
@@ -26,6 +22,7 @@ use sched_edges::{BoxedJob, Gate, Job, Jobs, Sink, Source};
 use std::alloc::Global;
 use std::sync::Wait;
 use std::thread::Threads;
+use still_commands::{Refusal, plan_of, read_input, write_rows};
 
 /// Reads a task set, has the gates and the jobs run its schedule, and writes it; in version 2 where `met` is asked for or some
 /// task is released late. A lane may run up to `window` rounds ahead of the others.
@@ -100,11 +97,7 @@ pub(crate) fn run_plan<G: Gate + Send, X: Threads + Wait + Sync>(
     kits: &mut Vec<Kit<G>>,
     jobs: &mut Jobs,
 ) -> Result<Executed, Refusal>
-    requires compiled { IsCompiled plan.now }
-    requires rounds { rounds ≡ rounds_of plan.now }
-    requires few { rounds * plan.now.tree.processors ≤ row_limit }
-    requires some_window { 1 ≤ window }
-    requires small_window { window ≤ 1024 }
+    requires executable { IsExecutable plan.now rounds window }
     requires ready { IsFreshCrew (crew_of G.Gate ⟦<BoxedJob as Job>⟧ kits.old jobs.old) }
     ensures ran { OnOk result (RanAll plan.now (crew_of G.Gate ⟦<BoxedJob as Job>⟧ kits.old jobs.old)
         (crew_of G.Gate ⟦<BoxedJob as Job>⟧ kits.new jobs.new)) }

@@ -1,7 +1,7 @@
 //! The command `jobs`.
 ghost use Rattle.std.specs.Prelude.{◌≡◌, false, OnOk, IfErr, IfOk};
-ghost use Rattle.run_tool.specs.Refusals.{status_of};
-ghost use Rattle.run_tool.specs.Ends.{streams_of};
+ghost use Rattle.still_commands.specs.Refusals.{status_of};
+ghost use Rattle.still_commands.specs.Ends.{streams_of};
 ghost use Rattle.run_tool.specs.Executions.{crew_of, IsFreshCrew, AreBack};
 ghost use Rattle.run_tool.specs.Executed.{ToldRun, StopsRun, may_have_run};
 ghost use Rattle.run_tool.specs.JobInput.{GaveJobs, GaveNoJobs, RanJobs, StopsAtJobs};
@@ -9,9 +9,6 @@ ghost use Rattle.command_words.specs.declared.command.Command.TheVariants.{Execu
 ghost use Rattle.command_words.specs.declared.command.Execution.TheVariants.{Jobs};
 
 use crate::exec::run_plan;
-use crate::input::SET_LIMIT;
-use crate::plan::plan_of;
-use crate::refusal::Refusal;
 use command_words::USUAL_WINDOW;
 use event_core::count_rounds;
 use exec_workers::Kit;
@@ -21,6 +18,7 @@ use sched_edges::{BoxedJob, Gate, Job, Jobs, Sink, Source, read_all};
 use std::alloc::Global;
 use std::sync::Wait;
 use std::thread::Threads;
+use still_commands::{Refusal, SET_LIMIT, plan_of};
 use task_reader::read_set;
 
 /// Reads a job text, loads each task's program into its job, has the gates and the jobs run the schedule of the set, and writes

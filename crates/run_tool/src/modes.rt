@@ -3,22 +3,19 @@ ghost use Rattle.std.specs.Prelude.{◌≡◌, ◌≤◌, false, length, IfOk, I
 ghost use Rattle.std.specs.List.{AllZip};
 ghost use Rattle.mode_switch.specs.Runs.{IsRunOf};
 ghost use Rattle.task_reader.specs.Reading.{set_read_from};
-ghost use Rattle.run_tool.specs.Commands.{set_limit};
-ghost use Rattle.run_tool.specs.Ends.{streams_of};
+ghost use Rattle.still_commands.specs.Commands.{set_limit};
+ghost use Rattle.still_commands.specs.Ends.{streams_of};
 ghost use Rattle.run_tool.specs.Executed.{ToldRun, StopsRun, may_have_run};
 ghost use Rattle.run_tool.specs.Executions.{crew_of, IsFreshCrew, AreBack};
 ghost use Rattle.run_tool.specs.ModeInput.{GaveModes, GaveNoModes, RefusesPiece, RefusesPieces};
 ghost use Rattle.run_tool.specs.ModeRuns.{RanThrough, StopsInModes};
 ghost use Rattle.run_tool.specs.ModeTexts.{ReadsSets};
-ghost use Rattle.run_tool.specs.Refusals.{status_of};
+ghost use Rattle.still_commands.specs.Refusals.{status_of};
 ghost use Rattle.command_words.specs.declared.command.Command.TheVariants.{Execute};
 ghost use Rattle.command_words.specs.declared.command.Execution.TheVariants.{Modes as TheModes};
 
 use crate::exec::name_at;
-use crate::input::SET_LIMIT;
-use crate::mode_refusal::ModeRefusal;
 use crate::mode_text::write_modes;
-use crate::refusal::Refusal;
 use command_words::USUAL_WINDOW;
 use exec_workers::Kit;
 use mode_switch::{Modes, ModesFault, ModesRun, run_modes};
@@ -28,6 +25,7 @@ use sched_edges::{BoxedJob, Gate, Job, Jobs, Sink, Source, read_all};
 use std::alloc::Global;
 use std::sync::Wait;
 use std::thread::Threads;
+use still_commands::{ModeRefusal, Refusal, SET_LIMIT};
 use task_reader::{ReadSet, cut, pieces_law, read_set};
 
 /// Reads task sets, has the gates and the jobs run their schedules as modes, one after the other, and writes them. In each mode a

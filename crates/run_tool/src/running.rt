@@ -1,32 +1,28 @@
 //! The top call, with the runtime, the gates and the jobs.
 ghost use Rattle.std.specs.Prelude.{◌≡◌, ◌≢◌, ◌↔◌, false, map, string_bytes, None, Some, OnOk, IfErr};
 ghost use Rattle.command_words.specs.Words.{command_of, asks_to_execute, HasWindow};
-ghost use Rattle.run_tool.specs.Commands.{of_trace, output_of};
-ghost use Rattle.run_tool.specs.Refusals.{status_of};
-ghost use Rattle.run_tool.specs.Ends.{streams_of, error_of, IsDone, IsDoneSoundly, IsUsage, IsAnswered};
+ghost use Rattle.still_commands.specs.Commands.{of_trace};
+ghost use Rattle.still_commands.specs.Refusals.{status_of};
+ghost use Rattle.still_commands.specs.Ends.{streams_of, error_of, IsDone, IsUsage};
+ghost use Rattle.run_tool.specs.Ends.{IsCommandDone, IsCommandAnswered};
 ghost use Rattle.run_tool.specs.Executions.{crew_of, IsFreshCrew, AreBack};
 ghost use Rattle.run_tool.specs.Executed.{ToldRun, StopsRun, EndsWith, NoneFailed, may_have_run};
 ghost use Rattle.command_words.specs.declared.command.Command.{Command};
 ghost use Rattle.command_words.specs.declared.command.Command.TheVariants.{Read, Execute};
 ghost use Rattle.command_words.specs.declared.command.Reading.TheVariants.{Check};
-ghost use Rattle.run_tool.specs.declared.status.Status.TheVariants.{Done, Invalid};
+ghost use Rattle.still_commands.specs.declared.status.Status.TheVariants.{Done, Invalid};
 
-use crate::batch::run_batch;
 use crate::drill::drill;
 use crate::exec::exec;
 use crate::jobs::run_jobs;
 use crate::modes::modes;
-use crate::refusal::Refusal;
-use crate::refusal_line::refuse;
-use crate::sound::{follow_law, sound_law};
-use crate::status::Status;
-use crate::top::run_still;
 use command_words::{Execution, USUAL_WINDOW, asks_for_batch, asks_to_execute, execution_of};
 use exec_workers::Kit;
 use sched_edges::{BoxedJob, Gate, Job, Jobs, Sink, Source};
 use std::alloc::Global;
 use std::sync::Wait;
 use std::thread::Threads;
+use still_commands::{Refusal, Status, follow_law, refuse, run_batch, run_still, sound_law};
 
 /// Does what the words, those after the program's name, ask for: reads the source, writes the whole text to `out`, or one line
 /// that says why not to `err`. `exec` has the gates of the kits and the jobs run the schedule of the set before its text is
@@ -58,7 +54,7 @@ pub fn run<R: Source, W: Sink, E: Sink, G: Gate + Send, X: Threads + Wait + Sync
 
     // Done: `out` took exactly the text that the command writes for the bytes that the source gave, and what it tells of a set
     // or of a tree is sound: a tree is a reduction tree of its set, and a schedule is valid. For a drill the source gave none.
-    ensures done { result ≡ Status.Done → (c : Command) × (command_of (map string_bytes words.now) ≡ Some c) × IsDoneSoundly (output_of c) Done
+    ensures done { result ≡ Status.Done → (c : Command) × (command_of (map string_bytes words.now) ≡ Some c) × IsCommandDone c Done
         (streams_of R.Source W.Sink source.old out.old) (streams_of R.Source W.Sink source.new out.new) }
 
     // Invalid: `check` read a trace whose rows aren't a valid schedule, and `out` took exactly the line that says where and why.
@@ -91,7 +87,7 @@ pub fn run<R: Source, W: Sink, E: Sink, G: Gate + Send, X: Threads + Wait + Sync
     // Where nothing fails that the command calls, the answer for the bytes is given.
     ensures answered { NoneFailed (command_of (map string_bytes words.now)) (crew_of G.Gate ⟦<BoxedJob as Job>⟧ kits.old jobs.old)
         (crew_of G.Gate ⟦<BoxedJob as Job>⟧ kits.new jobs.new)
-        → IsAnswered (command_of (map string_bytes words.now)) (R.left source.old)
+        → IsCommandAnswered (command_of (map string_bytes words.now)) (R.left source.old)
         (streams_of R.Source W.Sink source.old out.old) (streams_of R.Source W.Sink source.new out.new) result }
 {
     sound_law();

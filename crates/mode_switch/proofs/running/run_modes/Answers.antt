@@ -1,14 +1,14 @@
 use Rattle.std.proofs.Common.{◌≡◌, ◌+◌, ◌≤◌, ◌<◌, [], ◌∷◌, Err, length, length-append, take, sym, ap, subst, arith}
 use Rattle.sched_base.specs.Tables.{row_limit}
 use Rattle.run_tree.specs.Plans.{PlanContents}
-use Rattle.mode_switch.proofs.ModeLemmas.{few_modes}
+use Rattle.mode_join.proofs.ModeLemmas.{few_modes}
 use Rattle.mode_switch.proofs.RunLemmas.{all_get, next_mode, modes_back, filled_after, own_after, stopped_in, ran_more, run_through, ran_first, names_risen, are_back}
 use Rattle.mode_switch.proofs.running.run_modes.Goals as goal
 
-pub run_mode-requires-clause-few : goal.run_mode-requires-clause-few
-run_mode-requires-clause-few g c κs within =
+pub run_mode-requires-clause-executable : goal.run_mode-requires-clause-executable
+run_mode-requires-clause-executable g c κs within =
     let next = next_mode c.args.modes.now c.count.ensures.lawful c.loop-j.j c.plan.result.now c.rounds.result c.plan.ensures.value c.rounds.ensures.value in
-    next.few
+    record { compiled = next.compiled; rounds = next.count; few = next.few; some_window = c.requires.some_window; small_window = c.requires.small_window }
 
 pub run_mode-requires-clause-kits : goal.run_mode-requires-clause-kits
 run_mode-requires-clause-kits g c κs within =

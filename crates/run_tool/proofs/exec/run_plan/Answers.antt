@@ -37,7 +37,7 @@ pub returns-in-Ok-clause-few : goal.returns-in-Ok-clause-few
 returns-in-Ok-clause-few g c = few_rows c.args.plan.now c.know_lawful.ensures.lawful c.in-Ok.executed.table.lanes
     (rows_by _ _ _ _ _ _ c.args.plan.now _ _ _ _ c.know_lawful.ensures.lawful c.requires.ready
     (c.table_law.ensures.lanes c.args.plan.now c.know_lawful.ensures.lawful) c.execute.result c.execute.ensures.outcome c.in-Ok.executed c.in-Ok.is)
-    c.args.rounds c.requires.rounds c.requires.few
+    c.args.rounds c.requires.executable.rounds c.requires.executable.few
 
 pub returns-in-Ok-clause-back : goal.returns-in-Ok-clause-back
 returns-in-Ok-clause-back g c = back_by _ _ _ _ _ _ c.args.plan.now _ _ _ _ c.execute.result c.execute.ensures.outcome

@@ -1,5 +1,5 @@
 use Rattle.std.proofs.lemmas.Result.{IfErr-weaker}
-use Rattle.run_tool.specs.Ends.{streams}
+use Rattle.still_commands.specs.Ends.{streams}
 use Rattle.run_tool.proofs.JobRunLemmas.{jobs_stopped}
 use Rattle.run_tool.proofs.jobs.run_jobs.Goals as goal
 

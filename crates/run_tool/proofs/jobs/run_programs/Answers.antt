@@ -1,8 +1,8 @@
 use Rattle.std.proofs.Common.{◌≤◌, ◌<◌, ap, subst, take, length}
 use Rattle.std.proofs.lemmas.Result.{err_from_is_err_and}
 use Rattle.sched_base.specs.Sets.{SetContents}
-use Rattle.run_tool.specs.declared.refusal.Refusal.{Refusal}
-use Rattle.run_tool.specs.Refusals.{status_of}
+use Rattle.still_commands.specs.declared.refusal.Refusal.{Refusal}
+use Rattle.still_commands.specs.Refusals.{status_of}
 use Rattle.run_tool.specs.Executed.{may_have_called}
 use Rattle.run_tool.proofs.CrewEndLemmas.{jobs_fresh}
 use Rattle.run_tool.proofs.LoadedLemmas.{ready_at, back_at, back_by_run, crew_left, jobs_there}

@@ -2,9 +2,9 @@ use Rattle.std.proofs.Common.{◌≡◌, ◌∙◌, true, false, Some, sym, ap}
 use Rattle.std.proofs.lemmas.Result.{IfErr-weaker}
 use Rattle.command_words.specs.declared.command.Command.TheVariants.{Execute}
 use Rattle.command_words.specs.declared.command.Execution.{Execution}
-use Rattle.run_tool.specs.Ends.{streams}
+use Rattle.still_commands.specs.Ends.{streams}
 use Rattle.run_tool.specs.Executed.{may_have_run}
-use Rattle.run_tool.specs.Refusals.{status_of}
+use Rattle.still_commands.specs.Refusals.{status_of}
 use Rattle.run_tool.proofs.RunLemmas.{unread_same, drill_done, drill_stopped, drill_ran}
 use Rattle.run_tool.proofs.running.perform.Goals as goal
 

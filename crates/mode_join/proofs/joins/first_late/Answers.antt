@@ -1,0 +1,7 @@
+use Rattle.std.proofs.Common.{◌≡◌, arith}
+use Rattle.mode_join.proofs.JoinLemmas.{all_by_number}
+use Rattle.mode_join.proofs.joins.first_late.Goals as goal
+
+pub returns-clause-none : goal.returns-clause-none
+returns-clause-none c = all_by_number (λ t. t.offset ≡ 0) c.args.tasks.now
+    (λ k below. let past = c.loop-i-test.false in c.loop-i.invariant k (omega (arith, below, past)))

@@ -1,5 +1,0 @@
-use Rattle.run_tool.proofs.SoundLemmas.{tells_truth}
-use Rattle.run_tool.proofs.sound.sound_law.Goals as goal
-
-pub returns : goal.returns
-returns c = tells_truth c.reading_law.ensures.lawful c.tree_law.ensures.is c.tree_law.ensures.scale c.valid_law.ensures.set c.wrap_law.ensures.valid

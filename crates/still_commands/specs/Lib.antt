@@ -1,0 +1,15 @@
+pub mod Status
+pub mod Refusals
+pub mod RateText
+pub mod Faults
+pub mod Checks
+pub mod Draws
+pub mod Numbered
+pub mod Batch
+pub mod Follow
+pub mod SetTexts
+pub mod Commands
+pub mod Followed
+pub mod Input
+pub mod Ends
+pub mod Refuse

@@ -1,0 +1,71 @@
+//! The command `check`.
+ghost use Rattle.std.specs.Prelude.{ℕ, List, ◌≡◌, ◌≤◌, IfOk, IfErr, OnErr};
+ghost use Rattle.std.specs.Io.KnownBytes.{Appends};
+ghost use Rattle.sched_edges.specs.Causes.{HasCause};
+ghost use Rattle.sched_edges.specs.Streams.{TookPart};
+ghost use Rattle.still_commands.specs.Commands.{trace_limit};
+ghost use Rattle.still_commands.specs.Checks.{invalid_line, TellsTrace, WritesVerdict, RefusesTrace};
+ghost use Rattle.still_commands.specs.Ends.{streams_of, IsTold, StopsAs};
+ghost use Rattle.still_commands.specs.declared.status.Status.{Status};
+
+use crate::input::read_trace_input;
+use crate::refusal::Refusal;
+use crate::status::Status;
+use sched_edges::{Failed, Line, Sink, Source, write_all};
+use stat_report::write_report;
+use std::alloc::Global;
+use trace_check::{FaultKind, ReadTrace, Verdict, check_trace};
+use trace_draw::kind_text;
+
+/// Reads a trace text, and tells whether its rows are a valid schedule of its set: the report of a valid one, with the status
+/// `Done`, or the first line at fault and why, with the status `Invalid`.
+pub(crate) fn check<R: Source, W: Sink>(
+    alloc: Global,
+    source: &mut R,
+    out: &mut W,
+) -> Result<Status, Refusal>
+    ensures told { IfOk result (λ status. IsTold trace_limit WritesVerdict status
+        (streams_of R.Source W.Sink source.old out.old) (streams_of R.Source W.Sink source.new out.new)) }
+    ensures stops { IfErr result (StopsAs trace_limit WritesVerdict RefusesTrace
+        (streams_of R.Source W.Sink source.old out.old) (streams_of R.Source W.Sink source.new out.new)) }
+{
+    let trace = read_trace_input(alloc, source)?;
+    Ok(write_verdict(&trace, out)?)
+}
+
+// Writes the report of a valid trace, or the first fault of another.
+fn write_verdict<W: Sink>(trace: &ReadTrace, out: &mut W) -> Result<Status, Failed>
+    ensures told { IfOk result (λ status. (text : List ℕ) × TellsTrace trace.now status text × Appends (W.taken out.old)
+        (W.taken out.new) text) }
+    ensures part { OnErr result ((text : List ℕ) × (status : Status) × TellsTrace trace.now status text × TookPart (W.taken out.old)
+        (W.taken out.new) text) }
+    ensures cause { HasCause (W.faults out.old) (W.faults out.new) result }
+{
+    match check_trace(trace) {
+        Verdict::Valid => {
+            write_report(out, trace)?;
+            Ok(Status::Done)
+        }
+        Verdict::Fault { line, kind } => {
+            write_all(out, invalid_line(line, kind).as_slice())?;
+            Ok(Status::Invalid)
+        }
+    }
+}
+
+// The line that tells the first fault of a trace.
+#[tactic(auto, unfolding(crate::specs::Checks::invalid_line, sched_edges::specs::Lines::line_of))]
+fn invalid_line(line: u64, kind: FaultKind) -> Line
+    ensures { result ≡ invalid_line line kind }
+{
+    let mut told = Line::new();
+    told.text(b"invalid");
+    told.space();
+    told.text(b"line");
+    told.space();
+    told.number(u128::from(line));
+    told.space();
+    told.text(kind_text(kind));
+    told.end();
+    told
+}

@@ -1,0 +1,36 @@
+//! The commands that execute nothing, from the words and the bytes given to the status and the bytes written.
+#![tactic(auto)]
+
+mod batch;
+mod check;
+mod draw;
+mod faults;
+mod follow;
+mod input;
+mod mode_line;
+mod mode_refusal;
+mod plan;
+mod rate;
+mod rate_text;
+mod refusal;
+mod refusal_line;
+mod sound;
+mod status;
+mod table;
+mod top;
+mod trace;
+mod tree;
+mod wrap;
+
+pub use batch::run_batch;
+pub use command_words::Reading;
+pub use input::{SET_LIMIT, read_input};
+pub use mode_refusal::ModeRefusal;
+pub use plan::plan_of;
+pub use rate_text::write_rate;
+pub use refusal::Refusal;
+pub use refusal_line::refuse;
+pub use sound::{follow_law, sound_law};
+pub use status::Status;
+pub use top::{run_reading, run_still};
+pub use trace::write_rows;

@@ -1,0 +1,35 @@
+//! What the commands tell is sound.
+ghost use Rattle.still_commands.specs.Ends.{IsAlwaysSound};
+ghost use Rattle.still_commands.specs.Commands.{SetText};
+ghost use Rattle.still_commands.specs.Follow.{FollowsTrees};
+ghost use Rattle.still_commands.specs.Followed.{FollowsAsTraced};
+
+use reading_laws::{again_law, form_law};
+use sched_laws::valid_law;
+use task_reader::reading_law;
+use tree_laws::tree_law;
+use wrap_sched::wrap_law;
+
+/// What is told of a set that fits is sound: the tree that `tree` writes is a reduction tree of the set, and the
+/// schedules that `trace` writes, by itself and by wrapping, are valid. This runs nothing: its clause is the law.
+pub fn sound_law()
+    ensures { (what : SetText) → IsAlwaysSound what }
+{
+    reading_law();
+    tree_law();
+    valid_law();
+    wrap_law();
+}
+
+/// The tree that `follow` follows is a reduction tree of the text's set, and the schedule that it writes is valid; what it writes of the
+/// text that `tree` writes is what `trace` writes. This runs nothing: its clauses are the law.
+pub fn follow_law()
+    ensures trees { FollowsTrees }
+    ensures traced { FollowsAsTraced }
+{
+    form_law();
+    again_law();
+    reading_law();
+    tree_law();
+    valid_law();
+}

@@ -1,0 +1,183 @@
+//! The command `trace`.
+ghost use Rattle.std.specs.Prelude.{◌≡◌, ◌≤◌, ◌*◌, ◌||◌, ◌^◌, false, length, OnOk, IfErr, IfOk};
+ghost use Rattle.std.specs.List.{AllByRecursion};
+ghost use Rattle.sched_base.specs.Tables.{row_limit, rounds_of as rounds_in};
+ghost use Rattle.sched_base.specs.Lanes.{NamesOneOf, lanes_of};
+ghost use Rattle.sched_edges.specs.Causes.{HasCause};
+ghost use Rattle.sched_edges.specs.Streams.{Wrote};
+ghost use Rattle.run_tree.specs.Plans.{rounds_of, schedule_of};
+ghost use Rattle.run_tree.specs.Compiled.{tree_of};
+ghost use Rattle.event_core.specs.Counts.{IsCountFault};
+ghost use Rattle.merged_rows.specs.Lawful.{AreLawful};
+ghost use Rattle.merged_rounds.specs.Passes.{AreMergedOf};
+ghost use Rattle.trace_lines.specs.Merging.{merged_lanes};
+ghost use Rattle.trace_lines.specs.Text.{trace_text};
+ghost use Rattle.row_totals.specs.Sums.{totals_of};
+ghost use Rattle.still_commands.specs.Commands.{schedule_rows, set_limit, schedule_text, some_late, version_of, WritesSet, RefusesText};
+ghost use Rattle.still_commands.specs.Ends.{streams_of, IsTold, StopsAs};
+ghost use Rattle.still_commands.specs.Input.{IsSchedulable, WroteSet, StopsAtSet};
+ghost use Rattle.still_commands.specs.declared.status.Status.TheVariants.{Done};
+
+use crate::input::read_input;
+use crate::plan::plan_of;
+use crate::refusal::Refusal;
+use event_core::{CountFault, count_rounds};
+use merged_rounds::merged_of;
+use merged_rows::{MergedRows, totals_of as totals_of_merged};
+use round_table::{table_law, table_of};
+use row_totals::totals_of;
+use run_tree::Plan;
+use sched_base::{NoMemory, RowTable, Task, TaskSet, Totals};
+use sched_edges::{Failed, Sink, Source};
+use std::alloc::Global;
+use trace_writer::{write_merged, write_met, write_trace};
+
+/// Reads a task set, and writes its schedule; in version 2 where `met` is asked for or some task is released late.
+pub(crate) fn trace<R: Source, W: Sink>(
+    alloc: Global,
+    source: &mut R,
+    met: bool,
+    out: &mut W,
+) -> Result<(), Refusal>
+    ensures done { OnOk result (IsTold set_limit (WritesSet (schedule_rows met)) Done
+        (streams_of R.Source W.Sink source.old out.old) (streams_of R.Source W.Sink source.new out.new)) }
+    ensures stops { IfErr result (StopsAs set_limit (WritesSet (schedule_rows met)) (RefusesText (schedule_rows met))
+        (streams_of R.Source W.Sink source.old out.old) (streams_of R.Source W.Sink source.new out.new)) }
+{
+    let set = read_input(alloc, source)?;
+    write_set(alloc, set, met, out)
+}
+
+// Writes the schedule of a set, where it fits.
+fn write_set<W: Sink>(alloc: Global, set: TaskSet, met: bool, out: &mut W) -> Result<(), Refusal>
+    ensures done { OnOk result (WroteSet (schedule_rows met) (W.taken out.old) (W.taken out.new)
+        set) }
+    ensures stops { IfErr result (StopsAtSet (schedule_rows met) (W.taken out.old) (W.taken out.new)
+        (W.faults out.old) (W.faults out.new) set) }
+{
+    let plan = plan_of(alloc, set)?;
+    write_plan(alloc, &plan, met, out)
+}
+
+// Writes the schedule of a set that fits, by its plan.
+fn write_plan<W: Sink>(alloc: Global, plan: &Plan, met: bool, out: &mut W) -> Result<(), Refusal>
+    requires run { IsSchedulable plan.now.set plan.now.tree.scale }
+    requires tree { plan.now.tree ≡ tree_of plan.now.tree.scale plan.now.set }
+    ensures done { OnOk result (WroteSet (schedule_rows met) (W.taken out.old) (W.taken out.new)
+        plan.now.set) }
+    ensures stops { IfErr result (StopsAtSet (schedule_rows met) (W.taken out.old) (W.taken out.new)
+        (W.faults out.old) (W.faults out.new) plan.now.set) }
+{
+    if wants_met(plan.set(), met) {
+        let rounds = count_rounds(alloc, plan)?;
+        let (table, totals) = rows_of(alloc, plan, rounds)?;
+        return Ok(write_rows(plan, &table, totals.as_slice(), met, out)?);
+    }
+    let (rows, totals) = merged_rows_of(alloc, plan)?;
+    Ok(write_merged_rows(plan, &rows, &totals, met, out)?)
+}
+
+// The merged rows of a plan, in one pass over its rounds, and the ticks of each task in them.
+fn merged_rows_of(alloc: Global, plan: &Plan) -> Result<(MergedRows, Vec<u128>), CountFault>
+    ensures rows { IfOk result (λ made. AreMergedOf plan.now made.0.lanes) }
+    ensures lawful { IfOk result (λ made. AreLawful plan.now.set made.0.lanes) }
+    ensures totals { IfOk result (λ made. made.1.items ≡ totals_of (length plan.now.set.tasks) made.0.lanes) }
+    ensures few { IfOk result (λ _. rounds_of plan.now * plan.now.tree.processors ≤ row_limit) }
+    ensures fault { IfErr result (λ fault. IsCountFault plan.now fault) }
+{
+    let rows = merged_of(alloc, plan)?;
+    let totals = totals_of_merged(alloc, &rows, plan.set().count())?;
+    Ok((rows, totals))
+}
+
+// Writes the merged rows of a plan, in version 1.
+fn write_merged_rows<W: Sink>(
+    plan: &Plan,
+    rows: &MergedRows,
+    totals: &[u128],
+    met: bool,
+    out: &mut W,
+) -> Result<(), Failed>
+    requires first_version { (met || some_late plan.now.set.tasks) ≡ false }
+    requires rows { AreMergedOf plan.now rows.now.lanes }
+    requires lawful { AreLawful plan.now.set rows.now.lanes }
+    requires totals { totals.now ≡ totals_of (length plan.now.set.tasks) rows.now.lanes }
+    ensures wrote { Wrote (W.taken out.old) (W.taken out.new) (schedule_text met plan.now) result }
+    ensures cause { HasCause (W.faults out.old) (W.faults out.new) result }
+{
+    write_merged(out, plan.set(), plan.scale(), rows, totals)
+}
+
+/// The rows of a plan, and the ticks of each task in them.
+pub(crate) fn rows_of(
+    alloc: Global,
+    plan: &Plan,
+    rounds: u64,
+) -> Result<(RowTable, Totals), NoMemory>
+    requires rounds { rounds ≡ rounds_of plan.now }
+    requires few { rounds * plan.now.tree.processors ≤ row_limit }
+    ensures lanes { IfOk result (λ made. made.0.lanes ≡ lanes_of plan.now.tree.processors (schedule_of plan.now)) }
+    ensures few { IfOk result (λ made. length made.0.lanes * rounds_in made.0.lanes ≤ row_limit) }
+    ensures totals { IfOk result (λ made. made.1.ticks ≡ totals_of (length plan.now.set.tasks) made.0.lanes) }
+{
+    table_law();
+    let table = table_of(alloc, plan, rounds)?;
+    let totals = totals_of(alloc, &table, plan.set().count())?;
+    Ok((table, totals))
+}
+
+/// Writes the rows of a plan.
+pub fn write_rows<W: Sink>(
+    plan: &Plan,
+    table: &RowTable,
+    totals: &[u128],
+    met: bool,
+    out: &mut W,
+) -> Result<(), Failed>
+    requires lanes { table.now.lanes ≡ lanes_of plan.now.tree.processors (schedule_of plan.now) }
+    requires few { length table.now.lanes * rounds_in table.now.lanes ≤ row_limit }
+    requires totals { totals.now ≡ totals_of (length plan.now.set.tasks) table.now.lanes }
+    ensures wrote { Wrote (W.taken out.old) (W.taken out.new) (schedule_text met plan.now) result }
+    ensures cause { HasCause (W.faults out.old) (W.faults out.new) result }
+{
+    table_law();
+    write_table(plan.set(), plan.scale(), table, totals, met, out)
+}
+
+/// Writes the rows of a table, which name tasks of the set; in version 2 where `met` is asked for or some task is released late.
+pub(crate) fn write_table<W: Sink>(
+    set: &TaskSet,
+    scale: u128,
+    table: &RowTable,
+    totals: &[u128],
+    met: bool,
+    out: &mut W,
+) -> Result<(), Failed>
+    requires scale { scale ≤ 2 ^ 94 }
+    requires processors { length table.now.lanes ≡ set.now.processors }
+    requires names { AllByRecursion (λ rows. AllByRecursion (λ r. NamesOneOf set.now.tasks r.leaf) rows) table.now.lanes }
+    requires few { length table.now.lanes * rounds_in table.now.lanes ≤ row_limit }
+    requires totals { totals.now ≡ totals_of (length set.now.tasks) table.now.lanes }
+    ensures wrote { Wrote (W.taken out.old) (W.taken out.new)
+        (trace_text (version_of met set.now.tasks) set.now scale (merged_lanes table.now.lanes)) result }
+    ensures cause { HasCause (W.faults out.old) (W.faults out.new) result }
+{
+    if wants_met(set, met) {
+        write_met(out, set, scale, table, totals)
+    } else {
+        write_trace(out, set, scale, table, totals)
+    }
+}
+
+/// Whether `met` lines are asked for, or some task is first released after unit 0.
+pub(crate) fn wants_met(set: &TaskSet, met: bool) -> bool
+    ensures { result ≡ (met || some_late set.now.tasks) }
+{
+    met || is_late(set.tasks())
+}
+
+fn is_late(tasks: &[Task]) -> bool
+    ensures { result ≡ some_late tasks.now }
+{
+    tasks.iter().any(|task| task.offset != 0)
+}
