@@ -41,18 +41,3 @@ pub fn duals(alloc: Global, servers: &[u128], scale: u128) -> Result<Rates, NoMe
     }
     Ok(Rates { rates })
 }
-
-#[cfg(test)]
-mod tests {
-    use super::*;
-    use std::test::Fail;
-
-    #[test]
-    fn duals_of_three_tasks(rt: HostRuntime) -> Result<(), Fail> {
-        let servers: &[u128] = &[2, 2, 2];
-        assert!(rt; servers.iter().all(|rate| 0 < *rate && *rate < 3));
-        let rates = duals(rt.alloc(), servers, 3)?;
-        assert_eq!(rt; rates.as_slice(), [1, 1, 1].as_slice());
-        Ok(())
-    }
-}

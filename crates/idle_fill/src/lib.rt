@@ -96,37 +96,3 @@ fn add_servers(packing: &mut Packing, count: u32)
         packing.add_idle(scale);
     }
 }
-
-#[cfg(test)]
-mod tests {
-    use super::*;
-    use server_pack::first_fit;
-    use std::test::Fail;
-
-    #[test]
-    fn fills(rt: HostRuntime) -> Result<(), Fail> {
-        let one_idle_leaf: &[u128] = &[3, 3, 3];
-        let full: &[u128] = &[2, 2, 2];
-        let all: &[(u128, u128)] = &[(4, 1), (3, 0), (3, 0)];
-        let as_packed: &[(u128, u128)] = &[(2, 0), (2, 0), (2, 0)];
-        let idle_servers: &[(u128, u128)] = &[(1, 1), (1, 1)];
-        for (rates, scale, processors, servers) in [
-            (one_idle_leaf, 5, 2, all),
-            (full, 3, 2, as_packed),
-            (&[], 1, 2, idle_servers),
-        ] {
-            assert!(rt; scale <= 5 && rates.len() <= 3 && processors <= 2);
-            assert!(rt; rates.iter().all(|rate| 1 <= *rate && *rate <= scale));
-            let mut packing = first_fit(rt.alloc(), rates, scale)?;
-            assert!(rt; total(&packing) <= u128::from(processors) * scale);
-            fill(rt.alloc(), &mut packing, processors, scale)?;
-            assert_eq!(rt; packing.servers() as usize, servers.len());
-            for (s, (rate, idle)) in (0..packing.servers()).zip(servers) {
-                assert!(rt; s < packing.servers());
-                assert_eq!(rt; packing.rate(s), *rate);
-                assert_eq!(rt; packing.idle(s), *idle);
-            }
-        }
-        Ok(())
-    }
-}

@@ -7,6 +7,3 @@ mod scales;
 
 pub use rates::{fits, rate, total};
 pub use scales::{ScaleTooLarge, scale_law, scale_of};
-
-#[cfg(test)]
-mod tests;

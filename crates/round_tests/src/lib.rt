@@ -8,6 +8,8 @@ mod packed;
 #[cfg(test)]
 mod rounds;
 #[cfg(test)]
+mod steps;
+#[cfg(test)]
 mod tests;
 #[cfg(test)]
 mod valid;

@@ -39,6 +39,3 @@ fn totals_from(alloc: Global, sums: &[u128]) -> Result<Totals, NoMemory>
     }
     Ok(totals)
 }
-
-#[cfg(test)]
-mod tests;

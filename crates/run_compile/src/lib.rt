@@ -11,6 +11,3 @@ mod migration;
 pub use compiler::{compile, levels};
 pub use faults::CompileFault;
 pub use migration::no_migration_law;
-
-#[cfg(test)]
-mod tests;

@@ -13,8 +13,6 @@ mod streams;
 mod sure;
 mod test_gates;
 mod test_jobs;
-#[cfg(test)]
-mod tests;
 mod write;
 
 pub use gates::Gate;

@@ -10,6 +10,3 @@ pub use fitting::first_fit;
 pub use laws::{first_fit_law, items_law};
 pub use members::Members;
 pub use packing::{Packing, Server};
-
-#[cfg(test)]
-mod tests;

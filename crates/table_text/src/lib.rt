@@ -7,6 +7,3 @@ mod lines;
 mod table;
 
 pub use table::write_table;
-
-#[cfg(test)]
-mod tests;

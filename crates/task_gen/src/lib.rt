@@ -6,6 +6,3 @@ mod words;
 
 pub use drill::{drill_law, make};
 pub use words::words_of;
-
-#[cfg(test)]
-mod tests;

@@ -8,6 +8,3 @@ mod pieces;
 mod text;
 
 pub use text::write_tree;
-
-#[cfg(test)]
-mod tests;

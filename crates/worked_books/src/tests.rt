@@ -9,14 +9,16 @@ ghost use Rattle.sched_edges.specs.Jobs.{JobAt};
 ghost use Rattle.exec_book.specs.PlanRows.{IsCompiled};
 
 mod halts;
+mod ledgers;
 mod machines;
 mod worker_calls;
 
 use event_core::count_rounds;
 use exec_book::{Book, Look};
+use named_sets::{add_task, set_of};
 use run_compile::compile;
 use run_tree::Plan;
-use sched_base::{Leaf, NoMemory, Row, TaskId, TaskSet, lawful_name};
+use sched_base::{Leaf, NoMemory, Row, TaskId};
 use sched_edges::{CountJob, Job, JobList};
 use std::alloc::Global;
 use std::marker::Brand;
@@ -27,7 +29,6 @@ use unit_ledger::{BookSide, LaneSeat, PostLedger, Seats, open};
 
 /// The plan of tasks with these names, of one work and one period.
 fn plan_of(
-    rt: &impl Abort,
     alloc: Global,
     processors: u32,
     names: &[&str],
@@ -36,13 +37,9 @@ fn plan_of(
 ) -> Result<Plan, Fail>
     ensures { IfOk result (λ p. IsCompiled p) }
 {
-    assert!(rt; 1 <= processors && processors <= 32);
-    assert!(rt; 1 <= work && work <= period && period < 1 << 32);
-    let mut set = TaskSet::start(alloc, processors, period);
+    let mut set = set_of(alloc, processors, period, &[])?;
     for name in names {
-        assert!(rt; lawful_name(name.as_bytes()) && set.find(name.as_bytes()).is_none());
-        assert!(rt; set.count() < 256);
-        set.add(name.as_bytes(), work, period)?;
+        add_task(&mut set, name.as_bytes(), work, period, 0)?;
     }
     Ok(compile(alloc, set)?)
 }
@@ -249,7 +246,7 @@ fn plays_three_tasks(rt: HostRuntime) -> Result<(), Fail> {
         (1, &[row(0, 0, 3, B), Step::Wait(0, 1, 0)]),
     ];
     for (window, steps) in scripts {
-        let plan = plan_of(&rt, rt.alloc(), 2, &["a", "b", "c"], 2, 3)?;
+        let plan = plan_of(rt.alloc(), 2, &["a", "b", "c"], 2, 3)?;
         assert_eq!(rt; plan.tree().processors(), 2);
         assert!(rt; 1 <= window && window <= 1024);
         run::<Brand>(&rt, rt.alloc(), Blank::new(2), plan, window, steps)?;
@@ -260,7 +257,7 @@ fn plays_three_tasks(rt: HostRuntime) -> Result<(), Fail> {
 /// Five tasks of rate 3/5 on three processors, over one period.
 #[test]
 fn plays_two_reductions(rt: HostRuntime) -> Result<(), Fail> {
-    let plan = plan_of(&rt, rt.alloc(), 3, &["a", "b", "c", "d", "e"], 3, 5)?;
+    let plan = plan_of(rt.alloc(), 3, &["a", "b", "c", "d", "e"], 3, 5)?;
     assert_eq!(rt; plan.tree().processors(), 3);
     let steps = [
         row(1, 0, 5, B),

@@ -1,6 +1,7 @@
 //! The commands, from the words and the bytes to the status, the bytes written, the rows that gates ran and the ticks that jobs
 //! worked.
 mod batches;
+mod bytes;
 mod calls;
 mod checks;
 mod draws;

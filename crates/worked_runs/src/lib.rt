@@ -1,4 +1,4 @@
-//! Tests alone: worked sets executed on gates with lists.
+//! Tests alone: streams, gates and jobs, and worked sets executed on gates with lists.
 #![tactic(auto)]
 
 #[cfg(test)]

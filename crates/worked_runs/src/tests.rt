@@ -1,4 +1,4 @@
-//! The three tasks executed on gates with lists: what the tests share.
+//! Streams, gates and jobs, and the three tasks executed on gates with lists: what the tests of these share.
 ghost use Rattle.std.specs.Prelude.{◌≡◌, ◌<◌, ℕ, [], length, IfOk};
 ghost use Rattle.sched_edges.specs.Gates.{GateHeld};
 ghost use Rattle.sched_edges.specs.Jobs.{JobAt};
@@ -6,16 +6,20 @@ ghost use Rattle.exec_book.specs.PlanRows.{IsCompiled};
 ghost use Rattle.exec_workers.specs.Kits.{KitAt};
 
 mod faults;
+mod gates;
+mod jobs;
 mod many_workers;
 mod modes;
 mod paced_gate;
+mod streams;
 mod whole_runs;
 
 use event_core::count_rounds;
 use exec_workers::{ExecFault, Executed, Kit, execute};
+use named_sets::set_of;
 use run_compile::compile;
 use run_tree::Plan;
-use sched_base::{Leaf, NoMemory, Row, TaskId, TaskSet, lawful_name};
+use sched_base::{Leaf, NoMemory, Row, TaskId};
 use sched_edges::{FailJob, Job, JobList, Jobs, ListGate};
 use std::alloc::Global;
 use std::process::Abort;
@@ -49,16 +53,11 @@ fn lanes() -> [[Row; 3]; 2] {
 }
 
 /// The plan of three tasks of rate 2/3 on two processors, over one period.
-fn three_tasks(rt: &impl Abort, alloc: Global) -> Result<Plan, Fail>
+fn three_tasks(alloc: Global) -> Result<Plan, Fail>
     ensures { IfOk result (λ p. IsCompiled p) }
 {
-    let mut set = TaskSet::start(alloc, 2, 3);
-    for name in ["a", "b", "c"] {
-        assert!(rt; lawful_name(name.as_bytes()) && set.find(name.as_bytes()).is_none());
-        assert!(rt; set.count() < 256);
-        set.add(name.as_bytes(), 2, 3)?;
-    }
-    Ok(compile(alloc, set)?)
+    let tasks = [("a", 2, 3, 0), ("b", 2, 3, 0), ("c", 2, 3, 0)];
+    Ok(compile(alloc, set_of(alloc, 2, 3, &tasks)?)?)
 }
 
 /// Kits with gates of which these calls fail.
@@ -102,7 +101,7 @@ fn run<X: Threads + Wait + Abort + Sync>(
     job_fails: [&[u64]; 3],
 ) -> Result<Left, Fail> {
     assert!(rt; 1 <= window && window <= 1024);
-    let plan = three_tasks(rt, alloc)?;
+    let plan = three_tasks(alloc)?;
     assert_eq!(rt; plan.tree().processors(), 2);
     assert_eq!(rt; plan.set().count(), 3);
     let rounds = count_rounds(alloc, &plan)?;

@@ -1,4 +1,4 @@
-//! Tests alone: rows, traces, reports and pictures of worked sets.
+//! Tests alone: rows, tables, traces, reports and pictures of worked sets.
 #![tactic(auto)]
 
 #[cfg(test)]

@@ -1,4 +1,4 @@
-//! Tests alone: tree texts that are read, judged, and written again.
+//! Tests alone: tree texts that are written of sets, read, judged, and written again.
 #![tactic(auto)]
 
 #[cfg(test)]

@@ -7,9 +7,10 @@ ghost use Rattle.exec_workers.specs.Kits.{KitAt};
 use super::paced_gate::{Pace, PacedGate};
 use event_core::count_rounds;
 use exec_workers::{Kit, execute};
+use named_sets::{add_task, set_of};
 use run_compile::compile;
 use run_tree::Plan;
-use sched_base::{Leaf, NoMemory, Row, TaskId, TaskSet, lawful_name};
+use sched_base::{Leaf, NoMemory, Row, TaskId};
 use sched_edges::{CountJob, Jobs};
 use std::alloc::Global;
 use std::process::Abort;
@@ -36,15 +37,12 @@ fn row(p: u32, k: u32) -> Row {
     }
 }
 
-fn plan_of_25(rt: &impl Abort, alloc: Global) -> Result<Plan, Fail>
+fn plan_of_25(alloc: Global) -> Result<Plan, Fail>
     ensures { IfOk result (λ p. IsCompiled p) }
 {
-    let mut set = TaskSet::start(alloc, PROCESSORS, 25);
+    let mut set = set_of(alloc, PROCESSORS, 25, &[])?;
     for letter in b'a'..=b'y' {
-        let name = [letter];
-        assert!(rt; lawful_name(&name) && set.find(&name).is_none());
-        assert!(rt; set.count() < 256);
-        set.add(&name, 24, 25)?;
+        add_task(&mut set, &[letter], 24, 25, 0)?;
     }
     Ok(compile(alloc, set)?)
 }
@@ -108,7 +106,7 @@ fn assert_ran<X: Clock + Copy>(rt: &impl Abort, kit: &Kit<PacedGate<X>>, p: u32)
 /// The same rows at each window and at each pace.
 #[test]
 fn runs_24_workers(rt: HostRuntime) -> Result<(), Fail> {
-    let plan = plan_of_25(&rt, rt.alloc())?;
+    let plan = plan_of_25(rt.alloc())?;
     for window in [1, 2, 32, 1024] {
         for pace in [Pace::Even, Pace::SlowOn(5), Pace::AtRandom] {
             run_at(rt, rt.alloc(), &plan, window, pace)?;

@@ -3,35 +3,18 @@
 mod runs;
 
 use mode_switch::{ModeFault, ModeKind, Modes};
-use sched_base::{TaskSet, lawful_name};
+use named_sets::{NamedTask, set_of};
 use std::alloc::Global;
 use std::process::Abort;
 use std::test::Fail;
 
-/// A set: its processors, its horizon, and its tasks, each with work, period and offset.
-type Row<'a> = (u32, u64, &'a [(u64, u64, u64)]);
-
-const NAMES: [&str; 3] = ["a", "b", "c"];
-
-fn set_of(rt: &impl Abort, alloc: Global, row: &Row) -> Result<TaskSet, Fail> {
-    assert!(rt; 1 <= row.0 && row.0 <= 32 && 1 <= row.1 && row.1 <= 4_294_967_295);
-    let mut set = TaskSet::start(alloc, row.0, row.1);
-    for (i, (work, period, offset)) in row.2.iter().enumerate() {
-        assert!(rt; i < NAMES.len());
-        let name = NAMES[i].as_bytes();
-        assert!(rt; set.count() < 256 && lawful_name(name) && set.find(name).is_none());
-        assert!(rt;
-            1 <= *work && work <= period && *period <= 4_294_967_295 && *offset <= 4_294_967_295
-        );
-        set.add_late(name, *work, *period, *offset)?;
-    }
-    Ok(set)
-}
+/// A set: its processors, its horizon, and its tasks.
+type Row<'a> = (u32, u64, &'a [NamedTask<'a>]);
 
 fn joined(rt: &impl Abort, alloc: Global, rows: &[Row]) -> Result<Result<Modes, ModeFault>, Fail> {
     let mut sets = Vec::new(alloc);
     for row in rows {
-        sets.push(set_of(rt, alloc, row)?)?;
+        sets.push(set_of(alloc, row.0, row.1, row.2)?)?;
     }
     assert!(rt; !sets.is_empty());
     Ok(Modes::join(alloc, sets))
@@ -39,8 +22,8 @@ fn joined(rt: &impl Abort, alloc: Global, rows: &[Row]) -> Result<Result<Modes, 
 
 #[test]
 fn two_modes_follow_each_other(rt: HostRuntime) -> Result<(), Fail> {
-    let thirds: Row = (2, 3, &[(2, 3, 0), (2, 3, 0), (2, 3, 0)]);
-    let halves: Row = (2, 4, &[(1, 2, 0), (1, 4, 0), (1, 4, 0)]);
+    let thirds: Row = (2, 3, &[("a", 2, 3, 0), ("b", 2, 3, 0), ("c", 2, 3, 0)]);
+    let halves: Row = (2, 4, &[("a", 1, 2, 0), ("b", 1, 4, 0), ("c", 1, 4, 0)]);
     let modes = joined(&rt, rt.alloc(), &[thirds, halves, thirds])?;
     let Ok(modes) = modes else {
         return rt.abort();
@@ -54,11 +37,11 @@ fn two_modes_follow_each_other(rt: HostRuntime) -> Result<(), Fail> {
 
 #[test]
 fn the_first_fault_of_the_first_set_is_told(rt: HostRuntime) -> Result<(), Fail> {
-    let good: Row = (2, 3, &[(2, 3, 0), (2, 3, 0), (2, 3, 0)]);
-    let other: Row = (1, 3, &[(1, 2, 1)]);
-    let late: Row = (2, 3, &[(1, 3, 0), (1, 2, 1), (1, 3, 2)]);
-    let open: Row = (2, 3, &[(1, 2, 0)]);
-    let over: Row = (2, 3, &[(3, 3, 0), (3, 3, 0), (1, 3, 0)]);
+    let good: Row = (2, 3, &[("a", 2, 3, 0), ("b", 2, 3, 0), ("c", 2, 3, 0)]);
+    let other: Row = (1, 3, &[("a", 1, 2, 1)]);
+    let late: Row = (2, 3, &[("a", 1, 3, 0), ("b", 1, 2, 1), ("c", 1, 3, 2)]);
+    let open: Row = (2, 3, &[("a", 1, 2, 0)]);
+    let over: Row = (2, 3, &[("a", 3, 3, 0), ("b", 3, 3, 0), ("c", 1, 3, 0)]);
     let rows: [(&[Row], u32, ModeKind); 6] = [
         (&[open], 0, ModeKind::Period { task: 0 }),
         (&[good, other, late], 1, ModeKind::Processors),
@@ -68,9 +51,9 @@ fn the_first_fault_of_the_first_set_is_told(rt: HostRuntime) -> Result<(), Fail>
         // on 32 processors 65,536 rounds are within the limit; here each unit is a round
         (
             &[
-                (32, 65_535, &[(1, 1, 0)]),
-                (32, 1, &[(1, 1, 0)]),
-                (32, 1, &[(1, 1, 0)]),
+                (32, 65_535, &[("a", 1, 1, 0)]),
+                (32, 1, &[("a", 1, 1, 0)]),
+                (32, 1, &[("a", 1, 1, 0)]),
                 other,
             ],
             2,

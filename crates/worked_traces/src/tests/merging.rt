@@ -1,25 +1,7 @@
 //! The merged rows of a worked set.
-ghost use Rattle.std.specs.Prelude.{◌≡◌};
-
+use super::{A, B, C, row};
 use merged_rows::MergedRows;
-use sched_base::{Leaf, NoMemory, Row, TaskId};
-
-const A: Leaf = Leaf::Task(TaskId(0));
-
-const B: Leaf = Leaf::Task(TaskId(1));
-
-const C: Leaf = Leaf::Task(TaskId(2));
-
-fn row(processor: u32, start: u128, end: u128, leaf: Leaf) -> Row
-    ensures { result ≡ record { processor = processor; start = start; end = end; leaf = leaf } }
-{
-    Row {
-        processor,
-        leaf,
-        start,
-        end,
-    }
-}
+use sched_base::NoMemory;
 
 /// Three tasks of rate 2/3 on two processors, over one period of 9 ticks: on each processor two rounds of one name are one row.
 #[test]

@@ -1,8 +1,7 @@
 //! Worked rows on trace texts and tables, and texts at the edges of the format.
-ghost use Rattle.std.specs.Prelude.{◌≡◌};
-
+use super::{A, B, C, row};
 use rate_scale::scale_of;
-use sched_base::{Leaf, Row, RowTable, TaskId, TaskSet};
+use sched_base::{Leaf, RowTable, TaskId, TaskSet};
 use std::alloc::Global;
 use std::test::Fail;
 use trace_check::{FaultKind, ReadTrace, TraceFault, Verdict, check_trace, read_trace};
@@ -139,23 +138,6 @@ fn a_trace_tells_its_rows_in_order(rt: HostRuntime) {
             }
         }
         Err(_) => assert!(rt; false, "the text is right"),
-    }
-}
-
-const A: Leaf = Leaf::Task(TaskId(0));
-
-const B: Leaf = Leaf::Task(TaskId(1));
-
-const C: Leaf = Leaf::Task(TaskId(2));
-
-fn row(processor: u32, start: u128, end: u128, leaf: Leaf) -> Row
-    ensures { result ≡ record { processor = processor; start = start; end = end; leaf = leaf } }
-{
-    Row {
-        processor,
-        start,
-        end,
-        leaf,
     }
 }
 

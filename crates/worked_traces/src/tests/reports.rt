@@ -106,7 +106,30 @@ fn counts_alone(rt: HostRuntime) -> Result<(), Fail> {
     assert_eq!(rt; migrations(&trace), 1);
     assert_eq!(rt; trace.set().count(), 3);
     assert_eq!(rt; response(&trace, 2), 6);
-    assert!(rt; trace.findings(1).is_some());
+    Ok(())
+}
+
+/// What no clause says: rows of tasks that have what they are to have are told of as they are judged, and no entries are made. Those of
+/// task b don't stand in the order of time.
+#[test]
+fn a_valid_trace_has_findings(rt: HostRuntime) -> Result<(), Fail> {
+    let text =
+        b"run-trace 1\nprocessors 2\nhorizon 3\nscale 3\ntasks 3\ntask a 2 3\ntask b 2 3\ntask c 2 3\nrow 0 0 6 c\nrow 0 6 9 b\n\
+            row 1 0 3 b\nrow 1 3 9 a\ntotal a 6\ntotal b 6\ntotal c 6\nrows 4\n";
+    let trace = read_trace(rt.alloc(), text)?;
+    // The places of each task's rows, its preemptions and migrations, and its response.
+    let table: [(u32, &[u32], u64, u128); 3] = [
+        (0, &[3], 0, 9),
+        (1, &[2, 1], 1, 9),
+        (2, &[0], 0, 6),
+    ];
+    for (task, places, count, response) in table {
+        assert!(rt; task < trace.set().count());
+        assert_eq!(rt; trace.by_task(task), places);
+        let found = trace.findings(task).ok_or("nothing was found")?;
+        assert_eq!(rt; (found.preemptions, found.migrations), (count, count));
+        assert_eq!(rt; found.response, response);
+    }
     Ok(())
 }
 

@@ -1,49 +1,27 @@
 //! Worked sets, wrapped.
-ghost use Rattle.std.specs.Prelude.{◌≡◌, ◌∷◌, [], ◌++◌, ◌≤◌, ◌^◌, OnOk, IfOk};
+ghost use Rattle.std.specs.Prelude.{◌≤◌, ◌^◌};
 ghost use Rattle.sched_base.specs.Scale.{Fits, IsScale};
 
+use named_sets::{NoSet, add_task, set_of};
 use rate_scale::{fits, scale_of};
-use sched_base::{Leaf, Row, RowTable, TaskSet, lawful_name};
+use sched_base::{Leaf, Row, TaskSet};
 use std::alloc::Global;
 use std::process::Abort;
 use std::test::Fail;
 use wrap_sched::{WrapFault, merged_wrap, wrap, wrap_rounds};
 
-fn add(
-    rt: &impl Abort,
-    set: &mut TaskSet,
-    name: &[u8],
-    work: u64,
-    period: u64,
-    offset: u64,
-) -> Result<(), Fail>
-    ensures { OnOk result (set.new ≡ record set.old {
-      tasks = set.old.tasks ++ (record { name = name.now; work = work; period = period; offset = offset }) ∷ [];
-    }) }
-{
-    assert!(rt; lawful_name(name));
-    assert!(rt; set.find(name).is_none());
-    assert!(rt; set.count() < 256);
-    assert!(rt; 1 <= work && work <= period && period < 1 << 32 && offset < 1 << 32);
-    set.add_late(name, work, period, offset)?;
-    Ok(())
-}
-
 /// A set of groups of equal tasks, each told by the number of its tasks, their work, period and offset.
-fn set_of(
-    rt: &impl Abort,
+fn grouped_set(
     alloc: Global,
     processors: u32,
     horizon: u64,
     groups: &[(u32, u64, u64, u64)],
-) -> Result<TaskSet, Fail> {
-    assert!(rt; 1 <= processors && processors <= 32);
-    assert!(rt; 1 <= horizon && horizon < 1 << 32);
-    let mut set = TaskSet::start(alloc, processors, horizon);
+) -> Result<TaskSet, NoSet> {
+    let mut set = set_of(alloc, processors, horizon, &[])?;
     for (count, work, period, offset) in groups {
         for _task in 0..*count {
             let name = name_of(set.count());
-            add(rt, &mut set, &name, *work, *period, *offset)?;
+            add_task(&mut set, &name, *work, *period, *offset)?;
         }
     }
     Ok(set)
@@ -136,7 +114,7 @@ fn wraps_worked_sets(rt: HostRuntime) -> Result<(), Fail> {
         ),
     ];
     for (processors, horizon, tasks, starts, lanes) in rows {
-        let set = set_of(&rt, rt.alloc(), processors, horizon, tasks)?;
+        let set = grouped_set(rt.alloc(), processors, horizon, tasks)?;
         let scale = scale_that_fits(&rt, &set);
         let rounds = wrap_rounds(rt.alloc(), &set, scale)?;
         assert_eq!(rt; rounds + 1, starts.len() as u64);
@@ -153,7 +131,7 @@ fn wraps_worked_sets(rt: HostRuntime) -> Result<(), Fail> {
 // Three tasks of rate 2/3 on two processors: on each of them two rounds under one name are one row.
 #[test]
 fn merges_the_rows_of_a_worked_set(rt: HostRuntime) -> Result<(), Fail> {
-    let set = set_of(&rt, rt.alloc(), 2, 3, &[(3, 2, 3, 0)])?;
+    let set = grouped_set(rt.alloc(), 2, 3, &[(3, 2, 3, 0)])?;
     let scale = scale_that_fits(&rt, &set);
     assert_eq!(rt; wrap_rounds(rt.alloc(), &set, scale)?, 3);
     let rows = merged_wrap(rt.alloc(), &set, scale)?;
@@ -178,7 +156,7 @@ fn counts_up_to_the_limit(rt: HostRuntime) -> Result<(), Fail> {
         (65_536, Ok(65_536)),
         (65_537, Err(WrapFault::TooLong { rows: 2_097_184 })),
     ] {
-        let set = set_of(&rt, rt.alloc(), 32, horizon, &[(1, 1, 1, 0)])?;
+        let set = grouped_set(rt.alloc(), 32, horizon, &[(1, 1, 1, 0)])?;
         let scale = scale_that_fits(&rt, &set);
         assert_eq!(rt; wrap_rounds(rt.alloc(), &set, scale), count);
     }

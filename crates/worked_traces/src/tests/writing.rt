@@ -2,24 +2,12 @@
 ghost use Rattle.std.specs.Prelude.{◌≡◌, ◌≤◌, [], ◌∷◌, IfOk};
 ghost use Rattle.worked_traces.specs.LongTables.{steady_rows};
 
-use sched_base::{Leaf, NoMemory, Row, RowTable, TaskId, TaskSet};
+use super::{A, row};
+use sched_base::{Leaf, NoMemory, RowTable, TaskSet};
 use sched_edges::MemSink;
 use std::alloc::Global;
 use std::test::Fail;
 use trace_writer::{write_met, write_trace};
-
-const A: Leaf = Leaf::Task(TaskId(0));
-
-fn row(processor: u32, start: u128, end: u128, leaf: Leaf) -> Row
-    ensures { result ≡ record { processor = processor; start = start; end = end; leaf = leaf } }
-{
-    Row {
-        processor,
-        start,
-        end,
-        leaf,
-    }
-}
 
 #[test]
 fn numbers_past_64_bits(rt: HostRuntime) -> Result<(), Fail> {

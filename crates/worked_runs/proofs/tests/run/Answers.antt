@@ -4,27 +4,18 @@ use Rattle.sched_base.specs.Sets.{SetContents}
 use Rattle.sched_edges.specs.Gates.{GateHeld}
 use Rattle.run_tree.specs.Tree.{Tree}
 use Rattle.exec_workers.proofs.StageLemmas.{same_gate}
-use Rattle.worked_runs.proofs.RunLemmas.{length_more, fresh_more, job_left}
+use Rattle.worked_runs.proofs.RunLemmas.{no_jobs_made, one_more_made, job_left}
 use Rattle.worked_runs.proofs.tests.run.OwnLists.{own-1, at-1-1}
 use Rattle.worked_runs.proofs.tests.run.Goals as goal
 
 pub loop-t-init : goal.loop-t-init
-loop-t-init g c = record {
-  room = let room = c.in_ok-jobs.ensures.room in omega (arith, room);
-  long = ap length c.in_ok-jobs.ensures.none;
-  fresh = λ t within. absurd (omega arith);
-}
+loop-t-init g c = no_jobs_made _ _ _ _ _ c.in_ok-jobs.ensures.room c.in_ok-jobs.ensures.none
 
 pub loop-t-preserved : goal.loop-t-preserved
 loop-t-preserved g c =
-    let inv = c.loop-t.invariant in
-    record {
-      room = let room = c.add.ensures.room in let before = inv.room in omega (arith, room, before);
-      long = length_more c.loop-t.t _ _ _ inv.long c.add.ensures.places;
-      fresh = fresh_more _ _ c.loop-t.t _ _ _ inv.long inv.fresh c.add.ensures.places
-          (read_made own-1 (own-1.entry at-1-1) at-1-1 refl ℕ (λ e x. e.1.id x) _ _ _ c.into_dyn_box.ensures.1 ∙ ap (λ j. j.id) c.in_ok-new-2.ensures.ok ∙ c.in_ok-new.ensures.id)
-          (read_made own-1 (own-1.entry at-1-1) at-1-1 refl ℕ (λ e x. e.1.used x) _ _ _ c.into_dyn_box.ensures.1 ∙ ap (λ j. j.used) c.in_ok-new-2.ensures.ok ∙ c.in_ok-new.ensures.used);
-    }
+    one_more_made _ _ _ c.loop-t.t _ _ _ _ _ c.loop-t.invariant c.add.ensures.room c.add.ensures.places
+    (read_made own-1 (own-1.entry at-1-1) at-1-1 refl ℕ (λ e x. e.1.id x) _ _ _ c.into_dyn_box.ensures.1 ∙ ap (λ j. j.id) c.in_ok-new-2.ensures.ok ∙ c.in_ok-new.ensures.id)
+    (read_made own-1 (own-1.entry at-1-1) at-1-1 refl ℕ (λ e x. e.1.used x) _ _ _ c.into_dyn_box.ensures.1 ∙ ap (λ j. j.used) c.in_ok-new-2.ensures.ok ∙ c.in_ok-new.ensures.used)
 
 pub execute-answer-requires-clause-kits : goal.execute-answer-requires-clause-kits
 execute-answer-requires-clause-kits g c = λ _ _ p below.

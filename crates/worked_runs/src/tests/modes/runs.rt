@@ -82,8 +82,8 @@ fn run<X: Threads + Wait + Abort + Sync>(
     job: u32,
     job_fails: &[u64],
 ) -> Result<Left, Fail> {
-    let thirds: Set = (2, 3, &[(2, 3, 0), (2, 3, 0), (2, 3, 0)]);
-    let halves: Set = (2, 4, &[(1, 2, 0), (1, 2, 0), (1, 4, 0)]);
+    let thirds: Set = (2, 3, &[("a", 2, 3, 0), ("b", 2, 3, 0), ("c", 2, 3, 0)]);
+    let halves: Set = (2, 4, &[("a", 1, 2, 0), ("b", 1, 2, 0), ("c", 1, 4, 0)]);
     let modes = joined(rt, alloc, &[thirds, halves])?;
     let Ok(modes) = modes else {
         return rt.abort();

@@ -1,37 +1,27 @@
 use Rattle.std.proofs.Common.{ℕ, refl, ap, ◌∙◌, arith}
 use Rattle.run_tool.proofs.CrewLemmas.{job_in_place}
-use Rattle.run_tool.proofs.ReadyLemmas.{no_jobs, more_jobs, are_ready}
+use Rattle.run_tool.proofs.ReadyLemmas.{no_jobs_made, one_more_made, are_ready}
 use Rattle.worked_commands.proofs.tests.calls.call.OwnLists.{own-1, at-1-1, at-1-2}
 use denote.Param.Object.{read_made}
 use Rattle.worked_commands.proofs.tests.calls.call.Goals.{in-Some+in_ok-new-in-Some+in_ok-new-in-Some-2, in-None+in_ok-new-in-None}
 use Rattle.worked_commands.proofs.tests.calls.call.Goals as goal
 
 pub loop-id-init : goal.loop-id-init
-loop-id-init g c = record {
-  room = let room = c.in_ok-jobs.ensures.room in omega (arith, room);
-  first = no_jobs _ _ _ _ _ c.in_ok-jobs.ensures.none;
-}
+loop-id-init g c = no_jobs_made _ _ _ _ _ _ c.in_ok-jobs.ensures.room c.in_ok-jobs.ensures.none
 
 pub loop-id-preserved : goal.loop-id-preserved
 loop-id-preserved g c =
-    let inv = c.loop-id.invariant in
     elim c.match-failing.branch [
-      | in-Some+in_ok-new-in-Some+in_ok-new-in-Some-2 w ↦ rw w.jobs-is (record {
-        room = let room = w.add.ensures.room in let before = inv.room in omega (arith, room, before);
-        first = more_jobs _ _ _ _ c.loop-id.id _ _ _ inv.first w.add.ensures.places
-            (read_made own-1 (own-1.entry at-1-1) at-1-1 refl ℕ (λ e x. e.1.id x) _ _ _ w.into_dyn_box.ensures.1
-            ∙ ap (λ j. j.id) w.in_ok-new-in-Some-2.ensures.ok ∙ w.in_ok-new-in-Some.ensures.id)
-            (read_made own-1 (own-1.entry at-1-1) at-1-1 refl ℕ (λ e x. e.1.used x) _ _ _ w.into_dyn_box.ensures.1
-            ∙ ap (λ j. j.used) w.in_ok-new-in-Some-2.ensures.ok ∙ w.in_ok-new-in-Some.ensures.used);
-      })
-      | in-None+in_ok-new-in-None w ↦ rw w.jobs-is (record {
-        room = let room = w.add-in-None.ensures.room in let before = inv.room in omega (arith, room, before);
-        first = more_jobs _ _ _ _ c.loop-id.id _ _ _ inv.first w.add-in-None.ensures.places
-            (read_made own-1 (own-1.entry at-1-2) at-1-2 refl ℕ (λ e x. e.1.id x) _ _ _ w.into_dyn_box-in_ok-new-in-None.ensures.1
-            ∙ ap (λ j. j.id) (w.in_ok-new-in-None.ensures.ok ∙ w.new-in-None.ensures))
-            (read_made own-1 (own-1.entry at-1-2) at-1-2 refl ℕ (λ e x. e.1.used x) _ _ _ w.into_dyn_box-in_ok-new-in-None.ensures.1
-            ∙ ap (λ j. j.used) (w.in_ok-new-in-None.ensures.ok ∙ w.new-in-None.ensures));
-      })
+      | in-Some+in_ok-new-in-Some+in_ok-new-in-Some-2 w ↦ rw w.jobs-is (one_more_made _ _ _ _ c.loop-id.id _ _ _ _ _ c.loop-id.invariant w.add.ensures.room w.add.ensures.places
+          (read_made own-1 (own-1.entry at-1-1) at-1-1 refl ℕ (λ e x. e.1.id x) _ _ _ w.into_dyn_box.ensures.1
+          ∙ ap (λ j. j.id) w.in_ok-new-in-Some-2.ensures.ok ∙ w.in_ok-new-in-Some.ensures.id)
+          (read_made own-1 (own-1.entry at-1-1) at-1-1 refl ℕ (λ e x. e.1.used x) _ _ _ w.into_dyn_box.ensures.1
+          ∙ ap (λ j. j.used) w.in_ok-new-in-Some-2.ensures.ok ∙ w.in_ok-new-in-Some.ensures.used))
+      | in-None+in_ok-new-in-None w ↦ rw w.jobs-is (one_more_made _ _ _ _ c.loop-id.id _ _ _ _ _ c.loop-id.invariant w.add-in-None.ensures.room w.add-in-None.ensures.places
+          (read_made own-1 (own-1.entry at-1-2) at-1-2 refl ℕ (λ e x. e.1.id x) _ _ _ w.into_dyn_box-in_ok-new-in-None.ensures.1
+          ∙ ap (λ j. j.id) (w.in_ok-new-in-None.ensures.ok ∙ w.new-in-None.ensures))
+          (read_made own-1 (own-1.entry at-1-2) at-1-2 refl ℕ (λ e x. e.1.used x) _ _ _ w.into_dyn_box-in_ok-new-in-None.ensures.1
+          ∙ ap (λ j. j.used) (w.in_ok-new-in-None.ensures.ok ∙ w.new-in-None.ensures)))
     ]
 
 pub run-status-requires-clause-ready : goal.run-status-requires-clause-ready

@@ -1,26 +1,19 @@
 use Rattle.std.proofs.Common.{ℕ, refl, ap, ◌∙◌, arith}
 use denote.Param.Object.{read_made}
-use Rattle.run_tool.proofs.ReadyLemmas.{no_jobs, more_jobs, are_ready}
+use Rattle.run_tool.proofs.ReadyLemmas.{no_jobs_made, one_more_made, are_ready}
 use Rattle.worked_threads.proofs.tests.drops.assert_lasting.OwnLists.{own-1, at-1-1}
 use Rattle.worked_threads.proofs.tests.drops.assert_lasting.Goals as goal
 
 pub loop-id-init : goal.loop-id-init
-loop-id-init g c = record {
-  room = let room = c.in_ok-jobs.ensures.room in omega (arith, room);
-  first = no_jobs _ _ _ _ _ c.in_ok-jobs.ensures.none;
-}
+loop-id-init g c = no_jobs_made _ _ _ _ _ _ c.in_ok-jobs.ensures.room c.in_ok-jobs.ensures.none
 
 pub loop-id-preserved : goal.loop-id-preserved
 loop-id-preserved g c =
-    let inv = c.loop-id.invariant in
-    record {
-      room = let room = c.add.ensures.room in let before = inv.room in omega (arith, room, before);
-      first = more_jobs _ _ _ _ c.loop-id.id _ _ _ inv.first c.add.ensures.places
-          (read_made own-1 (own-1.entry at-1-1) at-1-1 refl ℕ (λ e x. e.1.id x) _ _ _ c.into_dyn_box.ensures.1
-          ∙ ap (λ j. j.id) c.in_ok-new-2.ensures.ok ∙ c.in_ok-new.ensures.id)
-          (read_made own-1 (own-1.entry at-1-1) at-1-1 refl ℕ (λ e x. e.1.used x) _ _ _ c.into_dyn_box.ensures.1
-          ∙ ap (λ j. j.used) c.in_ok-new-2.ensures.ok ∙ c.in_ok-new.ensures.used);
-    }
+    one_more_made _ _ _ _ c.loop-id.id _ _ _ _ _ c.loop-id.invariant c.add.ensures.room c.add.ensures.places
+    (read_made own-1 (own-1.entry at-1-1) at-1-1 refl ℕ (λ e x. e.1.id x) _ _ _ c.into_dyn_box.ensures.1
+    ∙ ap (λ j. j.id) c.in_ok-new-2.ensures.ok ∙ c.in_ok-new.ensures.id)
+    (read_made own-1 (own-1.entry at-1-1) at-1-1 refl ℕ (λ e x. e.1.used x) _ _ _ c.into_dyn_box.ensures.1
+    ∙ ap (λ j. j.used) c.in_ok-new-2.ensures.ok ∙ c.in_ok-new.ensures.used)
 
 pub call-requires-clause-ready : goal.call-requires-clause-ready
 call-requires-clause-ready g c =

@@ -1,7 +1,11 @@
-//! Tests of what no clause says: that calls succeed, and which pieces a sink is given.
+//! Bytes that are read to their end and lines that are written, and streams that fail: that calls succeed, and which pieces a sink
+//! is given.
 
-use crate::*;
 use sched_base::NoMemory;
+use sched_edges::{
+    Bytes, Failed, MemSink, MemSource, Sink, Source, StdSink, StdSource, SureSink, SureSource,
+    TakeFault, named_line, number_line, numbers_line, read_all, word_line, write_all, write_lines,
+};
 use std::alloc::Global;
 use std::io;
 use std::io::{Read, Write};

@@ -1,39 +1,8 @@
 //! Scales, rates and totals of worked sets.
-use super::*;
-use sched_base::{TaskSet, lawful_name};
-use std::alloc::Global;
+use named_sets::{NamedTask, set_of};
+use rate_scale::{ScaleTooLarge, fits, rate, scale_of, total};
 use std::process::Abort;
 use std::test::Fail;
-
-/// A set of tasks, each told by its name, work and period.
-fn set_of(
-    rt: &impl Abort,
-    alloc: Global,
-    processors: u32,
-    tasks: &[(&str, u64, u64)],
-) -> Result<TaskSet, Fail> {
-    assert!(rt; 1 <= processors && processors <= 32);
-    let mut set = TaskSet::start(alloc, processors, 1);
-    for (name, work, period) in tasks {
-        add(rt, &mut set, name.as_bytes(), *work, *period)?;
-    }
-    Ok(set)
-}
-
-fn add(
-    rt: &impl Abort,
-    set: &mut TaskSet,
-    name: &[u8],
-    work: u64,
-    period: u64,
-) -> Result<(), Fail> {
-    assert!(rt; lawful_name(name));
-    assert!(rt; set.find(name).is_none());
-    assert!(rt; set.count() < 256);
-    assert!(rt; 1 <= work && work <= period && period < 1 << 32);
-    set.add(name, work, period)?;
-    Ok(())
-}
 
 /// The rate, once it is seen that the numbers meet its conditions.
 fn rate_at(rt: &impl Abort, work: u64, period: u64, scale: u128) -> u128 {
@@ -44,13 +13,13 @@ fn rate_at(rt: &impl Abort, work: u64, period: u64, scale: u128) -> u128 {
 
 #[test]
 fn scales_and_totals(rt: HostRuntime) -> Result<(), Fail> {
-    let three: &[(&str, u64, u64)] = &[("a", 2, 3), ("b", 2, 3), ("c", 2, 3)];
-    let overload: &[(&str, u64, u64)] = &[("a", 2, 3), ("b", 1, 2)];
-    let longest: &[(&str, u64, u64)] = &[("a", 1, 4294967295)];
-    let greatest: &[(&str, u64, u64)] = &[
-        ("a", 1, 4294967295),
-        ("b", 1, 4294967294),
-        ("c", 1, 1073741822),
+    let three: &[NamedTask] = &[("a", 2, 3, 0), ("b", 2, 3, 0), ("c", 2, 3, 0)];
+    let overload: &[NamedTask] = &[("a", 2, 3, 0), ("b", 1, 2, 0)];
+    let longest: &[NamedTask] = &[("a", 1, 4294967295, 0)];
+    let greatest: &[NamedTask] = &[
+        ("a", 1, 4294967295, 0),
+        ("b", 1, 4294967294, 0),
+        ("c", 1, 1073741822, 0),
     ];
     for (processors, tasks, scale, sum, fitting) in [
         (2, three, 3, 6, true),
@@ -65,7 +34,7 @@ fn scales_and_totals(rt: HostRuntime) -> Result<(), Fail> {
             true,
         ),
     ] {
-        let set = set_of(&rt, rt.alloc(), processors, tasks)?;
+        let set = set_of(rt.alloc(), processors, 1, tasks)?;
         let found = scale_of(&set)?;
         assert_eq!(rt; found, scale);
         assert_eq!(rt; total(&set, found), sum);
@@ -76,12 +45,12 @@ fn scales_and_totals(rt: HostRuntime) -> Result<(), Fail> {
 
 #[test]
 fn past_the_limit(rt: HostRuntime) -> Result<(), Fail> {
-    let tasks: &[(&str, u64, u64)] = &[
-        ("a", 1, 4294967295),
-        ("b", 1, 4294967294),
-        ("c", 1, 4294967293),
+    let tasks: &[NamedTask] = &[
+        ("a", 1, 4294967295, 0),
+        ("b", 1, 4294967294, 0),
+        ("c", 1, 4294967293, 0),
     ];
-    let set = set_of(&rt, rt.alloc(), 1, tasks)?;
+    let set = set_of(rt.alloc(), 1, 1, tasks)?;
     assert_eq!(rt; scale_of(&set), Err(ScaleTooLarge { at: 2 }));
     Ok(())
 }

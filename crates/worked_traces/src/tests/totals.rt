@@ -1,25 +1,7 @@
 //! The totals of a worked set.
-ghost use Rattle.std.specs.Prelude.{◌≡◌};
-
-use crate::totals_of;
-use sched_base::{Leaf, NoMemory, Row, RowTable, TaskId};
-
-const A: Leaf = Leaf::Task(TaskId(0));
-
-const B: Leaf = Leaf::Task(TaskId(1));
-
-const C: Leaf = Leaf::Task(TaskId(2));
-
-fn row(processor: u32, start: u128, end: u128, leaf: Leaf) -> Row
-    ensures { result ≡ record { processor = processor; start = start; end = end; leaf = leaf } }
-{
-    Row {
-        processor,
-        start,
-        end,
-        leaf,
-    }
-}
+use super::{A, B, C, row};
+use row_totals::totals_of;
+use sched_base::{NoMemory, RowTable};
 
 /// Three tasks of rate 2/3 on two processors, over one period of 9 ticks: each is given 6.
 #[test]

@@ -1,8 +1,8 @@
-//! Words and sets of worked numbers.
-use super::{make, words_of};
+//! Sets drawn from numbers: values from outside.
 use sched_base::TaskSet;
 use std::process::Abort;
 use std::test::Fail;
+use task_gen::{make, words_of};
 
 /// That the set has exactly these tasks, each told by its name, work and period, for 4 processors over 6000 units.
 fn assert_tasks(rt: &impl Abort, set: &TaskSet, tasks: &[(&str, u64, u64)]) {

@@ -1,5 +1,5 @@
 use Rattle.std.proofs.Common.{refl}
-use Rattle.sched_edges.proofs.test_jobs.tests.works_in_its_place.Goals as goal
+use Rattle.worked_runs.proofs.tests.jobs.works_in_its_place.Goals as goal
 
 pub lift-job-requires : goal.lift-job-requires
 lift-job-requires g c = (c.into_dyn_box-in_ok-new-3.result, rw (c.add-2.ensures.places, c.add.ensures.places, c.in_ok-jobs.ensures.none) refl)

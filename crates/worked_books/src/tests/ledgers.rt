@@ -1,0 +1,40 @@
+//! A ledger that closes with the posts of its lanes.
+ghost use Rattle.std.specs.Prelude.{◌≡◌};
+
+use sched_base::NoMemory;
+use std::alloc::Global;
+use std::marker::Brand;
+use std::process::Abort;
+use std::sync::ledger::Blank;
+use unit_ledger::{PostLedger, close, open, post};
+
+/// Three posts of lane 0 and two of lane 1, in turn.
+fn five_posts<Q: PostLedger>(rt: &impl Abort, blank: Blank, alloc: Global) -> Result<u64, NoMemory>
+    requires name { blank.name ≡ Q.name }
+    requires parts { blank.parts ≡ Q.parts }
+    requires two { blank.parts ≡ 2 }
+{
+    let (mut book, mut seats) = open::<Q>(blank, alloc, 2)?;
+    let mut first = seats.lift(0);
+    let mut second = seats.lift(1);
+    assert_eq!(rt; (first.lane(), first.posted()), (0, 0));
+    assert_eq!(rt; (second.lane(), second.posted()), (1, 0));
+    post(&mut book, &mut first);
+    post(&mut book, &mut second);
+    post(&mut book, &mut first);
+    post(&mut book, &mut second);
+    post(&mut book, &mut first);
+    assert_eq!(rt; first.posted(), 3);
+    assert_eq!(rt; second.posted(), 2);
+    assert_eq!(rt; book.posted(), 5);
+    seats.lay(first);
+    seats.lay(second);
+    Ok(close(book, seats).number())
+}
+
+#[test]
+fn closes_with_all_posts(rt: HostRuntime) -> Result<(), NoMemory> {
+    let posts = five_posts::<Brand>(&rt, Blank::new(2), rt.alloc())?;
+    assert_eq!(rt; posts, 5);
+    Ok(())
+}
