@@ -1,17 +1,19 @@
 #!/bin/sh
-# Proves and builds the program and the crates that it needs, as many at once as there are processors and memory for, each
-# as soon as those below it are done. It tells on standard error how far it is. What is done is kept: a build that was
-# stopped goes on where it was.
+# Proves and builds the program, or the crate that is named (furnacelime_c: the library for C), and the crates that it needs,
+# as many at once as there are processors and memory for, each as soon as those below it are done. It tells on standard error
+# how far it is. What is done is kept: a build that was stopped goes on where it was.
 #
 # rt locks a crate and all below it, and all crates stand on the same lowest one. So each of the builds that go on at once has
 # a copy of the sources of its own. What is proved in one copy is taken over by the others, and in the end by this checkout.
 top=$(dirname "$(readlink -f "$0")")
 program=furnacelime
+wanted=${1:-$program}
 copies=$top/.git/build
 [ -d "$top/.git" ] || copies=${XDG_CACHE_HOME:-$HOME/.cache}/furnacelime-build
 
 say() { echo "furnacelime: $*" >&2; }
 
+grep -q "^$wanted[ :]" "$top/crates.txt" || { say "there is no crate $wanted"; exit 2; }
 command -v rt >/dev/null || { say "the command rt of the Rattle kit is needed to build the program"; exit 127; }
 
 work=$(mktemp -d) || exit 126
@@ -21,29 +23,31 @@ stop() { for it in $builds; do kill -- "-$it" 2>/dev/null; done; }
 trap 'rm -rf "$work"' EXIT
 trap 'echo >&2; say "stopped; what is done is kept, and the next call goes on"; stop; exit 130' INT TERM
 
-# Each crate of the repository that the program needs, with those of them that it stands on: first the one with the longest
-# chain of crates above it, since that chain decides how long the whole takes.
-awk -v program="$program" '
+# The length of what is to be proved for a crate: the guess of the time that is left goes by it, and the order of the builds.
+size_of() { find "$top/crates/$1/src" "$top/crates/$1/specs" "$top/crates/$1/proofs" -type f -exec cat {} + 2>/dev/null | wc -c; }
+
+sed -n 's/^\([a-z][a-z_]*\).*:.*/\1/p' "$top/crates.txt" | while read -r name; do
+    echo "$name $(size_of "$name")"
+done >"$work/sizes"
+
+# Each crate of the repository that the wanted one needs, with its size and those of them that it stands on: first the one with
+# the longest chain of crates above it, since that chain decides how long the whole takes.
+awk -v wanted="$wanted" '
+    NR == FNR { size[$1] = $2; next }
     /^[a-z]/ { name = $1; sub(":.*", "", name); line = $0; sub("^[^:]*:", "", line); below[name] = line }
     function visit(crate, chain,    names, n, i) {
+        chain += size[crate]
         if (crate in above && above[crate] >= chain) return
         above[crate] = chain
         own[crate] = ""
         n = split(below[crate], names, " ")
-        for (i = 1; i <= n; i++) if (names[i] in below) { own[crate] = own[crate] " " names[i]; visit(names[i], chain + 1) }
+        for (i = 1; i <= n; i++) if (names[i] in below) { own[crate] = own[crate] " " names[i]; visit(names[i], chain) }
     }
-    END { visit(program, 0); for (crate in above) print above[crate] " " crate own[crate] }' "$top/crates.txt" |
+    END { visit(wanted, 0); for (crate in above) print above[crate] " " crate " " size[crate] own[crate] }' "$work/sizes" "$top/crates.txt" |
     sort -k 1,1nr -k 2,2 | cut -d ' ' -f 2- >"$work/crates"
 
-# The length of what is to be proved for a crate: the guess of the time that is left goes by it.
-size_of() { find "$top/crates/$1/src" "$top/crates/$1/specs" "$top/crates/$1/proofs" -type f -exec cat {} + 2>/dev/null | wc -c; }
-
 count=$(wc -l <"$work/crates")
-whole=0
-while read -r name _; do
-    size_of "$name" >"$work/$name.size"
-    whole=$((whole + $(cat "$work/$name.size")))
-done <"$work/crates"
+whole=$(awk '{ whole += $2 } END { print whole }' "$work/crates")
 
 # A check takes up to 2 GB of memory and a processor.
 processors=$(getconf _NPROCESSORS_ONLN 2>/dev/null || echo 1)
@@ -52,7 +56,7 @@ jobs=$processors
 [ -n "$memory" ] && [ "$memory" -lt "$jobs" ] && jobs=$memory
 [ "$jobs" -lt 1 ] && jobs=1
 
-say "proving and building the program first: $count crates, $jobs at once; it takes 2 GB of memory for each of them and 5 GB of disk"
+say "proving and building $wanted first: $count crates, $jobs at once; it takes 2 GB of memory for each of them and 5 GB of disk"
 
 # Brings a copy of the sources up to date; what was proved in it stays.
 copy_sources() {
@@ -90,21 +94,23 @@ may_begin() {
     done
 }
 
-# Proves and builds one crate in a process group of its own, in a copy that no other build is at work in, and notes how it
-# ended. The program is built in this checkout, by running it: with no words it answers at once, with status 2.
+# Proves and builds one crate with so many jobs in a process group of its own, in a copy that no other build is at work in, and
+# notes how it ended. The wanted crate is built in this checkout, the program by running it: with no words it answers at once, with
+# status 2.
 build() {
     verb=lib
     at=$top
-    if [ "$1" = "$program" ]; then
-        verb=run
+    if [ "$1" = "$wanted" ]; then
+        [ "$1" = "$program" ] && verb=run
     else
         copy=1
         while [ -e "$work/copy$copy" ]; do copy=$((copy + 1)); done
         : >"$work/copy$copy"
         at=$copies/$copy
     fi
-    setsid sh -c 'cd "$1" && rt "$2" </dev/null >"$3.log" 2>&1; ended=$?; rm -f "$4"; echo $ended >"$3.ended"' \
-        sh "$at/crates/$1" "$verb" "$work/$1" "$work/copy$copy" &
+    echo "$2" >"$work/$1.jobs"
+    setsid sh -c 'cd "$1" && rt "$2" --jobs "$3" </dev/null >"$4.log" 2>&1; ended=$?; rm -f "$5"; echo $ended >"$4.ended"' \
+        sh "$at/crates/$1" "$verb" "$2" "$work/$1" "$work/copy$copy" &
     builds="$builds $!"
 }
 
@@ -113,28 +119,47 @@ is_built() {
     [ "$(cat "$work/$1.ended")" = 0 ] || { [ "$1" = "$program" ] && [ -x "$top/crates/$1/out/$1" ]; }
 }
 
-running=0
-while [ "$done_count" -lt "$count" ]; do
-    while read -r name below; do
-        if [ -e "$work/$name.ended" ] && [ ! -e "$work/$name.done" ]; then
-            running=$((running - 1))
-            if ! is_built "$name"; then
-                [ -t 2 ] && echo >&2
-                tail -n 20 "$work/$name.log" >&2
-                say "the crate $name could not be built"
-                stop
-                exit 126
-            fi
-            : >"$work/$name.done"
-            done_count=$((done_count + 1))
-            done_size=$((done_size + $(cat "$work/$name.size")))
-            tell "$name"
-        elif [ ! -e "$work/$name.begun" ] && [ "$running" -lt "$jobs" ] && may_begin $below; then
-            : >"$work/$name.begun"
-            running=$((running + 1))
-            build "$name"
+# Takes note of the builds that have ended; the first that failed ends this one.
+take_ended() {
+    while read -r name size _; do
+        [ -e "$work/$name.ended" ] && [ ! -e "$work/$name.done" ] || continue
+        if ! is_built "$name"; then
+            [ -t 2 ] && echo >&2
+            grep -E 'error|not proved|no proof' "$work/$name.log" | head -n 20 >&2
+            say "the crate $name could not be built"
+            stop
+            exit 126
         fi
+        : >"$work/$name.done"
+        free=$((free + $(cat "$work/$name.jobs")))
+        done_count=$((done_count + 1))
+        done_size=$((done_size + size))
+        tell "$name"
     done <"$work/crates"
+}
+
+# The crates that may begin, the longest chain first.
+ready() {
+    while read -r name _ below; do
+        [ ! -e "$work/$name.begun" ] && may_begin $below && echo "$name"
+    done <"$work/crates"
+}
+
+# Each crate has one job, since several take more work for the same proofs; a processor that no crate waits for is one job more.
+free=$jobs
+while [ "$done_count" -lt "$count" ]; do
+    take_ended
+    ready >"$work/ready"
+    left=$(wc -l <"$work/ready")
+    while [ "$free" -gt 0 ] && read -r name; do
+        share=$((free / left))
+        [ "$share" -lt 1 ] && share=1
+        [ "$share" -gt 4 ] && share=4
+        : >"$work/$name.begun"
+        build "$name" "$share"
+        free=$((free - share))
+        left=$((left - 1))
+    done <"$work/ready"
     sleep 1
 done
 [ -t 2 ] && echo >&2
