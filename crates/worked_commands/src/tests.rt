@@ -17,6 +17,7 @@ mod stops;
 mod streams;
 mod tables;
 mod texts;
+mod threads;
 mod traces;
 mod usage;
 mod wraps;

@@ -1,8 +1,8 @@
 use Rattle.std.proofs.Common.{ℕ, refl, ap, ◌∙◌, arith}
 use denote.Param.Object.{read_made}
 use Rattle.run_tool.proofs.ReadyLemmas.{no_jobs_made, one_more_made, are_ready}
-use Rattle.worked_threads.proofs.tests.meetings.run_waiting.OwnLists.{own-1, at-1-1}
-use Rattle.worked_threads.proofs.tests.meetings.run_waiting.Goals as goal
+use Rattle.worked_commands.proofs.tests.threads.drops.assert_lasting.OwnLists.{own-1, at-1-1}
+use Rattle.worked_commands.proofs.tests.threads.drops.assert_lasting.Goals as goal
 
 pub loop-id-init : goal.loop-id-init
 loop-id-init g c = no_jobs_made _ _ _ _ _ _ c.in_ok-jobs.ensures.room c.in_ok-jobs.ensures.none
@@ -11,9 +11,9 @@ pub loop-id-preserved : goal.loop-id-preserved
 loop-id-preserved g c =
     one_more_made _ _ _ _ c.loop-id.id _ _ _ _ _ c.loop-id.invariant c.add.ensures.room c.add.ensures.places
     (read_made own-1 (own-1.entry at-1-1) at-1-1 refl ℕ (λ e x. e.1.id x) _ _ _ c.into_dyn_box.ensures.1
-    ∙ ap (λ j. j.id) (c.in_ok-new.ensures.ok ∙ c.new.ensures))
+    ∙ ap (λ j. j.id) c.in_ok-new-2.ensures.ok ∙ c.in_ok-new.ensures.id)
     (read_made own-1 (own-1.entry at-1-1) at-1-1 refl ℕ (λ e x. e.1.used x) _ _ _ c.into_dyn_box.ensures.1
-    ∙ ap (λ j. j.used) (c.in_ok-new.ensures.ok ∙ c.new.ensures))
+    ∙ ap (λ j. j.used) c.in_ok-new-2.ensures.ok ∙ c.in_ok-new.ensures.used)
 
 pub call-requires-clause-ready : goal.call-requires-clause-ready
 call-requires-clause-ready g c =

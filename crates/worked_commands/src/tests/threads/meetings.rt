@@ -4,7 +4,8 @@ ghost use Rattle.run_tool.specs.Executions.{gates_of};
 ghost use Rattle.run_tool.specs.Ready.{AreFirstGates};
 
 use super::patient_gate::PatientGate;
-use super::{Left, THREE_ROWS, THREE_TASKS, call};
+use super::{Left, call};
+use crate::tests::texts::{THREE_ROWS, THREE_TASKS};
 use exec_workers::Kit;
 use run_tool::Status;
 use sched_edges::{CountJob, Jobs};

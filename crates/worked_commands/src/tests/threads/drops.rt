@@ -3,7 +3,8 @@ ghost use Rattle.std.specs.Prelude.{◌≡◌, ◌+◌, ◌<◌, ◌^◌, None, 
 ghost use Rattle.run_tool.specs.Executions.{gates_of};
 ghost use Rattle.run_tool.specs.Ready.{AreFirstGates};
 
-use super::{THREE_ROWS, THREE_TASKS, call};
+use super::call;
+use crate::tests::texts::{THREE_ROWS, THREE_TASKS};
 use exec_workers::Kit;
 use run_tool::Status;
 use sched_base::NoMemory;

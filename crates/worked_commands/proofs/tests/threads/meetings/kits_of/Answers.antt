@@ -2,7 +2,7 @@ use Rattle.std.proofs.Common.{◌++◌, ◌∷◌, [], None, ap, ◌∙◌, subs
 use Rattle.run_tool.specs.Executions.{gates_of}
 use Rattle.run_tool.specs.Ready.{AreFirstGates}
 use Rattle.run_tool.proofs.ReadyLemmas.{no_gates, more_gates}
-use Rattle.worked_threads.proofs.tests.meetings.kits_of.Goals as goal
+use Rattle.worked_commands.proofs.tests.threads.meetings.kits_of.Goals as goal
 
 pub loop-p-init : goal.loop-p-init
 loop-p-init g c = no_gates _ _ _ c.new-kits.ensures.items

@@ -1,4 +1,4 @@
-//! Executions by the top call: what the tests share.
+//! Executions whose threads meet, and jobs that count when they are let go: what these tests share.
 ghost use Rattle.run_tool.specs.Executions.{crew_of, IsFreshCrew};
 
 mod drops;
@@ -12,14 +12,6 @@ use std::alloc::Global;
 use std::sync::Wait;
 use std::test::Fail;
 use std::thread::Threads;
-
-/// Three tasks of rate 2/3 on two processors, over one period.
-const THREE_TASKS: &str =
-    "processors = 2\nhorizon = 3\ntask = [{name = \"a\", work = 2, period = 3}, {name = \"b\", work = 2, period = 3}, {name = \"c\", work = 2, period = 3}]\n";
-
-const THREE_ROWS: &str =
-    "run-trace 1\nprocessors 2\nhorizon 3\nscale 3\ntasks 3\ntask a 2 3\ntask b 2 3\ntask c 2 3\nrow 0 0 3 b\nrow 0 3 9 a\nrow 1 0 6 c\n\
-        row 1 6 9 b\ntotal a 6\ntotal b 6\ntotal c 6\nrows 4\n";
 
 /// What a call left: its status, and what `out` and `err` took.
 #[derive(Drop)]
