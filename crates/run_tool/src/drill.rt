@@ -51,9 +51,35 @@ pub(crate) fn drill<W: Sink, G: Gate + Send, X: Threads + Wait + Sync>(
         (crew_of G.Gate ⟦<BoxedJob as Job>⟧ kits.new jobs.new) }
 {
     let plan = drawn_plan(alloc, number)?;
-    let rounds = few_rounds(alloc, &plan)?;
-    let executed = run_plan(rt, alloc, &plan, rounds, USUAL_WINDOW, kits, jobs)?;
-    let told = judged(alloc, number, &plan, rounds, &executed.table)?;
+    run_drawn(rt, alloc, number, &plan, out, kits, jobs)
+}
+
+// Runs the schedule of a drawn set, by its plan, and writes what is counted of it.
+fn run_drawn<W: Sink, G: Gate + Send, X: Threads + Wait + Sync>(
+    rt: &X,
+    alloc: Global,
+    number: u64,
+    plan: &Plan,
+    out: &mut W,
+    kits: &mut Vec<Kit<G>>,
+    jobs: &mut Jobs,
+) -> Result<(), Refusal>
+    requires plan { plan.now ≡ drill_plan number plan.now.tree.scale }
+    requires scale { IsScale (drilled number).tasks plan.now.tree.scale }
+    requires few { rounds_of plan.now * plan.now.tree.processors ≤ row_limit }
+    requires ready { IsFreshCrew (crew_of G.Gate ⟦<BoxedJob as Job>⟧ kits.old jobs.old) }
+    ensures done { OnOk result (RanDrill number (W.taken out.old) (W.taken out.new)
+        (crew_of G.Gate ⟦<BoxedJob as Job>⟧ kits.old jobs.old)
+        (crew_of G.Gate ⟦<BoxedJob as Job>⟧ kits.new jobs.new)) }
+    ensures stops { IfErr result (StopsAtDrill number (W.taken out.old) (W.taken out.new) (W.faults out.old)
+        (W.faults out.new) (crew_of G.Gate ⟦<BoxedJob as Job>⟧ kits.old jobs.old)
+        (crew_of G.Gate ⟦<BoxedJob as Job>⟧ kits.new jobs.new)) }
+    ensures back { AreBack (crew_of G.Gate ⟦<BoxedJob as Job>⟧ kits.old jobs.old)
+        (crew_of G.Gate ⟦<BoxedJob as Job>⟧ kits.new jobs.new) }
+{
+    let rounds = few_rounds(alloc, plan)?;
+    let executed = run_plan(rt, alloc, plan, rounds, USUAL_WINDOW, kits, jobs)?;
+    let told = judged(alloc, number, plan, rounds, &executed.table)?;
     Ok(write_summary(&told, out)?)
 }
 

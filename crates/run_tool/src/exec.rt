@@ -6,9 +6,11 @@ ghost use Rattle.sched_base.specs.Lanes.{NamesOneOf};
 ghost use Rattle.row_totals.specs.Sums.{totals_of};
 ghost use Rattle.exec_book.specs.PlanRows.{plan_rows};
 ghost use Rattle.exec_workers.specs.Runs.{IsExecutable};
+ghost use Rattle.run_tree.specs.Compiled.{tree_of};
 ghost use Rattle.still_commands.specs.Commands.{set_limit};
 ghost use Rattle.still_commands.specs.Refusals.{status_of};
 ghost use Rattle.still_commands.specs.Ends.{streams_of, IsTold, StopsAs};
+ghost use Rattle.still_commands.specs.Input.{IsSchedulable};
 ghost use Rattle.run_tool.specs.Executions.{crew_of, IsFreshCrew, AreBack, RanAll, name_at};
 ghost use Rattle.run_tool.specs.Executed.{WritesRun, RefusesRun, RanSet, StopsAtRun, StopsInRun, may_have_called};
 ghost use Rattle.still_commands.specs.declared.status.Status.TheVariants.{Done};
@@ -82,9 +84,39 @@ fn run_set<W: Sink, G: Gate + Send, X: Threads + Wait + Sync>(
         (crew_of G.Gate ⟦<BoxedJob as Job>⟧ kits.new jobs.new) }
 {
     let plan = plan_of(alloc, set)?;
-    let rounds = count_rounds(alloc, &plan)?;
-    let executed = run_plan(rt, alloc, &plan, rounds, window, kits, jobs)?;
-    Ok(write_rows(&plan, &executed.table, executed.totals.as_slice(), met, out)?)
+    run_and_write(rt, alloc, &plan, window, met, out, kits, jobs)
+}
+
+// Runs the schedule of a set that fits, by its plan, and writes it.
+fn run_and_write<W: Sink, G: Gate + Send, X: Threads + Wait + Sync>(
+    rt: &X,
+    alloc: Global,
+    plan: &Plan,
+    window: u32,
+    met: bool,
+    out: &mut W,
+    kits: &mut Vec<Kit<G>>,
+    jobs: &mut Jobs,
+) -> Result<(), Refusal>
+    requires run { IsSchedulable plan.now.set plan.now.tree.scale }
+    requires tree { plan.now.tree ≡ tree_of plan.now.tree.scale plan.now.set }
+    requires ready { IsFreshCrew (crew_of G.Gate ⟦<BoxedJob as Job>⟧ kits.old jobs.old) }
+    requires some_window { 1 ≤ window }
+    requires small_window { window ≤ 1024 }
+    ensures done { OnOk result (RanSet met (W.taken out.old) (W.taken out.new)
+        (crew_of G.Gate ⟦<BoxedJob as Job>⟧ kits.old jobs.old) (crew_of G.Gate ⟦<BoxedJob as Job>⟧ kits.new jobs.new)
+        plan.now.set) }
+    ensures stops { IfErr result (StopsAtRun met (W.taken out.old) (W.taken out.new) (W.faults out.old)
+        (W.faults out.new) (crew_of G.Gate ⟦<BoxedJob as Job>⟧ kits.old jobs.old)
+        (crew_of G.Gate ⟦<BoxedJob as Job>⟧ kits.new jobs.new) plan.now.set) }
+    ensures uncalled { IfErr result (λ refusal. may_have_called (status_of refusal) ≡ false →
+        (kits.new.items ≡ kits.old.items) × (jobs.new.places ≡ jobs.old.places)) }
+    ensures back { AreBack (crew_of G.Gate ⟦<BoxedJob as Job>⟧ kits.old jobs.old)
+        (crew_of G.Gate ⟦<BoxedJob as Job>⟧ kits.new jobs.new) }
+{
+    let rounds = count_rounds(alloc, plan)?;
+    let executed = run_plan(rt, alloc, plan, rounds, window, kits, jobs)?;
+    Ok(write_rows(plan, &executed.table, executed.totals.as_slice(), met, out)?)
 }
 
 /// Has the gates and the jobs run the schedule of a plan.

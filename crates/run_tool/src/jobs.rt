@@ -1,7 +1,9 @@
 //! The command `jobs`.
 ghost use Rattle.std.specs.Prelude.{◌≡◌, false, OnOk, IfErr, IfOk};
 ghost use Rattle.still_commands.specs.Refusals.{status_of};
+ghost use Rattle.run_tree.specs.Compiled.{tree_of};
 ghost use Rattle.still_commands.specs.Ends.{streams_of};
+ghost use Rattle.still_commands.specs.Input.{IsSchedulable};
 ghost use Rattle.run_tool.specs.Executions.{crew_of, IsFreshCrew, AreBack};
 ghost use Rattle.run_tool.specs.Executed.{ToldRun, StopsRun, may_have_run};
 ghost use Rattle.run_tool.specs.JobInput.{GaveJobs, GaveNoJobs, RanJobs, StopsAtJobs};
@@ -13,6 +15,7 @@ use command_words::USUAL_WINDOW;
 use event_core::count_rounds;
 use exec_workers::Kit;
 use job_vm::{JobText, first_stray, load_programs, read_jobs, write_jobs};
+use run_tree::Plan;
 use sched_base::TaskSet;
 use sched_edges::{BoxedJob, Gate, Job, Jobs, Sink, Source, read_all};
 use std::alloc::Global;
@@ -85,8 +88,35 @@ fn run_programs<W: Sink, G: Gate + Send, X: Threads + Wait + Sync>(
         (crew_of G.Gate ⟦<BoxedJob as Job>⟧ kits.new jobs.new) }
 {
     let plan = plan_of(alloc, set)?;
-    let rounds = count_rounds(alloc, &plan)?;
+    load_and_run(rt, alloc, text, &plan, out, kits, jobs)
+}
+
+// Loads the programs of a text, runs the schedule of the set that fits, by its plan, and writes what they computed.
+fn load_and_run<W: Sink, G: Gate + Send, X: Threads + Wait + Sync>(
+    rt: &X,
+    alloc: Global,
+    text: &JobText,
+    plan: &Plan,
+    out: &mut W,
+    kits: &mut Vec<Kit<G>>,
+    jobs: &mut Jobs,
+) -> Result<(), Refusal>
+    requires run { IsSchedulable plan.now.set plan.now.tree.scale }
+    requires tree { plan.now.tree ≡ tree_of plan.now.tree.scale plan.now.set }
+    requires ready { IsFreshCrew (crew_of G.Gate ⟦<BoxedJob as Job>⟧ kits.old jobs.old) }
+    ensures done { OnOk result (RanJobs text.now (W.taken out.old) (W.taken out.new)
+        (crew_of G.Gate ⟦<BoxedJob as Job>⟧ kits.old jobs.old) (crew_of G.Gate ⟦<BoxedJob as Job>⟧ kits.new jobs.new)
+        plan.now.set) }
+    ensures stops { IfErr result (StopsAtJobs text.now (W.taken out.old) (W.taken out.new) (W.faults out.old)
+        (W.faults out.new) (crew_of G.Gate ⟦<BoxedJob as Job>⟧ kits.old jobs.old)
+        (crew_of G.Gate ⟦<BoxedJob as Job>⟧ kits.new jobs.new) plan.now.set) }
+    ensures uncalled { IfErr result (λ refusal. may_have_run (Some (Execute Jobs)) (status_of refusal) ≡ false →
+        (kits.new.items ≡ kits.old.items) × (jobs.new.places ≡ jobs.old.places)) }
+    ensures back { AreBack (crew_of G.Gate ⟦<BoxedJob as Job>⟧ kits.old jobs.old)
+        (crew_of G.Gate ⟦<BoxedJob as Job>⟧ kits.new jobs.new) }
+{
+    let rounds = count_rounds(alloc, plan)?;
     load_programs(text, plan.set(), plan.scale(), jobs)?;
-    run_plan(rt, alloc, &plan, rounds, USUAL_WINDOW, kits, jobs)?;
+    run_plan(rt, alloc, plan, rounds, USUAL_WINDOW, kits, jobs)?;
     Ok(write_jobs(out, plan.set(), plan.scale(), jobs)?)
 }

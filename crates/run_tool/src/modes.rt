@@ -1,7 +1,8 @@
 //! The command `modes`.
-ghost use Rattle.std.specs.Prelude.{◌≡◌, ◌≤◌, false, length, IfOk, IfErr, OnOk, Ok};
-ghost use Rattle.std.specs.List.{AllZip};
+ghost use Rattle.std.specs.Prelude.{◌≡◌, ◌≤◌, [], false, length, map, IfOk, IfErr, OnOk, Ok};
+ghost use Rattle.std.specs.List.{All, AllZip};
 ghost use Rattle.mode_switch.specs.Runs.{IsRunOf};
+ghost use Rattle.task_reader.specs.Pieces.{pieces_of, bytes_in, IsWithin};
 ghost use Rattle.task_reader.specs.Reading.{set_read_from};
 ghost use Rattle.still_commands.specs.Commands.{set_limit};
 ghost use Rattle.still_commands.specs.Ends.{streams_of};
@@ -26,7 +27,7 @@ use std::alloc::Global;
 use std::sync::Wait;
 use std::thread::Threads;
 use still_commands::{ModeRefusal, Refusal, SET_LIMIT};
-use task_reader::{ReadSet, cut, pieces_law, read_set};
+use task_reader::{Pieces, ReadSet, cut, pieces_law, read_set};
 
 /// Reads task sets, has the gates and the jobs run their schedules as modes, one after the other, and writes them. In each mode a
 /// lane may run up to 32 rounds ahead of the others.
@@ -73,15 +74,34 @@ fn read_sets(alloc: Global, bytes: &[u8]) -> Result<Vec<TaskSet>, Refusal>
     ensures some { IfOk result (λ sets. 1 ≤ length sets.items) }
     ensures refused { IfErr result (RefusesPieces bytes.now) }
 {
-    pieces_law();
     let pieces = cut(alloc, bytes)?;
     let mut sets = Vec::new(alloc);
+    read_pieces(alloc, bytes, &pieces, &mut sets)?;
+    Ok(sets)
+}
+
+// Adds the sets of the pieces of a text.
+fn read_pieces(
+    alloc: Global,
+    bytes: &[u8],
+    pieces: &Pieces,
+    sets: &mut Vec<TaskSet>,
+) -> Result<(), Refusal>
+    requires few { length bytes.now ≤ set_limit }
+    requires each { map (bytes_in bytes.now) pieces.now ≡ pieces_of bytes.now }
+    requires within { All (IsWithin bytes.now) pieces.now }
+    requires none { sets.old.items ≡ [] }
+    ensures read { OnOk result (ReadsSets bytes.now sets.new.items) }
+    ensures some { OnOk result (1 ≤ length sets.new.items) }
+    ensures refused { IfErr result (RefusesPieces bytes.now) }
+{
+    pieces_law();
     for j in 0..pieces.count() {
         let (start, end) = pieces.piece(j);
         let set = read_piece(alloc, j, &bytes[start..end])?;
         sets.push(set)?;
     }
-    Ok(sets)
+    Ok(())
 }
 
 // The set of piece j.

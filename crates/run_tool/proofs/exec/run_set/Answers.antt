@@ -1,10 +1,8 @@
-use Rattle.std.proofs.lemmas.Result.{err_from_is_err_and}
-use Rattle.run_tool.proofs.StopLemmas.{run_stops}
+use Rattle.std.proofs.Common.{sym}
 use Rattle.run_tool.proofs.exec.run_set.Goals as goal
 
-pub returns-in_err-executed-clause-stops : goal.returns-in_err-executed-clause-stops
-returns-in_err-executed-clause-stops g c =
-    let why = err_from_is_err_and c.from_residual-in_err-executed.result c.from_residual-in_err-executed.ensures.1 in
-    rw (why.1, why.2)
-    (run_stops c.args.set c.in_ok-plan.plan c.in_ok-plan.ensures.set c.in_ok-plan.ensures.tree c.args.met _ _ c.in_ok-rounds.rounds _ _ _
-    c.in_ok-plan.ensures.run c.in_ok-rounds.ensures.count.0 c.in_ok-rounds.ensures.count.1 c.in_err-executed.ensures.stops)
+pub returns-clause-done : goal.returns-clause-done
+returns-clause-done g c = rw (sym c.in_ok-plan.ensures.set) c.run_and_write.ensures.done
+
+pub returns-clause-stops : goal.returns-clause-stops
+returns-clause-stops g c = rw (sym c.in_ok-plan.ensures.set) c.run_and_write.ensures.stops

@@ -1,5 +1,5 @@
 use Rattle.run_tool.proofs.ModeEndLemmas.{AreRead}
-use Rattle.run_tool.proofs.modes.read_sets.Given as goal
+use Rattle.run_tool.proofs.modes.read_pieces.Given as goal
 
 abbrev pub invariant-loop-j : goal.invariant-loop-j
 invariant-loop-j l = record { read : AreRead l.bytes l.j l.sets.items }

@@ -1,0 +1,92 @@
+use Rattle.std.proofs.Common.{refl, ◌≤◌, ◌<◌, ap, subst, take, length}
+use Rattle.std.proofs.lemmas.Result.{err_from_is_err_and}
+use Rattle.sched_base.specs.Sets.{SetContents}
+use Rattle.still_commands.specs.declared.refusal.Refusal.{Refusal}
+use Rattle.still_commands.specs.Refusals.{status_of}
+use Rattle.run_tool.specs.Executed.{may_have_called}
+use Rattle.run_tool.proofs.CrewEndLemmas.{jobs_fresh}
+use Rattle.run_tool.proofs.LoadedLemmas.{ready_at, back_at, back_by_run, crew_left, jobs_there}
+use Rattle.run_tool.proofs.JobRunLemmas.{running_stops, loaded_is, loaded_part, jobs_ran, jobs_unwritten}
+use Rattle.run_tool.proofs.jobs.load_and_run.Goals as goal
+
+pub load_programs-requires-clause-jobs : goal.load_programs-requires-clause-jobs
+load_programs-requires-clause-jobs g c = λ i within.
+    let inside = subst (λ (s : SetContents). i < length s.tasks) c.set.ensures.value within in
+    let fresh = jobs_fresh _ _ _ _ _ _ _ _ c.requires.ready _ c.scale.ensures.lawful.lawful.few_tasks i inside in
+    (fresh.0, fresh.1)
+
+pub returns-in_err-load_programs-clause-back : goal.returns-in_err-load_programs-clause-back
+returns-in_err-load_programs-clause-back g c =
+    let begun = c.in_err-load_programs.ensures.begun in
+    back_at c.args.text.now c.args.plan.now.tree.scale (take begun.0 c.args.plan.now.set.tasks) _ _
+    (loaded_part c.args.text.now c.args.plan.now.set c.args.plan.now refl c.requires.tree _ _ _ _ begun.0 c.set.result.now
+    c.scale.ensures.value c.set.ensures.value begun.2)
+
+pub run_plan-requires-clause-ready : goal.run_plan-requires-clause-ready
+run_plan-requires-clause-ready g c κs within =
+    ready_at c.args.text.now c.args.plan.now.tree.scale c.args.plan.now.set.tasks _ _
+    (loaded_is c.args.text.now c.args.plan.now.set c.args.plan.now refl c.requires.tree _ _ _ _ c.set.result.now
+    c.scale.ensures.value c.set.ensures.value c.in_ok-load_programs.ensures.loaded) c.requires.ready
+
+pub returns-in_err-run_plan-clause-stops : goal.returns-in_err-run_plan-clause-stops
+returns-in_err-run_plan-clause-stops g c =
+    let why = err_from_is_err_and c.from_residual-in_err-run_plan.result c.from_residual-in_err-run_plan.ensures.1 in
+    rw (why.1, why.2)
+    (running_stops c.args.text.now c.args.plan.now.set c.args.plan.now refl c.requires.tree _ _ c.in_ok-rounds.rounds _ _ _ _
+    c.requires.run c.in_ok-rounds.ensures.count.0 c.in_ok-rounds.ensures.count.1
+    (loaded_is c.args.text.now c.args.plan.now.set c.args.plan.now refl c.requires.tree _ _ _ _ c.set.result.now
+    c.scale.ensures.value c.set.ensures.value c.in_ok-load_programs.ensures.loaded)
+    c.in_err-run_plan.ensures.stops
+    (λ e. crew_left _ _ _ _ _ _ _ _ _ _ (c.in_err-run_plan.ensures.uncalled (ap (λ (x : Refusal). may_have_called (status_of x)) e))))
+
+pub returns-in_err-run_plan-clause-back : goal.returns-in_err-run_plan-clause-back
+returns-in_err-run_plan-clause-back g c =
+    back_by_run c.args.text.now c.args.plan.now.tree.scale c.args.plan.now.set.tasks _ _ _
+    (loaded_is c.args.text.now c.args.plan.now.set c.args.plan.now refl c.requires.tree _ _ _ _ c.set.result.now
+    c.scale.ensures.value c.set.ensures.value c.in_ok-load_programs.ensures.loaded) c.in_err-run_plan.ensures.back
+
+pub write_jobs-requires-clause-jobs : goal.write_jobs-requires-clause-jobs
+write_jobs-requires-clause-jobs g c = λ i within.
+    jobs_there _ _ _ _ _ _ _
+    (ready_at c.args.text.now c.args.plan.now.tree.scale c.args.plan.now.set.tasks _ _
+    (loaded_is c.args.text.now c.args.plan.now.set c.args.plan.now refl c.requires.tree _ _ _ _ c.set.result.now
+    c.scale.ensures.value c.set.ensures.value c.in_ok-load_programs.ensures.loaded) c.requires.ready)
+    c.in_ok-run_plan.ensures.back _ c.scale-2.ensures.lawful.lawful.few_tasks i
+    (subst (λ (s : SetContents). i < length s.tasks) c.set-2.ensures.value within)
+
+pub returns-in_err-write_jobs-clause-stops : goal.returns-in_err-write_jobs-clause-stops
+returns-in_err-write_jobs-clause-stops g c =
+    let why = err_from_is_err_and c.from_residual-in_err-write_jobs.result c.from_residual-in_err-write_jobs.ensures.1 in
+    rw (why.1, why.2, c.in_err-write_jobs.ensures.same)
+    (jobs_unwritten c.args.text.now c.args.plan.now.set c.args.plan.now refl c.requires.tree _ _ _ _ c.in_ok-rounds.rounds _ _ _
+    c.scale-2.result c.set-2.result.now c.requires.run c.in_ok-rounds.ensures.count.0 c.in_ok-rounds.ensures.count.1
+    c.scale-2.ensures.value c.set-2.ensures.value
+    c.scale.ensures.lawful.lawful.few_tasks c.requires.ready
+    (loaded_is c.args.text.now c.args.plan.now.set c.args.plan.now refl c.requires.tree _ _ _ _ c.set.result.now
+    c.scale.ensures.value c.set.ensures.value c.in_ok-load_programs.ensures.loaded)
+    c.in_ok-run_plan.ensures.ran c.in_err-write_jobs.ensures.wrote.err c.in_err-write_jobs.ensures.cause.failed)
+
+pub returns-in_err-write_jobs-clause-back : goal.returns-in_err-write_jobs-clause-back
+returns-in_err-write_jobs-clause-back g c =
+    rw c.in_err-write_jobs.ensures.same
+    (back_by_run c.args.text.now c.args.plan.now.tree.scale c.args.plan.now.set.tasks _ _ _
+    (loaded_is c.args.text.now c.args.plan.now.set c.args.plan.now refl c.requires.tree _ _ _ _ c.set.result.now
+    c.scale.ensures.value c.set.ensures.value c.in_ok-load_programs.ensures.loaded) c.in_ok-run_plan.ensures.back)
+
+pub returns-clause-done : goal.returns-clause-done
+returns-clause-done g c =
+    rw c.in_ok-write_jobs.ensures.same
+    (jobs_ran c.args.text.now c.args.plan.now.set c.args.plan.now refl c.requires.tree _ _ c.in_ok-rounds.rounds _ _ _
+    c.scale-2.result c.set-2.result.now c.requires.run c.in_ok-rounds.ensures.count.0 c.in_ok-rounds.ensures.count.1
+    c.scale-2.ensures.value c.set-2.ensures.value
+    c.scale.ensures.lawful.lawful.few_tasks c.requires.ready
+    (loaded_is c.args.text.now c.args.plan.now.set c.args.plan.now refl c.requires.tree _ _ _ _ c.set.result.now
+    c.scale.ensures.value c.set.ensures.value c.in_ok-load_programs.ensures.loaded)
+    c.in_ok-run_plan.ensures.ran c.in_ok-write_jobs.ensures.wrote.ok)
+
+pub returns-clause-back : goal.returns-clause-back
+returns-clause-back g c =
+    rw c.in_ok-write_jobs.ensures.same
+    (back_by_run c.args.text.now c.args.plan.now.tree.scale c.args.plan.now.set.tasks _ _ _
+    (loaded_is c.args.text.now c.args.plan.now.set c.args.plan.now refl c.requires.tree _ _ _ _ c.set.result.now
+    c.scale.ensures.value c.set.ensures.value c.in_ok-load_programs.ensures.loaded) c.in_ok-run_plan.ensures.back)
