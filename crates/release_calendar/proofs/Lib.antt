@@ -1,3 +1,4 @@
+pub mod FirstLemmas
 pub mod NextLemmas
 pub mod TurnLemmas
 pub mod OrderLemmas

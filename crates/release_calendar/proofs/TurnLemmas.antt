@@ -1,13 +1,14 @@
 -- Windows that end at a unit are followed by the next ones.
-use Rattle.std.proofs.Common.{◌≡◌, ℕ, ◌+◌, ◌<◌, ◌≤◌, ◌&&◌, ◌==◌, not, Bool, true, false, List, length, get_or, refl, ap, arith, inl, inr, sym, subst, subst₂, ◌∙◌, Vec, eq-eqb}
+use Rattle.std.proofs.Common.{◌≡◌, ℕ, ◌+◌, ◌<◌, ◌≤◌, ◌^◌, ◌&&◌, ◌==◌, not, Bool, true, false, List, length, get_or, refl, ap, arith, inl, inr, sym, subst, subst₂, ◌∙◌, Vec, eq-eqb}
 use Rattle.std.specs.Vec.{with_items}
+use Rattle.std.proofs.lemmas.Grind.{get_or_default_zero}
 use Rattle.std.proofs.lemmas.List.{with_items_is}
 use Rattle.std.proofs.lemmas.Bool.{cases_Bool, cases_eq, both_ways, ne_eqb}
 use Rattle.run_tree.specs.Windows.{window_begin, window_end}
 use Rattle.run_tree.specs.Tree.{IsMember, kind_at, is_pack}
 use Rattle.run_tree.specs.Plans.{PlanContents, IsPlan, boundary_of}
 use Rattle.run_tree.proofs.WindowLemmas.{begin_is, end_is, windows_of, same_IsBegin}
-use Rattle.release_calendar.specs.Calendars.{CalendarContents, HasWindow, IsNext, PacksNeverEnd, BelongsTo, AreReady, AreTurned}
+use Rattle.release_calendar.specs.Calendars.{CalendarContents, HasWindow, IsNext, PacksNeverEnd, BelongsTo, AreReady, AreTurned, EndsFit}
 use Rattle.release_calendar.proofs.NextLemmas.{have, next-le-end}
 
 -- a turn of a node leaves what stands at packs
@@ -16,6 +17,24 @@ packs_kept p ends ends' x own others packs y i = elim (cases_eq y x) [
   | inl same ↦ (let P : ℕ → Type 0 = λ z. is_pack (kind_at p.tree z) ≡ true → get_or ends' z 0 ≡ get_or ends z 0 in subst P (sym same) own i.1 ∙ packs y i)
   | inr ne ↦ others y ne ∙ packs y i
 ]
+
+-- what is read of a vector is what its value shows
+pub read_shown : (items shown : List ℕ) (i value : ℕ) → items ≡ shown → i < length items → value ≡ get_or items i value → value ≡ get_or shown i 0
+read_shown items shown i value same within is = is ∙ get_or_default_zero items i value within ∙ ap (λ (xs : List ℕ). get_or xs i 0) same
+
+-- a node that is a leaf or a dual is no pack
+pub no_pack : (pack : Bool) → true ≡ not pack → pack ≡ true → ⊥
+no_pack true e is = cc
+no_pack false e is = cc
+
+-- and one that is neither is
+pub no_member : (pack : Bool) → false ≡ not pack → pack ≡ false → ⊥
+no_member true e is = cc
+no_member false e is = cc
+
+-- unit 0 is the first
+pub first_unit : (u : ℕ) → 0 ≤ u
+first_unit u = omega arith
 
 module _ (p : PlanContents) (h : IsPlan p) where
   -- a window begins at its first boundary
@@ -121,3 +140,16 @@ module _ (p : PlanContents) (h : IsPlan p) where
       let ke = ve.ok.0 in
       let whole : BelongsTo p (record { unit = u; next = d; begins = begins; ends = ends; begun = begun }) = record { unit_fits = early; begins_long = b; ends_long = e; windows = w; packs = packs; next = n } in
       subst₂ P (sym (with_items_is vb begins (omega (arith, kb, sb)))) (sym (with_items_is ve ends (omega (arith, ke, se)))) whole
+
+-- what is written is what a calendar keeps
+pub kept_written : {Z : Type 0} (vb ve : Vec ℕ Z) (begins ends order : List ℕ) (n count turned d : ℕ) → length vb.items ≡ length begins → length ve.items ≡ length ends → length begins ≡ n → length ends ≡ n → count ≡ n → turned ≤ count →
+    EndsFit ends → order ≡ ends → d ≤ 2 ^ 33 →
+    (length (with_items ve ends).items ≡ length (with_items vb begins).items) × EndsFit (with_items ve ends).items × (order ≡ (with_items ve ends).items) × (count ≡ length (with_items vb begins).items) × (turned ≤ count) × (d ≤ 2 ^ 33)
+kept_written vb ve begins ends order n count turned d sb se b e c some fit ordered below =
+    let kb = vb.ok.0 in
+    let ke = ve.ok.0 in
+    let whole_b = with_items_is vb begins (omega (arith, kb, sb)) in
+    let whole_e = with_items_is ve ends (omega (arith, ke, se)) in
+    let long_b : length (with_items vb begins).items ≡ n = ap (λ (xs : List ℕ). length xs) whole_b ∙ b in
+    let long_e : length (with_items ve ends).items ≡ n = ap (λ (xs : List ℕ). length xs) whole_e ∙ e in
+    (long_e ∙ sym long_b, subst (λ xs. EndsFit xs) (sym whole_e) fit, ordered ∙ sym whole_e, c ∙ sym long_b, some, below)

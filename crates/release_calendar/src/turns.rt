@@ -107,9 +107,7 @@ fn first_end(plan: &Plan, ends: &[u128]) -> u64
     let mut first = u128::from(NO_TASKS);
     for x in 0..plan.tree().nodes() {
         if is_leaf(plan, NodeId(x)) {
-            if ends[x as usize] < first {
-                first = ends[x as usize];
-            }
+            first = first.min(ends[x as usize]);
         }
     }
     first as u64

@@ -64,6 +64,14 @@ impl<J> JobList<J> {
         self.places.len() as u32
     }
 
+    // The job of place i.
+    fn job(&self, i: u32) -> &J
+        requires { (job : J) × JobAt self.now.places i job }
+        ensures { JobAt self.now.places i result.now }
+    {
+        self.places[i as usize].as_ref().unwrap()
+    }
+
     /// Hands the job of place i out, and leaves the place empty.
     pub fn lift(&mut self, i: u32) -> J
         requires { (job : J) × JobAt self.old.places i job }
@@ -101,7 +109,7 @@ impl<J: Job> JobList<J> {
         requires { (job : J) × JobAt self.now.places i job }
         ensures { (job : J) → JobAt self.now.places i job → result ≡ J.used job }
     {
-        self.places[i as usize].as_ref().unwrap().used()
+        self.job(i).used()
     }
 
     /// How often the job of place i has failed.
@@ -109,7 +117,7 @@ impl<J: Job> JobList<J> {
         requires { (job : J) × JobAt self.now.places i job }
         ensures { (job : J) → JobAt self.now.places i job → result ≡ J.faults job }
     {
-        self.places[i as usize].as_ref().unwrap().faults()
+        self.job(i).faults()
     }
 
     /// Whether each job that is there has its given count of faults. A place past the counts has none given.

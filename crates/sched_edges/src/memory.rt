@@ -5,7 +5,7 @@ ghost use Rattle.std.specs.Io.KnownBytes.{ReadConsumes, WriteAppends};
 ghost use Rattle.sched_edges.specs.Causes.{HasCause};
 ghost use Rattle.sched_edges.specs.Memory.{next_call, is_listed, room_left};
 
-use crate::streams::{Failed, Sink, Source, fault};
+use crate::streams::{Failed, Sink, Source, call_fails, fault};
 use sched_base::NoMemory;
 use std::alloc::Global;
 use std::marker::Model;
@@ -63,8 +63,7 @@ impl Source for MemSource {
         ensures calls { self.new.calls ≡ next_call self.old.calls }
         ensures fails { self.new.fails ≡ self.old.fails }
     {
-        self.calls = self.calls.saturating_add(1);
-        if self.fails.contains(&self.calls) {
+        if call_fails(&mut self.calls, &self.fails) {
             return Err(fault(&mut self.faults));
         }
         let count = copy_front(&self.bytes[self.at..], buffer);
@@ -146,8 +145,7 @@ impl Sink for MemSink {
         ensures fails { self.new.fails ≡ self.old.fails }
         ensures room { self.new.room ≡ self.old.room }
     {
-        self.calls = self.calls.saturating_add(1);
-        if self.fails.contains(&self.calls) {
+        if call_fails(&mut self.calls, &self.fails) {
             return Err(fault(&mut self.faults));
         }
         let room = self.room - self.bytes.len();

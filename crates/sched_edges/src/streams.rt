@@ -1,9 +1,10 @@
 //! The traits of streams of bytes.
-ghost use Rattle.std.specs.Prelude.{ℕ, List, ◌≤◌, ◌<◌, length, IfOk};
+ghost use Rattle.std.specs.Prelude.{◌≡◌, ℕ, List, ◌≤◌, ◌<◌, length, IfOk};
 ghost use Rattle.std.specs.declared.option.Option.{Option};
 ghost use Rattle.std.specs.Io.{ReadsAtMost};
 ghost use Rattle.std.specs.Io.KnownBytes.{ReadConsumes, WriteAppends};
 ghost use Rattle.sched_edges.specs.Causes.{HasCause, Rose};
+ghost use Rattle.sched_edges.specs.Memory.{next_call, is_listed};
 
 /// A call to the outside failed. What it was called on has counted the fault.
 #[derive(Clone, Copy, Debug, PartialEq, Eq)]
@@ -16,6 +17,15 @@ pub(crate) fn fault(faults: &mut u64) -> Failed
 {
     *faults = faults.saturating_add(1);
     Failed
+}
+
+// Counts a call, and tells whether its number is one of those that fail.
+pub(crate) fn call_fails(calls: &mut u64, fails: &[u64]) -> bool
+    ensures calls { calls.new ≡ next_call calls.old }
+    ensures listed { result ≡ is_listed fails.now calls.new }
+{
+    *calls = calls.saturating_add(1);
+    fails.contains(calls)
 }
 
 /// Where bytes come from.

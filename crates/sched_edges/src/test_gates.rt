@@ -5,7 +5,7 @@ ghost use Rattle.sched_edges.specs.Memory.{next_call, is_listed};
 ghost use Rattle.sched_edges.specs.Gates.{grown, rows_left};
 
 use crate::gates::Gate;
-use crate::streams::{Failed, fault};
+use crate::streams::{Failed, call_fails, fault};
 use sched_base::{NoMemory, Row};
 use std::alloc::Global;
 use std::marker::Model;
@@ -73,8 +73,7 @@ impl Gate for ListGate {
         ensures fails { self.new.fails ≡ self.old.fails }
         ensures room { self.new.room ≡ self.old.room }
     {
-        self.calls = self.calls.saturating_add(1);
-        if self.fails.contains(&self.calls) {
+        if call_fails(&mut self.calls, &self.fails) {
             return Err(fault(&mut self.faults));
         }
         if self.rows.len() >= self.room {

@@ -4,7 +4,7 @@ ghost use Rattle.sched_edges.specs.Causes.{HasCause};
 ghost use Rattle.sched_edges.specs.Memory.{next_call, is_listed};
 
 use crate::jobs::Job;
-use crate::streams::{Failed, fault};
+use crate::streams::{Failed, call_fails, fault};
 use sched_base::NoMemory;
 use std::alloc::Global;
 use std::marker::Model;
@@ -143,8 +143,7 @@ impl Job for FailJob {
         ensures calls { self.new.calls ≡ next_call self.old.calls }
         ensures fails { self.new.fails ≡ self.old.fails }
     {
-        self.calls = self.calls.saturating_add(1);
-        if self.fails.contains(&self.calls) {
+        if call_fails(&mut self.calls, &self.fails) {
             return Err(fault(&mut self.faults));
         }
         self.used += ticks;

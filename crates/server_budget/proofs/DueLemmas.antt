@@ -1,7 +1,7 @@
 -- Marks and what is left by them.
 use Rattle.std.proofs.Common.{◌≡◌, ◌≢◌, ℕ, zero, suc, ◌+◌, ◌-◌, ◌*◌, ◌^◌, ◌<◌, ◌≤◌, Bool, true, false, List, [], ◌∷◌, length, replicate, subst, refl, ap, ap₂, arith, sym, ◌∙◌, get_or, inl, inr, get_or-set_same, get_or-set_other}
 use Rattle.std.proofs.lemmas.Bool.{cases_eq}
-use Rattle.std.proofs.lemmas.List.{set-get_or, length-set}
+use Rattle.std.proofs.lemmas.List.{set-get_or, length-set, length-replicate}
 use Rattle.std.proofs.Math.ListN.{set}
 use Rattle.sched_base.specs.Counting.{bit}
 use Rattle.server_budget.specs.Dues.{DueContents, left_by, remains_by, AreAhead}
@@ -98,6 +98,16 @@ none_left count runs marks e f = ap₂ (λ (rs : List Bool) (ms : List ℕ). rem
     go : (n : ℕ) → remains_by 0 (replicate n false) (replicate n 0) ≡ replicate n 0
     go zero = refl
     go (suc n) = ap (λ (xs : List ℕ). 0 ∷ xs) (go n)
+
+-- and none is past its mark
+pub none_ahead : (count : ℕ) (runs : List Bool) (marks : List ℕ) → runs ≡ replicate count false → marks ≡ replicate count 0 → AreAhead 0 runs marks
+none_ahead count runs marks e f = record {
+  long = ap (λ (xs : List Bool). length xs) e ∙ length-replicate count false ∙ sym (ap (λ (xs : List ℕ). length xs) f ∙ length-replicate count 0);
+  ahead = λ x on. first_tick (get_or marks x 0);
+}
+  where
+    first_tick : (mark : ℕ) → 0 ≤ mark
+    first_tick mark = omega arith
 
 pub passed_of : (tick ticks : ℕ) (runs : List Bool) (marks : List ℕ) (x : ℕ) → length runs ≡ length marks → (d : DueContents) → Sees tick runs marks d →
     get_or (remains_by (tick + ticks) runs marks) x 0 ≡ get_or d.remains x 0 - bit (get_or d.runs x false) * ticks

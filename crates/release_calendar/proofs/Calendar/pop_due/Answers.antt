@@ -1,10 +1,10 @@
-use Rattle.std.proofs.Common.{arith, ap, sym, take, ◌∙◌, ◌&&◌, ◌<◌, get_or, not, ℕ, List, subst, subst₂, length}
+use Rattle.std.proofs.Common.{arith, ap, sym, take, ◌∙◌, ◌&&◌, ◌<◌, ◌≤◌, get_or, not, ℕ, List, subst, subst₂, length}
 use Rattle.run_tree.specs.Tree.{IsMember, kind_at, is_pack, numbers}
 use Rattle.std.proofs.lemmas.List.{with_items_is}
 use Rattle.sched_base.specs.declared.rows.NodeId.{NodeId}
 use Rattle.run_tree.specs.Plans.{boundary_of}
-use Rattle.release_calendar.specs.Calendars.{CalendarContents, AreListed, AreReady}
-use Rattle.release_calendar.proofs.TurnLemmas.{belongs_written, ready_next}
+use Rattle.release_calendar.specs.Calendars.{CalendarContents, AreListed, AreReady, EndsFit, PacksNeverEnd}
+use Rattle.release_calendar.proofs.TurnLemmas.{belongs_written, kept_written, ready_next}
 use Rattle.release_calendar.proofs.OrderLemmas.{begins_earlier}
 use Rattle.release_calendar.proofs.Calendar.pop_due.Goals as goal
 
@@ -43,3 +43,42 @@ returns-clause-begun c =
     let v = ap (λ (xs : List NodeId). length xs) c.deref_mut-3.ensures.value in
     let kept = c.turn_marked-next.auto.begun in
     subst (λ (xs : List NodeId). AreListed c.turn_marked-next.new.due (numbers (take c.turn_marked-next.result.1 xs))) (sym (with_items_is c.self.inside.begun c.turn_marked-next.new.begun (let ok = c.self.inside.begun.ok.0 in omega (arith, v, kept, ok)))) c.turn_marked-next.ensures.listed
+
+pub returns-clause-unit : goal.returns-clause-unit
+returns-clause-unit c = ap (λ (s : CalendarContents). s.next) c.self.view_is
+
+pub turn_marked-next-requires-clause-plan : goal.turn_marked-next-requires-clause-plan
+turn_marked-next-requires-clause-plan c = c.know_lawful.ensures.lawful
+
+pub turn_marked-next-requires-clause-at : goal.turn_marked-next-requires-clause-at
+turn_marked-next-requires-clause-at c = subst (λ (u : ℕ). u ≤ c.args.plan.now.set.horizon) (sym (ap (λ (s : CalendarContents). s.next) c.self.view_is)) c.requires.early
+
+pub turn_marked-next-requires-clause-begins : goal.turn_marked-next-requires-clause-begins
+turn_marked-next-requires-clause-begins c =
+    ap (λ (xs : List ℕ). length xs) c.deref_mut.ensures.value ∙ ap (λ (s : CalendarContents). length s.begins) c.self.view_is ∙ c.requires.belongs.begins_long
+
+pub turn_marked-next-requires-clause-ends : goal.turn_marked-next-requires-clause-ends
+turn_marked-next-requires-clause-ends c =
+    ap (λ (xs : List ℕ). length xs) c.deref_mut-2.ensures.value ∙ ap (λ (s : CalendarContents). length s.ends) c.self.view_is ∙ c.requires.belongs.ends_long
+
+pub turn_marked-next-requires-clause-order : goal.turn_marked-next-requires-clause-order
+turn_marked-next-requires-clause-order c = c.self.invariant.2 ∙ sym c.deref_mut-2.ensures.value
+
+pub turn_marked-next-requires-clause-packs : goal.turn_marked-next-requires-clause-packs
+turn_marked-next-requires-clause-packs c =
+    subst (λ (xs : List ℕ). PacksNeverEnd c.args.plan.now.tree xs) (sym (c.deref_mut-2.ensures.value ∙ ap (λ (s : CalendarContents). s.ends) c.self.view_is)) c.requires.belongs.packs
+
+pub turn_marked-next-requires-clause-begun : goal.turn_marked-next-requires-clause-begun
+turn_marked-next-requires-clause-begun c =
+    ap (λ (xs : List NodeId). length xs) c.deref_mut-3.ensures.value ∙ c.self.invariant.3 ∙ ap (λ (s : CalendarContents). length s.begins) c.self.view_is ∙ c.requires.belongs.begins_long
+
+pub invariant_of-self : goal.invariant_of-self
+invariant_of-self c =
+    let b = c.turn_marked-next.auto.begins ∙ ap (λ (xs : List ℕ). length xs) c.deref_mut.ensures.value in
+    let e = c.turn_marked-next.auto.ends ∙ ap (λ (xs : List ℕ). length xs) c.deref_mut-2.ensures.value in
+    let g = c.turn_marked-next.auto.begun ∙ ap (λ (xs : List NodeId). length xs) c.deref_mut-3.ensures.value in
+    let whole = with_items_is c.self.inside.begun c.turn_marked-next.new.begun (let ok = c.self.inside.begun.ok.0 in omega (arith, g, ok)) in
+    let long = ap (λ (xs : List NodeId). length xs) whole in
+    kept_written c.self.inside.begins c.self.inside.ends c.turn_marked-next.new.begins c.turn_marked-next.new.ends _ (length c.self.inside.begins.items) _ c.turn_marked-next.result.1 c.turn_marked-next.result.0 (sym b) (sym e)
+    b (e ∙ c.self.invariant.0) (long ∙ g ∙ c.self.invariant.3) (subst (λ (n : ℕ). c.turn_marked-next.result.1 ≤ n) (sym long) c.turn_marked-next.ensures.count)
+    (c.turn_marked-next.ensures.fit (subst (λ (xs : List ℕ). EndsFit xs) (sym c.deref_mut-2.ensures.value) c.self.invariant.1)) c.turn_marked-next.ensures.order c.turn_marked-next.ensures.next.below

@@ -1,7 +1,7 @@
 use Rattle.std.proofs.Common.{arith, false, subst, ℕ, Option}
 use Rattle.std.proofs.Math.ListN.{set}
 use Rattle.tree_select.specs.Reselected.{IsHanded}
-use Rattle.tree_select.proofs.ServedLemmas.{handed_served, handed_unmarked}
+use Rattle.tree_select.proofs.ServedLemmas.{handed_served, handed_unmarked, handed_mark, handed_marks}
 use Rattle.tree_select.proofs.served.hand_over.Goals as goal
 
 pub returns-clause-served : goal.returns-clause-served
@@ -17,3 +17,27 @@ returns-clause-unmarked c = λ q j ne off.
 
 pub returns-clause-unchanged : goal.returns-clause-unchanged
 returns-clause-unchanged c = λ q j off. (c.hand_on.ensures.unmarked q j off).1
+
+pub returns-clause-within : goal.returns-clause-within
+returns-clause-within c = λ j is. c.requires.chosen j (c.served_by-next.ensures.within j is)
+
+pub returns-clause-result : goal.returns-clause-result
+returns-clause-result c = c.served_by-next.ensures.value
+
+pub returns-clause-now : goal.returns-clause-now
+returns-clause-now c = c.hand_on.ensures.each
+
+pub returns-clause-led : goal.returns-clause-led
+returns-clause-led c = c.hand_on.ensures.led c.requires.led
+
+pub returns-clause-others : goal.returns-clause-others
+returns-clause-others c = c.hand_on.ensures.others
+
+pub returns-clause-own : goal.returns-clause-own
+returns-clause-own c =
+    let long = c.requires.stale in
+    let b = c.requires.pack.0 in
+    handed_mark c.args.tree.now c.requires.tree c.args.p.0 c.served_by-next.result c.args.stale.now c.args.runs.now c.hand_on.new.stale c.hand_on.new.runs c.requires.pack (omega (arith, b, long)) c.hand_on.ensures
+
+pub returns-clause-marks : goal.returns-clause-marks
+returns-clause-marks c = handed_marks c.args.tree.now c.requires.tree c.args.p.0 c.served_by-next.result c.args.stale.now c.args.runs.now c.hand_on.new.stale c.hand_on.new.runs c.hand_on.ensures
