@@ -6,7 +6,7 @@ use Rattle.std.specs.declared.cmp.Ordering.{Ordering}
 use Rattle.std.specs.declared.cmp.Ordering.TheVariants.{Equal, Greater}
 use Rattle.std.specs.Ordering.{nat_cmp, ordering_then, is_lt}
 use Rattle.std.proofs.lemmas.Bool.{and_parts, and_from, or_cases, or_left, or_right, eqb-true, eq-eqb, ne_eqb, leb-true, ltb-true, lt-ltb, le-ltb, cond-true, cond-false, not_from_false}
-use Rattle.std.proofs.lemmas.List.{map-append}
+use Rattle.std.proofs.lemmas.List.{map-append, take_more}
 use Rattle.std.proofs.lemmas.List.Sorted.{IsPermutation-refl}
 use Rattle.sched_base.specs.declared.rows.Row.{Row}
 use Rattle.sched_base.specs.Sets.{SetContents}
@@ -94,3 +94,9 @@ pub place_more : (rows : List Row) (i : ℕ) (d : Row) → i < length rows → p
 place_more rows i d h =
     let at : 0 + i ≡ i = omega arith in
     sym (ap places (entries_more processor_key 0 rows i d h) ∙ (map-append (λ (e : Entry). e.place) _ _ ∙ ap (λ p. places (entries_from processor_key 0 (take i rows)) ++ p ∷ []) at))
+
+-- the place of one entry more
+pub places_more : (es : List Entry) (i : ℕ) (d : Entry) (old new : List ℕ) → i < length es → old ≡ places (take i es) → new ≡ old ++ (get_or es i d).place ∷ [] → new ≡ places (take (i + 1) es)
+places_more es i d old new h e f =
+    f ∙ (ap (λ ps. ps ++ (get_or es i d).place ∷ []) e
+    ∙ (sym (map-append (λ (e : Entry). e.place) (take i es) (get_or es i d ∷ [])) ∙ ap places (sym (take_more es i d h))))

@@ -1,20 +1,20 @@
 -- A walk through a task's rows, part by part.
-use Rattle.std.proofs.Common.{zero, suc, ℕ, ◌+◌, ◌-◌, ◌<◌, ◌≤◌, ◌≡◌, true, List, [], ◌∷◌, ◌++◌, length, map, take, drop, get_or, eqb, refl, sym, ap, ◌∙◌, subst, arith, append_assoc}
+use Rattle.std.proofs.Common.{zero, suc, ℕ, ◌+◌, ◌-◌, ◌<◌, ◌≤◌, ◌≡◌, Bool, true, false, ◌&&◌, List, [], ◌∷◌, ◌++◌, length, map, take, drop, get_or, eqb, refl, sym, ap, ◌∙◌, subst, arith, append_assoc}
 use Rattle.std.specs.List.{AllByRecursion}
 use Rattle.std.specs.Prelude.{Option, None, Some, IfSome}
-use Rattle.std.proofs.lemmas.Bool.{and_from, eqb-true}
-use Rattle.std.proofs.lemmas.List.{take-append-drop, take_more, map-append}
+use Rattle.std.proofs.lemmas.Bool.{and_from, and_parts, eqb-true}
+use Rattle.std.proofs.lemmas.List.{drop_all, drop_more, take-append-drop, take_more, map-append}
 use Rattle.sched_base.specs.declared.rows.Row.{Row}
 use Rattle.trace_rows.specs.declared.entries.Entry.{Entry}
 use Rattle.trace_rows.specs.declared.supply.Periods.{Periods}
 use Rattle.trace_rows.specs.declared.walks.Walk.{Walk}
 use Rattle.trace_rows.specs.Faults.{row_at}
-use Rattle.trace_rows.specs.Supply.{gap_holds, row_holds, holds_from, Follows}
+use Rattle.trace_rows.specs.Supply.{AreLawful, gap_holds, row_holds, holds_from, Follows}
 use Rattle.trace_rows.specs.declared.findings.Findings.{Findings}
 use Rattle.trace_rows.specs.Findings.{IsRowIn, IsTold}
 use Rattle.trace_rows.specs.Supplied.{IsPlaceOf, entry_for, entries_at, GoSupplied, StandsAt, Holds, GoesPast, WentThrough}
 use Rattle.trace_rows.proofs.EntryLemmas.{AllByRecursion-append}
-use Rattle.trace_rows.proofs.SupplyLemmas.{Lawful, supplied_to}
+use Rattle.trace_rows.proofs.SupplyLemmas.{supplied_to}
 
 pub past_none : (p : Periods) (w : Walk) → StandsAt p w → GoesPast p [] w w
 past_none p w s = record { stands = s; holds = λ rest h. h }
@@ -35,6 +35,46 @@ past_one p e a b s tick done low long gap row = record {
     due = and_from _ _ (and_from _ _ gap row) (subst (λ x. holds_from p (a.done + (e.end - e.start)) x rest ≡ true) tick (subst (λ d. holds_from p d b.tick rest ≡ true) done h.due));
   };
 }
+
+-- one row, by what a walk says that goes past its ticks
+pub past_row : (p : Periods) (e : Entry) (a b : Walk) (r : Bool) → r ≡ true → r ≡ (gap_holds p a.done a.tick e.start && row_holds p a.done e.start e.end) → StandsAt p b → b.tick ≡ e.end
+    → b.done ≡ a.done + (e.end - e.start) → a.tick ≤ e.start → e.start < e.end → GoesPast p (e ∷ []) a b
+past_row p e a b r t due s tick done low long =
+    let both = and_parts (gap_holds p a.done a.tick e.start) (row_holds p a.done e.start e.end) (sym due ∙ t) in
+    past_one p e a b s tick done low long both.0 both.1
+
+-- the walk has come to these entries of all, and whether all hold is whether these do
+pub record Remains (p : Periods) (all left : List Entry) (w : Walk) : Type 0 where
+  pub stands : StandsAt p w
+  pub apart : Follows p.stop w.tick left
+  pub same : holds_from p 0 p.base all ≡ holds_from p w.done w.tick left
+
+pub remains_all : (p : Periods) (es : List Entry) (w : Walk) → StandsAt p w → w.tick ≡ p.base → w.done ≡ 0 → Follows p.stop p.base es → Remains p es es w
+remains_all p es w s tick done f = record {
+  stands = s;
+  apart = subst (λ x. Follows p.stop x es) (sym tick) f;
+  same = sym (ap (λ x. holds_from p w.done x es) tick ∙ ap (λ d. holds_from p d p.base es) done);
+}
+
+pub remains_at : (p : Periods) (all : List Entry) (i : ℕ) (d : Entry) (w : Walk) → i < length all → Remains p all (drop i all) w → Remains p all (get_or all i d ∷ drop (i + 1) all) w
+remains_at p all i d w h r = subst (λ left. Remains p all left w) (drop_more all i d h) r
+
+pub remains_fails : (p : Periods) (all rest : List Entry) (e : Entry) (w : Walk) (r : Bool) → Remains p all (e ∷ rest) w → r ≡ false
+    → r ≡ (gap_holds p w.done w.tick e.start && row_holds p w.done e.start e.end) → false ≡ holds_from p 0 p.base all
+remains_fails p all rest e w r m f due =
+    sym (m.same ∙ ap (λ b. b && holds_from p (w.done + (e.end - e.start)) e.end rest) (sym due ∙ f))
+
+pub remains_next : (p : Periods) (all rest : List Entry) (e : Entry) (a b : Walk) (r : Bool) → Remains p all (e ∷ rest) a → r ≡ true
+    → r ≡ (gap_holds p a.done a.tick e.start && row_holds p a.done e.start e.end) → StandsAt p b → b.tick ≡ e.end → b.done ≡ a.done + (e.end - e.start) → Remains p all rest b
+remains_next p all rest e a b r m t due s tick done = record {
+  stands = s;
+  apart = subst (λ x. Follows p.stop x rest) (sym tick) m.apart.2;
+  same = m.same ∙ (ap (λ h. h && holds_from p (a.done + (e.end - e.start)) e.end rest) (sym due ∙ t)
+      ∙ sym (ap (λ x. holds_from p b.done x rest) tick ∙ ap (λ d. holds_from p d e.end rest) done));
+}
+
+pub remains_none : (p : Periods) (all : List Entry) (i : ℕ) (w : Walk) → length all ≤ i → Remains p all (drop i all) w → holds_from p w.done w.tick [] ≡ holds_from p 0 p.base all
+remains_none p all i w h m = sym (m.same ∙ ap (holds_from p w.done w.tick) (drop_all i all h))
 
 -- one place more
 pub own_more : (rows : List Row) (j : ℕ) (places : List ℕ) (i d : ℕ) → i < length places → AllByRecursion (IsPlaceOf rows j) (take i places) → IsPlaceOf rows j (get_or places i d)
@@ -87,6 +127,10 @@ leaves_less p rows j places left now later a b e l own past =
       due = λ h. l.due (back h);
     }
 
+-- what is due by the end of the schedule is done
+pub holds_end : (p : Periods) (w : Walk) (r : Bool) → StandsAt p w → r ≡ holds_from p w.done w.tick [] → r ≡ true → Holds p w []
+holds_end p w r s e t = record { apart = s.ends; due = sym e ∙ t }
+
 -- the walk has come to the end of the rows
 pub went_all : (p : Periods) (rows : List Row) (j : ℕ) (places : List ℕ) (w : Walk) (f : Findings) → Leaves p rows j places [] w → Holds p w [] → IsTold p (map (row_at rows) places) f
     → WentThrough p rows j places f
@@ -105,7 +149,7 @@ none_told p rows places None none told = tt
 none_told p rows places (Some f) none told = subst (λ ps. IsTold p (map (row_at rows) ps) f) (sym none) (told p)
 
 -- where a period begins by the end of the schedule, the walk shows that each has its due
-pub went_supplied : (p : Periods) (rows : List Row) (j : ℕ) (places : List ℕ) (r : Option Findings) → Lawful p → p.base ≤ p.stop → IfSome r (WentThrough p rows j places)
+pub went_supplied : (p : Periods) (rows : List Row) (j : ℕ) (places : List ℕ) (r : Option Findings) → AreLawful p → p.base ≤ p.stop → IfSome r (WentThrough p rows j places)
     → IfSome r (λ f. GoSupplied p rows j places)
 went_supplied p rows j places None l begun went = tt
 went_supplied p rows j places (Some f) l begun went = record {

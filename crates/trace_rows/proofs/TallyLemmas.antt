@@ -1,7 +1,7 @@
 -- A tally of a task's rows, part by part.
-use Rattle.std.proofs.Common.{ℕ, suc, ◌+◌, ◌<◌, ◌≤◌, ◌≡◌, List, [], ◌∷◌, ◌++◌, length, map, refl, sym, ap, ◌∙◌, subst, arith, append_assoc, length-append}
+use Rattle.std.proofs.Common.{ℕ, suc, ◌+◌, ◌<◌, ◌≤◌, ◌≡◌, List, [], ◌∷◌, ◌++◌, length, map, get_or, take, refl, sym, ap, ◌∙◌, subst, arith, append_assoc, length-append}
 use Rattle.std.specs.List.{AllByRecursion}
-use Rattle.std.proofs.lemmas.List.{get_or_append_left, map-append, length-map}
+use Rattle.std.proofs.lemmas.List.{get_or_append_left, map-append, length-map, length-take-le, take_all, take_more}
 use Rattle.sched_base.specs.declared.rows.Row.{Row}
 use Rattle.trace_rows.specs.Faults.{row_at}
 use Rattle.trace_rows.specs.declared.supply.Periods.{Periods}
@@ -28,6 +28,22 @@ goes_then p xs ys a b c g h = record {
   few_preempted = (let x = g.few_preempted in let y = h.few_preempted in let l = length-append xs ys in omega (arith, x, y, l));
   few_moved = (let x = g.few_moved in let y = h.few_moved in let l = length-append xs ys in omega (arith, x, y, l));
 }
+
+-- one row of a list more
+pub goes_next : (p : Periods) (rows : List Row) (i : ℕ) (d : Row) (a b c : Tally) → i < length rows → Goes p (take i rows) a b → Goes p (get_or rows i d ∷ []) b c → Goes p (take (i + 1) rows) a c
+goes_next p rows i d a b c h g one = subst (λ xs. Goes p xs a c) (sym (take_more rows i d h)) (goes_then p (take i rows) (get_or rows i d ∷ []) a b c g one)
+
+pub goes_all : (p : Periods) (rows : List Row) (i : ℕ) (a b : Tally) → length rows ≤ i → Goes p (take i rows) a b → Goes p rows a b
+goes_all p rows i a b h g = subst (λ xs. Goes p xs a b) (take_all i rows h) g
+
+-- the counts while not all rows are gone through
+pub goes_few : (p : Periods) (rows : List Row) (i : ℕ) (a b : Tally) → i < length rows → Goes p (take i rows) a b
+    → (b.found.preemptions < a.found.preemptions + length rows) × (b.found.migrations < a.found.migrations + length rows)
+goes_few p rows i a b h g =
+    let size : length (take i rows) ≡ i = length-take-le i rows (omega (arith, h)) in
+    let x = g.few_preempted in
+    let y = g.few_moved in
+    (omega (arith, h, size, x), omega (arith, h, size, y))
 
 -- the rows at these places are in the periods
 pub rows_in : (p : Periods) (rows : List Row) (places : List ℕ) → AreInPeriods p rows places → AllByRecursion (IsRowIn p) (map (row_at rows) places)
@@ -104,11 +120,17 @@ tells_later p rows taken all left now later a b e f t g =
     tells_less p all (map (row_at rows) left) taken (map (row_at rows) later) a b split t g
 
 -- a part of what is left adds no more to the counts than its rows
-pub part_few : (rows taken : List Row) (left now later : List ℕ) → left ≡ now ++ later → taken ≡ map (row_at rows) now → length taken ≤ length left
-part_few rows taken left now later e f =
+pub tells_few : (p : Periods) (rows taken : List Row) (first : Row) (places left now later : List ℕ) (t : Tally) → left ≡ now ++ later → taken ≡ map (row_at rows) now
+    → Tells p (first ∷ map (row_at rows) places) (map (row_at rows) left) t
+    → (t.found.preemptions + length taken ≤ length places + 1) × (t.found.migrations + length taken ≤ length places + 1)
+tells_few p rows taken first places left now later t e f told =
     let many : length left ≡ length now + length later = ap length e ∙ length-append now later in
     let size : length taken ≡ length now = ap length f ∙ length-map now (row_at rows) in
-    omega (arith, many, size)
+    let rest : length (map (row_at rows) left) ≡ length left = length-map left (row_at rows) in
+    let all : length (map (row_at rows) places) ≡ length places = length-map places (row_at rows) in
+    let x : t.found.preemptions + length (map (row_at rows) left) ≤ length (map (row_at rows) places) + 1 = omega (arith, told.few_preempted) in
+    let y : t.found.migrations + length (map (row_at rows) left) ≤ length (map (row_at rows) places) + 1 = omega (arith, told.few_moved) in
+    (omega (arith, many, size, rest, all, x), omega (arith, many, size, rest, all, y))
 
 pub no_places : (xs : List ℕ) → length xs ≡ 0 → xs ≡ []
 no_places [] e = refl

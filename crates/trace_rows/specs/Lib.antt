@@ -8,3 +8,4 @@ pub mod Standing
 pub mod Supplied
 pub mod Findings
 pub mod Tally
+pub mod TaskOrders

@@ -1,5 +1,5 @@
 //! Rows at given places, brought together.
-ghost use Rattle.std.specs.Prelude.{ℕ, ◌≡◌, ◌<◌, ◌≤◌, length, take, map, slice_index, IsTrue};
+ghost use Rattle.std.specs.Prelude.{ℕ, ◌≡◌, ◌<◌, ◌≤◌, ◌++◌, length, take, map, slice_index, IsTrue};
 ghost use Rattle.trace_rows.specs.Faults.{row_at};
 
 use sched_base::{Leaf, Row};
@@ -18,6 +18,16 @@ pub(crate) fn no_rows() -> [Row; PART]
         leaf: Leaf::Empty,
     };
     [none; PART]
+}
+
+/// The first of these places, as many as are brought together at once, and the others.
+pub(crate) fn next_part(places: &[u32]) -> (&[u32], &[u32])
+    requires some { 0 < length places.now }
+    ensures parts { places.now ≡ result.0.now ++ result.1.now }
+    ensures fits { length result.0.now ≤ 64 }
+    ensures less { length result.1.now < length places.now }
+{
+    places.split_at(places.len().min(PART))
 }
 
 /// Whether these places are among the first `count`.

@@ -4,7 +4,7 @@ ghost use Rattle.trace_rows.specs.declared.supply.Periods.{Periods};
 ghost use Rattle.trace_rows.specs.Faults.{row_at};
 ghost use Rattle.trace_rows.specs.Findings.{IsRowIn, AreInPeriods, IsTold};
 
-use crate::fetching::{PART, fetch, no_rows};
+use crate::fetching::{fetch, next_part, no_rows};
 use crate::supply::Periods;
 use crate::tally::Tally;
 use sched_base::Row;
@@ -45,7 +45,7 @@ fn findings_from(periods: &Periods, rows: &[Row], first: &Row, places: &[u32]) -
     let mut part = no_rows();
     let mut left = places;
     while !left.is_empty() {
-        let (now, later) = left.split_at(left.len().min(PART));
+        let (now, later) = next_part(left);
         fetch(&mut part, rows, now);
         tally.steps(periods, &part[..now.len()]);
         left = later;

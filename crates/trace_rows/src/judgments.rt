@@ -12,7 +12,7 @@ use crate::findings::Findings;
 use crate::orders::{order_by_processor, order_by_task, places_of, starts_of};
 use crate::searches::{first_processor_hit, first_task_hit, first_unfit, first_unsupplied};
 use crate::standing::{all_places, stand};
-use crate::supplied::supplied_order;
+use crate::supplied::{TaskOrder, supplied_order};
 use sched_base::{NoMemory, Row, TaskSet};
 use std::alloc::Global;
 
@@ -110,8 +110,40 @@ fn processor_order(
     Ok((places, hit))
 }
 
-/// The orders of the rows of a trace and the verdict on them. Where no row is at fault and each task has what it is to have,
-/// no entries are made for tasks, and it is found what their rows tell; else entries find the first fault.
+// The order of tasks' rows, what they tell, and the verdict, once the first row is known that has a fault by itself, and the first
+// that overlaps an earlier one of its processor. Where no row is at fault and each task has what it is to have, no entries are
+// made for tasks, and it is found what their rows tell; else entries find the first fault.
+fn judge_tasks(
+    alloc: Global,
+    set: &TaskSet,
+    scale: u128,
+    rows: &[Row],
+    unfit: u32,
+    hit: u32,
+) -> Result<(TaskOrder, Verdict), NoMemory>
+    requires trace { IsTrace set.now scale rows.now }
+    requires unfit { IsFirstUnfit set.now scale rows.now unfit }
+    requires hit { IsFirstHit processor_key rows.now hit }
+    ensures order { IfOk result (λ j. IsTaskOrder (length set.now.tasks) rows.now j.0.places.items j.0.starts.items) }
+    ensures found { IfOk result (λ j. AreTold set.now scale rows.now j.0.found.items) }
+    ensures verdict { IfOk result (λ j. IsVerdict set.now scale rows.now j.1) }
+{
+    if unfit.min(hit) as usize == rows.len() {
+        if let Some(order) = supplied_order(alloc, set, scale, rows)? {
+            return Ok((order, Verdict::Valid));
+        }
+    }
+    let entries = order_by_task(alloc, rows)?;
+    let verdict = verdict_of(set, scale, rows, unfit, hit, &entries);
+    let order = TaskOrder {
+        places: places_of(alloc, &entries)?,
+        starts: starts_of(alloc, &entries, set.count())?,
+        found: Vec::new(alloc),
+    };
+    Ok((order, verdict))
+}
+
+/// The orders of the rows of a trace and the verdict on them.
 pub fn judge(alloc: Global, set: &TaskSet, scale: u128, rows: &[Row]) -> Result<Judgment, NoMemory>
     requires trace { IsTrace set.now scale rows.now }
     ensures by_processor { IfOk result (λ j. IsProcessorOrder rows.now j.by_processor.items) }
@@ -122,24 +154,12 @@ pub fn judge(alloc: Global, set: &TaskSet, scale: u128, rows: &[Row]) -> Result<
 {
     let (by_processor, hit) = processor_order(alloc, set, scale, rows)?;
     let unfit = first_unfit(set, scale, rows);
-    if unfit.min(hit) as usize == rows.len() {
-        if let Some(order) = supplied_order(alloc, set, scale, rows)? {
-            return Ok(Judgment {
-                by_processor,
-                by_task: order.places,
-                task_starts: order.starts,
-                found: order.found,
-                verdict: Verdict::Valid,
-            });
-        }
-    }
-    let entries = order_by_task(alloc, rows)?;
-    let verdict = verdict_of(set, scale, rows, unfit, hit, &entries);
+    let (order, verdict) = judge_tasks(alloc, set, scale, rows, unfit, hit)?;
     Ok(Judgment {
         by_processor,
-        by_task: places_of(alloc, &entries)?,
-        task_starts: starts_of(alloc, &entries, set.count())?,
-        found: Vec::new(alloc),
+        by_task: order.places,
+        task_starts: order.starts,
+        found: order.found,
         verdict,
     })
 }

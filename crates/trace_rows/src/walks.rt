@@ -1,16 +1,17 @@
 //! A walk through the rows of a task in the order of time: whether they are in order, apart, and give each period its due, and
 //! what they tell of its jobs.
-ghost use Rattle.std.specs.Prelude.{ℕ, ◌≡◌, ◌<◌, ◌≤◌, ◌^◌, List, [], ◌∷◌, Some, IsTrue, IfSome, length, map, take};
+ghost use Rattle.std.specs.Prelude.{ℕ, ◌≡◌, ◌+◌, ◌-◌, ◌<◌, ◌≤◌, ◌&&◌, List, [], ◌∷◌, Some, IsTrue, IfSome, length, map, take};
 ghost use Rattle.sched_base.specs.declared.rows.Row.{Row};
 ghost use Rattle.std.specs.List.{AllByRecursion};
 ghost use Rattle.trace_rows.specs.declared.supply.Periods.{Periods};
 ghost use Rattle.trace_rows.specs.Orders.{task_key};
+ghost use Rattle.trace_rows.specs.Supply.{AreLawful, gap_holds, row_holds, holds_from};
 ghost use Rattle.trace_rows.specs.Faults.{row_at};
 ghost use Rattle.trace_rows.specs.Findings.{IsRowIn, IsTold};
-ghost use Rattle.trace_rows.specs.Supplied.{IsPlaceOf, entry_for, entries_at, GoSupplied, StandsAt, Holds, GoesPast, WentThrough};
+ghost use Rattle.trace_rows.specs.Supplied.{IsPlaceOf, entry_for, entries_at, GoSupplied, StandsAt, GoesPast, WentThrough};
 
 use crate::clock::Clock;
-use crate::fetching::{PART, are_within, fetch, no_rows};
+use crate::fetching::{are_within, fetch, next_part, no_rows};
 use crate::findings::Findings;
 use crate::orders::task_key;
 use crate::supply::{Periods, Stretch, gap_holds, row_holds};
@@ -27,8 +28,8 @@ pub(crate) struct Walk {
 
 impl Walk {
     // A walk at the first tick of the first period.
-    fn new(periods: &Periods) -> Walk
-        requires some { 0 < periods.now.period }
+    pub(crate) fn new(periods: &Periods) -> Walk
+        requires lawful { AreLawful periods.now }
         requires begun { periods.now.base ≤ periods.now.stop }
         ensures stands { StandsAt periods.now result }
         ensures tick { result.tick ≡ periods.now.base }
@@ -41,12 +42,47 @@ impl Walk {
         }
     }
 
+    // Goes past the ticks from `start` up to `end`, where they and the gap before them keep to what is due.
+    pub(crate) fn pass(&mut self, periods: &Periods, start: u128, end: u128) -> bool
+        requires lawful { AreLawful periods.now }
+        requires stands { StandsAt periods.now self.old }
+        requires apart { self.old.tick ≤ start }
+        requires long { start < end }
+        requires ends { end ≤ periods.now.stop }
+        ensures due { result ≡ (gap_holds periods.now self.old.done self.old.tick start && row_holds periods.now self.old.done start end) }
+        ensures stands { IsTrue result → StandsAt periods.now self.new }
+        ensures tick { IsTrue result → self.new.tick ≡ end }
+        ensures done { IsTrue result → self.new.done ≡ self.old.done + (end - start) }
+    {
+        let ended = self.clock.number();
+        let before = self.clock.seek(start);
+        let gap = Stretch {
+            from: self.tick,
+            to: start,
+            before: ended,
+            after: before,
+        };
+        if !gap_holds(periods, self.done, &gap) {
+            return false;
+        }
+        let after = self.clock.seek(end);
+        let ticks = Stretch {
+            from: start,
+            to: end,
+            before,
+            after,
+        };
+        if !row_holds(periods, self.done, &ticks) {
+            return false;
+        }
+        self.done += end - start;
+        self.tick = end;
+        true
+    }
+
     // Goes past a row, where it is one of the task, begins no sooner than the last one has ended, and keeps to what is due.
     fn step(&mut self, periods: &Periods, task: u32, row: &Row) -> bool
-        requires some { 0 < periods.now.period }
-        requires within { periods.now.due ≤ periods.now.period }
-        requires fits { periods.now.stop < 2 ^ 127 }
-        requires period_fits { periods.now.period < 2 ^ 127 }
+        requires lawful { AreLawful periods.now }
         requires stands { StandsAt periods.now self.old }
         ensures key { IsTrue result → task_key row.now ≡ Some task }
         ensures row { IsTrue result → IsRowIn periods.now row.now }
@@ -58,30 +94,7 @@ impl Walk {
         if row.start < self.tick || row.end <= row.start || row.end > periods.stop {
             return false;
         }
-        let ended = self.clock.number();
-        let before = self.clock.seek(row.start);
-        let gap = Stretch {
-            from: self.tick,
-            to: row.start,
-            before: ended,
-            after: before,
-        };
-        if !gap_holds(periods, self.done, &gap) {
-            return false;
-        }
-        let after = self.clock.seek(row.end);
-        let ticks = Stretch {
-            from: row.start,
-            to: row.end,
-            before,
-            after,
-        };
-        if !row_holds(periods, self.done, &ticks) {
-            return false;
-        }
-        self.done += row.end - row.start;
-        self.tick = row.end;
-        true
+        self.pass(periods, row.start, row.end)
     }
 
     // Goes past the rows at these places, at most as many as `part` has room for.
@@ -93,10 +106,7 @@ impl Walk {
         part: &mut [Row],
         places: &[u32],
     ) -> bool
-        requires some { 0 < periods.now.period }
-        requires within { periods.now.due ≤ periods.now.period }
-        requires fits { periods.now.stop < 2 ^ 127 }
-        requires period_fits { periods.now.period < 2 ^ 127 }
+        requires lawful { AreLawful periods.now }
         requires room { length places.now ≤ length part.old }
         requires stands { StandsAt periods.now self.old }
         ensures own { IsTrue result → AllByRecursion (IsPlaceOf rows.now task) places.now }
@@ -118,13 +128,10 @@ impl Walk {
     }
 
     // Whether what was done is what is due by the end of the schedule.
-    fn ends(&mut self, periods: &Periods) -> bool
-        requires some { 0 < periods.now.period }
-        requires within { periods.now.due ≤ periods.now.period }
-        requires fits { periods.now.stop < 2 ^ 127 }
-        requires period_fits { periods.now.period < 2 ^ 127 }
+    pub(crate) fn ends(&mut self, periods: &Periods) -> bool
+        requires lawful { AreLawful periods.now }
         requires stands { StandsAt periods.now self.old }
-        ensures { IsTrue result → Holds periods.now self.old [] }
+        ensures { result ≡ holds_from periods.now self.old.done self.old.tick [] }
     {
         let ended = self.clock.number();
         let last = self.clock.seek(periods.stop);
@@ -147,10 +154,7 @@ fn walk_on(
     first: u32,
     places: &[u32],
 ) -> Option<Findings>
-    requires some { 0 < periods.now.period }
-    requires within { periods.now.due ≤ periods.now.period }
-    requires fits { periods.now.stop < 2 ^ 127 }
-    requires period_fits { periods.now.period < 2 ^ 127 }
+    requires lawful { AreLawful periods.now }
     requires begun { periods.now.base ≤ periods.now.stop }
     ensures { IfSome result (WentThrough periods.now rows.now task (first ∷ places.now)) }
 {
@@ -163,7 +167,7 @@ fn walk_on(
     let mut part = no_rows();
     let mut left = places;
     while !left.is_empty() {
-        let (now, later) = left.split_at(left.len().min(PART));
+        let (now, later) = next_part(left);
         if !walk.steps(periods, task, rows, &mut part, now) {
             return None;
         }
@@ -179,10 +183,7 @@ fn walk_on(
 
 // The same where there are no rows.
 fn walk_none(periods: &Periods) -> Option<Findings>
-    requires some { 0 < periods.now.period }
-    requires within { periods.now.due ≤ periods.now.period }
-    requires fits { periods.now.stop < 2 ^ 127 }
-    requires period_fits { periods.now.period < 2 ^ 127 }
+    requires lawful { AreLawful periods.now }
     requires begun { periods.now.base ≤ periods.now.stop }
     ensures { (rows : List Row) (j : ℕ) → IfSome result (WentThrough periods.now rows j []) }
 {
@@ -195,10 +196,7 @@ fn walk_none(periods: &Periods) -> Option<Findings>
 
 // The same of all places.
 fn walk_all(periods: &Periods, task: u32, rows: &[Row], places: &[u32]) -> Option<Findings>
-    requires some { 0 < periods.now.period }
-    requires within { periods.now.due ≤ periods.now.period }
-    requires fits { periods.now.stop < 2 ^ 127 }
-    requires period_fits { periods.now.period < 2 ^ 127 }
+    requires lawful { AreLawful periods.now }
     requires begun { periods.now.base ≤ periods.now.stop }
     ensures { IfSome result (WentThrough periods.now rows.now task places.now) }
 {
@@ -216,11 +214,7 @@ pub(crate) fn go_supplied(
     rows: &[Row],
     places: &[u32],
 ) -> Option<Findings>
-    requires some { 0 < periods.now.period }
-    requires some_due { 0 < periods.now.due }
-    requires within { periods.now.due ≤ periods.now.period }
-    requires fits { periods.now.stop < 2 ^ 127 }
-    requires period_fits { periods.now.period < 2 ^ 127 }
+    requires lawful { AreLawful periods.now }
     ensures supplied { IfSome result (λ _. GoSupplied periods.now rows.now task places.now) }
     ensures told { IfSome result (IsTold periods.now (map (row_at rows.now) places.now)) }
 {

@@ -7,4 +7,4 @@ returns-then-periods-clause-told c = none_told c.args.periods.now c.args.rows.no
 pub returns-clause-supplied : goal.returns-clause-supplied
 returns-clause-supplied c =
     went_supplied c.args.periods.now c.args.rows.now c.args.task c.args.places.now c.walk_all.result
-    (record { some_period = c.requires.some; some_due = c.requires.some_due }) c.if-periods.false c.walk_all.ensures
+    c.requires.lawful c.if-periods.false c.walk_all.ensures

@@ -1,13 +1,13 @@
-use Rattle.std.proofs.Common.{◌≡◌, ◌∷◌, ◌++◌, ◌<◌, ◌∙◌, [], Some, length, map, take, refl, sym, ap, subst}
+use Rattle.std.proofs.Common.{◌≡◌, ◌∷◌, ◌<◌, ◌∙◌, [], Some, length, map, take, refl, sym, ap, subst, arith}
 use Rattle.std.specs.List.{AllByRecursion}
 use Rattle.std.proofs.lemmas.List.{get_or_default}
 use Rattle.sched_base.specs.declared.rows.Row.{Row}
 use Rattle.trace_rows.specs.Faults.{row_at}
-use Rattle.trace_rows.specs.Findings.{row_response}
+use Rattle.trace_rows.specs.Findings.{row_response, IsRowIn}
 use Rattle.trace_rows.specs.Orders.{task_key}
 use Rattle.trace_rows.specs.Supplied.{IsPlaceOf, entry_for, entries_at, GoesPast}
-use Rattle.trace_rows.proofs.SuppliedLemmas.{left_is, empty_is, Leaves, leaves_all, leaves_less, went_all}
-use Rattle.trace_rows.proofs.TallyLemmas.{Tells, tells_first, tells_later, tells_all}
+use Rattle.trace_rows.proofs.SuppliedLemmas.{empty_is, Leaves, leaves_all, leaves_less, holds_end, went_all}
+use Rattle.trace_rows.proofs.TallyLemmas.{Tells, tells_first, tells_later, tells_few, tells_all}
 use Rattle.trace_rows.proofs.walks.walk_on.Goals as goal
 
 pub loop-left-init : goal.loop-left-init
@@ -29,17 +29,37 @@ loop-left-init c =
           c.new-tally.ensures.preemptions c.new-tally.ensures.migrations (c.new-tally.ensures.response ∙ ap (row_response p) row),
     )
 
+pub steps-requires-in-loop-left-clause-rows : goal.steps-requires-in-loop-left-clause-rows
+steps-requires-in-loop-left-clause-rows c =
+    subst (AllByRecursion (IsRowIn c.args.periods.now)) (sym (c.steps.ensures.fetched c.if-not-steps.false)) (c.steps.ensures.rows c.if-not-steps.false)
+
+pub steps-requires-in-loop-left-clause-few_preempted : goal.steps-requires-in-loop-left-clause-few_preempted
+steps-requires-in-loop-left-clause-few_preempted c =
+    let rows = c.args.rows.now in
+    let now = c.next_part.result.0.now in
+    let few = tells_few c.args.periods.now rows (take (length now) c.steps.new.part) (row_at rows c.args.first) c.args.places.now c.loop-left.left.now now c.next_part.result.1.now c.loop-left.tally
+    c.next_part.ensures.parts (c.steps.ensures.fetched c.if-not-steps.false) c.loop-left.invariant.1 in
+    omega (arith, few.0)
+
+pub steps-requires-in-loop-left-clause-few_moved : goal.steps-requires-in-loop-left-clause-few_moved
+steps-requires-in-loop-left-clause-few_moved c =
+    let rows = c.args.rows.now in
+    let now = c.next_part.result.0.now in
+    let few = tells_few c.args.periods.now rows (take (length now) c.steps.new.part) (row_at rows c.args.first) c.args.places.now c.loop-left.left.now now c.next_part.result.1.now c.loop-left.tally
+    c.next_part.ensures.parts (c.steps.ensures.fetched c.if-not-steps.false) c.loop-left.invariant.1 in
+    omega (arith, few.1)
+
 pub loop-left-preserved : goal.loop-left-preserved
 loop-left-preserved c =
     let p = c.args.periods.now in
     let rows = c.args.rows.now in
     let j = c.args.task in
     let all = c.args.first ∷ c.args.places.now in
-    let now = c.split_at.result.0.now in
-    let later = c.split_at.result.1.now in
-    let left : c.loop-left.left.now ≡ now ++ later = left_is _ _ _ _ c.split_at.ensures.front c.split_at.ensures.back in (
-      leaves_less p rows j all c.loop-left.left.now now later c.loop-left.walk c.steps.new.self left c.loop-left.invariant.0 (c.steps.ensures.own c.if-not-steps.false) (c.steps.ensures.past c.if-not-steps.false),
-      tells_later p rows (take (length now) c.steps.new.part) (map (row_at rows) all) c.loop-left.left.now now later c.loop-left.tally c.steps-in-loop-left.new.self left
+    let now = c.next_part.result.0.now in
+    let later = c.next_part.result.1.now in (
+      leaves_less p rows j all c.loop-left.left.now now later c.loop-left.walk c.steps.new.self c.next_part.ensures.parts c.loop-left.invariant.0 (c.steps.ensures.own c.if-not-steps.false)
+          (c.steps.ensures.past c.if-not-steps.false),
+      tells_later p rows (take (length now) c.steps.new.part) (map (row_at rows) all) c.loop-left.left.now now later c.loop-left.tally c.steps-in-loop-left.new.self c.next_part.ensures.parts
           (c.steps.ensures.fetched c.if-not-steps.false) c.loop-left.invariant.1 c.steps-in-loop-left.ensures,
     )
 
@@ -52,4 +72,4 @@ returns-then-ends c =
     let none : c.loop-left.left.now ≡ [] = empty_is c.loop-left.left.now (sym c.is_empty.ensures ∙ c.loop-left-test.false) in
     let leaves : Leaves p rows j all [] c.loop-left.walk = subst (λ left. Leaves p rows j all left c.loop-left.walk) none c.loop-left.invariant.0 in
     let tells : Tells p (map (row_at rows) all) [] c.loop-left.tally = subst (λ left. Tells p (map (row_at rows) all) (map (row_at rows) left) c.loop-left.tally) none c.loop-left.invariant.1 in
-    went_all p rows j all c.loop-left.walk c.loop-left.tally.found leaves (c.ends.ensures c.if-ends.true) (tells_all p (map (row_at rows) all) c.loop-left.tally tells)
+    went_all p rows j all c.loop-left.walk c.loop-left.tally.found leaves (holds_end p c.loop-left.walk c.ends.result leaves.stands c.ends.ensures c.if-ends.true) (tells_all p (map (row_at rows) all) c.loop-left.tally tells)

@@ -1,10 +1,16 @@
-use Rattle.std.proofs.Common.{◌∷◌, [], get_or, subst, sym, ◌∙◌, ap}
+use Rattle.std.proofs.Common.{◌∷◌, [], get_or, map, subst, sym, ◌∙◌, ap, arith}
+use Rattle.std.specs.List.{AllByRecursion}
+use Rattle.std.proofs.lemmas.List.{take_all}
 use Rattle.sched_base.specs.declared.rows.Row.{Row}
 use Rattle.trace_rows.specs.Orders.{task_key}
 use Rattle.trace_rows.specs.Findings.{IsRowIn}
-use Rattle.trace_rows.specs.Supplied.{entry_for, GoesPast}
-use Rattle.trace_rows.proofs.SuppliedLemmas.{own_more, past_more, rows_more, fetched}
+use Rattle.trace_rows.specs.Faults.{row_at}
+use Rattle.trace_rows.specs.Supplied.{IsPlaceOf, entry_for, entries_at, GoesPast}
+use Rattle.trace_rows.proofs.SuppliedLemmas.{past_none, own_more, past_more, rows_more, fetched}
 use Rattle.trace_rows.proofs.walks.Walk.steps.Goals as goal
+
+pub loop-i-init : goal.loop-i-init
+loop-i-init c = (tt, past_none c.args.periods.now c.args.self.now c.requires.stands, tt)
 
 pub loop-i-preserved : goal.loop-i-preserved
 loop-i-preserved c =
@@ -21,3 +27,14 @@ loop-i-preserved c =
       past_more c.args.periods.now rows c.args.task places i 0 c.args.self.now c.loop-i.self c.step.new.self c.loop-i-test.true c.loop-i.invariant.1 past,
       rows_more c.args.periods.now rows places i 0 c.loop-i-test.true c.loop-i.invariant.2 (subst (IsRowIn c.args.periods.now) row (c.step.ensures.row c.if-not-step.false)),
     )
+
+pub returns-clause-own : goal.returns-clause-own
+returns-clause-own c = λ t. subst (AllByRecursion (IsPlaceOf c.args.rows.now c.args.task)) (take_all c.loop-i.i c.args.places.now (omega arith)) c.loop-i.invariant.0
+
+pub returns-clause-past : goal.returns-clause-past
+returns-clause-past c = λ t.
+    subst (λ places. GoesPast c.args.periods.now (entries_at c.args.rows.now c.args.task places) c.args.self.now c.loop-i.self) (take_all c.loop-i.i c.args.places.now (omega arith)) c.loop-i.invariant.1
+
+pub returns-clause-rows : goal.returns-clause-rows
+returns-clause-rows c = λ t.
+    subst (λ places. AllByRecursion (IsRowIn c.args.periods.now) (map (row_at c.args.rows.now) places)) (take_all c.loop-i.i c.args.places.now (omega arith)) c.loop-i.invariant.2
