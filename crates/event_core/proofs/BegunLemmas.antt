@@ -6,6 +6,17 @@ use Rattle.std.proofs.Math.ListN.{set}
 use Rattle.run_tree.specs.Tree.{Tree, IsTree, IsMember, home, place, member}
 use Rattle.event_core.specs.Serving.{due_of, AreBegun}
 
+-- ---- numbers below the next one
+
+below_self : (n : ℕ) → n < n + 1
+below_self n = omega arith
+
+below_next : (j n : ℕ) → j < n → j < n + 1
+below_next j n l = omega arith
+
+below_other : (j n : ℕ) → j < n + 1 → j ≢ n → j < n
+below_other j n l ne = omega arith
+
 pub begun_none : (t : Tree) (begins ends begun remains : List ℕ) (ready : List (List ℕ)) (stale : List Bool) → AreBegun t begins ends begun remains ready stale remains ready stale 0
 begun_none t begins ends begun remains ready stale = record {
   same = refl;
@@ -34,34 +45,19 @@ module _ (t : Tree) (h : IsTree t) (begins ends begun remains : List ℕ) (ready
   home_in = (h.homes_are x i).0.0
 
   own_due : get_or remains'' x 0 ≡ due_of t begins ends x
-  own_due = ap (λ (xs : List ℕ). get_or xs x 0) er ∙ one (let b = i.0 in omega (arith, b, long_r))
-    where
-      one : x < length remains' → get_or (set remains' x (due_of t begins ends x)) x 0 ≡ due_of t begins ends x
-      one l = rw get_or-set_same
+  own_due = ap (λ (xs : List ℕ). get_or xs x 0) er ∙ get_or-set_same remains' x (due_of t begins ends x) 0 (subst (λ (l : ℕ). x < l) (sym long_r) i.0)
 
   other_due : (y : ℕ) → y ≢ x → get_or remains'' y 0 ≡ get_or remains' y 0
-  other_due y ne = ap (λ (xs : List ℕ). get_or xs y 0) er ∙ one
-    where
-      one : get_or (set remains' x (due_of t begins ends x)) y 0 ≡ get_or remains' y 0
-      one = rw get_or-set_other refl
+  other_due y ne = ap (λ (xs : List ℕ). get_or xs y 0) er ∙ get_or-set_other remains' x y (due_of t begins ends x) 0 ne
 
   own_list : get_or ready'' (home t x) [] ≡ set (get_or ready' (home t x) []) (place t x) (get_or ends x 0)
-  own_list = ap (λ (ks : List (List ℕ)). get_or ks (home t x) []) ek ∙ one (let b = home_in in omega (arith, b, long_k))
-    where
-      one : home t x < length ready' → get_or (set ready' (home t x) (set (get_or ready' (home t x) []) (place t x) (get_or ends x 0))) (home t x) [] ≡ set (get_or ready' (home t x) []) (place t x) (get_or ends x 0)
-      one l = rw get_or-set_same
+  own_list = ap (λ (ks : List (List ℕ)). get_or ks (home t x) []) ek ∙ get_or-set_same ready' (home t x) (set (get_or ready' (home t x) []) (place t x) (get_or ends x 0)) [] (subst (λ (l : ℕ). home t x < l) (sym long_k) home_in)
 
   other_list : (p : ℕ) → p ≢ home t x → get_or ready'' p [] ≡ get_or ready' p []
-  other_list p ne = ap (λ (ks : List (List ℕ)). get_or ks p []) ek ∙ one
-    where
-      one : get_or (set ready' (home t x) (set (get_or ready' (home t x) []) (place t x) (get_or ends x 0))) p [] ≡ get_or ready' p []
-      one = rw get_or-set_other refl
+  other_list p ne = ap (λ (ks : List (List ℕ)). get_or ks p []) ek ∙ get_or-set_other ready' (home t x) p (set (get_or ready' (home t x) []) (place t x) (get_or ends x 0)) [] ne
 
   own_end : get_or (get_or ready'' (home t x) []) (place t x) 0 ≡ get_or ends x 0
-  own_end = ap (λ (xs : List ℕ). get_or xs (place t x) 0) own_list ∙ one
-    where
-      one : get_or (set (get_or ready' (home t x) []) (place t x) (get_or ends x 0)) (place t x) 0 ≡ get_or ends x 0
-      one = rw get_or-set_same
+  own_end = ap (λ (xs : List ℕ). get_or xs (place t x) 0) own_list ∙ get_or-set_same (get_or ready' (home t x) []) (place t x) (get_or ends x 0) 0 in_pack
 
   -- of another member the end stays
   other_end : (y : ℕ) → IsMember t y → y ≢ x → get_or (get_or ready'' (home t y) []) (place t y) 0 ≡ get_or (get_or ready' (home t y) []) (place t y) 0
@@ -70,23 +66,14 @@ module _ (t : Tree) (h : IsTree t) (begins ends begun remains : List ℕ) (ready
     | inl same ↦
         (let places : place t y ≢ place t x = (λ e. ne (sym (h.homes_are y j).2 ∙ ap₂ (member t) same e ∙ (h.homes_are x i).2)) in
         let P : ℕ → Type 0 = λ p. get_or (get_or ready'' p []) (place t y) 0 ≡ get_or (get_or ready' p []) (place t y) 0 in
-        subst P (sym same) (ap (λ (xs : List ℕ). get_or xs (place t y) 0) own_list ∙ one places))
+        subst P (sym same) (ap (λ (xs : List ℕ). get_or xs (place t y) 0) own_list ∙ get_or-set_other (get_or ready' (home t x) []) (place t x) (place t y) (get_or ends x 0) 0 places))
   ]
-    where
-      one : place t y ≢ place t x → get_or (set (get_or ready' (home t x) []) (place t x) (get_or ends x 0)) (place t y) 0 ≡ get_or (get_or ready' (home t x) []) (place t y) 0
-      one places = rw get_or-set_other refl
 
   own_mark : get_or stale'' (home t x) false ≡ true
-  own_mark = ap (λ (xs : List Bool). get_or xs (home t x) false) es ∙ one (let b = home_in in omega (arith, b, long_s))
-    where
-      one : home t x < length stale' → get_or (set stale' (home t x) true) (home t x) false ≡ true
-      one l = rw get_or-set_same
+  own_mark = ap (λ (xs : List Bool). get_or xs (home t x) false) es ∙ get_or-set_same stale' (home t x) true false (subst (λ (l : ℕ). home t x < l) (sym long_s) home_in)
 
   other_mark : (p : ℕ) → p ≢ home t x → get_or stale'' p false ≡ get_or stale' p false
-  other_mark p ne = ap (λ (xs : List Bool). get_or xs p false) es ∙ one
-    where
-      one : get_or (set stale' (home t x) true) p false ≡ get_or stale' p false
-      one = rw get_or-set_other refl
+  other_mark p ne = ap (λ (xs : List Bool). get_or xs p false) es ∙ get_or-set_other stale' (home t x) p true false ne
 
   still_marked : (p : ℕ) → get_or stale' p false ≡ true → get_or stale'' p false ≡ true
   still_marked p on = elim (cases_eq p (home t x)) [ inl same ↦ ap (λ q. get_or stale'' q false) same ∙ own_mark | inr ne ↦ other_mark p ne ∙ on ]
@@ -106,8 +93,8 @@ module _ (t : Tree) (h : IsTree t) (begins ends begun remains : List ℕ) (ready
       | inl same ↦ (let P : ℕ → Type 0 = λ z. get_or stale'' (home t z) false ≡ true in subst P (sym same) own_mark)
       | inr ne ↦ still_marked (home t y) (was.marked j y (before j y l e ne) e k)
     ];
-    kept = λ y none. other_due y (not_own y none) ∙ was.kept y (λ j l. none j (omega (arith, l)));
-    kept_end = λ y k none. other_end y k (not_own y none) ∙ was.kept_end y k (λ j l. none j (omega (arith, l)));
+    kept = λ y none. other_due y (not_own y none) ∙ was.kept y (λ j l. none j (below_next j n l));
+    kept_end = λ y k none. other_end y k (not_own y none) ∙ was.kept_end y k (λ j l. none j (below_next j n l));
     long = λ p. (elim (cases_eq p (home t x)) [
       | inl same ↦ (let P : ℕ → Type 0 = λ z. length (get_or ready'' z []) ≡ length (get_or ready' z []) in subst P (sym same) (ap (λ (xs : List ℕ). length xs) own_list ∙ length-set (get_or ready' (home t x) []) (place t x) (get_or ends x 0)))
       | inr ne ↦ ap (λ (xs : List ℕ). length xs) (other_list p ne)
@@ -121,11 +108,11 @@ module _ (t : Tree) (h : IsTree t) (begins ends begun remains : List ℕ) (ready
       before : (j y : ℕ) → j < n + 1 → get_or begun j 0 ≡ y → y ≢ x → j < n
       before j y l e ne = elim (cases_eq j n) [
         | inl same ↦ absurd (ne (sym e ∙ ap (λ k. get_or begun k 0) same ∙ sym at))
-        | inr other ↦ omega (arith, l, other)
+        | inr other ↦ below_other j n l other
       ]
 
       not_own : (y : ℕ) → ((j : ℕ) → j < n + 1 → get_or begun j 0 ≢ y) → y ≢ x
-      not_own y none e = none n (omega arith) (sym (e ∙ at))
+      not_own y none e = none n (below_self n) (sym (e ∙ at))
 
 -- a node that is no member is passed over
 pub begun_skip : (t : Tree) (begins ends begun remains : List ℕ) (ready : List (List ℕ)) (stale : List Bool) (remains' : List ℕ) (ready' : List (List ℕ)) (stale' : List Bool) (n : ℕ) → (IsMember t (get_or begun n 0) → ⊥) →
@@ -135,8 +122,8 @@ begun_skip t begins ends begun remains ready stale remains' ready' stale' n none
   filled = λ j x l e i. was.filled j x (before j x l e i) e i;
   put = λ j x l e i. was.put j x (before j x l e i) e i;
   marked = λ j x l e i. was.marked j x (before j x l e i) e i;
-  kept = λ x other. was.kept x (λ j l. other j (omega (arith, l)));
-  kept_end = λ x i other. was.kept_end x i (λ j l. other j (omega (arith, l)));
+  kept = λ x other. was.kept x (λ j l. other j (below_next j n l));
+  kept_end = λ x i other. was.kept_end x i (λ j l. other j (below_next j n l));
   long = was.long;
   unmarked = was.unmarked;
 }
@@ -144,5 +131,5 @@ begun_skip t begins ends begun remains ready stale remains' ready' stale' n none
     before : (j x : ℕ) → j < n + 1 → get_or begun j 0 ≡ x → IsMember t x → j < n
     before j x l e i = elim (cases_eq j n) [
       | inl same ↦ absurd (none (subst (λ (y : ℕ). IsMember t y) (sym e ∙ ap (λ k. get_or begun k 0) same) i))
-      | inr other ↦ omega (arith, l, other)
+      | inr other ↦ below_other j n l other
     ]

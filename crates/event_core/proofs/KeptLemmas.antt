@@ -31,6 +31,10 @@ use Rattle.event_core.proofs.WindowsOfCalendar.{member_boundaries, short_window}
 pub back : {X Z : Type 0} (v : Vec X Z) (old new : List X) → old ≡ v.items → length new ≡ length old → (with_items v new).items ≡ new
 back {X} v old new e l = with_items_is v new (let long = ap (λ (xs : List X). length xs) e in let ok = v.ok.0 in omega (arith, long, l, ok))
 
+-- it is as long as before
+pub back_long : {X Z : Type 0} (v : Vec X Z) (old new : List X) → old ≡ v.items → length new ≡ length old → length (with_items v new).items ≡ length v.items
+back_long {X} v old new e l = ap (λ (xs : List X). length xs) (back v old new e l) ∙ l ∙ ap (λ (xs : List X). length xs) e
+
 -- the same lists
 pub same_lists : (ready ready' : List (List ℕ)) (serves serves' : List (Option ℕ)) (dry dry' : List ℕ) (stale stale' runs runs' : List Bool) → ready ≡ ready' → serves ≡ serves' → dry ≡ dry' → stale ≡ stale' → runs ≡ runs' →
     lists ready serves dry stale runs ≡ lists ready' serves' dry' stale' runs'

@@ -13,7 +13,6 @@ use sched_base::NodeId;
 use server_budget::{Budgets, Dues};
 
 // The due of the window of leaf or dual n, and the window's end.
-#[tactic(auto, using(crate::proofs::WindowsOfCalendar::window_fits, crate::proofs::WindowsOfCalendar::window_open))]
 fn window_of(plan: &Plan, calendar: &Calendar, n: NodeId) -> (u128, u64)
     requires plan { IsPlan plan.now }
     requires calendar { BelongsTo plan.now calendar.now }

@@ -112,11 +112,11 @@ fn blank_serving(alloc: Global, plan: &Plan) -> Result<Serving, NoMemory>
     ensures { IfOk result (λ s. IsBlank plan.now.tree s) }
 {
     let count = node_count(plan) as usize;
-    let ready = no_ends(alloc, plan)?;
     let serves = no_places(alloc, count)?;
     let dry = no_ticks(alloc, count)?;
     let stale = all_marks(alloc, count)?;
     let runs = packs_run(alloc, plan)?;
+    let ready = no_ends(alloc, plan)?;
     Ok(Serving {
         ready,
         serves,
@@ -212,9 +212,9 @@ pub(crate) fn first_state(alloc: Global, plan: &Plan) -> Result<State, NoMemory>
     requires plan { IsPlan plan.now }
     ensures { IfOk result (λ s. (s.dues.tick ≡ 0) × IsCoreOf plan.now (contents s)) }
 {
+    let places = Places::new(alloc, pack_count(plan), processor_count(plan))?;
     let calendar = Calendar::new(alloc, plan)?;
     let (dues, serving) = first_serving(alloc, plan, &calendar)?;
-    let places = Places::new(alloc, pack_count(plan), processor_count(plan))?;
     Ok(State {
         dues,
         calendar,

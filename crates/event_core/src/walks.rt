@@ -7,7 +7,7 @@ ghost use Rattle.run_tree.specs.Schedule.{packs_at};
 ghost use Rattle.run_tree.specs.Runs.{runs_now};
 ghost use Rattle.cpu_assign.specs.Changed.{with_pack, AreChanged};
 ghost use Rattle.tree_select.specs.Reselected.{AreFresh, AreFreshFrom};
-ghost use Rattle.event_core.specs.Serving.{dry_by, lists, AreFitting, AreSettledFrom, AreUnchanged, IsServing};
+ghost use Rattle.event_core.specs.Serving.{dry_by, lists, AreFitting, AreLong, AreSettledFrom, AreUnchanged, IsServing};
 ghost use Rattle.event_core.specs.Steps.{packs_by};
 
 use crate::serving::{id_of, serve};
@@ -54,12 +54,7 @@ fn serve_pack(
 )
     requires tree { IsTree tree.now }
     requires pack { IsPack tree.now p.0 }
-    requires ready { length ready.now ≡ length tree.now.nodes }
-    requires serves { length serves.old ≡ length tree.now.nodes }
-    requires dry { length dry.old ≡ length tree.now.nodes }
-    requires nodes { length dues.old.runs ≡ length tree.now.nodes }
-    requires stale { length stale.old ≡ length tree.now.nodes }
-    requires runs { length runs.old ≡ length tree.now.nodes }
+    requires long { AreLong tree.now dues.old (lists ready.now serves.old dry.old stale.old runs.old) }
     requires fits { AreFitting tree.now dues.old }
     requires serving { IsServing tree.now dues.old ends.now (lists ready.now serves.old dry.old stale.old runs.old) }
     ensures tick { dues.new.tick ≡ dues.old.tick }
@@ -123,12 +118,7 @@ fn serve_level(
     requires tree { IsTree tree.now }
     requires level { level < tree.now.levels }
     requires above_first { 1 ≤ level }
-    requires ready { length ready.now ≡ length tree.now.nodes }
-    requires serves { length serves.old ≡ length tree.now.nodes }
-    requires dry { length dry.old ≡ length tree.now.nodes }
-    requires nodes { length dues.old.runs ≡ length tree.now.nodes }
-    requires stale { length stale.old ≡ length tree.now.nodes }
-    requires runs { length runs.old ≡ length tree.now.nodes }
+    requires long { AreLong tree.now dues.old (lists ready.now serves.old dry.old stale.old runs.old) }
     requires fits { AreFitting tree.now dues.old }
     requires serving { IsServing tree.now dues.old ends.now (lists ready.now serves.old dry.old stale.old runs.old) }
     requires above { AreFreshFrom tree.now stale.old (level + 1) }
@@ -166,12 +156,7 @@ fn serve_listed(
     requires tree { IsTree tree.now }
     requires pack { IsPack tree.now p.0 }
     requires held { i < length places.now.last }
-    requires ready { length ready.now ≡ length tree.now.nodes }
-    requires serves { length serves.old ≡ length tree.now.nodes }
-    requires dry { length dry.old ≡ length tree.now.nodes }
-    requires nodes { length dues.old.runs ≡ length tree.now.nodes }
-    requires stale { length stale.old ≡ length tree.now.nodes }
-    requires runs { length runs.old ≡ length tree.now.nodes }
+    requires long { AreLong tree.now dues.old (lists ready.now serves.old dry.old stale.old runs.old) }
     requires fits { AreFitting tree.now dues.old }
     requires serving { IsServing tree.now dues.old ends.now (lists ready.now serves.old dry.old stale.old runs.old) }
     requires stopped { length changes.old.stopped < changes.old.room }
@@ -207,12 +192,7 @@ fn serve_first_level(
 )
     requires tree { IsTree tree.now }
     requires levels { 0 < tree.now.levels }
-    requires ready { length ready.now ≡ length tree.now.nodes }
-    requires serves { length serves.old ≡ length tree.now.nodes }
-    requires dry { length dry.old ≡ length tree.now.nodes }
-    requires nodes { length dues.old.runs ≡ length tree.now.nodes }
-    requires stale { length stale.old ≡ length tree.now.nodes }
-    requires runs { length runs.old ≡ length tree.now.nodes }
+    requires long { AreLong tree.now dues.old (lists ready.now serves.old dry.old stale.old runs.old) }
     requires fits { AreFitting tree.now dues.old }
     requires serving { IsServing tree.now dues.old ends.now (lists ready.now serves.old dry.old stale.old runs.old) }
     requires above { AreFreshFrom tree.now stale.old 1 }
@@ -253,12 +233,7 @@ pub(crate) fn serve_all(
     places: &Places,
     changes: &mut Changes,
 )
-    requires ready { length ready.now ≡ length tree.now.nodes }
-    requires serves { length serves.old ≡ length tree.now.nodes }
-    requires dry { length dry.old ≡ length tree.now.nodes }
-    requires nodes { length dues.old.runs ≡ length tree.now.nodes }
-    requires stale { length stale.old ≡ length tree.now.nodes }
-    requires runs { length runs.old ≡ length tree.now.nodes }
+    requires long { AreLong tree.now dues.old (lists ready.now serves.old dry.old stale.old runs.old) }
     requires fits { AreFitting tree.now dues.old }
     requires serving { IsServing tree.now dues.old ends.now (lists ready.now serves.old dry.old stale.old runs.old) }
     requires last { length places.now.last ≡ length (packs_at tree.now 0) }

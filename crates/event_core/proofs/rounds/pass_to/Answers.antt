@@ -16,3 +16,15 @@ run_dry-requires-clause-drying c =
 
 pub returns-clause-serving : goal.returns-clause-serving
 returns-clause-serving c = subst (λ (ends : List ℕ). IsServing c.args.plan.now.tree c.pass.new.self ends c.run_dry.new.self) c.ends.ensures.values c.run_dry.ensures.serving
+
+pub run_dry-requires-clause-soonest : goal.run_dry-requires-clause-soonest
+run_dry-requires-clause-soonest c = c.requires.soonest
+
+pub returns-clause-long : goal.returns-clause-long
+returns-clause-long c = c.run_dry.ensures.long
+
+pub returns-clause-serves : goal.returns-clause-serves
+returns-clause-serves c = c.run_dry.ensures.serves
+
+pub returns-clause-runs : goal.returns-clause-runs
+returns-clause-runs c = c.run_dry.ensures.runs

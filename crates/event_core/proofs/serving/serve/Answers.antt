@@ -3,6 +3,24 @@ use Rattle.tree_select.specs.Selected.{candidates}
 use Rattle.event_core.proofs.ServingLemmas.{agree_still, member_of}
 use Rattle.event_core.proofs.serving.serve.Goals as goal
 
+pub hand_over-next-requires-clause-was : goal.hand_over-next-requires-clause-was
+hand_over-next-requires-clause-was c = c.requires.was
+
+pub hand_over-next-requires-clause-within : goal.hand_over-next-requires-clause-within
+hand_over-next-requires-clause-within c = c.requires.before
+
+pub hand_over-next-requires-clause-led : goal.hand_over-next-requires-clause-led
+hand_over-next-requires-clause-led c = c.requires.led
+
+pub change_if-requires-clause-before : goal.change_if-requires-clause-before
+change_if-requires-clause-before c = c.requires.before
+
+pub change_if-requires-clause-after : goal.change_if-requires-clause-after
+change_if-requires-clause-after c = c.hand_over-next.ensures.within
+
+pub change_if-requires-clause-fits : goal.change_if-requires-clause-fits
+change_if-requires-clause-fits c = c.requires.fits
+
 pub change_if-requires-clause-runs : goal.change_if-requires-clause-runs
 change_if-requires-clause-runs c = λ j l. c.requires.agree _ (member_of c.args.tree.now c.requires.tree c.args.p.0 c.requires.pack j l) ∙ c.requires.was j l
 
@@ -11,3 +29,39 @@ returns-clause-agree c = agree_still c.args.tree.now c.requires.tree c.args.p.0 
 
 pub returns-clause-served : goal.returns-clause-served
 returns-clause-served c = λ ends ready served. c.hand_over-next.ensures.served c.args.dues.now.remains ends (c.first_ready.ensures.earliest (candidates c.args.tree.now c.args.dues.now.remains ends c.args.p.0) ready) served
+
+pub returns-clause-now : goal.returns-clause-now
+returns-clause-now c = c.hand_over-next.ensures.now
+
+pub returns-clause-within : goal.returns-clause-within
+returns-clause-within c = c.hand_over-next.ensures.within
+
+pub returns-clause-led : goal.returns-clause-led
+returns-clause-led c = c.hand_over-next.ensures.led
+
+pub returns-clause-others : goal.returns-clause-others
+returns-clause-others c = c.hand_over-next.ensures.others
+
+pub returns-clause-own : goal.returns-clause-own
+returns-clause-own c = c.hand_over-next.ensures.own
+
+pub returns-clause-unmarked : goal.returns-clause-unmarked
+returns-clause-unmarked c = c.hand_over-next.ensures.unmarked
+
+pub returns-clause-unchanged : goal.returns-clause-unchanged
+returns-clause-unchanged c = c.hand_over-next.ensures.unchanged
+
+pub returns-clause-marks : goal.returns-clause-marks
+returns-clause-marks c = c.hand_over-next.ensures.marks
+
+pub returns-clause-nodes : goal.returns-clause-nodes
+returns-clause-nodes c = c.change_if.ensures.over.long
+
+pub returns-clause-tick : goal.returns-clause-tick
+returns-clause-tick c = c.change_if.ensures.tick
+
+pub returns-clause-remains : goal.returns-clause-remains
+returns-clause-remains c = c.change_if.ensures.remains
+
+pub returns-clause-rest : goal.returns-clause-rest
+returns-clause-rest c = c.change_if.ensures.over.rest

@@ -14,6 +14,19 @@ loop-level-init c =
     let some = some_level t h c.levels-level.ensures.lawful.sized.some_processors in
     (omega (arith, is), refl, refl, refl, c.requires.serving, fresh_top t h c.args.stale.now c.levels-level.result is, omega (arith, some, is), c.requires.settled)
 
+pub serve_level-requires-clause-long : goal.serve_level-requires-clause-long
+serve_level-requires-clause-long c = record {
+  dues = c.loop-level.invariant.3 ∙ c.requires.long.dues;
+  ready = c.requires.long.ready;
+  serves = c.loop-level.auto.serves ∙ c.requires.long.serves;
+  dry = c.loop-level.auto.dry ∙ c.requires.long.dry;
+  stale = c.loop-level.auto.stale ∙ c.requires.long.stale;
+  runs = c.loop-level.auto.runs ∙ c.requires.long.runs;
+}
+
+pub serve_level-requires-clause-serving : goal.serve_level-requires-clause-serving
+serve_level-requires-clause-serving c = c.loop-level.invariant.4
+
 pub serve_level-requires-clause-fits : goal.serve_level-requires-clause-fits
 serve_level-requires-clause-fits c = fitting_still c.args.tree.now c.args.dues.now c.loop-level.dues c.loop-level.invariant.1 c.loop-level.invariant.2 c.requires.fits
 
@@ -30,6 +43,22 @@ loop-level-preserved c =
       omega (arith, on),
       c.serve_level.ensures.settled c.args.places.now.onto c.loop-level.invariant.7,
     )
+
+pub serve_first_level-requires-clause-long : goal.serve_first_level-requires-clause-long
+serve_first_level-requires-clause-long c = record {
+  dues = c.loop-level.invariant.3 ∙ c.requires.long.dues;
+  ready = c.requires.long.ready;
+  serves = c.loop-level.auto.serves ∙ c.requires.long.serves;
+  dry = c.loop-level.auto.dry ∙ c.requires.long.dry;
+  stale = c.loop-level.auto.stale ∙ c.requires.long.stale;
+  runs = c.loop-level.auto.runs ∙ c.requires.long.runs;
+}
+
+pub serve_first_level-requires-clause-serving : goal.serve_first_level-requires-clause-serving
+serve_first_level-requires-clause-serving c = c.loop-level.invariant.4
+
+pub serve_first_level-requires-clause-settled : goal.serve_first_level-requires-clause-settled
+serve_first_level-requires-clause-settled c = c.loop-level.invariant.7
 
 pub serve_first_level-requires-clause-levels : goal.serve_first_level-requires-clause-levels
 serve_first_level-requires-clause-levels c = let most = c.loop-level.invariant.0 in let some = c.loop-level.invariant.6 in omega (arith, most, some)
@@ -52,3 +81,15 @@ returns-clause-selected c =
     let served = subst (λ (rs : List ℕ). AreServed t rs c.args.ends.now c.serve_first_level.new.stale c.serve_first_level.new.runs) remains c.serve_first_level.ensures.serving.served in
     all_selected t h c.args.dues.now.remains c.args.ends.now c.serve_first_level.new.runs 0 refl
     (led_right t h c.args.dues.now.remains c.args.ends.now c.serve_first_level.new.stale c.serve_first_level.new.runs t.levels 0 (omega arith) c.serve_first_level.ensures.serving.led served c.serve_first_level.ensures.fresh)
+
+pub returns-clause-tick : goal.returns-clause-tick
+returns-clause-tick c = c.serve_first_level.ensures.tick ∙ c.loop-level.invariant.1
+
+pub returns-clause-remains : goal.returns-clause-remains
+returns-clause-remains c = c.serve_first_level.ensures.remains ∙ c.loop-level.invariant.2
+
+pub returns-clause-nodes : goal.returns-clause-nodes
+returns-clause-nodes c = c.serve_first_level.ensures.nodes ∙ c.loop-level.invariant.3
+
+pub returns-clause-serving : goal.returns-clause-serving
+returns-clause-serving c = c.serve_first_level.ensures.serving

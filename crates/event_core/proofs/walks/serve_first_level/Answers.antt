@@ -31,6 +31,19 @@ marked-init c =
       within,
     )
 
+pub serve_listed-requires-clause-long : goal.serve_listed-requires-clause-long
+serve_listed-requires-clause-long c = record {
+  dues = c.marked.invariant.2 ∙ c.requires.long.dues;
+  ready = c.requires.long.ready;
+  serves = c.marked.auto.serves ∙ c.requires.long.serves;
+  dry = c.marked.auto.dry ∙ c.requires.long.dry;
+  stale = c.marked.auto.stale ∙ c.requires.long.stale;
+  runs = c.marked.auto.runs ∙ c.requires.long.runs;
+}
+
+pub serve_listed-requires-clause-serving : goal.serve_listed-requires-clause-serving
+serve_listed-requires-clause-serving c = c.marked.invariant.3
+
 pub serve_listed-requires-clause-held : goal.serve_listed-requires-clause-held
 serve_listed-requires-clause-held c = let n = c.packs-count.ensures in let b = c.marked-test.true in let last = c.requires.last in omega (arith, n, b, last)
 
@@ -108,3 +121,18 @@ returns-clause-changed c =
     let off = c.marked-test.false in
     let most = c.marked.invariant.9 in
     changed_are c.args.tree.now c.args.places.now.onto c.marked.runs c.marked.changes c.marked.i (omega (arith, n, off, most)) c.marked.invariant.7 c.marked.invariant.8
+
+pub returns-clause-tick : goal.returns-clause-tick
+returns-clause-tick c = c.marked.invariant.0
+
+pub returns-clause-remains : goal.returns-clause-remains
+returns-clause-remains c = c.marked.invariant.1
+
+pub returns-clause-nodes : goal.returns-clause-nodes
+returns-clause-nodes c = c.marked.invariant.2
+
+pub returns-clause-serving : goal.returns-clause-serving
+returns-clause-serving c = c.marked.invariant.3
+
+pub returns-clause-room : goal.returns-clause-room
+returns-clause-room c = c.marked.invariant.6

@@ -16,6 +16,19 @@ marked-init c = (
   c.next_marked-i.ensures.within,
 )
 
+pub serve_pack-requires-clause-long : goal.serve_pack-requires-clause-long
+serve_pack-requires-clause-long c = record {
+  dues = c.marked.invariant.2 ∙ c.requires.long.dues;
+  ready = c.requires.long.ready;
+  serves = c.marked.auto.serves ∙ c.requires.long.serves;
+  dry = c.marked.auto.dry ∙ c.requires.long.dry;
+  stale = c.marked.auto.stale ∙ c.requires.long.stale;
+  runs = c.marked.auto.runs ∙ c.requires.long.runs;
+}
+
+pub serve_pack-requires-clause-serving : goal.serve_pack-requires-clause-serving
+serve_pack-requires-clause-serving c = c.marked.invariant.3
+
 pub serve_pack-requires-clause-fits : goal.serve_pack-requires-clause-fits
 serve_pack-requires-clause-fits c = fitting_still c.args.tree.now c.args.dues.now c.marked.dues c.marked.invariant.0 c.marked.invariant.1 c.requires.fits
 
@@ -42,3 +55,18 @@ returns-clause-fresh c =
     let off = c.marked-test.false in
     let most = c.marked.invariant.6 in
     fresh_all c.args.tree.now c.requires.tree c.marked.stale c.args.level c.marked.i (omega (arith, n, off, most)) c.marked.invariant.4
+
+pub returns-clause-tick : goal.returns-clause-tick
+returns-clause-tick c = c.marked.invariant.0
+
+pub returns-clause-remains : goal.returns-clause-remains
+returns-clause-remains c = c.marked.invariant.1
+
+pub returns-clause-nodes : goal.returns-clause-nodes
+returns-clause-nodes c = c.marked.invariant.2
+
+pub returns-clause-serving : goal.returns-clause-serving
+returns-clause-serving c = c.marked.invariant.3
+
+pub returns-clause-settled : goal.returns-clause-settled
+returns-clause-settled c = c.marked.invariant.5

@@ -12,6 +12,24 @@ pub serve-next-requires-clause-ready : goal.serve-next-requires-clause-ready
 serve-next-requires-clause-ready c =
     ap (λ (xs : List ℕ). length xs) c.ready_at.ensures ∙ ready_long c.args.tree.now c.args.dues.now.remains c.args.ends.now c.args.p.0 _ (c.requires.serving.picks c.args.p.0 c.requires.pack)
 
+pub serve-next-requires-clause-before : goal.serve-next-requires-clause-before
+serve-next-requires-clause-before c = λ j e. c.requires.serving.within c.args.p.0 j c.requires.pack e
+
+pub serve-next-requires-clause-was : goal.serve-next-requires-clause-was
+serve-next-requires-clause-was c = λ j l. c.requires.serving.at c.args.p.0 j c.requires.pack l
+
+pub serve-next-requires-clause-agree : goal.serve-next-requires-clause-agree
+serve-next-requires-clause-agree c = c.requires.serving.agree
+
+pub serve-next-requires-clause-led : goal.serve-next-requires-clause-led
+serve-next-requires-clause-led c = c.requires.serving.led
+
+pub dry_of-requires-clause-member : goal.dry_of-requires-clause-member
+dry_of-requires-clause-member c = c.serve-next.ensures.within
+
+pub dry_of-requires-clause-nodes : goal.dry_of-requires-clause-nodes
+dry_of-requires-clause-nodes c = c.serve-next.ensures.nodes ∙ c.requires.long.dues
+
 pub dry_of-requires-clause-runs : goal.dry_of-requires-clause-runs
 dry_of-requires-clause-runs c = λ j e.
     let l = c.serve-next.ensures.within j e in
@@ -20,8 +38,8 @@ dry_of-requires-clause-runs c = λ j e.
 pub returns-clause-serving : goal.returns-clause-serving
 returns-clause-serving c =
     let b = c.requires.pack.0 in
-    let long = c.requires.serves in
-    let long' = c.requires.dry in
+    let long = c.requires.long.serves in
+    let long' = c.requires.long.dry in
     serving_step c.args.tree.now c.args.dues.now c.serve-next.new.dues c.args.ends.now (lists c.args.ready.now c.args.serves.now c.args.dry.now c.args.stale.now c.args.runs.now) (lists c.args.ready.now _ _ c.serve-next.new.stale c.serve-next.new.runs) c.args.p.0 c.serve-next.result
     c.requires.pack (omega (arith, b, long)) (omega (arith, b, long')) c.serve-next.ensures.tick c.serve-next.ensures.remains refl refl (ap (λ (n : ℕ). set c.args.dry.now c.args.p.0 n) c.dry_of.ensures)
     c.serve-next.ensures.within c.serve-next.ensures.now c.serve-next.ensures.others c.serve-next.ensures.agree c.serve-next.ensures.rest c.serve-next.ensures.unmarked c.serve-next.ensures.led
@@ -29,3 +47,18 @@ returns-clause-serving c =
 
 pub returns-clause-unchanged : goal.returns-clause-unchanged
 returns-clause-unchanged c = record { unmarked = c.serve-next.ensures.unmarked; unchanged = c.serve-next.ensures.unchanged }
+
+pub returns-clause-tick : goal.returns-clause-tick
+returns-clause-tick c = c.serve-next.ensures.tick
+
+pub returns-clause-remains : goal.returns-clause-remains
+returns-clause-remains c = c.serve-next.ensures.remains
+
+pub returns-clause-nodes : goal.returns-clause-nodes
+returns-clause-nodes c = c.serve-next.ensures.nodes
+
+pub returns-clause-own : goal.returns-clause-own
+returns-clause-own c = c.serve-next.ensures.own
+
+pub returns-clause-marks : goal.returns-clause-marks
+returns-clause-marks c = c.serve-next.ensures.marks

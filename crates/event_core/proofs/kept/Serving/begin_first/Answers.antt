@@ -1,10 +1,24 @@
-use Rattle.std.proofs.Common.{ap, false, length, get_or, refl, subst, subst₂, sym, ◌∙◌, ◌<◌, ◌≡◌, ℕ, List, Bool, []}
+use Rattle.std.proofs.Common.{ap, false, true, length, get_or, refl, subst, subst₂, sym, ◌∙◌, ◌<◌, ◌≡◌, ℕ, List, Option, None, Bool, []}
+use Rattle.std.proofs.lemmas.List.{length-replicate}
 use Rattle.std.specs.List.{range_with_len}
 use Rattle.run_tree.specs.Tree.{IsMember, IsPack, home, place}
 use Rattle.event_core.specs.Serving.{ServingContents, lists, AreBegun, IsServing}
 use Rattle.event_core.proofs.FirstLemmas.{blank_places, first_filled, first_marked, first_serving}
-use Rattle.event_core.proofs.KeptLemmas.{back, same_lists}
+use Rattle.event_core.proofs.KeptLemmas.{back, back_long, same_lists}
 use Rattle.event_core.proofs.kept.Serving.begin_first.Goals as goal
+
+pub begin_first-requires-clause-nodes : goal.begin_first-requires-clause-nodes
+begin_first-requires-clause-nodes c = ap (λ (xs : List Bool). length xs) c.requires.dues ∙ length-replicate (length c.args.plan.now.tree.nodes) false
+
+pub begin_first-requires-clause-remains : goal.begin_first-requires-clause-remains
+begin_first-requires-clause-remains c = ap (λ (xs : List ℕ). length xs) c.requires.remains ∙ length-replicate (length c.args.plan.now.tree.nodes) 0
+
+pub begin_first-requires-clause-ready : goal.begin_first-requires-clause-ready
+begin_first-requires-clause-ready c = ap (λ (xs : List (List ℕ)). length xs) (c.deref_mut.ensures.value ∙ ap (λ (s : ServingContents). s.ready) c.self.view_is) ∙ c.requires.blank.ready_long
+
+pub begin_first-requires-clause-stale : goal.begin_first-requires-clause-stale
+begin_first-requires-clause-stale c =
+    ap (λ (xs : List Bool). length xs) (c.deref_mut-2.ensures.value ∙ ap (λ (s : ServingContents). s.stale) c.self.view_is ∙ c.requires.blank.stale) ∙ length-replicate (length c.args.plan.now.tree.nodes) true
 
 pub begin_first-requires-clause-places : goal.begin_first-requires-clause-places
 begin_first-requires-clause-places c =
@@ -44,3 +58,17 @@ returns-clause-marked c =
     let a = subst₂ Begun (c.deref_mut.ensures.value ∙ ap (λ (k : ServingContents). k.ready) c.self.view_is) (c.deref_mut-2.ensures.value ∙ ap (λ (k : ServingContents). k.stale) c.self.view_is) c.begin_first.ensures.begun in
     let marked = first_marked p c.requires.plan s s' c.requires.blank c.args.dues.now c.begin_first.new.dues c.requires.remains c.requires.dues c.args.calendar.now c.requires.calendar (c.begin_first.ensures.tick ∙ sym c.requires.first) c.begin_first.ensures.runs refl refl refl a in
     subst (λ (stale : List Bool). (q : ℕ) → IsPack p.tree q → get_or stale q false ≡ false → ⊥) (sym (back c.self.inside.stale _ _ c.deref_mut-2.ensures.value c.begin_first.auto.stale)) marked
+
+pub returns-clause-nodes : goal.returns-clause-nodes
+returns-clause-nodes c = c.begin_first.ensures.begun.same ∙ ap (λ (xs : List ℕ). length xs) c.requires.remains ∙ length-replicate (length c.args.plan.now.tree.nodes) 0
+
+pub returns-clause-long : goal.returns-clause-long
+returns-clause-long c = record {
+  dues = ap (λ (xs : List Bool). length xs) (c.begin_first.ensures.runs ∙ c.requires.dues) ∙ length-replicate (length c.args.plan.now.tree.nodes) false;
+  ready = back_long c.self.inside.ready _ _ c.deref_mut.ensures.value c.begin_first.auto.ready ∙ ap (λ (s : ServingContents). length s.ready) c.self.view_is ∙ c.requires.blank.ready_long;
+  serves = ap (λ (s : ServingContents). length s.serves) c.self.view_is ∙ ap (λ (xs : List (Option ℕ)). length xs) c.requires.blank.serves ∙ length-replicate (length c.args.plan.now.tree.nodes) None;
+  dry = ap (λ (s : ServingContents). length s.dry) c.self.view_is ∙ c.requires.blank.dry;
+  stale = back_long c.self.inside.stale _ _ c.deref_mut-2.ensures.value c.begin_first.auto.stale ∙ ap (λ (s : ServingContents). length s.stale) c.self.view_is
+      ∙ ap (λ (xs : List Bool). length xs) c.requires.blank.stale ∙ length-replicate (length c.args.plan.now.tree.nodes) true;
+  runs = ap (λ (s : ServingContents). length s.runs) c.self.view_is ∙ c.requires.blank.runs_long;
+}

@@ -1,0 +1,41 @@
+use Rattle.std.proofs.Common.{ap, false, get_or, not, Bool, ◌&&◌, ◌∙◌}
+use Rattle.cpu_assign.specs.Changed.{with_pack}
+use Rattle.event_core.proofs.walks.serve_listed.Goals as goal
+
+pub serve_pack-requires-clause-long : goal.serve_pack-requires-clause-long
+serve_pack-requires-clause-long c = c.requires.long
+
+pub serve_pack-requires-clause-fits : goal.serve_pack-requires-clause-fits
+serve_pack-requires-clause-fits c = c.requires.fits
+
+pub serve_pack-requires-clause-serving : goal.serve_pack-requires-clause-serving
+serve_pack-requires-clause-serving c = c.requires.serving
+
+pub returns-clause-tick : goal.returns-clause-tick
+returns-clause-tick c = c.serve_pack.ensures.tick
+
+pub returns-clause-remains : goal.returns-clause-remains
+returns-clause-remains c = c.serve_pack.ensures.remains
+
+pub returns-clause-nodes : goal.returns-clause-nodes
+returns-clause-nodes c = c.serve_pack.ensures.nodes
+
+pub returns-clause-serving : goal.returns-clause-serving
+returns-clause-serving c = c.serve_pack.ensures.serving
+
+pub returns-clause-own : goal.returns-clause-own
+returns-clause-own c = c.serve_pack.ensures.own
+
+pub returns-clause-unchanged : goal.returns-clause-unchanged
+returns-clause-unchanged c = c.serve_pack.ensures.unchanged
+
+pub returns-clause-marks : goal.returns-clause-marks
+returns-clause-marks c = c.serve_pack.ensures.marks
+
+pub returns-clause-stopped : goal.returns-clause-stopped
+returns-clause-stopped c =
+    c.see.ensures.stopped ∙ ap (λ (held : Bool). with_pack c.args.changes.now.stopped c.args.i (not (get_or c.serve_pack.new.runs c.args.p.0 false) && held)) c.holds.ensures
+
+pub returns-clause-begun : goal.returns-clause-begun
+returns-clause-begun c =
+    c.see.ensures.begun ∙ ap (λ (held : Bool). with_pack c.args.changes.now.begun c.args.i (get_or c.serve_pack.new.runs c.args.p.0 false && not held)) c.holds.ensures
