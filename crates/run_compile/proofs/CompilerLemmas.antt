@@ -22,9 +22,3 @@ module _ (s : SetContents) (scale processors : ℕ) (rates : List ℕ) (lawful :
 
     pub made_tree : IsTreeOf s tree
     made_tree = subst (IsTreeOf s) (sym tree_made) (set_tree s scale lawful is fits)
-
-    pub made_by_scale : tree ≡ tree_of tree.scale s
-    made_by_scale = tree_made ∙ ap (λ l. tree_of l s) (sym made_scale)
-
-    pub made_fits : Fits tree.scale s
-    made_fits = subst (λ l. Fits l s) (sym made_scale) fits

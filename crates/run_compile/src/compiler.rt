@@ -1,6 +1,7 @@
 //! Sets into plans.
 ghost use Rattle.std.specs.Prelude.{ℕ, ◌≡◌, ◌≤◌, ◌+◌, ◌-◌, ◌^◌, ◌⊎◌, map, IfOk, IfErr};
 ghost use Rattle.sched_base.specs.Scale.{IsScale, Fits, rate_of};
+ghost use Rattle.run_tree.specs.TreeOfSet.{IsTreeOf};
 ghost use Rattle.run_tree.specs.Compiled.{tree_of};
 ghost use Rattle.run_compile.specs.Answers.{HasScale, IsRefused, IsSmall};
 ghost use Rattle.sched_laws.specs.LevelCounts.{duals_of};
@@ -8,7 +9,7 @@ ghost use Rattle.sched_laws.specs.LevelCounts.{duals_of};
 use crate::faults::CompileFault;
 use crate::higher;
 use rate_scale::{fits, rate, scale_of, total};
-use run_tree::Plan;
+use run_tree::{Plan, Tree};
 use sched_base::{NoMemory, TaskSet};
 use std::alloc::Global;
 
@@ -22,17 +23,39 @@ pub fn compile(alloc: Global, set: TaskSet) -> Result<Plan, CompileFault>
     ensures refused { IfErr result (λ fault. IsRefused set fault) }
     ensures small { IfErr result IsSmall }
 {
-    let scale = scale_of(&set)?;
-    if !fits(&set, scale) {
+    let scale = fitting_scale(&set)?;
+    let tree = set_tree(alloc, &set, scale)?;
+    Ok(Plan::new(set, scale, tree))
+}
+
+// The scale of a set, where its tasks fit.
+fn fitting_scale(set: &TaskSet) -> Result<u128, CompileFault>
+    ensures scale { IfOk result (λ scale. HasScale set.now scale) }
+    ensures fits { IfOk result (λ scale. Fits scale set.now) }
+    ensures refused { IfErr result (λ fault. IsRefused set.now fault) }
+    ensures small { IfErr result IsSmall }
+{
+    let scale = scale_of(set)?;
+    if !fits(set, scale) {
         let room = u128::from(set.processors()) * scale;
         return Err(CompileFault::Overload {
-            total: total(&set, scale),
+            total: total(set, scale),
             room,
         });
     }
-    let rates = rates_of(alloc, &set, scale)?;
-    let tree = higher::tree_of(alloc, set.processors(), scale, rates.as_slice())?;
-    Ok(Plan::new(set, scale, tree))
+    Ok(scale)
+}
+
+// The tree of a set that fits at this scale.
+fn set_tree(alloc: Global, set: &TaskSet, scale: u128) -> Result<Tree, NoMemory>
+    requires scale { HasScale set.now scale }
+    requires fits { Fits scale set.now }
+    ensures tree { IfOk result (λ tree. tree ≡ tree_of scale set.now) }
+    ensures scale { IfOk result (λ tree. tree.scale ≡ scale) }
+    ensures of_set { IfOk result (λ tree. IsTreeOf set.now tree) }
+{
+    let rates = rates_of(alloc, set, scale)?;
+    higher::tree_of(alloc, set.processors(), scale, rates.as_slice())
 }
 
 // The rate of each task, in order.

@@ -1,4 +1,6 @@
-use Rattle.std.proofs.Common.{ℕ, ◌+◌, length, arith, ◌∙◌, sym, subst, subst₂, drop}
+use Rattle.std.proofs.Common.{ap, ℕ, ◌+◌, length, arith, ◌∙◌, sym, subst, subst₂, drop}
+use Rattle.sched_base.specs.FirstFit.{homes, packed}
+use Rattle.server_pack.specs.Servers.{items_of}
 use Rattle.run_tree.specs.Making.{Making}
 use Rattle.run_tree.specs.Compiled.{first_level}
 use Rattle.tree_laws.proofs.IdleSteps.{IsFilling, idle_start}
@@ -9,6 +11,28 @@ pub loop-s-init : goal.loop-s-init
 loop-s-init c =
     let P : Making → Type 0 = λ m. IsFilling (first_level c.args.processors c.args.scale c.args.rates.now) (length c.args.rates.now) 0 0 (asked_of c.args.processors c.args.scale c.args.rates.now) m in
     subst P (sym c.in_ok-maker.ensures) (idle_start c.args.processors c.args.scale c.args.rates.now c.requires.fit)
+
+pub packed_tasks-requires-clause-rates : goal.packed_tasks-requires-clause-rates
+packed_tasks-requires-clause-rates c = c.in_ok-packing.ensures.rates ∙ ap (λ (l : ℕ). packed l c.args.rates.now) (sym c.in_ok-packing.ensures.scale)
+
+pub packed_tasks-requires-clause-members : goal.packed_tasks-requires-clause-members
+packed_tasks-requires-clause-members c = λ b. c.in_ok-packing.ensures.members b ∙ ap (λ (l : ℕ). items_of (homes l c.args.rates.now) b) (sym c.in_ok-packing.ensures.scale)
+
+pub leaf-requires-clause-first_level : goal.leaf-requires-clause-first_level
+leaf-requires-clause-first_level c =
+    let told = idles_asked c.args.processors c.args.scale c.args.rates.now c.in_ok-packing.packing.servers c.fill.new.packing.servers c.in_ok-packing.ensures.rates c.in_ok-packing.ensures.sum c.in_ok-fill.ensures.filled in
+    let asked = asked_of c.args.processors c.args.scale c.args.rates.now in
+    let long = idles_long c.fill.new.packing.servers asked told in
+    let is = c.idle-rate.ensures ∙ idle_told c.fill.new.packing.servers asked c.loop-s.s told (omega arith) in
+    (fill_asks (first_level c.args.processors c.args.scale c.args.rates.now) c.loop-s.maker (length c.args.rates.now) c.loop-s.s c.loop-s.number c.idle-rate.result asked c.loop-s.invariant (omega (arith, long)) is (omega arith)).first_level
+
+pub leaf-requires-clause-pack : goal.leaf-requires-clause-pack
+leaf-requires-clause-pack c =
+    let told = idles_asked c.args.processors c.args.scale c.args.rates.now c.in_ok-packing.packing.servers c.fill.new.packing.servers c.in_ok-packing.ensures.rates c.in_ok-packing.ensures.sum c.in_ok-fill.ensures.filled in
+    let asked = asked_of c.args.processors c.args.scale c.args.rates.now in
+    let long = idles_long c.fill.new.packing.servers asked told in
+    let is = c.idle-rate.ensures ∙ idle_told c.fill.new.packing.servers asked c.loop-s.s told (omega arith) in
+    (fill_asks (first_level c.args.processors c.args.scale c.args.rates.now) c.loop-s.maker (length c.args.rates.now) c.loop-s.s c.loop-s.number c.idle-rate.result asked c.loop-s.invariant (omega (arith, long)) is (omega arith)).pack
 
 pub leaf-requires-clause-few : goal.leaf-requires-clause-few
 leaf-requires-clause-few c =
