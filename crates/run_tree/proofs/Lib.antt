@@ -16,6 +16,7 @@ pub mod Growing
 pub mod LevelsMade
 pub mod LevelsKept
 pub mod PackLists
+pub mod MappedLists
 pub mod MakerLemmas
 pub mod LawfulTrees
 pub mod TaskEnds

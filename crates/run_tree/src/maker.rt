@@ -193,6 +193,7 @@ impl TreeMaker {
         ensures ok { OnOk result (self.new ≡ lifted packs.now homes.now self.old) }
         ensures err { OnErr result (self.new ≡ self.old) }
     {
+        self.lower.reserve(1)?;
         let level = Growth::of_duals(
             *self.lower.allocator(),
             self.growth.nodes(),
@@ -201,7 +202,6 @@ impl TreeMaker {
             packs,
             homes,
         )?;
-        self.lower.reserve(1)?;
         let numbers = self.growth.append(level)?;
         self.lower.push_reserved(Packs { numbers });
         self.levels += 1;

@@ -1,7 +1,7 @@
 -- Marks of what a level's members name, one member more.
-use Rattle.std.proofs.Common.{◌≡◌, ◌≢◌, ℕ, zero, suc, ◌+◌, ◌-◌, ◌<◌, ◌≤◌, ◌⊎◌, ◌&&◌, Bool, true, false, List, [], ◌∷◌, ◌++◌, Option, Some, None, map, min, length, get_or, take, set, MatchBool, refl, ap, arith, inl, inr, sym, subst, ◌∙◌}
+use Rattle.std.proofs.Common.{◌≡◌, ◌≢◌, ℕ, zero, suc, ◌+◌, ◌-◌, ◌<◌, ◌≤◌, ◌⊎◌, ◌&&◌, Bool, true, false, List, [], ◌∷◌, ◌++◌, Option, Some, None, map, min, length, get_or, replicate, take, set, MatchBool, refl, ap, arith, inl, inr, sym, subst, ◌∙◌}
 use Rattle.std.proofs.lemmas.Bool.{cases_eq, cases_lt, both_ways}
-use Rattle.std.proofs.lemmas.List.{append_assoc, length-append, length-set, get_or-set_same, get_or-set_other, get_or_append_left, get_or-append_right, get_or_past, take-append-le}
+use Rattle.std.proofs.lemmas.List.{append_assoc, length-append, length-set, get_or-set_same, get_or-set_other, get_or_append_left, get_or-append_right, get_or_past, take-append-le, length-replicate, get_or-replicate}
 use Rattle.tree_check.specs.Scans.{rate_in, Stands, IsBadAfter, HasBadAfter, AreMarks}
 
 -- ---- names, one more
@@ -27,6 +27,17 @@ stands_split names o p s = elim (cases_lt s.0 (length names)) [
 ]
 
 -- ---- one mark more
+
+-- no name yet, and no mark
+pub marks_none : (rates : List ℕ) → AreMarks rates [] (replicate (length rates) false)
+marks_none rates = record {
+  long = length-replicate (length rates) false;
+  named = λ n some on. absurd (elim (cases_lt n (length rates)) as (λ l. ⊥) [
+    | inl low ↦ both_ways (get_or (replicate (length rates) false) n false) (get_or-replicate (length rates) n false false low) on
+    | inr past ↦ (let z = get_or_past rates n 0 past in omega (arith, z, some))
+  ]);
+  marked = λ n some s. absurd (let l = s.1 in omega (arith, l));
+}
 
 pub marks_bad : (rates : List ℕ) (names : List (Option ℕ)) (marks : List Bool) (o : Option ℕ) → AreMarks rates names marks → IsBadAfter rates names o → AreMarks rates (names ++ o ∷ []) marks
 marks_bad rates names marks o a bad = record {

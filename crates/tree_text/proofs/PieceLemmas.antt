@@ -1,6 +1,6 @@
 -- Lines that go out in pieces.
-use Rattle.std.proofs.Common.{◌≡◌, ◌∙◌, ℕ, ◌+◌, ◌<◌, ◌≤◌, List, [], ◌∷◌, ◌++◌, length, take, drop, get_or, map, codes, decimal, Option, Some, None, Result, Ok, Err, ap, sym, append_assoc, append-nil}
-use Rattle.std.specs.List.{flat_map}
+use Rattle.std.proofs.Common.{◌≡◌, ◌∙◌, ℕ, ◌+◌, ◌<◌, ◌≤◌, List, [], ◌∷◌, ◌++◌, length, take, drop, get_or, map, codes, decimal, Option, Result, Ok, Err, ap, subst, sym, append_assoc, append-nil}
+use Rattle.std.specs.List.{flat_map, range_with_len}
 use Rattle.std.specs.Io.KnownBytes.{Appends}
 use Rattle.std.proofs.KnownBytes.{Appends-trans}
 use Rattle.std.proofs.lemmas.List.{take_all, take_more, take-append-drop}
@@ -8,6 +8,7 @@ use Rattle.std.proofs.lemmas.List.Concat.{flat_map-append}
 use Rattle.std.proofs.lemmas.List.Folds.{flat_map-map}
 use Rattle.sched_base.specs.declared.rows.NodeId.{NodeId}
 use Rattle.sched_edges.specs.Streams.{Wrote, TookPart}
+use Rattle.sched_edges.proofs.CauseLemmas.{took_none}
 use Rattle.sched_edges.proofs.Wrote.{part_then, part_cut}
 use Rattle.sched_edges.proofs.LinesLemmas.{line_end_is, line_of_is}
 use Rattle.run_tree.specs.Tree.{numbers, rate, members}
@@ -15,12 +16,17 @@ use Rattle.run_tree.specs.Plans.{PlanContents}
 use Rattle.tree_text.specs.Text.{member_word, pack_line}
 use Rattle.tree_text.specs.Pieces.{Added}
 
--- ---- texts added one after the other
+-- ---- texts of one part for each item, once all are written
 
--- nothing taken
-took_none : (a : Option (List ℕ)) → Appends a a []
-took_none None = tt
-took_none (Some xs) = sym (append-nil xs)
+-- the items of a list
+pub items_done : {A T E : Type 0} (f : A → List ℕ) (xs : List A) (i : ℕ) (a b : Option (List ℕ)) (v : T) → length xs ≤ i → Appends a b (flat_map f (take i xs)) → Wrote {E = E} a b (flat_map f xs) (Ok v)
+items_done {A = A} f xs i a b v done wrote = record { ok = subst (λ (ys : List A). Appends a b (flat_map f ys)) (take_all i xs done) wrote; err = tt }
+
+-- the numbers from 0 on
+pub numbers_done : {T E : Type 0} (f : ℕ → List ℕ) (n i : ℕ) (a b : Option (List ℕ)) (v : T) → i ≡ n → Appends a b (flat_map f (range_with_len 0 i)) → Wrote {E = E} a b (flat_map f (range_with_len 0 n)) (Ok v)
+numbers_done f n i a b v done wrote = record { ok = subst (λ (k : ℕ). Appends a b (flat_map f (range_with_len 0 k))) done wrote; err = tt }
+
+-- ---- texts added one after the other
 
 -- nothing added yet
 pub added_none : (a : Option (List ℕ)) (line : List ℕ) → Added a a line [] line

@@ -1,5 +1,23 @@
-use Rattle.tree_check.proofs.LevelScans.{level_first}
+use Rattle.std.proofs.Common.{◌≡◌, ℕ, Bool, false, List, [], length, replicate, ap, sym, subst, ◌∙◌}
+use Rattle.tree_check.specs.Scans.{AreMarks, HasFaultIn}
+use Rattle.tree_check.specs.Faults.{IsFirstOf}
+use Rattle.tree_check.proofs.LevelScans.{level_first, line_first}
+use Rattle.tree_check.proofs.MarkLemmas.{marks_none}
 use Rattle.tree_check.proofs.levels.level_fault.Goals as goal
 
 pub returns : goal.returns
 returns c = level_first c.args.tree.now c.args.l c.scan-first.result c.in-None.ensures c.scan-first.ensures.first
+
+pub scan-first-requires-clause-marks : goal.scan-first-requires-clause-marks
+scan-first-requires-clause-marks c =
+    let rates = c.deref.result.now in
+    let count : c.len.result ≡ length rates = c.len.ensures ∙ sym c.deref.ensures.len in
+    let marks = c.deref_mut.ensures.value ∙ c.in_ok-marks.ensures.items_if_clones_equal (λ y same. same) ∙ ap (λ (n : ℕ). replicate n false) count in
+    subst (AreMarks rates []) (sym marks) (marks_none rates)
+
+pub returns-in-Some : goal.returns-in-Some
+returns-in-Some c =
+    let w = c.args.tree.now in
+    let l = c.args.l in
+    let kind = c.in-Some.kind in
+    subst (λ (line : ℕ). IsFirstOf (HasFaultIn w l) line kind) (sym c.requires.line) (line_first w l kind c.in-Some.ensures)

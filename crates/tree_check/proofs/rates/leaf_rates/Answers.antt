@@ -1,10 +1,11 @@
-use Rattle.std.proofs.Common.{ℕ, List, sym, subst, ◌∙◌, ap}
+use Rattle.std.proofs.Common.{ℕ, List, ◌++◌, map, sym, subst, ◌∙◌, ap, ap₂}
 use Rattle.std.specs.Int.{◌∣◌}
 use Rattle.std.proofs.lemmas.List.{get_or_default}
 use Rattle.sched_base.specs.declared.sets.Task.{Task}
 use Rattle.sched_base.specs.Sets.{no_task, SetContents}
-use Rattle.sched_base.specs.Scale.{PeriodsDivide}
+use Rattle.sched_base.specs.Scale.{PeriodsDivide, rate_of}
 use Rattle.sched_base.proofs.RateLemmas.{period_divides}
+use Rattle.run_tree.proofs.MappedLists.{mapped_more, mapped_all}
 use Rattle.tree_check.proofs.rates.leaf_rates.Goals as goal
 
 pub rate-requires-clause-divides : goal.rate-requires-clause-divides
@@ -15,3 +16,12 @@ rate-requires-clause-divides c =
     let divided = subst P (sym (c.tasks-task-items.ensures.value ∙ ap (λ (s : SetContents). s.tasks) c.set.ensures.value)) (subst Q (sym c.scale-scale.ensures.value) c.scale-scale.ensures.lawful.is_scale.divided) in
     let is = c.task-item.is ∙ get_or_default tasks c.loop-task.task-index c.task-item.result no_task c.loop-task-test.true in
     subst (λ (t : Task). t.period ∣ c.scale-scale.result) (sym is) (period_divides tasks c.scale-scale.result c.loop-task.task-index divided c.loop-task-test.true)
+
+pub loop-task-preserved : goal.loop-task-preserved
+loop-task-preserved c = mapped_more (rate_of c.scale-scale.result) c.tasks-task-items.result.now c.loop-task.task-index c.task-item.result _ _ c.rate.result c.loop-task-test.true c.task-item.is c.loop-task.invariant c.in_ok-push.ensures.items c.rate.ensures.value
+
+pub returns : goal.returns
+returns c =
+    let tasks = c.tasks-task-items.ensures.value ∙ ap (λ (s : SetContents). s.tasks) c.set.ensures.value in
+    let rates = mapped_all (rate_of c.scale-scale.result) c.tasks-task-items.result.now c.loop-task.task-index _ c.loop-task-test.false c.loop-task.invariant ∙ ap₂ (λ (s : ℕ) (ts : List Task). map (rate_of s) ts) c.scale-scale.ensures.value tasks in
+    c.in_ok-extend_from_slice.ensures.items ∙ ap₂ (λ (xs ys : List ℕ). xs ++ ys) rates c.idles.ensures

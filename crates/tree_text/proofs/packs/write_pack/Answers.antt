@@ -1,9 +1,10 @@
-use Rattle.std.proofs.Common.{◌≡◌, ◌<◌, ◌++◌, ◌∙◌, codes, decimal, length, get_or, ap, sym, subst, arith, le_refl}
+use Rattle.std.proofs.Common.{◌≡◌, ◌<◌, ◌++◌, ◌∙◌, codes, decimal, length, get_or, ap, sym, subst, arith, le_refl, le_trans}
 use Rattle.std.proofs.lemmas.List.{get_or_default}
 use Rattle.sched_base.specs.declared.rows.NodeId.{NodeId}
 use Rattle.sched_edges.proofs.Wrote.{wrote_part}
 use Rattle.run_tree.specs.Tree.{IsMember, members}
 use Rattle.run_tree.proofs.NodeReads.{length-members, member_at}
+use Rattle.sched_edges.proofs.CauseLemmas.{cause_cut, cause_then}
 use Rattle.tree_text.proofs.PieceLemmas.{added_none, pack_start, pack_next, pack_cut, pack_done}
 use Rattle.tree_text.proofs.packs.write_pack.Goals as goal
 
@@ -52,3 +53,12 @@ returns-clause-wrote g c =
     let all = rw c.tree-2.ensures.value at c.members-member-items.ensures in
     let wrote = rw c.as_slice-2.ensures.bytes at c.write_all.ensures.wrote in
     pack_done c.args.plan.now c.args.pack.0 c.members-member-items.result.now all c.loop-member.member-index _ _ _ _ c.loop-member.line c.add-2.new.line _ c.loop-member-test.false c.loop-member.invariant.0 c.in_ok-add-2.ensures.ok wrote
+
+pub returns-in_err-add-clause-cause : goal.returns-in_err-add-clause-cause
+returns-in_err-add-clause-cause g c = cause_cut _ _ _ _ _ c.loop-member.invariant.1 c.in_err-add.ensures.cause
+
+pub returns-in_err-add-2-clause-cause : goal.returns-in_err-add-2-clause-cause
+returns-in_err-add-2-clause-cause g c = cause_cut _ _ _ _ _ c.loop-member.invariant.1 c.in_err-add-2.ensures.cause
+
+pub returns-clause-cause : goal.returns-clause-cause
+returns-clause-cause g c = cause_then _ _ _ _ (le_trans c.loop-member.invariant.1 c.add-2.ensures.cause.later) c.write_all.ensures.cause

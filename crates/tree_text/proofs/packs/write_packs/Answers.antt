@@ -1,8 +1,10 @@
-use Rattle.std.proofs.Common.{◌<◌, length, sym, subst, arith}
+use Rattle.std.proofs.Common.{◌<◌, ◌≤◌, ℕ, List, length, sym, subst, arith}
 use Rattle.sched_edges.proofs.Wrote.{item_written, wrote_item}
 use Rattle.run_tree.specs.Tree.{IsPack}
 use Rattle.run_tree.specs.Schedule.{packs_at}
 use Rattle.tree_text.specs.Text.{pack_line}
+use Rattle.sched_edges.proofs.CauseLemmas.{cause_cut}
+use Rattle.tree_text.proofs.PieceLemmas.{items_done}
 use Rattle.tree_text.proofs.SearchLemmas.{pack_of_level, pack_at_place}
 use Rattle.tree_text.proofs.packs.write_packs.Goals as goal
 
@@ -33,3 +35,16 @@ loop-i-preserved g c =
     let before = c.loop-i.invariant.1 in
     let later = c.write_pack.ensures.cause.later in
     (item_written (pack_line c.args.plan.now) (packs_at tree c.args.level) c.loop-i.i c.pack.result.0 _ _ _ within at c.loop-i.invariant.0 c.in_ok-write_pack.ensures.wrote.ok, omega (arith, before, later))
+
+pub returns-in_err-write_pack-clause-cause : goal.returns-in_err-write_pack-clause-cause
+returns-in_err-write_pack-clause-cause g c = cause_cut _ _ _ _ _ c.loop-i.invariant.1 c.in_err-write_pack.ensures.cause
+
+pub returns-clause-wrote : goal.returns-clause-wrote
+returns-clause-wrote g c =
+    let packs : List ℕ = packs_at c.args.plan.now.tree c.args.level in
+    let count = rw c.tree.ensures.value at c.packs-i-end.ensures in
+    let all : length packs ≤ c.loop-i.i = omega (arith, count, c.loop-i-test.false) in
+    items_done (pack_line c.args.plan.now) packs c.loop-i.i _ _ _ all c.loop-i.invariant.0
+
+pub returns-clause-cause : goal.returns-clause-cause
+returns-clause-cause g c = record { later = c.loop-i.invariant.1; failed = tt }

@@ -1,0 +1,22 @@
+use Rattle.std.proofs.Common.{◌≡◌, ℕ, Bool, true, false, nat_lt, Vec, Global, ap, subst, ◌∙◌, lt-ltb, le-ltb}
+use Rattle.run_tree.specs.Tree.{Node}
+use Rattle.run_tree.specs.Growth.{node_in}
+use Rattle.run_tree.proofs.MappedLists.{passed_more, failed_more}
+use Rattle.run_tree.proofs.maker.lower_of.Goals as goal
+use Rattle.run_tree.proofs.maker.lower_of.Goals.{then-rate-scale+in_ok-push, else-rate-scale}
+
+pub loop-pack-preserved : goal.loop-pack-preserved
+loop-pack-preserved c =
+    let is_lower : ℕ → Bool = λ p. nat_lt (node_in c.args.nodes.now p).rate c.args.scale in
+    let packs = c.args.packs.now in
+    let i = c.loop-pack.pack-index in
+    let within = c.loop-pack-test.true in
+    let rate = c.rate.ensures ∙ ap (λ (n : Node). n.rate) c.node_of.ensures in
+    elim c.if-rate-scale.branch [
+      | then-rate-scale+in_ok-push w ↦
+          (let lower = subst (λ (r : ℕ). nat_lt r c.args.scale ≡ true) rate (lt-ltb _ _ w.if-rate-scale.true) in
+          passed_more is_lower packs i 0 _ _ within c.loop-pack.invariant (ap (λ (v : Vec ℕ Global). v.items) w.found-is ∙ w.in_ok-push.ensures.items) lower)
+      | else-rate-scale w ↦
+          (let root = subst (λ (r : ℕ). nat_lt r c.args.scale ≡ false) rate (le-ltb _ _ w.if-rate-scale.false) in
+          failed_more is_lower packs i 0 _ _ within c.loop-pack.invariant (ap (λ (v : Vec ℕ Global). v.items) w.found-is) root)
+    ]
