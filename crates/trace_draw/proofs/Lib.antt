@@ -3,3 +3,5 @@ pub mod WindowLemmas
 pub mod ServedLemmas
 pub mod PeriodLemmas
 pub mod HeadLemmas
+pub mod WriteLemmas
+pub mod PictureLemmas

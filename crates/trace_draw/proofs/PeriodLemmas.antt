@@ -31,6 +31,13 @@ shown_begun w t i some h =
 pub number_within : (t : Task) (k : ℕ) → 1 ≤ t.period → k ≤ t.offset + k * t.period
 number_within t k some = (let more = le-mul_of_pos_right k some in omega (arith, more))
 
+-- a period that begins by the greatest unit, and its end
+pub start_fits : (t : Task) (k : ℕ) → t.offset + k * t.period < 2 ^ 32 → t.offset + k * t.period < 2 ^ 33
+start_fits t k fits = omega arith
+
+pub end_fits : (t : Task) (k : ℕ) → t.period < 2 ^ 32 → t.offset + k * t.period < 2 ^ 32 → t.offset + (k + 1) * t.period < 2 ^ 33
+end_fits t k small fits = omega arith
+
 -- ticks past the greatest number of 128 bits tell the same of a due below it
 wrong_capped : (horizon end due given : ℕ) → due < 2 ^ 128 - 1 → is_wrong horizon end due (min given (2 ^ 128 - 1)) ≡ is_wrong horizon end due given
 wrong_capped horizon end due given small =

@@ -24,7 +24,8 @@ framed_row t w i =
 -- the frames of the row at fault
 abbrev pub fault_text : Trace → Window → Verdict → List ℕ
 fault_text t w Valid = []
-fault_text t w (Fault line kind) = if nat_le (first_task_line + length t.set.tasks) line then framed_row t w (line - (first_task_line + length t.set.tasks)) else []
+fault_text t w (Fault line kind) =
+    if nat_le (first_task_line + length t.set.tasks) line then framed_row t w (line - (first_task_line + length t.set.tasks)) else []
 
 -- what the marks mean, and the end
 abbrev pub closing_lines : SetContents → List (List ℕ)

@@ -51,7 +51,7 @@ fn count_shown(window: &Window, task: &Task) -> u64
 }
 
 /// A period of a task, in ticks: where it begins and ends, its due, and the end of the schedule.
-#[derive(Clone, Copy, Debug)]
+#[derive(Clone, Copy)]
 struct Period {
     begin: u128,
     end: u128,

@@ -17,7 +17,7 @@ use sched_base::{Leaf, Row, Task, TaskSet};
 use sched_edges::{Failed, Line, Sink, write_lines};
 
 /// What of the rows is drawn: the words of all lie above the boxes of all.
-#[derive(Clone, Copy, Debug, PartialEq, Eq)]
+#[derive(Clone, Copy)]
 pub(crate) enum Part {
     /// The boxes.
     Boxes,

@@ -8,7 +8,7 @@ use sched_base::Row;
 use trace_check::ReadTrace;
 
 /// What the rows of a task did from one tick up to another.
-#[derive(Clone, Copy, Debug, PartialEq, Eq)]
+#[derive(Clone, Copy)]
 pub(crate) struct Served {
     /// Their ticks. Rows of one task may overlap where a trace isn't valid, so it stops at the greatest number of 128 bits.
     pub given: u128,

@@ -10,6 +10,7 @@ use Rattle.sched_base.specs.declared.rows.Row.{Row}
 use Rattle.sched_base.specs.declared.sets.Task.{Task}
 use Rattle.sched_base.specs.Tables.{IsTable, lane_of, rounds_of}
 use Rattle.sched_edges.specs.Streams.{Wrote}
+use Rattle.sched_edges.proofs.CauseLemmas.{took_none}
 use Rattle.sched_edges.proofs.Wrote.{part_then, part_cut, wrote_part}
 use Rattle.row_totals.specs.Sums.{IsAmong, NamesAmong}
 use Rattle.trace_lines.specs.Lines.{row_line}
@@ -20,11 +21,6 @@ use Rattle.trace_lines.specs.Merging.{merged, merged_lanes}
 -- of a processor's rows the lines of so many merged ones were written, and these rows are left
 pub record Written (tasks : List Task) (a b : Option (List ℕ)) (rows left : List Row) (count : ℕ) : Type 0 where
   pub parts : (written : List Row) × (merged rows ≡ written ++ merged left) × Appends a b (flat_map (row_line tasks) written) × (count ≡ length written)
-
--- no bytes more
-pub took_none : (a : Option (List ℕ)) → Appends a a []
-took_none None = tt
-took_none (Some xs) = sym (append-nil xs)
 
 pub written_none : (tasks : List Task) (a : Option (List ℕ)) (rows : List Row) → Written tasks a a rows rows 0
 written_none tasks a rows = record { parts = ([], refl, took_none a, refl) }
@@ -97,3 +93,16 @@ lane_few lanes p most table within few =
     let rounds = few_of_lane (length lanes) (rounds_of lanes) most some few in
     let whole = table.whole p within in
     omega (arith, rounds, whole)
+
+-- the lines of one processor more
+pub count_more : (lanes : List (List Row)) (p : ℕ) (lane : List Row) (count n : ℕ) → p < length lanes → lane ≡ lane_of lanes p → count ≡ length (merged_lanes (take p lanes))
+    → n ≡ length (merged lane) → count + n ≡ length (merged_lanes (take (p + 1) lanes))
+count_more lanes p lane count n within is before now =
+    let done = merged_lanes (take p lanes) in
+    let own = merged (lane_of lanes p) in
+    let next : merged_lanes (take (p + 1) lanes) ≡ done ++ own =
+    ap merged_lanes (take_more lanes p [] within) ∙ (flat_map-append merged (take p lanes) (lane_of lanes p ∷ []) ∙ ap (λ rows. done ++ rows) (append-nil own)) in
+    ap (λ c. c + n) before ∙ (ap (λ m. length done + m) (now ∙ ap (λ rows. length (merged rows)) is) ∙ sym (ap length next ∙ length-append done own))
+
+pub within_more : (count n p : ℕ) → count ≤ p * 2097152 → n ≤ 2097152 → count + n ≤ (p + 1) * 2097152
+within_more count n p before now = omega arith

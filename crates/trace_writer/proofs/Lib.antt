@@ -8,3 +8,4 @@ pub mod MergedLemmas
 pub mod DigitLemmas
 pub mod PageLemmas
 pub mod RowLemmas
+pub mod CauseLemmas

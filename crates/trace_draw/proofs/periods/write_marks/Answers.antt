@@ -1,8 +1,9 @@
-use Rattle.std.proofs.Common.{ℕ, ◌≡◌, ◌+◌, ◌<◌, ◌≤◌, ◌∙◌, ap, arith}
+use Rattle.std.proofs.Common.{ℕ, ◌≡◌, ◌+◌, ◌<◌, ◌≤◌, ◌∙◌, ap, arith, le_refl, le_trans}
 use Rattle.sched_base.specs.Sets.{task_at}
 use Rattle.sched_edges.proofs.Wrote.{number_written, wrote_number}
 use Rattle.trace_draw.specs.Periods.{first_shown, count_shown, period_text}
 use Rattle.trace_draw.proofs.PeriodLemmas.{shown_begun, number_within}
+use Rattle.sched_edges.proofs.CauseLemmas.{cause_cut, took_none}
 use Rattle.trace_draw.proofs.periods.write_marks.Goals as goal
 
 pub write_period-requires-clause-begun : goal.write_period-requires-clause-begun
@@ -24,6 +25,9 @@ write_period-requires-clause-k g c =
     let number = number_within t (first_shown w t + c.loop-i.i) some in
     omega (arith, begun, number, c.requires.window.fits, c.first_shown-first.ensures.value)
 
+pub loop-i-init : goal.loop-i-init
+loop-i-init g c = (took_none _, le_refl _)
+
 pub returns-in_err-write_period-clause-wrote : goal.returns-in_err-write_period-clause-wrote
 returns-in_err-write_period-clause-wrote g c =
     let w = c.args.window.now in
@@ -40,9 +44,7 @@ loop-i-preserved g c =
     let is = c.task_of-of_set.ensures.value ∙ ap (λ s. task_at s.tasks c.args.task) c.set.ensures in
     let t = task_at c.args.trace.now.set.tasks c.args.task in
     let wrote = rw (c.first_shown-first.ensures.value, is) at c.in_ok-write_period.ensures.wrote in
-    let before = c.loop-i.invariant.1 in
-    let later = c.write_period.ensures.cause.later in
-    (number_written (λ (i : ℕ). period_text c.args.trace.now w c.args.task (first_shown w t + i)) c.loop-i.i _ _ _ c.loop-i.invariant.0 wrote.ok, omega (arith, before, later))
+    (number_written (λ (i : ℕ). period_text c.args.trace.now w c.args.task (first_shown w t + i)) c.loop-i.i _ _ _ c.loop-i.invariant.0 wrote.ok, le_trans c.loop-i.invariant.1 c.write_period.ensures.cause.later)
 
 pub returns-clause-wrote : goal.returns-clause-wrote
 returns-clause-wrote g c =
@@ -51,3 +53,9 @@ returns-clause-wrote g c =
     let t = task_at c.args.trace.now.set.tasks c.args.task in
     let all : c.loop-i.i ≡ count_shown w t = omega (arith, c.loop-i-test.false, c.loop-i.auto.i-end, rw is at c.count_shown-i-end.ensures) in
     record { ok = rw all at c.loop-i.invariant.0; err = tt }
+
+pub returns-in_err-write_period-clause-cause : goal.returns-in_err-write_period-clause-cause
+returns-in_err-write_period-clause-cause g c = cause_cut _ _ _ _ _ c.loop-i.invariant.1 c.in_err-write_period.ensures.cause
+
+pub returns-clause-cause : goal.returns-clause-cause
+returns-clause-cause g c = record { later = c.loop-i.invariant.1; failed = tt }

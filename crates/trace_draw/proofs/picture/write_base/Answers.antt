@@ -1,6 +1,7 @@
-use Rattle.std.proofs.Common.{◌++◌}
+use Rattle.std.proofs.Common.{◌++◌, le_refl, le_trans}
 use Rattle.sched_edges.proofs.Wrote.{wrote_then, wrote_cut}
 use Rattle.trace_draw.specs.Head.{head_text, lanes_text, axis_text}
+use Rattle.sched_edges.proofs.CauseLemmas.{cause_cut, cause_then}
 use Rattle.trace_draw.proofs.picture.write_base.Goals as goal
 
 pub returns-in_err-write_head-clause-wrote : goal.returns-in_err-write_head-clause-wrote
@@ -27,3 +28,12 @@ returns-clause-wrote g c =
     let lanes = rw c.set-set.ensures at c.in_ok-write_lanes.ensures.wrote in
     let axis = rw c.set-set.ensures at c.write_axis.ensures.wrote in
     wrote_then _ _ _ (head_text s w c.args.verdict) (lanes_text s ++ axis_text s w) _ _ head (wrote_then _ _ _ (lanes_text s) (axis_text s w) _ _ lanes axis)
+
+pub returns-in_err-write_head-clause-cause : goal.returns-in_err-write_head-clause-cause
+returns-in_err-write_head-clause-cause g c = cause_cut _ _ _ _ _ (le_refl _) c.in_err-write_head.ensures.cause
+
+pub returns-in_err-write_lanes-clause-cause : goal.returns-in_err-write_lanes-clause-cause
+returns-in_err-write_lanes-clause-cause g c = cause_cut _ _ _ _ _ c.write_head.ensures.cause.later c.in_err-write_lanes.ensures.cause
+
+pub returns-clause-cause : goal.returns-clause-cause
+returns-clause-cause g c = cause_then _ _ _ _ (le_trans c.write_head.ensures.cause.later c.write_lanes.ensures.cause.later) c.write_axis.ensures.cause

@@ -1,9 +1,10 @@
-use Rattle.std.proofs.Common.{◌++◌}
+use Rattle.std.proofs.Common.{◌++◌, le_refl, le_trans}
 use Rattle.std.specs.List.{concat}
 use Rattle.sched_edges.proofs.Wrote.{wrote_then, wrote_cut}
 use Rattle.trace_draw.specs.declared.rows.Part.TheVariants.{Words}
 use Rattle.trace_draw.specs.Rows.{rows_text}
 use Rattle.trace_draw.specs.Picture.{fault_text, closing_lines}
+use Rattle.sched_edges.proofs.CauseLemmas.{cause_cut, cause_then}
 use Rattle.trace_draw.proofs.picture.write_end.Goals as goal
 
 pub returns-in_err-write_fault-clause-wrote : goal.returns-in_err-write_fault-clause-wrote
@@ -29,3 +30,12 @@ returns-clause-wrote g c =
     let closing = rw c.set-2.ensures at c.write_closing.ensures.wrote in
     wrote_then _ _ _ (fault_text t w c.args.verdict) (rows_text Words t.set w t.rows ++ concat (closing_lines t.set)) _ _ c.in_ok-write_fault.ensures.wrote
     (wrote_then _ _ _ (rows_text Words t.set w t.rows) (concat (closing_lines t.set)) _ _ words closing)
+
+pub returns-in_err-write_fault-clause-cause : goal.returns-in_err-write_fault-clause-cause
+returns-in_err-write_fault-clause-cause g c = cause_cut _ _ _ _ _ (le_refl _) c.in_err-write_fault.ensures.cause
+
+pub returns-in_err-write_rows-clause-cause : goal.returns-in_err-write_rows-clause-cause
+returns-in_err-write_rows-clause-cause g c = cause_cut _ _ _ _ _ c.write_fault.ensures.cause.later c.in_err-write_rows.ensures.cause
+
+pub returns-clause-cause : goal.returns-clause-cause
+returns-clause-cause g c = cause_then _ _ _ _ (le_trans c.write_fault.ensures.cause.later c.write_rows.ensures.cause.later) c.write_closing.ensures.cause

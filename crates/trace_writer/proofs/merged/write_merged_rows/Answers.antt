@@ -1,4 +1,4 @@
-use Rattle.std.proofs.Common.{◌+◌, ◌<◌, ◌≤◌, [], List, length, ap, arith, ◌∙◌}
+use Rattle.std.proofs.Common.{◌+◌, ◌<◌, ◌≤◌, [], List, length, ap, arith, ◌∙◌, le_refl, le_trans, refl}
 use Rattle.std.specs.List.{flat_map}
 use Rattle.std.proofs.lemmas.List.{get_or_default, take_all}
 use Rattle.sched_base.specs.declared.rows.Row.{Row}
@@ -6,9 +6,14 @@ use Rattle.sched_base.specs.Tables.{all_rows, lane_of}
 use Rattle.sched_edges.proofs.Wrote.{item_written, wrote_item}
 use Rattle.row_totals.specs.Sums.{NamesAmong}
 use Rattle.trace_lines.specs.Lines.{row_line}
+use Rattle.sched_edges.proofs.CauseLemmas.{cause_cut, took_none}
+use Rattle.trace_writer.proofs.CauseLemmas.{no_answer}
 use Rattle.trace_writer.proofs.LaneLemmas.{lane_has}
 use Rattle.trace_writer.proofs.MergedLemmas.{all_text, all_more, all_le}
 use Rattle.trace_writer.proofs.merged.write_merged_rows.Goals as goal
+
+pub loop-p-init : goal.loop-p-init
+loop-p-init g c = (took_none _, le_refl _, refl)
 
 pub write_merged_lane-requires-clause-names : goal.write_merged_lane-requires-clause-names
 write_merged_lane-requires-clause-names g c =
@@ -48,11 +53,9 @@ loop-p-preserved g c =
     let within : p < length lanes = omega (arith, many, c.loop-p-test.true) in
     let more = all_more lanes p within in
     let so_far = c.loop-p.invariant.2 in
-    let here = c.in_ok-count.ensures.count in
-    let before = c.loop-p.invariant.1 in
-    let later = c.write_merged_lane.ensures.cause.later in (
+    let here = c.in_ok-count.ensures.count in (
       item_written (flat_map (row_line c.args.set.now.tasks)) lanes p lane _ _ _ within (get_or_default lanes p [] lane within) c.loop-p.invariant.0 c.in_ok-count.ensures.wrote.ok,
-      omega (arith, before, later),
+      le_trans c.loop-p.invariant.1 c.write_merged_lane.ensures.cause.later,
       omega (arith, more, so_far, here),
     )
 
@@ -70,3 +73,12 @@ returns-clause-count g c =
     let many = c.processors-p-end.ensures in
     let past : length lanes ≤ c.loop-p.p = omega (arith, many, c.loop-p-test.false) in
     c.loop-p.invariant.2 ∙ ap (λ ls. length (all_rows ls)) (take_all c.loop-p.p lanes past)
+
+pub returns-in_err-count-clause-count : goal.returns-in_err-count-clause-count
+returns-in_err-count-clause-count g c = no_answer _ _ c.from_residual.ensures.0
+
+pub returns-in_err-count-clause-cause : goal.returns-in_err-count-clause-cause
+returns-in_err-count-clause-cause g c = cause_cut _ _ _ _ _ c.loop-p.invariant.1 c.in_err-count.ensures.cause
+
+pub returns-clause-cause : goal.returns-clause-cause
+returns-clause-cause g c = record { later = c.loop-p.invariant.1; failed = tt }

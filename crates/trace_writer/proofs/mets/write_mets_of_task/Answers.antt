@@ -1,16 +1,16 @@
-use Rattle.std.proofs.Common.{◌≡◌, ◌<◌, arith}
+use Rattle.std.proofs.Common.{◌≡◌, ◌<◌, le_refl, le_trans, arith}
 use Rattle.sched_edges.proofs.Wrote.{number_written, wrote_number}
 use Rattle.trace_lines.specs.Finishes.{ended_count}
 use Rattle.trace_lines.specs.Merging.{merged_lanes}
 use Rattle.trace_lines.proofs.PeriodLemmas.{starts_rise}
+use Rattle.sched_edges.proofs.CauseLemmas.{cause_cut, took_none}
 use Rattle.trace_writer.proofs.FinishLemmas.{finish_is}
-use Rattle.trace_writer.proofs.LaneLemmas.{took_none}
 use Rattle.trace_writer.proofs.ReachLemmas.{HasGone-later}
 use Rattle.trace_writer.proofs.TextLemmas.{met_of, mets_are}
 use Rattle.trace_writer.proofs.mets.write_mets_of_task.Goals as goal
 
 pub loop-k-init : goal.loop-k-init
-loop-k-init g c = record { taken = took_none _; faults = omega arith; gone = c.start-reach.ensures c.args.table.now.lanes c.args.number _ }
+loop-k-init g c = record { taken = took_none _; faults = le_refl _; gone = c.start-reach.ensures c.args.table.now.lanes c.args.number _ }
 
 pub reach_to-reach-requires : goal.reach_to-reach-requires
 reach_to-reach-requires g c =
@@ -34,11 +34,9 @@ loop-k-preserved g c =
     let rows = merged_lanes c.args.table.now.lanes in
     let done = finish_is s c.args.table.now.lanes c.args.task.now c.args.number c.args.scale k _ _ _ _ _ c.reach_to-reach.ensures.lawful c.requires.place c.period_start-begin.ensures c.period_start-end.ensures c.reach_to-reach.ensures.end c.min.ensures c.max.ensures in
     let wrote = rw (c.as_slice-in-loop-k.ensures.bytes, c.met_line-line.ensures, c.as_slice.ensures.bytes, done) at c.in_ok-write_all.ensures.wrote in
-    let before = c.loop-k.invariant.faults in
-    let later = c.write_all.ensures.cause.later in
     record {
       taken = number_written (met_of c.args.scale s rows c.args.number c.args.task.now.name) k _ _ _ c.loop-k.invariant.taken wrote.ok;
-      faults = omega (arith, before, later);
+      faults = le_trans c.loop-k.invariant.faults c.write_all.ensures.cause.later;
       gone = rw (← c.period_start-end.ensures) c.reach_to-reach.ensures.gone;
     }
 
@@ -48,3 +46,9 @@ returns-clause-wrote g c =
     let rows = merged_lanes c.args.table.now.lanes in
     let all : c.loop-k.k ≡ ended_count s c.args.task.now = omega (arith, c.loop-k-test.false, c.loop-k.auto.k-end, c.ended_count-k-end.ensures) in
     rw (mets_are c.args.scale s rows c.args.number c.args.task.now) (record { ok = rw all at c.loop-k.invariant.taken; err = tt })
+
+pub returns-in_err-write_all-clause-cause : goal.returns-in_err-write_all-clause-cause
+returns-in_err-write_all-clause-cause g c = cause_cut _ _ _ _ _ c.loop-k.invariant.faults c.in_err-write_all.ensures.cause
+
+pub returns-clause-cause : goal.returns-clause-cause
+returns-clause-cause g c = record { later = c.loop-k.invariant.faults; failed = tt }

@@ -1,6 +1,8 @@
+use Rattle.std.proofs.Common.{le_refl}
 use Rattle.sched_edges.proofs.Wrote.{wrote_then, wrote_cut}
 use Rattle.trace_lines.specs.declared.versions.Version.TheVariants.{One}
 use Rattle.trace_lines.specs.Merging.{merged_lanes}
+use Rattle.sched_edges.proofs.CauseLemmas.{cause_cut, cause_then}
 use Rattle.trace_writer.proofs.TextLemmas.{trace_parts}
 use Rattle.trace_writer.proofs.text.write_trace.Goals as goal
 
@@ -14,3 +16,9 @@ returns-clause-wrote g c =
     let end = rw (c.as_slice.ensures.bytes, c.number_line-line.ensures, c.from.ensures, c.in_ok-rows.ensures.count) at c.write_all.ensures.wrote in
     rw (trace_parts One c.args.set.now c.args.scale (merged_lanes c.args.table.now.lanes))
     (wrote_then _ _ _ _ _ _ _ c.in_ok-rows.ensures.wrote end)
+
+pub returns-in_err-rows-clause-cause : goal.returns-in_err-rows-clause-cause
+returns-in_err-rows-clause-cause g c = cause_cut _ _ _ _ _ (le_refl _) c.in_err-rows.ensures.cause
+
+pub returns-clause-cause : goal.returns-clause-cause
+returns-clause-cause g c = cause_then _ _ _ _ c.write_body.ensures.cause.later c.write_all.ensures.cause

@@ -1,0 +1,57 @@
+use Rattle.std.proofs.Common.{◌+◌, drop, length, subst, sym, ap, ◌∙◌}
+use Rattle.std.proofs.lemmas.List.{take_at}
+use Rattle.trace_check.proofs.RowLemmas.{ReadSoFar, some_left, none_left, read_more, read_ends, read_stops}
+use Rattle.trace_check.specs.declared.row_lines.RowsRead.{RowsRead}
+use Rattle.trace_check.proofs.row_lines.read_rows.Goals as goal
+use Rattle.trace_check.proofs.row_lines.read_rows.Goals.{else-loop-table-test, then-loop-table-test+in-Ends}
+
+pub next_row-requires : goal.next_row-requires
+next_row-requires c =
+    let so = c.loop-table.invariant in
+    let rows = c.deref.ensures.value in
+    let totals = c.deref-in-loop-table.ensures.value in
+    record {
+      some = some_left (length c.loop-table.rest.now) (sym c.loop-table-test.ensures);
+      totals = rw (rows, totals) so.totals;
+      count = ap length totals ∙ so.count;
+    }
+
+pub returns-in-Fault-clause-fault : goal.returns-in-Fault-clause-fault
+returns-in-Fault-clause-fault c =
+    let tasks = c.args.set.now.tasks in
+    let rows = c.loop-table.rows in
+    let count = c.from.ensures ∙ c.count.ensures.value in
+    let long = c.len.ensures ∙ rows.ok.0 in
+    read_stops tasks c.args.text.now c.loop-table.rest.now rows.items c.loop-table.totals.items (6 + c.from.result + c.len.result) c.loop-table.invariant (rw c.deref.ensures.value at c.in-Fault.ensures)
+    (ap (λ n. 6 + n + c.len.result) count ∙ ap (λ n. 6 + length tasks + n) long)
+
+pub add_ticks-requires : goal.add_ticks-requires
+add_ticks-requires c =
+    let so = c.loop-table.invariant in
+    let rows = c.deref-in-loop-table-2.ensures.value in
+    let totals = c.deref_mut.ensures.value in
+    record {
+      totals = rw (rows, totals) so.totals;
+      count = ap length totals ∙ so.count;
+      read = rw rows (rw c.deref.ensures.value at c.in-Row.ensures.0);
+    }
+
+pub loop-table-preserved : goal.loop-table-preserved
+loop-table-preserved c =
+    let old = c.loop-table.totals in
+    let new = c.add_ticks.new.totals in
+    let long = c.add_ticks.auto.totals ∙ ap length c.deref_mut.ensures.value in
+    let back = take_at new (drop (length new) old.items) old.len (long ∙ sym old.ok.0) in
+    let next = rw c.deref.ensures.value at c.in-Row.ensures in
+    subst (λ sums. ReadSoFar c.args.set.now.tasks c.args.text.now c.push.new.self.items sums c.in-Row.later.now) (sym back)
+    (read_more c.args.set.now.tasks c.args.text.now c.loop-table.rest.now c.in-Row.later.now c.loop-table.rows.items c.push.new.self.items c.in-Row.row old.items new c.loop-table.invariant next.0 next.2
+    c.in_ok-push.ensures.items (rw c.deref-in-loop-table-2.ensures.value at c.add_ticks.ensures) long)
+
+pub returns-clause-read : goal.returns-clause-read
+returns-clause-read c =
+    let read : RowsRead = record { rows = c.loop-table.rows; totals = c.loop-table.totals; rest = c.loop-table.rest } in
+    read_ends c.args.set.now.tasks c.args.text.now read c.loop-table.invariant
+    (elim c.loop-table-test.branch [
+      | else-loop-table-test w ↦ none_left c.args.set.now.tasks read.rows.items read.rest.now (sym w.loop-table-test.ensures)
+      | then-loop-table-test+in-Ends w ↦ (rw w.deref.ensures.value at w.in-Ends.ensures)
+    ])
