@@ -5,6 +5,12 @@ use Rattle.mode_join.proofs.ModeLemmas.{few_modes}
 use Rattle.mode_switch.proofs.RunLemmas.{all_get, next_mode, modes_back, filled_after, own_after, stopped_in, ran_more, run_through, ran_first, names_risen, are_back}
 use Rattle.mode_switch.proofs.running.run_modes.Goals as goal
 
+pub plan-requires : goal.plan-requires
+plan-requires g c = subst (λ n. c.loop-j.j < n) c.count-j-end.ensures.value c.loop-j-test.true
+
+pub rounds-requires : goal.rounds-requires
+rounds-requires g c = subst (λ n. c.loop-j.j < n) c.count-j-end.ensures.value c.loop-j-test.true
+
 pub run_mode-requires-clause-executable : goal.run_mode-requires-clause-executable
 run_mode-requires-clause-executable g c κs within =
     let next = next_mode c.args.modes.now c.count.ensures.lawful c.loop-j.j c.plan.result.now c.rounds.result c.plan.ensures.value c.rounds.ensures.value in
@@ -55,6 +61,15 @@ returns-in-Err-clause-back g c =
     stopped_in _ _ c.args.modes.now c.loop-j.j c.plan.result.now c.rounds.result next c.loop-j.runs.items _ _ _ c.loop-j.invariant.ran c.run_mode.result c.run_mode.ensures
     c.in-Err.fault c.in-Err.is c.in_mode.result c.in_mode.ensures in
     are_back _ _ c.args.modes.now.modes _ _ (Err c.in_mode.result) outcome
+
+pub returns-in-Err-clause-gates : goal.returns-in-Err-clause-gates
+returns-in-Err-clause-gates g c = tt
+
+pub returns-in-Err-clause-whole : goal.returns-in-Err-clause-whole
+returns-in-Err-clause-whole g c = tt
+
+pub returns-in-Err-clause-jobs : goal.returns-in-Err-clause-jobs
+returns-in-Err-clause-jobs g c = tt
 
 pub loop-j-preserved : goal.loop-j-preserved
 loop-j-preserved g c =
@@ -107,3 +122,6 @@ pub returns-clause-back : goal.returns-clause-back
 returns-clause-back g c =
     let past : length c.args.modes.now.modes ≤ c.loop-j.j = omega (arith, c.count-j-end.ensures.value, c.loop-j-test.false) in
     (run_through _ _ c.args.modes.now.processors c.args.modes.now.modes c.count.ensures.lawful.each c.loop-j.j c.loop-j.runs.items _ _ past c.loop-j.invariant.ran).back
+
+pub returns-clause-risen : goal.returns-clause-risen
+returns-clause-risen g c = tt

@@ -6,3 +6,24 @@ lay-requires g c task is = c.requires.job c.row-row.result task (rw c.posted.ens
 
 pub returns-clause-held : goal.returns-clause-held
 returns-clause-held g c = (c.row-row.result, rw c.posted.ensures at (rw c.table.ensures at c.row-row.ensures.value), rw c.lay.ensures refl)
+
+pub row-row-requires-clause-processor : goal.row-row-requires-clause-processor
+row-row-requires-clause-processor g c = rw c.table.ensures c.requires.lane
+
+pub row-row-requires-clause-round : goal.row-row-requires-clause-round
+row-row-requires-clause-round g c = rw (c.posted.ensures, c.table.ensures) c.requires.round
+
+pub step-requires-clause-lanes : goal.step-requires-clause-lanes
+step-requires-clause-lanes g c = rw c.table-2.ensures c.requires.lanes
+
+pub step-requires-clause-legal : goal.step-requires-clause-legal
+step-requires-clause-legal g c = rw c.table-2.ensures c.requires.legal
+
+pub step-requires-clause-some_window : goal.step-requires-clause-some_window
+step-requires-clause-some_window g c = c.requires.some_window
+
+pub step-requires-clause-small_window : goal.step-requires-clause-small_window
+step-requires-clause-small_window g c = c.requires.small_window
+
+pub returns-clause-state : goal.returns-clause-state
+returns-clause-state g c = c.step.ensures

@@ -1,0 +1,8 @@
+use Rattle.std.proofs.Common.{arith}
+use Rattle.book_machine.proofs.search.stands_in.Goals as goal
+
+pub loop-round-init : goal.loop-round-init
+loop-round-init c = λ j r from below at is. omega (arith, from, below)
+
+pub returns-clause-none : goal.returns-clause-none
+returns-clause-none c = λ _ j r from below at is. c.loop-round.invariant j r from (let end = c.loop-round-test.false in omega (arith, below, end)) at is

@@ -1,0 +1,30 @@
+use Rattle.std.proofs.Common.{◌≡◌, ◌<◌, ◌∙◌, ℕ, length, ap, sym, arith, below_more}
+use Rattle.run_tree.specs.Tree.{Tree}
+use Rattle.run_tree.specs.Plans.{PlanContents}
+use Rattle.book_machine.specs.declared.machine.LaneState.{LaneState}
+use Rattle.exec_workers.proofs.FoundLemmas.{counts_are, none_out}
+use Rattle.exec_workers.proofs.found.is_whole_at.Goals.{After-loop-p}
+use Rattle.exec_workers.proofs.found.is_whole_at.Goals as goal
+
+pub loop-p-preserved : goal.loop-p-preserved
+loop-p-preserved g c =
+    let lane = sym c.lane-lane.ensures in
+    below_more _ _ c.loop-p.invariant (ap (λ (l : LaneState). l.out) lane ∙ c.if-lane.false, ap (λ (l : LaneState). l.posted) lane ∙ c.if-lane-posted.false)
+
+module _ (g : _) (c : After-loop-p g) where
+  wide : length c.args.book.now.state.lanes ≡ c.args.plan.now.tree.processors
+  wide = c.is_of_run.ensures.lanes ∙ ap (λ (p : PlanContents). p.tree.processors) c.is_of_run.ensures.plan
+
+  passed : (q : ℕ) → q < length c.args.book.now.state.lanes → q < c.loop-p.p
+  passed q within =
+      let all = c.processors-p-end.ensures.value ∙ ap (λ (t : Tree). t.processors) c.tree.ensures.value in
+      let lanes = wide in
+      let end = c.loop-p-test.false in
+      omega (arith, within, all, lanes, end)
+
+pub returns-clause-none_out : goal.returns-clause-none_out
+returns-clause-none_out g c _ = none_out c.args.book.now.state (λ q within. (c.loop-p.invariant q (passed g c q within)).0)
+
+pub returns-clause-counts : goal.returns-clause-counts
+returns-clause-counts g c _ =
+    counts_are c.args.book.now.state.lanes c.args.posted.now (wide g c ∙ sym c.requires.lanes) (λ q within. (c.loop-p.invariant q (passed g c q within)).1)
