@@ -1,8 +1,9 @@
 -- Command lines, as `clap` reads them.
 use Rattle.std.specs.Prelude.{◌≡◌, ◌⊎◌, ℕ, true, List, [], ◌∷◌, ◌++◌, Option, Some, None, codes}
-use Rattle.clap.specs.Words.{App, Rule, new_app, new_rule, with_rule, with_subcommand}
+use Rattle.clap.specs.Words.{AddsSubcommand, App, Rule, app_of, new_app, new_rule, with_rule, with_subcommand}
 use Rattle.clap.specs.Simple.{on_top}
 use Rattle.trace_draw.specs.declared.asking.Asked.{Asked}
+use Rattle.clap.specs.declared.builder.command.Command.{Command as CommandOfClap}
 use Rattle.clap.specs.declared.builder.action.ArgAction.TheVariants.{Set, SetTrue}
 use Rattle.command_words.specs.declared.command.Command.{Command}
 use Rattle.command_words.specs.declared.command.Command.TheVariants.{Read, Batch, Execute}
@@ -92,6 +93,10 @@ program =
 -- a program with one command more
 abbrev pub with_command : App → App → App
 with_command app command = with_subcommand app command.top
+
+-- a program that takes this command has it as one command more, with all its options
+abbrev pub AddsItself : CommandOfClap → Type 0
+AddsItself command = (old new : CommandOfClap) → AddsSubcommand old command new → app_of new ≡ with_command (app_of old) (app_of command)
 
 -- the program with its commands and their options, one after the other
 abbrev pub with_rate : App

@@ -1,9 +1,10 @@
 //! Command lines, as `clap` reads them.
 ghost use Rattle.std.specs.Prelude.{◌≡◌, ℕ, false, List, map, string_bytes, codes, Some, None, IfOk, option_map};
-ghost use Rattle.clap.specs.Words.{app_of, rule_of, subcommand_of, subcommand_rows_of, first_of, found_of, one_of, rows_of};
+ghost use Rattle.clap.specs.Words.{App, app_of, new_app, rule_of, with_rule, subcommand_of, subcommand_rows_of, first_of, found_of, one_of, rows_of};
 ghost use Rattle.command_words.specs.Words.{command_of, drawn, exec_with, drill_with};
 ghost use Rattle.command_words.specs.CommandLine.{met, by, from_option, units_option, window, number, Spells};
-ghost use Rattle.command_words.specs.CommandLine.{program, with_tree, with_trace, with_follow, with_draw, with_batch, with_exec, with_drill, parser};
+ghost use Rattle.command_words.specs.CommandLine.{program, with_command, AddsItself};
+ghost use Rattle.command_words.specs.CommandLine.{with_tree, with_trace, with_follow, with_draw, with_batch, with_exec, with_drill, parser};
 ghost use Rattle.command_words.specs.declared.command.Command.{Command};
 ghost use Rattle.command_words.specs.declared.command.Command.TheVariants.{Read, Execute};
 ghost use Rattle.command_words.specs.declared.command.Reading.TheVariants.{Trace, TraceMet, TraceWrap};
@@ -32,73 +33,93 @@ pub(crate) fn read_line(alloc: Global, words: &[String]) -> Result<Option<Comman
 fn parser<'a>(alloc: Global) -> Result<clap::Command<'a>, AllocError>
     ensures { IfOk result (λ p. app_of p ≡ parser) }
 {
-    with_drill(alloc)?
-        .subcommand(clap::Command::new(alloc, "jobs"))?
-        .subcommand(clap::Command::new(alloc, "modes"))
+    let program = with_drill(alloc);
+    let program = with_command(program, Ok(clap::Command::new(alloc, "jobs")));
+    with_command(program, Ok(clap::Command::new(alloc, "modes")))
 }
 
 // The program with its commands up to `drill`.
 fn with_drill<'a>(alloc: Global) -> Result<clap::Command<'a>, AllocError>
     ensures { IfOk result (λ p. app_of p ≡ with_drill) }
 {
-    let drill = clap::Command::new(alloc, "drill").arg(number(alloc))?;
-    with_exec(alloc)?.subcommand(drill)
+    let drill = clap::Command::new(alloc, "drill").arg(number(alloc));
+    with_command(with_exec(alloc), drill)
 }
 
 // The program with its commands up to `exec`.
 fn with_exec<'a>(alloc: Global) -> Result<clap::Command<'a>, AllocError>
     ensures { IfOk result (λ p. app_of p ≡ with_exec) }
 {
-    let exec = clap::Command::new(alloc, "exec")
-        .arg(met(alloc))?
-        .arg(window(alloc))?;
-    with_batch(alloc)?.subcommand(exec)
+    let exec = command_with(alloc, "exec", met(alloc), window(alloc));
+    with_command(with_batch(alloc), exec)
 }
 
 // The program with its commands up to `batch`.
 fn with_batch<'a>(alloc: Global) -> Result<clap::Command<'a>, AllocError>
     ensures { IfOk result (λ p. app_of p ≡ with_batch) }
 {
-    with_draw(alloc)?.subcommand(clap::Command::new(alloc, "batch"))
+    with_command(with_draw(alloc), Ok(clap::Command::new(alloc, "batch")))
 }
 
 // The program with its commands up to `draw`.
 fn with_draw<'a>(alloc: Global) -> Result<clap::Command<'a>, AllocError>
     ensures { IfOk result (λ p. app_of p ≡ with_draw) }
 {
-    let draw = clap::Command::new(alloc, "draw")
-        .arg(from_option(alloc))?
-        .arg(units_option(alloc))?;
-    with_follow(alloc)?.subcommand(draw)
+    let draw = command_with(alloc, "draw", from_option(alloc), units_option(alloc));
+    with_command(with_follow(alloc), draw)
 }
 
 // The program with its commands up to `follow`.
 fn with_follow<'a>(alloc: Global) -> Result<clap::Command<'a>, AllocError>
     ensures { IfOk result (λ p. app_of p ≡ with_follow) }
 {
-    with_trace(alloc)?
-        .subcommand(clap::Command::new(alloc, "table"))?
-        .subcommand(clap::Command::new(alloc, "check"))?
-        .subcommand(clap::Command::new(alloc, "follow"))
+    let program = with_trace(alloc);
+    let program = with_command(program, Ok(clap::Command::new(alloc, "table")));
+    let program = with_command(program, Ok(clap::Command::new(alloc, "check")));
+    with_command(program, Ok(clap::Command::new(alloc, "follow")))
 }
 
 // The program with its commands up to `trace`.
 fn with_trace<'a>(alloc: Global) -> Result<clap::Command<'a>, AllocError>
     ensures { IfOk result (λ p. app_of p ≡ with_trace) }
 {
-    let trace = clap::Command::new(alloc, "trace")
-        .arg(met(alloc))?
-        .arg(by(alloc))?;
-    with_tree(alloc)?.subcommand(trace)
+    let trace = command_with(alloc, "trace", met(alloc), by(alloc));
+    with_command(with_tree(alloc), trace)
 }
 
 // The program with its commands up to `tree`.
 fn with_tree<'a>(alloc: Global) -> Result<clap::Command<'a>, AllocError>
     ensures { IfOk result (λ p. app_of p ≡ with_tree) }
 {
-    program(alloc)
-        .subcommand(clap::Command::new(alloc, "rate"))?
-        .subcommand(clap::Command::new(alloc, "tree"))
+    let program = with_command(Ok(program(alloc)), Ok(clap::Command::new(alloc, "rate")));
+    with_command(program, Ok(clap::Command::new(alloc, "tree")))
+}
+
+// The program with one command more, where both were made.
+fn with_command<'a>(
+    program: Result<clap::Command<'a>, AllocError>,
+    command: Result<clap::Command<'a>, AllocError>,
+) -> Result<clap::Command<'a>, AllocError>
+    requires { IfOk command AddsItself }
+    ensures { (a b : App) → IfOk program.entry (λ p. app_of p ≡ a) → IfOk command.entry (λ p. app_of p ≡ b)
+        → IfOk result (λ p. app_of p ≡ with_command a b) }
+{
+    program?.subcommand(command?)
+}
+
+// The command of this name, with two options.
+fn command_with<'a>(
+    alloc: Global,
+    name: &'a str,
+    first: Arg<'a>,
+    second: Arg<'a>,
+) -> Result<clap::Command<'a>, AllocError>
+    requires first { first.global ≡ false }
+    requires second { second.global ≡ false }
+    ensures app { IfOk result (λ p. app_of p ≡ with_rule (with_rule (new_app name.entry.now) (rule_of first.entry)) (rule_of second.entry)) }
+    ensures itself { IfOk result AddsItself }
+{
+    clap::Command::new(alloc, name).arg(first)?.arg(second)
 }
 
 // The program, which wants a command and has no words of help.

@@ -8,7 +8,7 @@ use Rattle.task_reader.specs.declared.refusals.Key.TheVariants as key
 use Rattle.task_reader.specs.declared.refusals.ReadSet.{ReadSet}
 use Rattle.task_reader.specs.declared.refusals.ReadSet.TheVariants.{NotToml}
 use Rattle.task_reader.specs.Tree.{number_at, tasks_of}
-use Rattle.task_reader.specs.Written.{natural, written_tasks, task_of}
+use Rattle.task_reader.specs.Written.{WrittenTask, natural, written_tasks, task_of}
 use Rattle.task_reader.specs.Members.{first_refusal, unknown, missing, wrong}
 use Rattle.task_reader.specs.Limits.{bad_processors, bad_horizon, too_many, bad_name, same_name, bad_period, bad_work, bad_offset}
 
@@ -27,6 +27,15 @@ refusals_of top =
     ∷ bad_work (written_tasks (tasks_of top))
     ∷ bad_offset (written_tasks (tasks_of top))
     ∷ []
+
+-- those of them for missing keys, for kinds, and for the numbers of the top table
+abbrev pub top_refusals : Members → List (Option ReadSet)
+top_refusals top =
+    missing top ∷ wrong top ∷ bad_processors (number_at key.Processors top) ∷ bad_horizon (number_at key.Horizon top) ∷ []
+
+-- those of them for what the tasks write, but for their count
+abbrev pub task_refusals : List WrittenTask → List (Option ReadSet)
+task_refusals tasks = bad_name tasks ∷ same_name tasks ∷ bad_period tasks ∷ bad_work tasks ∷ bad_offset tasks ∷ []
 
 -- the refusal of the lowest number over the whole document
 abbrev pub refusal_of : Members → Option ReadSet

@@ -8,7 +8,8 @@ ghost use Rattle.toml.specs.View.{table_view};
 ghost use Rattle.sched_base.specs.Sets.{SetContents, IsFree, NamesDiffer, IsLawfulTask, IsLawful};
 ghost use Rattle.task_reader.specs.Tree.{tasks_of};
 ghost use Rattle.task_reader.specs.Written.{written_tasks, task_of};
-ghost use Rattle.task_reader.specs.Reading.{set_of, refusal_of, answer_of, set_read_from};
+ghost use Rattle.task_reader.specs.Reading.{set_of, top_refusals, task_refusals, refusal_of, answer_of, set_read_from};
+ghost use Rattle.task_reader.specs.Members.{first_refusal};
 ghost use Rattle.task_reader.specs.Writes.{Writes};
 
 use crate::limits::{Flaw, bad_horizon, bad_processors, first_flaw, same_name, too_many};
@@ -46,38 +47,53 @@ fn read_document(alloc: Global, top: &Table) -> Result<TaskSet, ReadSet>
     if let Some(refusal) = unknown(alloc, top)? {
         return Err(refusal);
     }
-    if let Some(refusal) = missing(top) {
-        return Err(refusal);
-    }
-    if let Some(refusal) = wrong(top) {
-        return Err(refusal);
-    }
-    if let Some(refusal) = bad_processors(top) {
-        return Err(refusal);
-    }
-    if let Some(refusal) = bad_horizon(top) {
+    if let Some(refusal) = top_refusal(top) {
         return Err(refusal);
     }
     if let Some(refusal) = too_many(tasks_of(top)) {
         return Err(refusal);
     }
     let tasks = written_tasks(alloc, tasks_of(top))?;
-    if let Some(refusal) = first_flaw(&tasks, Flaw::Name) {
-        return Err(refusal);
-    }
-    if let Some(refusal) = same_name(&tasks) {
-        return Err(refusal);
-    }
-    if let Some(refusal) = first_flaw(&tasks, Flaw::Period) {
-        return Err(refusal);
-    }
-    if let Some(refusal) = first_flaw(&tasks, Flaw::Work) {
-        return Err(refusal);
-    }
-    if let Some(refusal) = first_flaw(&tasks, Flaw::Offset) {
+    if let Some(refusal) = task_refusal(&tasks) {
         return Err(refusal);
     }
     Ok(set_of(alloc, top, &tasks)?)
+}
+
+/// The first refusal for missing keys, for kinds, and for the numbers of the top table.
+fn top_refusal(top: &Table) -> Option<ReadSet>
+    ensures { result ≡ first_refusal (λ refusal. refusal) (top_refusals (table_view top.now)) }
+{
+    if let Some(refusal) = missing(top) {
+        return Some(refusal);
+    }
+    if let Some(refusal) = wrong(top) {
+        return Some(refusal);
+    }
+    if let Some(refusal) = bad_processors(top) {
+        return Some(refusal);
+    }
+    bad_horizon(top)
+}
+
+/// The first refusal for what the tasks write.
+fn task_refusal(tasks: &[WrittenTask]) -> Option<ReadSet>
+    requires { length tasks.now ≤ 256 }
+    ensures { result ≡ first_refusal (λ refusal. refusal) (task_refusals tasks.now) }
+{
+    if let Some(refusal) = first_flaw(tasks, Flaw::Name) {
+        return Some(refusal);
+    }
+    if let Some(refusal) = same_name(tasks) {
+        return Some(refusal);
+    }
+    if let Some(refusal) = first_flaw(tasks, Flaw::Period) {
+        return Some(refusal);
+    }
+    if let Some(refusal) = first_flaw(tasks, Flaw::Work) {
+        return Some(refusal);
+    }
+    first_flaw(tasks, Flaw::Offset)
 }
 
 /// The set of a document that isn't refused, whose tasks these are.

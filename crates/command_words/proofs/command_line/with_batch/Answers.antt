@@ -1,9 +1,7 @@
-use Rattle.std.proofs.Common.{ap, ap₂, ◌∙◌}
-use Rattle.std.proofs.lemmas.Result.{IfOk-weaker}
-use Rattle.clap.specs.Words.{App, with_subcommand}
+use Rattle.std.proofs.Common.{codes}
+use Rattle.clap.specs.Words.{new_app}
+use Rattle.command_words.specs.CommandLine.{with_draw}
 use Rattle.command_words.proofs.command_line.with_batch.Goals as goal
 
 pub returns : goal.returns
-returns c =
-    IfOk-weaker c.subcommand.result _ _
-    (λ p h. h.shape c.new.ensures.local ∙ ap₂ with_subcommand c.in_ok-with_draw.ensures (ap (λ (a : App). a.top) c.new.ensures.app)) c.subcommand.ensures
+returns c = c.with_command.ensures with_draw (new_app (codes "batch")) c.with_draw.ensures c.new.ensures.app

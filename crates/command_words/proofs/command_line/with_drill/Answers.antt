@@ -1,13 +1,16 @@
-use Rattle.std.proofs.Common.{◌≡◌, ◌||◌, codes, ap, ap₂, ◌∙◌}
+use Rattle.std.proofs.Common.{◌||◌, codes, ap₂, ◌∙◌}
 use Rattle.std.proofs.lemmas.Result.{IfOk-weaker}
-use Rattle.clap.specs.Words.{App, app_of, new_app, with_rule, with_subcommand}
-use Rattle.command_words.specs.CommandLine.{number}
+use Rattle.clap.specs.Words.{new_app, with_rule}
+use Rattle.command_words.specs.CommandLine.{with_exec, number}
 use Rattle.command_words.proofs.command_line.with_drill.Goals as goal
+
+pub with_command-requires : goal.with_command-requires
+with_command-requires c =
+    IfOk-weaker c.arg-drill.result _ _
+    (λ p h old new adds. adds.shape (h.globals ∙ ap₂ (λ a b. a || b) c.new.ensures.local c.number.ensures.local)) c.arg-drill.ensures
 
 pub returns : goal.returns
 returns c =
-    let drill_is : app_of c.in_ok-drill.drill ≡ with_rule (new_app (codes "drill")) number =
-    c.in_ok-drill.ensures.shape c.number.ensures.local ∙ ap₂ with_rule c.new.ensures.app c.number.ensures.rule in
-    let local = c.in_ok-drill.ensures.globals ∙ ap₂ (λ a b. a || b) c.new.ensures.local c.number.ensures.local in
-    IfOk-weaker c.subcommand.result _ _
-    (λ p h. h.shape local ∙ ap₂ with_subcommand c.in_ok-with_exec.ensures (ap (λ (a : App). a.top) drill_is)) c.subcommand.ensures
+    c.with_command.ensures with_exec (with_rule (new_app (codes "drill")) number) c.with_exec.ensures
+    (IfOk-weaker c.arg-drill.result _ _
+    (λ p h. h.shape c.number.ensures.local ∙ ap₂ with_rule c.new.ensures.app c.number.ensures.rule) c.arg-drill.ensures)

@@ -1,16 +1,11 @@
-use Rattle.std.proofs.Common.{◌≡◌, ◌||◌, codes, ap, ap₂, ◌∙◌}
+use Rattle.std.proofs.Common.{codes, ap₂, ◌∙◌}
 use Rattle.std.proofs.lemmas.Result.{IfOk-weaker}
-use Rattle.clap.specs.Words.{App, app_of, new_app, with_rule, with_subcommand}
-use Rattle.command_words.specs.CommandLine.{met, window}
+use Rattle.clap.specs.Words.{new_app, with_rule}
+use Rattle.command_words.specs.CommandLine.{with_batch, met, window}
 use Rattle.command_words.proofs.command_line.with_exec.Goals as goal
 
 pub returns : goal.returns
 returns c =
-    let first_is : app_of c.in_ok-arg.field-0 ≡ with_rule (new_app (codes "exec")) met =
-    c.in_ok-arg.ensures.shape c.met.ensures.local ∙ ap₂ with_rule c.new.ensures.app c.met.ensures.rule in
-    let both_are : app_of c.in_ok-exec.exec ≡ with_rule (with_rule (new_app (codes "exec")) met) window =
-    c.in_ok-exec.ensures.shape c.window.ensures.local ∙ ap₂ with_rule first_is c.window.ensures.rule in
-    let first_local = c.in_ok-arg.ensures.globals ∙ ap₂ (λ a b. a || b) c.new.ensures.local c.met.ensures.local in
-    let local = c.in_ok-exec.ensures.globals ∙ ap₂ (λ a b. a || b) first_local c.window.ensures.local in
-    IfOk-weaker c.subcommand.result _ _
-    (λ p h. h.shape local ∙ ap₂ with_subcommand c.in_ok-with_batch.ensures (ap (λ (a : App). a.top) both_are)) c.subcommand.ensures
+    c.with_command.ensures with_batch (with_rule (with_rule (new_app (codes "exec")) met) window) c.with_batch.ensures
+    (IfOk-weaker c.command_with-exec.result _ _
+    (λ p h. h ∙ ap₂ (λ a b. with_rule (with_rule (new_app (codes "exec")) a) b) c.met.ensures.rule c.window.ensures.rule) c.command_with-exec.ensures.app)
