@@ -11,7 +11,8 @@ use Rattle.still_commands.specs.Follow.{WritesFollow, RefusesFollow}
 use Rattle.still_commands.specs.declared.status.Status.{Status}
 use Rattle.still_commands.specs.declared.status.Status.TheVariants.{Done}
 pub use Rattle.still_commands.specs.SetTexts.{SetText, rates, server_tree, schedule_rows, wrapped_rows, c_table, ReadsSet, plan_of, some_late, version_of}
-pub use Rattle.still_commands.specs.SetTexts.{schedule_text, wrapped_text, plan_table, text_of, rows_of, wrapped_rows_of, HasRoom, WritesSet, IsSound, RefusesText}
+pub use Rattle.still_commands.specs.SetTexts.{schedule_text, wrapped_text, plan_table, text_of, rows_of, wrapped_rows_of}
+pub use Rattle.still_commands.specs.SetTexts.{HasRoom, WritesSet, IsSound, RefusesText}
 
 -- the most bytes of a task set or a tree text, and of a trace text
 abbrev pub set_limit : ℕ

@@ -1,5 +1,5 @@
 //! The top call for the commands that read.
-ghost use Rattle.std.specs.Prelude.{◌≡◌, ◌≢◌, ◌↔◌, false, map, string_bytes, None, Some, IfOk, IfErr};
+ghost use Rattle.std.specs.Prelude.{◌≡◌, ◌≢◌, ◌↔◌, false, map, string_bytes, None, Some, Ok, Err, IfOk, IfErr, MatchResult};
 ghost use Rattle.command_words.specs.Words.{command_of, asks_for_threads, ShowsSome};
 ghost use Rattle.still_commands.specs.Ends.{streams_of, error_of, IsDone, IsDoneSoundly, IsUsage, Stops, Ends, IsAnswered};
 ghost use Rattle.still_commands.specs.Commands.{of_trace, output_of};
@@ -117,14 +117,24 @@ fn read<R: Source, W: Sink>(
         (streams_of R.Source W.Sink source.new out.new)) }
 {
     match reading {
-        Reading::Rate => rate(alloc, source, out).map(|()| Status::Done),
-        Reading::Tree => tree(alloc, source, out).map(|()| Status::Done),
-        Reading::Trace => trace(alloc, source, false, out).map(|()| Status::Done),
-        Reading::TraceMet => trace(alloc, source, true, out).map(|()| Status::Done),
+        Reading::Rate => done(rate(alloc, source, out)),
+        Reading::Tree => done(tree(alloc, source, out)),
+        Reading::Trace => done(trace(alloc, source, false, out)),
+        Reading::TraceMet => done(trace(alloc, source, true, out)),
         Reading::Check => check(alloc, source, out),
-        Reading::TraceWrap => trace_by_wrapping(alloc, source, out).map(|()| Status::Done),
-        Reading::Table => table(alloc, source, out).map(|()| Status::Done),
-        Reading::Follow => follow(alloc, source, out).map(|()| Status::Done),
-        Reading::Draw(asked) => draw(alloc, asked, source, out).map(|()| Status::Done),
+        Reading::TraceWrap => done(trace_by_wrapping(alloc, source, out)),
+        Reading::Table => done(table(alloc, source, out)),
+        Reading::Follow => done(follow(alloc, source, out)),
+        Reading::Draw(asked) => done(draw(alloc, asked, source, out)),
+    }
+}
+
+// `Done`, where a text was told.
+fn done(told: Result<(), Refusal>) -> Result<Status, Refusal>
+    ensures { MatchResult told (λ _. result ≡ Ok Done) (λ refusal. result ≡ Err refusal) }
+{
+    match told {
+        Ok(()) => Ok(Status::Done),
+        Err(refusal) => Err(refusal),
     }
 }
