@@ -145,7 +145,8 @@ ready() {
     done <"$work/crates"
 }
 
-# Each crate has one job, since several take more work for the same proofs; a processor that no crate waits for is one job more.
+# Each crate has one job, since several take more work for the same proofs; a processor that no crate waits for is one job more. The
+# wanted one has no other: most of its time it reads all libraries, which each job does anew.
 free=$jobs
 while [ "$done_count" -lt "$count" ]; do
     take_ended
@@ -155,6 +156,7 @@ while [ "$done_count" -lt "$count" ]; do
         share=$((free / left))
         [ "$share" -lt 1 ] && share=1
         [ "$share" -gt 4 ] && share=4
+        [ "$name" = "$wanted" ] && share=1
         : >"$work/$name.begun"
         build "$name" "$share"
         free=$((free - share))
