@@ -102,11 +102,11 @@ fn run<X: Threads + Wait + Abort + Sync>(
 ) -> Result<Left, Fail> {
     assert!(rt; 1 <= window && window <= 1024);
     let plan = three_tasks(alloc)?;
-    assert_eq!(rt; plan.tree().processors(), 2);
-    assert_eq!(rt; plan.set().count(), 3);
+    assert!(rt; plan.tree().processors() == 2);
+    assert!(rt; plan.set().count() == 3);
     let rounds = count_rounds(alloc, &plan)?;
     let mut kits = kits_of(alloc, &gate_fails)?;
-    assert_eq!(rt; kits.len(), 2);
+    assert!(rt; kits.len() == 2);
     let mut jobs = Jobs::with_room(alloc, 3)?;
     for t in 0..3 {
         jobs.add(Box::new(alloc, FailJob::new(alloc, t, job_fails[t as usize])?)?);

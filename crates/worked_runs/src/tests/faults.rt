@@ -109,14 +109,14 @@ fn assert_stopped(rt: &impl Abort, left: &Left, stop: &Stop) {
         } => ((processor, row), Some(task), posts),
         ExecFault::NoMemory => panic!(rt; "memory was refused"),
     };
-    assert_eq!(rt; at, (processor, row));
-    assert_eq!(rt; task, stop.task);
-    assert_eq!(rt; posts.number(), posts_of(left));
+    assert!(rt; at == (processor, row));
+    assert!(rt; task == stop.task);
+    assert!(rt; posts.number() == posts_of(left));
     let ran = match stop.task {
         None => stop.round,
         Some(_) => stop.round + 1,
     };
-    assert_eq!(rt; of_processor(&left.ran, processor).len(), ran);
+    assert!(rt; of_processor(&left.ran, processor).len() == ran);
 }
 
 /// Makes sure that the gates ran first rows, neither of them more than the window ahead of the other, and the second row of b
@@ -142,8 +142,8 @@ fn assert_worked(rt: &impl Abort, left: &Left, failed: Option<u32>) {
     for ((used, faults), task) in left.jobs.into_iter().zip([A, B, C]) {
         let rows = rows_of(first, task).saturating_add(rows_of(second, task));
         let missed = if failed == Some(task) { 1 } else { 0 };
-        assert_eq!(rt; used, rows.saturating_sub(missed).saturating_mul(3));
-        assert_eq!(rt; u128::from(faults), missed);
+        assert!(rt; used == rows.saturating_sub(missed).saturating_mul(3));
+        assert!(rt; u128::from(faults) == missed);
     }
 }
 

@@ -26,14 +26,14 @@ fn runs_rows_until_it_fails(rt: HostRuntime) -> Result<(), NoMemory> {
         let mut gate = ListGate::new(rt.alloc(), room, fails)?;
         let mut count = 0;
         for (row, ran) in rows.iter().zip(want) {
-            assert_eq!(rt; gate.run(row).is_ok(), ran);
+            assert!(rt; gate.run(row).is_ok() == ran);
             if ran {
-                assert_eq!(rt; gate.ran().get(count), Some(row));
+                assert!(rt; gate.ran().get(count) == Some(row));
                 count += 1;
             }
         }
-        assert_eq!(rt; gate.ran().len(), count);
+        assert!(rt; gate.ran().len() == count);
     }
-    assert_eq!(rt; SureGate::new().run(&rows[0]), Ok(()));
+    assert!(rt; SureGate::new().run(&rows[0]) == Ok(()));
     Ok(())
 }

@@ -14,13 +14,13 @@ fn fails_at_the_stated_calls(rt: HostRuntime) -> Result<(), NoMemory> {
         (Ok(()), 10, 2),
     ] {
         assert!(rt; job.used() <= 5);
-        assert_eq!(rt; job.work(5), want);
-        assert_eq!(rt; (job.used(), job.faults()), (used, faults));
+        assert!(rt; job.work(5) == want);
+        assert!(rt; (job.used(), job.faults()) == (used, faults));
     }
-    assert_eq!(rt; job.id(), 7);
+    assert!(rt; job.id() == 7);
     assert!(rt; job.load(&[3], 4).is_ok());
-    assert_eq!(rt; (job.used(), job.faults()), (0, 2));
-    assert_eq!(rt; job.state(), [0; 9]);
+    assert!(rt; (job.used(), job.faults()) == (0, 2));
+    assert!(rt; job.state() == [0; 9]);
     Ok(())
 }
 
@@ -31,12 +31,12 @@ fn works_in_its_place(rt: HostRuntime) -> Result<(), NoMemory> {
     jobs.add(Box::new(alloc, CountJob::new(0))?);
     jobs.add(Box::new(alloc, FailJob::new(alloc, 1, &[1])?)?);
     let mut job = jobs.lift(1);
-    assert_eq!(rt; job.work(15), Err(Failed));
-    assert_eq!(rt; job.work(10), Ok(()));
+    assert!(rt; job.work(15) == Err(Failed));
+    assert!(rt; job.work(10) == Ok(()));
     jobs.lay(1, job);
-    assert_eq!(rt; (jobs.used(1), jobs.faults(1)), (10, 1));
+    assert!(rt; (jobs.used(1), jobs.faults(1)) == (10, 1));
     assert!(rt; jobs.faults_are(&[0, 1]) && !jobs.faults_are(&[0, 0]));
-    assert_eq!(rt; jobs.count(), 2);
-    assert_eq!(rt; Jobs::empty(alloc).count(), 0);
+    assert!(rt; jobs.count() == 2);
+    assert!(rt; Jobs::empty(alloc).count() == 0);
     Ok(())
 }

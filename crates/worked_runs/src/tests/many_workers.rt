@@ -73,11 +73,11 @@ fn run_at<X: Threads + Wait + Clock + Abort + Copy + Send + Sync>(
     requires { IsCompiled plan.now }
 {
     assert!(rt; 1 <= window && window <= 1024);
-    assert_eq!(rt; plan.tree().processors(), PROCESSORS);
-    assert_eq!(rt; plan.set().count(), TASKS);
+    assert!(rt; plan.tree().processors() == PROCESSORS);
+    assert!(rt; plan.set().count() == TASKS);
     let rounds = count_rounds(alloc, plan)?;
     let mut kits = kits_of(rt, alloc, pace)?;
-    assert_eq!(rt; kits.len(), PROCESSORS as usize);
+    assert!(rt; kits.len() == PROCESSORS as usize);
     let mut jobs = Jobs::with_room(alloc, TASKS)?;
     for t in 0..TASKS {
         jobs.add(Box::new(alloc, CountJob::new(t))?);
@@ -85,7 +85,7 @@ fn run_at<X: Threads + Wait + Clock + Abort + Copy + Send + Sync>(
     let Ok(done) = execute(&rt, alloc, plan, rounds, window, &mut kits, &mut jobs) else {
         panic!(rt; "a run that failed");
     };
-    assert_eq!(rt; done.posts.number(), 600);
+    assert!(rt; done.posts.number() == 600);
     for (kit, p) in kits.iter().zip(0..PROCESSORS) {
         assert_ran(&rt, kit, p);
     }
@@ -97,9 +97,9 @@ fn assert_ran<X: Clock + Copy>(rt: &impl Abort, kit: &Kit<PacedGate<X>>, p: u32)
     let Some(gate) = &kit.gate else {
         panic!(rt; "a gate that isn't back");
     };
-    assert_eq!(rt; gate.ran().len(), TASKS as usize);
+    assert!(rt; gate.ran().len() == TASKS as usize);
     for (found, k) in gate.ran().iter().zip(0..TASKS) {
-        assert_eq!(rt; *found, row(p, k));
+        assert!(rt; *found == row(p, k));
     }
 }
 

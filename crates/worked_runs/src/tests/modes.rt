@@ -28,10 +28,10 @@ fn two_modes_follow_each_other(rt: HostRuntime) -> Result<(), Fail> {
     let Ok(modes) = modes else {
         return rt.abort();
     };
-    assert_eq!(rt; modes.count(), 3);
-    assert_eq!(rt; (modes.start(0), modes.start(1), modes.start(2)), (0, 3, 7));
-    assert_eq!(rt; (modes.plan(0).scale(), modes.plan(1).scale()), (3, 4));
-    assert_eq!(rt; (modes.rounds(0), modes.rounds(2)), (3, 3));
+    assert!(rt; modes.count() == 3);
+    assert!(rt; (modes.start(0), modes.start(1), modes.start(2)) == (0, 3, 7));
+    assert!(rt; (modes.plan(0).scale(), modes.plan(1).scale()) == (3, 4));
+    assert!(rt; (modes.rounds(0), modes.rounds(2)) == (3, 3));
     Ok(())
 }
 
@@ -62,12 +62,12 @@ fn the_first_fault_of_the_first_set_is_told(rt: HostRuntime) -> Result<(), Fail>
     ];
     for (sets, mode, kind) in rows.iter() {
         let fault = joined(&rt, rt.alloc(), sets)?.err();
-        assert_eq!(rt;
-            fault,
-            Some(ModeFault::Refused {
-                mode: *mode,
-                kind: *kind
-            })
+        assert!(rt;
+            fault
+                == Some(ModeFault::Refused {
+                    mode: *mode,
+                    kind: *kind
+                })
         );
     }
     Ok(())

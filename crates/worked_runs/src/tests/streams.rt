@@ -40,10 +40,10 @@ fn reads_to_the_end_or_says_why_not(rt: HostRuntime) -> Result<(), Fail> {
     ] {
         match read_from(alloc, input, fails, limit)? {
             Ok(bytes) => {
-                assert_eq!(rt; bytes.as_slice(), input);
-                assert_eq!(rt; want, None);
+                assert!(rt; bytes.as_slice() == input);
+                assert!(rt; want == None);
             }
-            Err(fault) => assert_eq!(rt; Some(fault), want),
+            Err(fault) => assert!(rt; Some(fault) == want),
         }
     }
     Ok(())
@@ -54,10 +54,10 @@ fn reads_from_a_sure_source(rt: HostRuntime) -> Result<(), Fail> {
     let alloc = rt.alloc();
     let mut source = SureSource::new(alloc, b"processors = 2\n")?;
     match read_all(alloc, &mut source, 20) {
-        Ok(bytes) => assert_eq!(rt; bytes.as_slice(), b"processors = 2\n".as_slice()),
-        Err(fault) => assert_eq!(rt; Some(fault), None),
+        Ok(bytes) => assert!(rt; bytes.as_slice() == b"processors = 2\n".as_slice()),
+        Err(fault) => assert!(rt; Some(fault) == None),
     }
-    assert_eq!(rt; read_all(alloc, &mut source, 20).is_ok(), true);
+    assert!(rt; read_all(alloc, &mut source, 20).is_ok() == true);
     Ok(())
 }
 
@@ -83,11 +83,11 @@ fn writes_until_the_sink_fails(rt: HostRuntime) -> Result<(), Fail> {
     ] {
         let mut sink = MemSink::new(rt.alloc(), room, fails)?;
         let result = write_lines(&mut sink, &lines);
-        assert_eq!(rt; result.is_ok(), want == text.len());
-        assert_eq!(rt; sink.taken().len(), want);
+        assert!(rt; result.is_ok() == (want == text.len()));
+        assert!(rt; sink.taken().len() == want);
         assert!(rt; text.starts_with(sink.taken()));
     }
-    assert_eq!(rt; write_lines(&mut SureSink::new(), &lines), Ok(()));
+    assert!(rt; write_lines(&mut SureSink::new(), &lines) == Ok(()));
     Ok(())
 }
 
@@ -115,24 +115,24 @@ fn reads_and_writes_by_std(rt: HostRuntime) -> Result<(), Fail> {
     let alloc = rt.alloc();
     let mut source = StdSource::new(b"input".as_slice());
     match read_all(alloc, &mut source, 5) {
-        Ok(bytes) => assert_eq!(rt; bytes.as_slice(), b"input".as_slice()),
-        Err(fault) => assert_eq!(rt; Some(fault), None),
+        Ok(bytes) => assert!(rt; bytes.as_slice() == b"input".as_slice()),
+        Err(fault) => assert!(rt; Some(fault) == None),
     }
     let mut taken = Vec::new(alloc);
     let mut sink = StdSink::new(&mut taken);
-    assert_eq!(rt; write_all(&mut sink, b"output"), Ok(()));
-    assert_eq!(rt; sink.flush(), Ok(()));
-    assert_eq!(rt; taken.as_slice(), b"output".as_slice());
+    assert!(rt; write_all(&mut sink, b"output") == Ok(()));
+    assert!(rt; sink.flush() == Ok(()));
+    assert!(rt; taken.as_slice() == b"output".as_slice());
     Ok(())
 }
 
 #[test]
 fn counts_the_faults_of_std(rt: HostRuntime) {
     let mut source = StdSource::new(Broken);
-    assert_eq!(rt; source.read(&mut [0; 4]), Err(Failed));
-    assert_eq!(rt; read_all(rt.alloc(), &mut source, 5).is_ok(), false);
+    assert!(rt; source.read(&mut [0; 4]) == Err(Failed));
+    assert!(rt; read_all(rt.alloc(), &mut source, 5).is_ok() == false);
     let mut sink = StdSink::new(Broken);
-    assert_eq!(rt; write_all(&mut sink, b"output"), Err(Failed));
-    assert_eq!(rt; sink.flush(), Err(Failed));
-    assert_eq!(rt; write_all(&mut sink, b""), Ok(()));
+    assert!(rt; write_all(&mut sink, b"output") == Err(Failed));
+    assert!(rt; sink.flush() == Err(Failed));
+    assert!(rt; write_all(&mut sink, b"") == Ok(()));
 }

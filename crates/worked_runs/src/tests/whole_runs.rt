@@ -12,14 +12,14 @@ fn runs_three_tasks(rt: HostRuntime) -> Result<(), Fail> {
         let Ok(done) = &left.answer else {
             panic!(rt; "a run that failed");
         };
-        assert_eq!(rt; (done.table.processors(), done.table.rounds()), (2, 3));
-        assert_eq!(rt; done.table.lane(0), first.as_slice());
-        assert_eq!(rt; done.table.lane(1), second.as_slice());
-        assert_eq!(rt; done.totals.as_slice(), [6, 6, 6].as_slice());
-        assert_eq!(rt; done.posts.number(), 6);
-        assert_eq!(rt; left.ran[0].as_slice(), first.as_slice());
-        assert_eq!(rt; left.ran[1].as_slice(), second.as_slice());
-        assert_eq!(rt; left.jobs, [(6, 0), (6, 0), (6, 0)]);
+        assert!(rt; (done.table.processors(), done.table.rounds()) == (2, 3));
+        assert!(rt; done.table.lane(0) == first.as_slice());
+        assert!(rt; done.table.lane(1) == second.as_slice());
+        assert!(rt; done.totals.as_slice() == [6, 6, 6].as_slice());
+        assert!(rt; done.posts.number() == 6);
+        assert!(rt; left.ran[0].as_slice() == first.as_slice());
+        assert!(rt; left.ran[1].as_slice() == second.as_slice());
+        assert!(rt; left.jobs == [(6, 0), (6, 0), (6, 0)]);
     }
     Ok(())
 }

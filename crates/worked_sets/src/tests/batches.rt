@@ -69,7 +69,7 @@ fn fitting_and_refused_sets(rt: HostRuntime) -> Result<(), Fail> {
         let line = format!(in alloc; "{j} {answer}\n")?;
         want.push_str(line.as_str())?;
     }
-    assert_eq!(rt; answers(&rt, alloc, text.as_str())?.as_str(), want.as_str());
+    assert!(rt; answers(&rt, alloc, text.as_str())?.as_str() == want.as_str());
     Ok(())
 }
 
@@ -90,6 +90,6 @@ fn many_sets(rt: HostRuntime) -> Result<(), Fail> {
         text.push_str(task.as_str())?;
     }
     want.push_str("4096 Fits { scale: 400, levels: 1 }\n")?;
-    assert_eq!(rt; answers(&rt, alloc, text.as_str())?.as_str(), want.as_str());
+    assert!(rt; answers(&rt, alloc, text.as_str())?.as_str() == want.as_str());
     Ok(())
 }

@@ -24,11 +24,11 @@ fn packing_of(
 
 /// Compares the servers with their rates and those of their idle clients.
 fn assert_servers(rt: &impl Abort, packing: &Packing, servers: &[(u128, u128)]) {
-    assert_eq!(rt; packing.servers() as usize, servers.len());
+    assert!(rt; packing.servers() as usize == servers.len());
     for (s, (rate, idle)) in (0..packing.servers()).zip(servers) {
         assert!(rt; s < packing.servers());
-        assert_eq!(rt; packing.rate(s), *rate);
-        assert_eq!(rt; packing.idle(s), *idle);
+        assert!(rt; packing.rate(s) == *rate);
+        assert!(rt; packing.idle(s) == *idle);
     }
 }
 
@@ -50,13 +50,13 @@ fn packs(rt: HostRuntime) -> Result<(), Fail> {
         (&[], 1, &[]),
     ] {
         let packing = packing_of(&rt, rt.alloc(), rates, scale)?;
-        assert_eq!(rt; packing.scale(), scale);
-        assert_eq!(rt; packing.servers() as usize, servers.len());
+        assert!(rt; packing.scale() == scale);
+        assert!(rt; packing.servers() as usize == servers.len());
         for (s, (rate, members)) in (0..packing.servers()).zip(servers) {
             assert!(rt; s < packing.servers());
-            assert_eq!(rt; packing.rate(s), *rate);
-            assert_eq!(rt; packing.members(s), *members);
-            assert_eq!(rt; packing.idle(s), 0);
+            assert!(rt; packing.rate(s) == *rate);
+            assert!(rt; packing.members(s) == *members);
+            assert!(rt; packing.idle(s) == 0);
         }
     }
     Ok(())
@@ -65,8 +65,8 @@ fn packs(rt: HostRuntime) -> Result<(), Fail> {
 #[test]
 fn takes_idle_clients(rt: HostRuntime) -> Result<(), Fail> {
     let mut packing = packing_of(&rt, rt.alloc(), &[3, 3, 3], 5)?;
-    assert_eq!(rt; packing.servers(), 3);
-    assert_eq!(rt; packing.scale(), 5);
+    assert!(rt; packing.servers() == 3);
+    assert!(rt; packing.scale() == 5);
     assert!(rt; packing.rate(0) == 3 && packing.idle(0) == 0);
     packing.reserve(1)?;
     packing.give_idle(0, 1);
@@ -103,6 +103,6 @@ fn duals_of_three_tasks(rt: HostRuntime) -> Result<(), Fail> {
     let servers: &[u128] = &[2, 2, 2];
     assert!(rt; servers.iter().all(|rate| 0 < *rate && *rate < 3));
     let rates = duals(rt.alloc(), servers, 3)?;
-    assert_eq!(rt; rates.as_slice(), [1, 1, 1].as_slice());
+    assert!(rt; rates.as_slice() == [1, 1, 1].as_slice());
     Ok(())
 }

@@ -69,7 +69,7 @@ fn programs_compute(rt: HostRuntime) -> Result<(), NoMemory> {
         (&[u64::MAX], &[30], [0; 9]),
     ];
     for (code, rows, want) in table {
-        assert_eq!(rt; computed(rt.alloc(), code, rows)?, want);
+        assert!(rt; computed(rt.alloc(), code, rows)? == want);
     }
     Ok(())
 }
@@ -80,13 +80,13 @@ fn standing_still_costs_nothing(rt: HostRuntime) -> Result<(), NoMemory> {
     // set 0 7, and then a jump to itself.
     for code in [[].as_slice(), &[7, 0x0500_0000_0001]] {
         job.load(code, 1)?;
-        assert_eq!(rt; job.used(), 0);
+        assert!(rt; job.used() == 0);
         assert!(rt; job.used() == 0 && job.work(1 << 94).is_ok());
-        assert_eq!(rt; (job.used(), job.id(), job.faults()), (1 << 94, 5, 0));
+        assert!(rt; (job.used(), job.id(), job.faults()) == ((1 << 94, 5, 0)));
     }
-    assert_eq!(rt; job.state(), [1, 7, 0, 0, 0, 0, 0, 0, 0]);
+    assert!(rt; job.state() == [1, 7, 0, 0, 0, 0, 0, 0, 0]);
     job.load(&[], 1)?;
-    assert_eq!(rt; job.state(), [0; 9]);
+    assert!(rt; job.state() == [0; 9]);
     Ok(())
 }
 
@@ -95,7 +95,7 @@ fn programs_are_read(rt: HostRuntime) -> Result<(), JobTextFault> {
     let text =
         b"run-jobs 1\nprogram a\nset 0 1\nadd 1 0\njump 3\nprogram b2\nprogram c\nsub 1 2\nmul 3 4\njz 5 4\nhalt\ntasks\nno set";
     let jobs = read_jobs(rt.alloc(), text)?;
-    assert_eq!(rt; jobs.count(), 3);
+    assert!(rt; jobs.count() == 3);
     let codes: [&[u64]; 3] = [
         &[1, 0x0101_0000_0000, 0x0500_0000_0003],
         &[],
@@ -108,16 +108,13 @@ fn programs_are_read(rt: HostRuntime) -> Result<(), JobTextFault> {
     ];
     let names: [(&[u8], u64); 3] = [(b"a", 2), (b"b2", 6), (b"c", 7)];
     for j in 0..jobs.count() {
-        assert_eq!(rt; (jobs.name(j), jobs.line(j)), names[j as usize]);
-        assert_eq!(rt; jobs.code(j), codes[j as usize]);
+        assert!(rt; (jobs.name(j), jobs.line(j)) == names[j as usize]);
+        assert!(rt; jobs.code(j) == codes[j as usize]);
     }
-    assert_eq!(rt; jobs.set_start(), text.len() - 6);
+    assert!(rt; jobs.set_start() == text.len() - 6);
     // The text cut after each byte is refused until the line `tasks` is whole.
     for end in 0..text.len() {
-        assert_eq!(rt;
-            read_jobs(rt.alloc(), &text[..end]).is_ok(),
-            end + 7 >= text.len()
-        );
+        assert!(rt; read_jobs(rt.alloc(), &text[..end]).is_ok() == (end + 7 >= text.len()));
     }
     Ok(())
 }
@@ -148,7 +145,7 @@ fn faults_name_the_least_line(rt: HostRuntime) {
         ("run-jobs 1\nprogram a\nhalt\ntasks \n", 4),
     ] {
         match read_jobs(rt.alloc(), text.as_bytes()) {
-            Err(JobTextFault::BadProgram { line }) => assert_eq!(rt; line, want, "{text}"),
+            Err(JobTextFault::BadProgram { line }) => assert!(rt; line == want, "{text}"),
             _ => assert!(rt; false, "{text} is refused"),
         }
     }

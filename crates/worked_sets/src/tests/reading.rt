@@ -101,16 +101,12 @@ fn whole_documents(rt: HostRuntime) -> Result<(), Fail> {
         ),
     ];
     for (text, want) in rows {
-        assert_eq!(rt;
-            answer(&rt, rt.alloc(), text.as_bytes())?.as_str(),
-            want,
+        assert!(rt;
+            answer(&rt, rt.alloc(), text.as_bytes())?.as_str() == want,
             "{text}"
         );
     }
-    assert_eq!(rt;
-        answer(&rt, rt.alloc(), b"name = '\xff'")?.as_str(),
-        "NotToml"
-    );
+    assert!(rt; answer(&rt, rt.alloc(), b"name = '\xff'")?.as_str() == "NotToml");
     Ok(())
 }
 
@@ -237,9 +233,8 @@ fn one_line_written_otherwise(rt: HostRuntime) -> Result<(), Fail> {
     ];
     for (other, line, want) in rows {
         let text = with_line(rt.alloc(), &lines, other, line)?;
-        assert_eq!(rt;
-            answer(&rt, rt.alloc(), text.as_bytes())?.as_str(),
-            want,
+        assert!(rt;
+            answer(&rt, rt.alloc(), text.as_bytes())?.as_str() == want,
             "{text}"
         );
     }
@@ -266,10 +261,7 @@ fn many_tasks_and_cut_documents(rt: HostRuntime) -> Result<(), Fail> {
             .ends_with(" t254:1/400+0 t255:1/400+0")
     );
     let more = many(alloc, 257)?;
-    assert_eq!(rt;
-        answer(&rt, alloc, more.as_bytes())?.as_str(),
-        "TooManyTasks { count: 257 }"
-    );
+    assert!(rt; answer(&rt, alloc, more.as_bytes())?.as_str() == "TooManyTasks { count: 257 }");
 
     // Where the text of three tasks is cut, and what it then says.
     let cuts = [
@@ -288,9 +280,8 @@ fn many_tasks_and_cut_documents(rt: HostRuntime) -> Result<(), Fail> {
     ];
     for (at, want) in cuts {
         assert!(rt; at <= THREE.len());
-        assert_eq!(rt;
-            answer(&rt, alloc, &THREE.as_bytes()[..at])?.as_str(),
-            want,
+        assert!(rt;
+            answer(&rt, alloc, &THREE.as_bytes()[..at])?.as_str() == want,
             "cut at {at}"
         );
     }
@@ -336,9 +327,8 @@ fn pieces_of_texts(rt: HostRuntime) -> Result<(), Fail> {
         ("x = \"\"\"\n%%\n\"\"\"", "0-8 11-14 "),
     ];
     for (text, want) in rows {
-        assert_eq!(rt;
-            pieces(&rt, rt.alloc(), text.as_bytes())?.as_str(),
-            want,
+        assert!(rt;
+            pieces(&rt, rt.alloc(), text.as_bytes())?.as_str() == want,
             "{text}"
         );
     }

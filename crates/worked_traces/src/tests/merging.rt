@@ -10,12 +10,12 @@ fn three_tasks(rt: HostRuntime) -> Result<(), NoMemory> {
     let rows = rows.with_round(3, &[Some(B), Some(C)])?;
     let rows = rows.with_round(6, &[Some(A), Some(C)])?;
     let rows = rows.with_round(9, &[None, Some(B)])?;
-    assert_eq!(rt; rows.processors(), 2);
-    assert_eq!(rt; rows.count(0), 2);
-    assert_eq!(rt; rows.row(0, 0), row(0, 0, 3, B));
-    assert_eq!(rt; rows.row(0, 1), row(0, 3, 9, A));
-    assert_eq!(rt; rows.count(1), 2);
-    assert_eq!(rt; rows.row(1, 0), row(1, 0, 6, C));
-    assert_eq!(rt; rows.row(1, 1), row(1, 6, 9, B));
+    assert!(rt; rows.processors() == 2);
+    assert!(rt; rows.count(0) == 2);
+    assert!(rt; rows.row(0, 0) == row(0, 0, 3, B));
+    assert!(rt; rows.row(0, 1) == row(0, 3, 9, A));
+    assert!(rt; rows.count(1) == 2);
+    assert!(rt; rows.row(1, 0) == row(1, 0, 6, C));
+    assert!(rt; rows.row(1, 1) == row(1, 6, 9, B));
     Ok(())
 }

@@ -70,7 +70,7 @@ fn three_tasks_of_rate_two_thirds(rt: HostRuntime) {
     ];
     for (lines, want) in table {
         let text = three_tasks(rt.alloc(), lines).expect(&rt, "there is memory");
-        assert_eq!(rt; outcome_of(rt.alloc(), &text), want);
+        assert!(rt; outcome_of(rt.alloc(), &text) == want);
     }
 }
 
@@ -118,7 +118,7 @@ fn texts_alone(rt: HostRuntime) {
         ),
     ];
     for (text, want) in table {
-        assert_eq!(rt; outcome_of(rt.alloc(), text), want);
+        assert!(rt; outcome_of(rt.alloc(), text) == want);
     }
 }
 
@@ -130,11 +130,11 @@ fn a_trace_tells_its_rows_in_order(rt: HostRuntime) {
     );
     match read_trace(rt.alloc(), &text) {
         Ok(trace) => {
-            assert_eq!(rt; trace.scale(), 3);
-            assert_eq!(rt; trace.by_processor(), [0, 1, 2, 3].as_slice());
+            assert!(rt; trace.scale() == 3);
+            assert!(rt; trace.by_processor() == [0, 1, 2, 3].as_slice());
             if trace.set().count() == 3 && trace.rows().len() == 4 {
-                assert_eq!(rt; trace.by_task(1), [0, 3].as_slice());
-                assert_eq!(rt; trace.line(3), 12);
+                assert!(rt; trace.by_task(1) == [0, 3].as_slice());
+                assert!(rt; trace.line(3) == 12);
             }
         }
         Err(_) => assert!(rt; false, "the text is right"),
@@ -159,11 +159,11 @@ fn a_table_has_the_trace_of_its_text(rt: HostRuntime) -> Result<(), Fail> {
         row(1, 0, 6, C),
         row(1, 6, 9, B),
     ];
-    assert_eq!(rt; trace.rows(), rows.as_slice());
+    assert!(rt; trace.rows() == rows.as_slice());
     assert!(rt; check_trace(&trace) == Verdict::Valid);
     let text = three_tasks(rt.alloc(), b"row 1 6 9 b\ntotal a 6\ntotal b 6\n")?;
     match read_trace(rt.alloc(), &text) {
-        Ok(read) => assert_eq!(rt; read.rows(), trace.rows()),
+        Ok(read) => assert!(rt; read.rows() == trace.rows()),
         Err(_) => assert!(rt; false, "the text is right"),
     }
     Ok(())
@@ -180,10 +180,7 @@ fn rows_of_no_task_are_one_idle_row(rt: HostRuntime) -> Result<(), Fail> {
     table.push_round(&[row(0, 3, 4, A)]);
     let scale = scale_of(&set).expect(&rt, "the scale is 1");
     let trace = ReadTrace::of_table(rt.alloc(), &set, scale, &table)?;
-    assert_eq!(rt;
-        trace.rows(),
-        [row(0, 0, 3, Leaf::Idle(0)), row(0, 3, 4, A)].as_slice()
-    );
+    assert!(rt; trace.rows() == [row(0, 0, 3, Leaf::Idle(0)), row(0, 3, 4, A)].as_slice());
     assert!(rt; check_trace(&trace) == Verdict::Valid);
     Ok(())
 }

@@ -93,7 +93,7 @@ fn reports(rt: HostRuntime) -> Result<(), Fail> {
     ];
     for (text, want) in table {
         let sink = report_of(rt.alloc(), text.as_bytes())?;
-        assert_eq!(rt; sink.taken(), want.as_bytes());
+        assert!(rt; sink.taken() == want.as_bytes());
     }
     Ok(())
 }
@@ -102,10 +102,10 @@ fn reports(rt: HostRuntime) -> Result<(), Fail> {
 fn counts_alone(rt: HostRuntime) -> Result<(), Fail> {
     let trace = read_trace(rt.alloc(), THREE_TASKS.as_bytes())?;
     assert!(rt; check_trace(&trace) == Verdict::Valid);
-    assert_eq!(rt; preemptions(&trace), 1);
-    assert_eq!(rt; migrations(&trace), 1);
-    assert_eq!(rt; trace.set().count(), 3);
-    assert_eq!(rt; response(&trace, 2), 6);
+    assert!(rt; preemptions(&trace) == 1);
+    assert!(rt; migrations(&trace) == 1);
+    assert!(rt; trace.set().count() == 3);
+    assert!(rt; response(&trace, 2) == 6);
     Ok(())
 }
 
@@ -125,10 +125,10 @@ fn a_valid_trace_has_findings(rt: HostRuntime) -> Result<(), Fail> {
     ];
     for (task, places, count, response) in table {
         assert!(rt; task < trace.set().count());
-        assert_eq!(rt; trace.by_task(task), places);
+        assert!(rt; trace.by_task(task) == places);
         let found = trace.findings(task).ok_or("nothing was found")?;
-        assert_eq!(rt; (found.preemptions, found.migrations), (count, count));
-        assert_eq!(rt; found.response, response);
+        assert!(rt; (found.preemptions, found.migrations) == (count, count));
+        assert!(rt; found.response == response);
     }
     Ok(())
 }
@@ -139,9 +139,8 @@ fn a_sink_that_fails_takes_a_first_part(rt: HostRuntime) -> Result<(), Fail> {
     assert!(rt; check_trace(&trace) == Verdict::Valid);
     let mut sink = MemSink::new(rt.alloc(), 1024, &[6])?;
     assert!(rt; write_report(&mut sink, &trace) == Err(Failed));
-    assert_eq!(rt;
-        sink.taken(),
-        b"valid\nrows 4\npreemptions 1\nmigrations 1\nresponse a 9\n".as_slice()
+    assert!(rt;
+        sink.taken() == b"valid\nrows 4\npreemptions 1\nmigrations 1\nresponse a 9\n".as_slice()
     );
     Ok(())
 }

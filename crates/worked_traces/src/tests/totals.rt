@@ -12,6 +12,6 @@ fn three_tasks_are_given_six_ticks_each(rt: HostRuntime) -> Result<(), NoMemory>
     table.push_round(&[row(0, 6, 9, A), row(1, 6, 9, B)]);
     let totals = totals_of(rt.alloc(), &table, 3)?;
     let given: &[u128] = &[6, 6, 6];
-    assert_eq!(rt; totals.as_slice(), given);
+    assert!(rt; totals.as_slice() == given);
     Ok(())
 }

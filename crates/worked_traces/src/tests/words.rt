@@ -21,7 +21,7 @@ fn numbers(rt: HostRuntime) {
         (b"3\r", None),
     ];
     for (word, want) in table {
-        assert_eq!(rt; read_number(word), want);
+        assert!(rt; read_number(word) == want);
     }
 }
 
@@ -45,8 +45,8 @@ fn numbers_at_the_front(rt: HostRuntime) {
     for (text, want) in table {
         match cut_number(text) {
             Some((number, rest)) => {
-                assert_eq!(rt; Some(number), want);
-                assert_eq!(rt; rest, b"a".as_slice());
+                assert!(rt; Some(number) == want);
+                assert!(rt; rest == b"a".as_slice());
             }
             None => assert!(rt; want.is_none(), "a number and a space begin the text"),
         }
@@ -57,10 +57,10 @@ fn numbers_at_the_front(rt: HostRuntime) {
 fn lines(rt: HostRuntime) {
     let text = b"row 0 3\r\n\nrows";
     let (first, rest) = first_line(text);
-    assert_eq!(rt; first, b"row 0 3\r".as_slice());
-    assert_eq!(rt; rest, b"\nrows".as_slice());
+    assert!(rt; first == b"row 0 3\r".as_slice());
+    assert!(rt; rest == b"\nrows".as_slice());
     match after_word(b"row", first) {
-        Some(rest) => assert_eq!(rt; rest, b"0 3\r".as_slice()),
+        Some(rest) => assert!(rt; rest == b"0 3\r".as_slice()),
         None => assert!(rt; false, "the line begins with row"),
     }
     assert!(rt; after_word(b"row", b"rows 4").is_none());

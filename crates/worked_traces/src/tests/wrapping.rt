@@ -63,15 +63,12 @@ fn letter(leaf: Leaf) -> u8 {
 
 /// Compares a lane with letters, one for each round, and with the ticks at which the rounds start.
 fn compare(rt: &impl Abort, lane: &[Row], starts: &[u128], letters: &str) {
-    assert_eq!(rt; lane.len(), letters.len());
-    assert_eq!(rt; lane.len() + 1, starts.len());
+    assert!(rt; lane.len() == letters.len());
+    assert!(rt; lane.len() + 1 == starts.len());
     for k in 0..lane.len() {
-        assert_eq!(rt; Some(lane[k].start), starts.get(k).copied());
-        assert_eq!(rt; Some(lane[k].end), starts.get(k + 1).copied());
-        assert_eq!(rt;
-            Some(letter(lane[k].leaf)),
-            letters.as_bytes().get(k).copied()
-        );
+        assert!(rt; Some(lane[k].start) == starts.get(k).copied());
+        assert!(rt; Some(lane[k].end) == starts.get(k + 1).copied());
+        assert!(rt; Some(letter(lane[k].leaf)) == letters.as_bytes().get(k).copied());
     }
 }
 
@@ -117,9 +114,9 @@ fn wraps_worked_sets(rt: HostRuntime) -> Result<(), Fail> {
         let set = grouped_set(rt.alloc(), processors, horizon, tasks)?;
         let scale = scale_that_fits(&rt, &set);
         let rounds = wrap_rounds(rt.alloc(), &set, scale)?;
-        assert_eq!(rt; rounds + 1, starts.len() as u64);
+        assert!(rt; rounds + 1 == starts.len() as u64);
         let table = wrap(rt.alloc(), &set, scale, rounds)?;
-        assert_eq!(rt; table.processors(), processors);
+        assert!(rt; table.processors() == processors);
         assert!(rt; lanes.len() <= processors as usize);
         for p in 0..lanes.len() {
             compare(&rt, table.lane(p as u32), starts, lanes[p]);
@@ -133,17 +130,17 @@ fn wraps_worked_sets(rt: HostRuntime) -> Result<(), Fail> {
 fn merges_the_rows_of_a_worked_set(rt: HostRuntime) -> Result<(), Fail> {
     let set = grouped_set(rt.alloc(), 2, 3, &[(3, 2, 3, 0)])?;
     let scale = scale_that_fits(&rt, &set);
-    assert_eq!(rt; wrap_rounds(rt.alloc(), &set, scale)?, 3);
+    assert!(rt; wrap_rounds(rt.alloc(), &set, scale)? == 3);
     let rows = merged_wrap(rt.alloc(), &set, scale)?;
-    assert_eq!(rt; rows.processors(), 2);
+    assert!(rt; rows.processors() == 2);
     for (processor, want) in [
         (0, [(0, 6, b'a'), (6, 9, b'b')]),
         (1, [(0, 3, b'b'), (3, 9, b'c')]),
     ] {
-        assert_eq!(rt; rows.count(processor), 2);
+        assert!(rt; rows.count(processor) == 2);
         for i in 0..2 {
             let row = rows.row(processor, i);
-            assert_eq!(rt; (row.start, row.end, letter(row.leaf)), want[i]);
+            assert!(rt; (row.start, row.end, letter(row.leaf)) == want[i]);
         }
     }
     Ok(())
@@ -158,7 +155,7 @@ fn counts_up_to_the_limit(rt: HostRuntime) -> Result<(), Fail> {
     ] {
         let set = grouped_set(rt.alloc(), 32, horizon, &[(1, 1, 1, 0)])?;
         let scale = scale_that_fits(&rt, &set);
-        assert_eq!(rt; wrap_rounds(rt.alloc(), &set, scale), count);
+        assert!(rt; wrap_rounds(rt.alloc(), &set, scale) == count);
     }
     Ok(())
 }

@@ -76,9 +76,8 @@ fn the_first_line_at_fault_is_told(rt: HostRuntime) -> Result<(), Fail> {
     ];
     for (told, line) in rows {
         let text = with_lines(rt.alloc(), THREE_LEVELS, told)?;
-        assert_eq!(rt;
-            answer_for(rt.alloc(), &text)?,
-            Answer::BadLine(*line),
+        assert!(rt;
+            answer_for(rt.alloc(), &text)? == Answer::BadLine(*line),
             "{text}"
         );
     }
@@ -91,16 +90,15 @@ fn a_text_that_ends_early_is_at_fault_behind_its_last_line(rt: HostRuntime) -> R
         let mut cut = String::new(rt.alloc());
         let mut line = 1;
         for next in text.lines() {
-            assert_eq!(rt;
-                answer_for(rt.alloc(), &cut)?,
-                Answer::BadLine(line),
+            assert!(rt;
+                answer_for(rt.alloc(), &cut)? == Answer::BadLine(line),
                 "{cut}"
             );
             cut.push_str(next)?;
             cut.push_str("\n")?;
             line = line.saturating_add(1);
         }
-        assert_eq!(rt; line, lines + 1);
+        assert!(rt; line == lines + 1);
     }
     Ok(())
 }

@@ -107,7 +107,7 @@ fn assert_ran(rt: &impl Abort, left: &Left, p: usize, count: Option<usize>) {
     };
     assert!(rt; lanes()[p].starts_with(gate.ran()));
     if let Some(count) = count {
-        assert_eq!(rt; gate.ran().len(), count);
+        assert!(rt; gate.ran().len() == count);
     }
 }
 
@@ -120,9 +120,9 @@ fn modes_run_one_after_the_other(rt: HostRuntime) -> Result<(), Fail> {
         panic!(rt; "a run that failed");
     };
     assert!(rt; told.count() == 2);
-    assert_eq!(rt; told.totals(0), [6, 6, 6].as_slice());
-    assert_eq!(rt; told.totals(1), [8, 8, 4].as_slice());
-    assert_eq!(rt; (told.table(0).rounds(), told.table(1).rounds()), (3, 4));
+    assert!(rt; told.totals(0) == [6, 6, 6].as_slice());
+    assert!(rt; told.totals(1) == [8, 8, 4].as_slice());
+    assert!(rt; (told.table(0).rounds(), told.table(1).rounds()) == (3, 4));
     Ok(())
 }
 
@@ -132,13 +132,13 @@ fn a_gate_fails_in_the_second_mode(rt: HostRuntime) -> Result<(), Fail> {
     let left = run(&rt, rt.alloc(), &[&[], &[5]], 0, &[])?;
     assert_ran(&rt, &left, 0, None);
     assert_ran(&rt, &left, 1, Some(4));
-    assert_eq!(rt;
-        left.answer.err(),
-        Some(ModesFault::Gate {
-            mode: 1,
-            processor: 1,
-            row: row(1, 4, 8, IDLE),
-        })
+    assert!(rt;
+        left.answer.err()
+            == Some(ModesFault::Gate {
+                mode: 1,
+                processor: 1,
+                row: row(1, 4, 8, IDLE),
+            })
     );
     Ok(())
 }
@@ -149,14 +149,14 @@ fn a_job_fails_in_the_second_mode(rt: HostRuntime) -> Result<(), Fail> {
     let left = run(&rt, rt.alloc(), &[&[], &[]], 2, &[3])?;
     assert_ran(&rt, &left, 0, None);
     assert_ran(&rt, &left, 1, Some(4));
-    assert_eq!(rt;
-        left.answer.err(),
-        Some(ModesFault::Job {
-            mode: 1,
-            task: 2,
-            processor: 1,
-            row: row(1, 0, 4, C),
-        })
+    assert!(rt;
+        left.answer.err()
+            == Some(ModesFault::Job {
+                mode: 1,
+                task: 2,
+                processor: 1,
+                row: row(1, 0, 4, C),
+            })
     );
     Ok(())
 }
