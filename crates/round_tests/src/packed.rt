@@ -74,7 +74,7 @@ fn fill(
             left -= idle;
         }
     }
-    assert_eq!(rt; left, 0);
+    assert!(rt; left == 0);
     Ok(())
 }
 
@@ -136,7 +136,7 @@ fn level_above(
 /// The packs of a level have members of these rates.
 fn compare_level(rt: &impl Abort, tree: &Tree, level: u32, packs: &[Members]) {
     assert!(rt; level < tree.levels());
-    assert_eq!(rt; tree.packs(level) as usize, packs.len());
+    assert!(rt; tree.packs(level) as usize == packs.len());
     for i in 0..tree.packs(level) {
         assert!(rt; (i as usize) < packs.len());
         compare_pack(rt, tree, tree.pack(level, i), &packs[i as usize]);
@@ -146,10 +146,10 @@ fn compare_level(rt: &impl Abort, tree: &Tree, level: u32, packs: &[Members]) {
 fn compare_pack(rt: &impl Abort, tree: &Tree, pack: NodeId, rates: &[u128]) {
     assert!(rt; pack.0 < tree.nodes());
     let members = tree.members(pack);
-    assert_eq!(rt; members.len(), rates.len());
+    assert!(rt; members.len() == rates.len());
     for (k, member) in members.iter().enumerate() {
         assert!(rt; member.0 < tree.nodes() && k < rates.len());
-        assert_eq!(rt; tree.rate(*member), rates[k]);
+        assert!(rt; tree.rate(*member) == rates[k]);
     }
 }
 

@@ -41,6 +41,6 @@ pub(crate) fn rows_of(rt: &impl Abort, alloc: Global, plan: &Plan) -> Result<Vec
         assert!(rt; core.now() < plan.rounds_end(), "at round {k}");
         push_round(rt, plan, &mut core, &mut round, &mut rows)?;
     }
-    assert_eq!(rt; core.now(), plan.rounds_end());
+    assert!(rt; core.now() == plan.rounds_end());
     Ok(rows)
 }

@@ -21,7 +21,7 @@ fn picks(rt: HostRuntime) {
                 remain: *remain,
             };
         }
-        assert_eq!(rt; earliest(&candidates), picked);
+        assert!(rt; earliest(&candidates) == picked);
     }
 }
 
@@ -37,7 +37,7 @@ fn places_tick_by_tick(rt: HostRuntime) -> Result<(), Fail> {
     ] {
         let mut onto = [None; 2];
         places.place(&runs, &mut onto);
-        assert_eq!(rt; onto, placed);
+        assert!(rt; onto == placed);
     }
     Ok(())
 }

@@ -82,7 +82,7 @@ fn chooses_who_runs_first(rt: HostRuntime) -> Result<(), Fail> {
         (2, no_tasks, &[]),
     ] {
         let plan = plan_of(rt.alloc(), processors, 5, tasks)?;
-        assert_eq!(rt; first_tasks(&rt, rt.alloc(), &plan)?.as_slice(), running);
+        assert!(rt; first_tasks(&rt, rt.alloc(), &plan)?.as_slice() == running);
     }
     Ok(())
 }
@@ -111,8 +111,8 @@ fn turns_windows_with_an_offset(rt: HostRuntime) -> Result<(), Fail> {
     let plan = &made;
     let mut calendar = Calendar::new(rt.alloc(), plan)?;
     // node 0 is the pack of a, which is node 1, and b, which is node 2
-    assert_eq!(rt; window(&rt, plan, &calendar, 1), (0, 1));
-    assert_eq!(rt; window(&rt, plan, &calendar, 2), (0, 2));
+    assert!(rt; window(&rt, plan, &calendar, 1) == (0, 1));
+    assert!(rt; window(&rt, plan, &calendar, 2) == (0, 2));
     for (next, marks, window_of_a, window_of_b) in [
         (1, [false, true, false], (1, 3), (0, 2)),
         (2, [false, false, true], (1, 3), (2, 4)),
@@ -121,11 +121,11 @@ fn turns_windows_with_an_offset(rt: HostRuntime) -> Result<(), Fail> {
         (5, [false, true, false], (5, 7), (4, 6)),
     ] {
         let mut due = [true; 3];
-        assert_eq!(rt; calendar.next(), next);
+        assert!(rt; calendar.next() == next);
         pop(&rt, plan, &mut calendar, &mut due);
-        assert_eq!(rt; due, marks);
-        assert_eq!(rt; window(&rt, plan, &calendar, 1), window_of_a);
-        assert_eq!(rt; window(&rt, plan, &calendar, 2), window_of_b);
+        assert!(rt; due == marks);
+        assert!(rt; window(&rt, plan, &calendar, 1) == window_of_a);
+        assert!(rt; window(&rt, plan, &calendar, 2) == window_of_b);
     }
     Ok(())
 }
@@ -136,21 +136,20 @@ fn turns_the_windows_of_duals(rt: HostRuntime) -> Result<(), Fail> {
     let plan = plan_of(rt.alloc(), 2, 3, three_tasks)?;
     let mut calendar = Calendar::new(rt.alloc(), &plan)?;
     let mut due = [false; 10];
-    assert_eq!(rt; calendar.next(), 3);
+    assert!(rt; calendar.next() == 3);
     // nodes 0, 2, 4 and 6 are packs
     for x in [1, 3, 5, 7, 8, 9] {
-        assert_eq!(rt; window(&rt, &plan, &calendar, x), (0, 3));
+        assert!(rt; window(&rt, &plan, &calendar, x) == (0, 3));
     }
     pop(&rt, &plan, &mut calendar, &mut due);
-    assert_eq!(rt;
-        due,
-        [
+    assert!(rt;
+        due == [
             false, true, false, true, false, true, false, true, true, true
         ]
     );
-    assert_eq!(rt; calendar.next(), 6);
+    assert!(rt; calendar.next() == 6);
     for x in [1, 3, 5, 7, 8, 9] {
-        assert_eq!(rt; window(&rt, &plan, &calendar, x), (3, 6));
+        assert!(rt; window(&rt, &plan, &calendar, x) == (3, 6));
     }
     Ok(())
 }
@@ -163,12 +162,9 @@ fn refills_the_due_of_a_window(rt: HostRuntime) -> Result<(), Fail> {
     let mut budgets = Budgets::new(rt.alloc(), plan.tree())?;
     assert!(rt; plan.tree().nodes() == 10);
     // node 1 is the leaf of a
-    assert_eq!(rt; budgets.remain(NodeId(1)), 0);
+    assert!(rt; budgets.remain(NodeId(1)) == 0);
     refill(&rt, &plan, &calendar, &mut budgets, 1);
-    assert_eq!(rt;
-        budgets.remains(),
-        [0, 6, 0, 0, 0, 0, 0, 0, 0, 0].as_slice()
-    );
-    assert_eq!(rt; Budgets::budget_of(plan.tree(), NodeId(7), 3), 3);
+    assert!(rt; budgets.remains() == [0, 6, 0, 0, 0, 0, 0, 0, 0, 0].as_slice());
+    assert!(rt; Budgets::budget_of(plan.tree(), NodeId(7), 3) == 3);
     Ok(())
 }

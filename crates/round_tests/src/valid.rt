@@ -41,7 +41,7 @@ fn check_processors(rt: &impl Abort, rows: &[Row], processors: u32, stop: u64) {
     }
     for tick in 0..stop {
         for processor in 0..processors {
-            assert_eq!(rt; rows_at(rows, processor, tick), 1);
+            assert!(rt; rows_at(rows, processor, tick) == 1);
         }
     }
 }
@@ -56,9 +56,9 @@ fn check_task(rt: &impl Abort, rows: &[Row], id: TaskId, task: &Task, scale: u64
     for tick in 0..stop {
         assert!(rt; runs(rows, leaf, tick) <= 1);
         if tick < task.offset * scale {
-            assert_eq!(rt; runs(rows, leaf, tick), 0);
+            assert!(rt; runs(rows, leaf, tick) == 0);
         } else {
-            assert_eq!(rt; runs(rows, Leaf::Wait(id), tick), 0);
+            assert!(rt; runs(rows, Leaf::Wait(id), tick) == 0);
         }
     }
     for period in 0..stop {
@@ -66,7 +66,7 @@ fn check_task(rt: &impl Abort, rows: &[Row], id: TaskId, task: &Task, scale: u64
         let deadline = release + task.period * scale;
         if deadline <= stop {
             let time = time_of(rows, leaf, release, deadline);
-            assert_eq!(rt; time as u64, task.work * scale);
+            assert!(rt; time as u64 == task.work * scale);
         }
     }
 }
