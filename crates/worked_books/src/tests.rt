@@ -125,7 +125,7 @@ fn turn<Q: PostLedger>(
 ) {
     let p = seat.lane();
     assert_free(rt, book, p);
-    assert_eq!(rt; seat.posted(), book.lane(p).posted);
+    assert!(rt; seat.posted() == book.lane(p).posted);
     let Look::Ready {
         row: taken,
         job: given,
@@ -136,7 +136,7 @@ fn turn<Q: PostLedger>(
     let Some(mut job) = given else {
         panic!(rt; "no job");
     };
-    assert_eq!(rt; taken, row);
+    assert!(rt; taken == row);
     let _follows = book.log();
     let _lawful = book.plan();
     assert!(rt; taken.start <= taken.end && job.used() < 1 << 64 && taken.end < 1 << 64);
@@ -162,7 +162,7 @@ fn play<Q: PostLedger>(
                 let Look::NotYet { lane, posted } = book.take(p) else {
                     panic!(rt; "a lane that needn't wait");
                 };
-                assert_eq!(rt; (lane, posted), (for_lane, count));
+                assert!(rt; (lane, posted) == (for_lane, count));
             }
             Step::Done(p) => {
                 assert_free(rt, book, p);
@@ -247,7 +247,7 @@ fn plays_three_tasks(rt: HostRuntime) -> Result<(), Fail> {
     ];
     for (window, steps) in scripts {
         let plan = plan_of(rt.alloc(), 2, &["a", "b", "c"], 2, 3)?;
-        assert_eq!(rt; plan.tree().processors(), 2);
+        assert!(rt; plan.tree().processors() == 2);
         assert!(rt; 1 <= window && window <= 1024);
         run::<Brand>(&rt, rt.alloc(), Blank::new(2), plan, window, steps)?;
     }
@@ -258,7 +258,7 @@ fn plays_three_tasks(rt: HostRuntime) -> Result<(), Fail> {
 #[test]
 fn plays_two_reductions(rt: HostRuntime) -> Result<(), Fail> {
     let plan = plan_of(rt.alloc(), 3, &["a", "b", "c", "d", "e"], 3, 5)?;
-    assert_eq!(rt; plan.tree().processors(), 3);
+    assert!(rt; plan.tree().processors() == 3);
     let steps = [
         row(1, 0, 5, B),
         row(1, 5, 10, B),

@@ -17,16 +17,16 @@ fn five_posts<Q: PostLedger>(rt: &impl Abort, blank: Blank, alloc: Global) -> Re
     let (mut book, mut seats) = open::<Q>(blank, alloc, 2)?;
     let mut first = seats.lift(0);
     let mut second = seats.lift(1);
-    assert_eq!(rt; (first.lane(), first.posted()), (0, 0));
-    assert_eq!(rt; (second.lane(), second.posted()), (1, 0));
+    assert!(rt; (first.lane(), first.posted()) == (0, 0));
+    assert!(rt; (second.lane(), second.posted()) == (1, 0));
     post(&mut book, &mut first);
     post(&mut book, &mut second);
     post(&mut book, &mut first);
     post(&mut book, &mut second);
     post(&mut book, &mut first);
-    assert_eq!(rt; first.posted(), 3);
-    assert_eq!(rt; second.posted(), 2);
-    assert_eq!(rt; book.posted(), 5);
+    assert!(rt; first.posted() == 3);
+    assert!(rt; second.posted() == 2);
+    assert!(rt; book.posted() == 5);
     seats.lay(first);
     seats.lay(second);
     Ok(close(book, seats).number())
@@ -35,6 +35,6 @@ fn five_posts<Q: PostLedger>(rt: &impl Abort, blank: Blank, alloc: Global) -> Re
 #[test]
 fn closes_with_all_posts(rt: HostRuntime) -> Result<(), NoMemory> {
     let posts = five_posts::<Brand>(&rt, Blank::new(2), rt.alloc())?;
-    assert_eq!(rt; posts, 5);
+    assert!(rt; posts == 5);
     Ok(())
 }
