@@ -4,7 +4,8 @@
 # how far it is. What is done is kept: a build that was stopped goes on where it was.
 #
 # rt locks a crate and all below it, and all crates stand on the same lowest one. So each of the builds that go on at once has
-# a copy of the sources of its own. What is proved in one copy is taken over by the others, and in the end by this checkout.
+# a copy of the sources of its own. A library that is proved in one copy is handed to the others and to this checkout, where rt
+# takes it as it is: it is known by a sum of all that it was made from.
 top=$(dirname "$(readlink -f "$0")")
 program=furnacelime
 wanted=${1:-$program}
@@ -94,6 +95,17 @@ may_begin() {
     done
 }
 
+# A copy that no build is at work in: the one in which the crate was worked on before, if that is free.
+free_copy() {
+    found=
+    for copy in $(seq "$jobs"); do
+        [ ! -e "$work/copy$copy" ] || continue
+        [ -d "$copies/$copy/crates/$1/out/incremental" ] && { echo "$copy"; return; }
+        [ -n "$found" ] || found=$copy
+    done
+    echo "$found"
+}
+
 # Proves and builds one crate with so many jobs in a process group of its own, in a copy that no other build is at work in, and
 # notes how it ended. The wanted crate is built in this checkout, the program by running it: with no words it answers at once, with
 # status 2.
@@ -103,15 +115,28 @@ build() {
     if [ "$1" = "$wanted" ]; then
         [ "$1" = "$program" ] && verb=run
     else
-        copy=1
-        while [ -e "$work/copy$copy" ]; do copy=$((copy + 1)); done
+        copy=$(free_copy "$1")
         : >"$work/copy$copy"
         at=$copies/$copy
     fi
     echo "$2" >"$work/$1.jobs"
+    echo "$at" >"$work/$1.at"
     setsid sh -c 'cd "$1" && rt "$2" --jobs "$3" </dev/null >"$4.log" 2>&1; ended=$?; rm -f "$5"; echo $ended >"$4.ended"' \
         sh "$at/crates/$1" "$verb" "$2" "$work/$1" "$work/copy$copy" &
     builds="$builds $!"
+}
+
+# Hands the library of a crate that is built to the other copies and to this checkout, but where it is already.
+hand_on() {
+    [ "$1" != "$wanted" ] || return 0
+    made=$(cat "$work/$1.at")/crates/$1/out/rlib
+    [ -f "$made/stamp" ] || return 0
+    for to in "$top" "$copies"/*; do
+        out=$to/crates/$1/out
+        cmp -s "$made/stamp" "$out/rlib/stamp" && continue
+        rm -rf "$out/rlib" && mkdir -p "$out" && { cp -al "$made" "$out/" 2>/dev/null || cp -a "$made" "$out/"; } ||
+            say "the library $1 could not be handed to $to"
+    done
 }
 
 # Whether a crate whose build has ended is built.
@@ -130,6 +155,7 @@ take_ended() {
             stop
             exit 126
         fi
+        hand_on "$name"
         : >"$work/$name.done"
         free=$((free + $(cat "$work/$name.jobs")))
         done_count=$((done_count + 1))
