@@ -3,7 +3,7 @@
 # three tasks; the tables of further sets, and of a set without tasks, are compiled without a warning. Then the library for C is built, its rounds of
 # the three tasks are compared with those that were worked by hand, those of further sets follow each other, what its commands answer is compared with
 # what the program writes, from C and from Python, and the module for Python and the sweep are tried by what their documentation shows. What isn't there,
-# or can't be built within fifteen minutes, is said, and isn't tried.
+# or can't be built within forty minutes, is said, and isn't tried.
 top=$(cd "$(dirname "$0")/.." && pwd)
 program=$top/crates/furnacelime/out/furnacelime
 library=$top/crates/furnacelime_c/out/libfurnacelime_c.a
@@ -120,7 +120,7 @@ else
 fi
 
 command -v rt >/dev/null && kit=$(dirname "$(dirname "$(readlink -f "$(command -v rt)")")") &&
-    timeout 15m sh "$top/build.sh" furnacelime_c >/dev/null 2>&1
+    timeout 40m sh "$top/build.sh" furnacelime_c >/dev/null 2>&1
 if [ -f "$library" ] && [ -n "$kit" ]; then
     for compiler in $compilers; do
         try_rounds "$compiler"
