@@ -41,7 +41,6 @@ fn room_of(plan: &Plan, n: NodeId) -> usize
 }
 
 // How many members a pack has, by the place of the last.
-#[tactic(auto, using(crate::proofs::FirstLemmas::last_place))]
 fn places_of(plan: &Plan, p: NodeId) -> usize
     requires plan { IsPlan plan.now }
     requires pack { IsPack plan.now.tree p.0 }

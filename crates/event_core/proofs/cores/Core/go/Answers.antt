@@ -1,3 +1,6 @@
+use Rattle.run_tree.specs.Plans.{stop_of}
+use Rattle.std.proofs.Common.{◌<◌}
+use Rattle.event_core.specs.Rounds.{IsRoundUpTo}
 use Rattle.std.proofs.Common.{arith, subst, sym}
 use Rattle.event_core.specs.Cores.{CoreContents, IsCoreOf}
 use Rattle.event_core.specs.States.{contents}
@@ -47,3 +50,18 @@ run_round-requires-clause-onto c =
     let room = c.self.invariant.2 in
     let processors = onto_long c.args.plan.now c.know_lawful.ensures.lawful (contents c.self.inside.state) old.at in
     omega (arith, room, processors)
+
+pub run_round-requires-clause-plan : goal.run_round-requires-clause-plan
+run_round-requires-clause-plan c = c.know_lawful.ensures.lawful
+
+pub run_round-requires-clause-core : goal.run_round-requires-clause-core
+run_round-requires-clause-core c = subst (λ (k : CoreContents). IsCoreOf c.args.plan.now k) (sym c.self.view_is) c.requires.belongs
+
+pub run_round-requires-clause-early : goal.run_round-requires-clause-early
+run_round-requires-clause-early c = subst (λ (k : CoreContents). k.tick < stop_of c.args.plan.now) (sym c.self.view_is) c.requires.early
+
+pub returns-clause-belongs : goal.returns-clause-belongs
+returns-clause-belongs c = c.run_round.ensures.core
+
+pub returns-clause-round : goal.returns-clause-round
+returns-clause-round c = subst (λ (k : CoreContents). IsRoundUpTo c.args.plan.now k.tick c.run_round.new.state.dues.tick) c.self.view_is c.run_round.ensures.round
