@@ -10,7 +10,7 @@ use crate::tally::Tally;
 use sched_base::Row;
 
 /// What the rows of a task tell of its jobs.
-#[derive(Clone, Copy, Debug)]
+#[derive(Clone, Copy)]
 pub struct Findings {
     /// How often a job was set aside and went on later.
     pub preemptions: u64,

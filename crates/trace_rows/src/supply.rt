@@ -7,7 +7,7 @@ use crate::walks::Walk;
 
 /// A task's periods, in ticks: the first begins at `base`, each has `period` ticks and gets `due` of them, and the schedule
 /// ends at `stop`.
-#[derive(Clone, Copy, Debug)]
+#[derive(Clone, Copy)]
 pub struct Periods {
     pub base: u128,
     pub period: u128,

@@ -7,7 +7,7 @@ use std::test::Fail;
 use trace_check::{FaultKind, ReadTrace, TraceFault, Verdict, check_trace, read_trace};
 
 /// What comes of a text.
-#[derive(Clone, Copy, Debug, PartialEq, Eq)]
+#[derive(Clone, Copy, PartialEq, Eq)]
 enum Outcome {
     Valid,
     Fault(u64, FaultKind),

@@ -55,3 +55,15 @@ returns c =
     let all = c.args.first.now ∷ map (row_at rows) c.args.places.now in
     let none : c.loop-left.left.now ≡ [] = empty_is c.loop-left.left.now (sym c.is_empty.ensures ∙ c.loop-left-test.false) in
     tells_all p all c.loop-left.tally (subst (λ left. Tells p all (map (row_at rows) left) c.loop-left.tally) none c.loop-left.invariant.0)
+
+pub new-tally-requires-clause-some : goal.new-tally-requires-clause-some
+new-tally-requires-clause-some c = c.requires.some
+
+pub new-tally-requires-clause-row : goal.new-tally-requires-clause-row
+new-tally-requires-clause-row c = c.requires.first
+
+pub steps-requires-clause-pace : goal.steps-requires-clause-pace
+steps-requires-clause-pace c = c.loop-left.invariant.0.pace
+
+pub loop-left-smaller : goal.loop-left-smaller
+loop-left-smaller c = c.next_part.ensures.less

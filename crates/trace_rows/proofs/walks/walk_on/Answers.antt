@@ -73,3 +73,39 @@ returns-then-ends c =
     let leaves : Leaves p rows j all [] c.loop-left.walk = subst (λ left. Leaves p rows j all left c.loop-left.walk) none c.loop-left.invariant.0 in
     let tells : Tells p (map (row_at rows) all) [] c.loop-left.tally = subst (λ left. Tells p (map (row_at rows) all) (map (row_at rows) left) c.loop-left.tally) none c.loop-left.invariant.1 in
     went_all p rows j all c.loop-left.walk c.loop-left.tally.found leaves (holds_end p c.loop-left.walk c.ends.result leaves.stands c.ends.ensures c.if-ends.true) (tells_all p (map (row_at rows) all) c.loop-left.tally tells)
+
+pub new-walk-requires-clause-lawful : goal.new-walk-requires-clause-lawful
+new-walk-requires-clause-lawful c = c.requires.lawful
+
+pub new-walk-requires-clause-begun : goal.new-walk-requires-clause-begun
+new-walk-requires-clause-begun c = c.requires.begun
+
+pub step-requires-clause-lawful : goal.step-requires-clause-lawful
+step-requires-clause-lawful c = c.requires.lawful
+
+pub step-requires-clause-stands : goal.step-requires-clause-stands
+step-requires-clause-stands c = c.new-walk.ensures.stands
+
+pub new-tally-requires-clause-some : goal.new-tally-requires-clause-some
+new-tally-requires-clause-some c = c.requires.lawful.some_period
+
+pub new-tally-requires-clause-row : goal.new-tally-requires-clause-row
+new-tally-requires-clause-row c = c.step.ensures.row c.if-not-step.false
+
+pub steps-requires-clause-lawful : goal.steps-requires-clause-lawful
+steps-requires-clause-lawful c = c.requires.lawful
+
+pub steps-requires-clause-stands : goal.steps-requires-clause-stands
+steps-requires-clause-stands c = c.loop-left.invariant.0.stands
+
+pub steps-requires-in-loop-left-clause-pace : goal.steps-requires-in-loop-left-clause-pace
+steps-requires-in-loop-left-clause-pace c = c.loop-left.invariant.1.pace
+
+pub loop-left-smaller : goal.loop-left-smaller
+loop-left-smaller c = c.next_part.ensures.less
+
+pub ends-requires-clause-lawful : goal.ends-requires-clause-lawful
+ends-requires-clause-lawful c = c.requires.lawful
+
+pub ends-requires-clause-stands : goal.ends-requires-clause-stands
+ends-requires-clause-stands c = c.loop-left.invariant.0.stands

@@ -1,5 +1,5 @@
 use Rattle.std.proofs.Common.{◌≡◌, ◌&&◌, ap, sym, ◌∙◌, arith}
-use Rattle.std.proofs.lemmas.Bool.{and_from}
+use Rattle.std.proofs.lemmas.Bool.{and_from, false≢true}
 use Rattle.trace_rows.specs.Clock.{ClockState}
 use Rattle.trace_rows.specs.Supply.{ended_by, row_holds}
 use Rattle.trace_rows.proofs.SupplyLemmas.{seek_is}
@@ -57,3 +57,27 @@ returns-clause-stands c = λ t.
       ends = c.requires.ends;
       small = omega (arith, s.small, c.requires.apart, c.requires.long);
     }
+
+pub returns-then-not-gap_holds-clause-stands : goal.returns-then-not-gap_holds-clause-stands
+returns-then-not-gap_holds-clause-stands c = λ t. absurd (false≢true t)
+
+pub returns-then-not-gap_holds-clause-tick : goal.returns-then-not-gap_holds-clause-tick
+returns-then-not-gap_holds-clause-tick c = λ t. absurd (false≢true t)
+
+pub returns-then-not-gap_holds-clause-done : goal.returns-then-not-gap_holds-clause-done
+returns-then-not-gap_holds-clause-done c = λ t. absurd (false≢true t)
+
+pub returns-then-not-row_holds-clause-stands : goal.returns-then-not-row_holds-clause-stands
+returns-then-not-row_holds-clause-stands c = λ t. absurd (false≢true t)
+
+pub returns-then-not-row_holds-clause-tick : goal.returns-then-not-row_holds-clause-tick
+returns-then-not-row_holds-clause-tick c = λ t. absurd (false≢true t)
+
+pub returns-then-not-row_holds-clause-done : goal.returns-then-not-row_holds-clause-done
+returns-then-not-row_holds-clause-done c = λ t. absurd (false≢true t)
+
+pub gap_holds-requires-clause-lawful : goal.gap_holds-requires-clause-lawful
+gap_holds-requires-clause-lawful c = c.requires.lawful
+
+pub row_holds-requires-clause-lawful : goal.row_holds-requires-clause-lawful
+row_holds-requires-clause-lawful c = c.requires.lawful

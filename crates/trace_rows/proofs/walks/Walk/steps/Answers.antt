@@ -1,3 +1,4 @@
+use Rattle.std.proofs.lemmas.Bool.{false≢true}
 use Rattle.std.proofs.Common.{◌∷◌, [], get_or, map, subst, sym, ◌∙◌, ap, arith}
 use Rattle.std.specs.List.{AllByRecursion}
 use Rattle.std.proofs.lemmas.List.{take_all}
@@ -38,3 +39,42 @@ returns-clause-past c = λ t.
 pub returns-clause-rows : goal.returns-clause-rows
 returns-clause-rows c = λ t.
     subst (λ places. AllByRecursion (IsRowIn c.args.periods.now) (map (row_at c.args.rows.now) places)) (take_all c.loop-i.i c.args.places.now (omega arith)) c.loop-i.invariant.2
+
+pub returns-then-not-are_within-clause-own : goal.returns-then-not-are_within-clause-own
+returns-then-not-are_within-clause-own c = λ t. absurd (false≢true t)
+
+pub returns-then-not-are_within-clause-past : goal.returns-then-not-are_within-clause-past
+returns-then-not-are_within-clause-past c = λ t. absurd (false≢true t)
+
+pub returns-then-not-are_within-clause-fetched : goal.returns-then-not-are_within-clause-fetched
+returns-then-not-are_within-clause-fetched c = λ t. absurd (false≢true t)
+
+pub returns-then-not-are_within-clause-rows : goal.returns-then-not-are_within-clause-rows
+returns-then-not-are_within-clause-rows c = λ t. absurd (false≢true t)
+
+pub returns-then-not-step-clause-own : goal.returns-then-not-step-clause-own
+returns-then-not-step-clause-own c = λ t. absurd (false≢true t)
+
+pub returns-then-not-step-clause-past : goal.returns-then-not-step-clause-past
+returns-then-not-step-clause-past c = λ t. absurd (false≢true t)
+
+pub returns-then-not-step-clause-fetched : goal.returns-then-not-step-clause-fetched
+returns-then-not-step-clause-fetched c = λ t. absurd (false≢true t)
+
+pub returns-then-not-step-clause-rows : goal.returns-then-not-step-clause-rows
+returns-then-not-step-clause-rows c = λ t. absurd (false≢true t)
+
+pub fetch-requires-clause-room : goal.fetch-requires-clause-room
+fetch-requires-clause-room c = c.requires.room
+
+pub fetch-requires-clause-within : goal.fetch-requires-clause-within
+fetch-requires-clause-within c = c.are_within.ensures c.if-not-are_within.false
+
+pub step-requires-clause-lawful : goal.step-requires-clause-lawful
+step-requires-clause-lawful c = c.requires.lawful
+
+pub step-requires-clause-stands : goal.step-requires-clause-stands
+step-requires-clause-stands c = c.loop-i.invariant.1.stands
+
+pub returns-clause-fetched : goal.returns-clause-fetched
+returns-clause-fetched c = λ _. c.fetch.ensures.rows
