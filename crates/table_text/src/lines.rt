@@ -1,5 +1,5 @@
 //! The lines of a table in C.
-ghost use Rattle.std.specs.Prelude.{◌≡◌, ◌≤◌, ◌<◌, ◌^◌, ◌/◌, ◌⊎◌, length};
+ghost use Rattle.std.specs.Prelude.{◌≡◌, ◌+◌, ◌≤◌, ◌<◌, ◌^◌, ◌/◌, ◌⊎◌, ◌++◌, length, decimal};
 ghost use Rattle.table_text.specs.Lines.{width_of, ticks_line, task_line, task_number, row_line, lane_line, processor_line, field_line};
 
 use sched_base::{Leaf, Row, Task};
@@ -23,14 +23,23 @@ pub(crate) fn width_of(number: u128) -> u128
     }
 }
 
+// Adds a text, and a number after it.
+fn add_number(line: &mut Line, text: &[u8], number: u128)
+    requires { length line.old + length text.now ≤ 216 }
+    ensures text { line.new ≡ line.old ++ (text.now ++ decimal number) }
+    ensures short { length line.new ≤ length line.old + length text.now + 40 }
+{
+    line.text(text);
+    line.number(number);
+}
+
 /// The start and the end of a row, of so many bits each.
 #[tactic(auto, unfolding(crate::specs::Lines::ticks_line))]
 pub(crate) fn ticks_line(width: u128) -> Line
     ensures { result ≡ ticks_line width }
 {
     let mut line = Line::new();
-    line.text(b"  uint");
-    line.number(width);
+    add_number(&mut line, b"  uint", width);
     line.text(b"_t start, end;\n");
     line
 }
@@ -43,12 +52,9 @@ pub(crate) fn task_line(task: &Task) -> Line
     let mut line = Line::new();
     line.text(b"  {\"");
     line.text(task.name.as_slice());
-    line.text(b"\", ");
-    line.number(u128::from(task.work));
-    line.text(b"u, ");
-    line.number(u128::from(task.period));
-    line.text(b"u, ");
-    line.number(u128::from(task.offset));
+    add_number(&mut line, b"\", ", u128::from(task.work));
+    add_number(&mut line, b"u, ", u128::from(task.period));
+    add_number(&mut line, b"u, ", u128::from(task.offset));
     line.text(b"u},\n");
     line
 }
@@ -72,10 +78,8 @@ pub(crate) fn row_line(row: &Row) -> Line
     ensures { result ≡ row_line row.now }
 {
     let mut line = Line::new();
-    line.text(b"  {");
-    line.number(row.start);
-    line.text(b"u, ");
-    line.number(row.end);
+    add_number(&mut line, b"  {", row.start);
+    add_number(&mut line, b"u, ", row.end);
     line.text(b"u, ");
     line.text(task_number(row.leaf).as_slice());
     line.text(b"},\n");
@@ -88,8 +92,11 @@ pub(crate) fn lane_line(p: u32) -> Line
     ensures { result ≡ lane_line p }
 {
     let mut line = Line::new();
-    line.text(b"static const struct furnacelime_row furnacelime_rows_");
-    line.number(u128::from(p));
+    add_number(
+        &mut line,
+        b"static const struct furnacelime_row furnacelime_rows_",
+        u128::from(p),
+    );
     line.text(b"[] = {\n");
     line
 }
@@ -100,10 +107,8 @@ pub(crate) fn processor_line(p: u32, count: usize) -> Line
     ensures { result ≡ processor_line p count }
 {
     let mut line = Line::new();
-    line.text(b"  {");
-    line.number(count as u128);
-    line.text(b"u, furnacelime_rows_");
-    line.number(u128::from(p));
+    add_number(&mut line, b"  {", count as u128);
+    add_number(&mut line, b"u, furnacelime_rows_", u128::from(p));
     line.text(b"},\n");
     line
 }
@@ -117,8 +122,7 @@ pub(crate) fn field_line(name: &[u8], number: u128) -> Line
     let mut line = Line::new();
     line.text(b"  .");
     line.text(name);
-    line.text(b" = ");
-    line.number(number);
+    add_number(&mut line, b" = ", number);
     line.text(b"u,\n");
     line
 }

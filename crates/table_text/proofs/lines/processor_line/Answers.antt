@@ -5,13 +5,4 @@ use Rattle.table_text.proofs.lines.processor_line.Goals as goal
 pub returns : goal.returns
 unfolding processor_line
 returns c =
-    simp (
-      c.text-3.ensures,
-      c.number-2.ensures.text,
-      c.from.ensures,
-      c.text-2.ensures,
-      c.number.ensures.text,
-      c.text.ensures,
-      c.new-line.ensures,
-      append_assoc,
-    ) refl
+    simp (c.text.ensures, c.add_number-2.ensures.text, c.from.ensures, c.add_number.ensures.text, c.new-line.ensures, append_assoc) refl
