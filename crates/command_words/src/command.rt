@@ -1,6 +1,6 @@
 //! What a command line asks for.
 
-use trace_draw::Asked;
+use trace_lines::Asked;
 
 /// What a command line asks for.
 #[derive(Clone, Copy, Debug, PartialEq, Eq)]

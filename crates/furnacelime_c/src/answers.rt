@@ -7,7 +7,7 @@ use answer_handle::Handle;
 use byte_calls::call;
 use std::alloc::Global;
 use still_commands::Reading;
-use trace_draw::Asked;
+use trace_lines::Asked;
 
 /// The status of a call that can't be done.
 const WRONG_CALL: u8 = 64;

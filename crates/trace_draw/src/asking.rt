@@ -5,15 +5,7 @@ ghost use Rattle.trace_draw.specs.Windows.{first_unit, most_units, most_rows, re
 use crate::windows::Window;
 use sched_base::Row;
 use trace_check::ReadTrace;
-
-/// What the user asks to see.
-#[derive(Clone, Copy, Debug, PartialEq, Eq)]
-pub struct Asked {
-    /// The first unit.
-    pub from: u64,
-    /// How many units, at least 1; None for as many as are easily looked at.
-    pub units: Option<u64>,
-}
+use trace_lines::Asked;
 
 /// The most rows in a window, where the number of units isn't asked for.
 const FEW: usize = 200;

@@ -11,7 +11,7 @@ mod served;
 mod shapes;
 mod windows;
 
-pub use asking::{Asked, shown_window};
+pub use asking::shown_window;
 pub use drawing::draw_trace;
 pub use head::kind_text;
 pub use picture::write_picture;

@@ -7,7 +7,8 @@ use sched_edges::{Failed, MemSink};
 use std::alloc::Global;
 use std::test::Fail;
 use trace_check::{TraceFault, check_trace, read_trace};
-use trace_draw::{Asked, shown_window, write_picture};
+use trace_draw::{shown_window, write_picture};
+use trace_lines::Asked;
 
 /// Why there is no picture.
 #[derive(Debug, Drop)]
