@@ -1,37 +1,35 @@
 -- The tree of a text with no fault is written again as the text.
-use Rattle.std.proofs.Common.{◌≡◌, ℕ, zero, suc, ◌+◌, ◌-◌, ◌<◌, ◌≤◌, List, [], ◌∷◌, ◌++◌, Option, Some, None, map, length, get_or, take, refl, ap, ap₂, arith, inl, inr, sym, subst, ◌∙◌}
+use Rattle.std.proofs.Common.{◌≡◌, ℕ, zero, suc, ◌+◌, ◌-◌, ◌<◌, List, [], ◌∷◌, Option, Some, None, map, length, get_or, refl, ap, ap₂, arith, inl, inr, sym, ◌∙◌}
 use Rattle.std.proofs.lemmas.Bool.{cases_Bool, cond-true, cond-false}
 use Rattle.std.proofs.lemmas.List.{get_or-map, length-map, ext_get_or, get_or-append_right}
 use Rattle.std.proofs.lemmas.List.FromFn.{get_or-map-range_with_len, length-map-range_with_len}
 use Rattle.std.proofs.lemmas.List.Concat.{get_or-flat_map}
 use Rattle.std.proofs.lemmas.List.Folds.{length-flat_map-take}
 use Rattle.std.proofs.lemmas.Slice.Eq.{bytes_eq-Decides}
-use Rattle.std.specs.List.{AllByRecursion, position_from, range_with_len, flat_map}
+use Rattle.std.specs.List.{position_from, range_with_len}
 use Rattle.std.specs.Str.{bytes_eq}
-use Rattle.sched_base.specs.declared.rows.Leaf.TheVariants.{Task, Idle}
+use Rattle.sched_base.specs.declared.rows.Leaf.TheVariants.{Idle}
 use Rattle.sched_base.specs.declared.sets.Task as declared
 use Rattle.sched_base.specs.Scale.{rate_of}
-use Rattle.sched_base.specs.Sets.{SetContents, task_at}
-use Rattle.run_tree.specs.declared.kinds.Kind.{Kind}
+use Rattle.sched_base.specs.Sets.{task_at}
 use Rattle.run_tree.specs.declared.kinds.Kind.TheVariants as kind
-use Rattle.run_tree.specs.Tree.{Tree, kind_at, leaf, rate, members, IsLeaf}
-use Rattle.run_tree.specs.TreeOfSet.{idle_count, task_id, IsTreeOf}
+use Rattle.run_tree.specs.Tree.{Tree, kind_at, leaf, rate, members}
+use Rattle.run_tree.specs.TreeOfSet.{idle_count}
 use Rattle.run_tree.specs.Schedule.{packs_at}
 use Rattle.run_tree.specs.Plans.{PlanContents}
-use Rattle.tree_laws.proofs.LeafEntries.{Entry, entries, leaf_from}
-use Rattle.tree_text.specs.Text.{idle_node, place_in_level}
+use Rattle.tree_laws.proofs.LeafEntries.{Entry, leaf_from}
+use Rattle.tree_text.specs.Text.{idle_node}
 use Rattle.tree_check.specs.declared.written.Member.{Member}
 use Rattle.tree_check.specs.declared.written.Member.TheVariants.{Name, Number}
 use Rattle.tree_check.specs.Written.{Pack, Written, IsWritten, IsMemberAt, level_at, pack_at, no_pack, kind_written, pack_written, written_of}
-use Rattle.tree_check.specs.Faults.{rate_at, named, rate_of_named, member_rate, members_of, before, to_place, HasNoFault}
-use Rattle.tree_check.specs.TextTree.{leaf_named, number_of, text_making, text_tree}
+use Rattle.tree_check.specs.Faults.{rate_at, named, rate_of_named, member_rate, members_of, before, HasNoFault}
+use Rattle.tree_check.specs.TextTree.{leaf_named, text_making, text_tree}
 use Rattle.tree_check.proofs.LevelLists.{all_at}
 use Rattle.tree_check.proofs.Faultless.{number_in, pack_is, good, name_is, there_is, numbers_all, numbers_long}
 use Rattle.tree_check.proofs.TextLevels.{each_level, last_level, low_last}
 use Rattle.tree_check.proofs.TextLeaves.{text_is_tree_of, scale_is, idles_told, place_long, some_idle, leaves_long, entry_k, leaf_k, named_k}
 use Rattle.tree_check.proofs.LevelNodes.{pack_of, place_is}
 use Rattle.tree_check.proofs.WrittenTree.{idle_at}
-use Rattle.tree_check.proofs.Seen.{pack_kinds}
 use Rattle.tree_check.proofs.SeenLevels.{kind_for, each_seen, IsSeenLevel}
 
 -- the name that is found at j is that of task j

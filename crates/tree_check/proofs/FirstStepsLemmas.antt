@@ -1,15 +1,12 @@
 -- Level 0 of a text's tree, member by member: what each leaf may ask.
-use Rattle.std.proofs.Common.{◌≡◌, ℕ, zero, suc, ◌+◌, ◌-◌, ◌<◌, ◌≤◌, List, [], ◌∷◌, ◌++◌, map, max, length, get_or, take, drop, replicate, refl, ap, ap₂, arith, inl, inr, sym, subst, ◌∙◌}
-use Rattle.std.proofs.lemmas.Bool.{cases_lt}
+use Rattle.std.proofs.Common.{◌≡◌, ℕ, zero, suc, ◌+◌, ◌-◌, ◌<◌, ◌≤◌, List, [], ◌∷◌, ◌++◌, map, max, length, get_or, take, drop, replicate, refl, ap, ap₂, arith, sym, subst, ◌∙◌}
 use Rattle.std.proofs.lemmas.List.{length-map, length-take-le, length-replicate, length-append, get_or-map, get_or-replicate, get_or_append_left, get_or-append_right}
 use Rattle.std.specs.List.{AllByRecursion}
 use Rattle.sched_base.specs.FirstFit.{with_item}
 use Rattle.run_tree.specs.declared.kinds.Kind.TheVariants as kind
 use Rattle.run_tree.specs.Tree.{rate}
 use Rattle.run_tree.specs.Making.{Making, Item, started, put, put_items, last_rates}
-use Rattle.run_tree.specs.Maker.{leaf_count}
 use Rattle.run_tree.proofs.PackLists.{length_apart}
-use Rattle.tree_laws.proofs.LeafEntries.{entries}
 use Rattle.tree_laws.proofs.PackItems.{IsLeafItem, item_entries}
 use Rattle.tree_laws.proofs.FirstLevel.{empty_making}
 use Rattle.tree_laws.proofs.Sizes.{leaves_counted}
@@ -20,7 +17,7 @@ use Rattle.tree_check.specs.TextTree.{leaf_item, homes_from}
 use Rattle.tree_check.specs.FirstSteps.{first_making, MayCome}
 use Rattle.tree_check.proofs.Told.{told_rates, told_grow, told_room, told_leaves, item_rates, Within, IsTold}
 use Rattle.tree_check.proofs.LevelLists.{all_at, length-homes, AllHave}
-use Rattle.tree_check.proofs.Faultless.{have, numbers, numbers_long, numbers_apart, numbers_low, printed, printed_are, printed_within}
+use Rattle.tree_check.proofs.Faultless.{have, numbers, numbers_long, numbers_apart, numbers_low, printed_are, printed_within}
 use Rattle.tree_check.proofs.TextLevels.{first_items, rates_of_items, low_0}
 use Rattle.tree_check.proofs.TextLeaves.{place_long}
 

@@ -1,15 +1,14 @@
 -- The first fault of a level from that of its packs, and that of the text from those of its levels.
-use Rattle.std.proofs.Common.{◌≡◌, ◌≢◌, ℕ, zero, suc, ◌+◌, ◌-◌, ◌*◌, ◌^◌, ◌<◌, ◌≤◌, ◌⊎◌, Bool, true, false, List, [], ◌∷◌, ◌++◌, Option, Some, None, map, length, get_or, MatchOption, refl, ap, arith, inl, inr, sym, subst, ◌∙◌}
-use Rattle.std.specs.Prelude.{sum}
+use Rattle.std.proofs.Common.{◌≡◌, ℕ, zero, suc, ◌+◌, ◌<◌, ◌≤◌, ◌⊎◌, Bool, false, List, [], ◌∷◌, ◌++◌, Option, Some, None, length, get_or, MatchOption, refl, ap, arith, inl, inr, sym, subst, ◌∙◌}
 use Rattle.std.specs.List.{range_with_len, sum_by}
 use Rattle.std.proofs.lemmas.Bool.{cases_eq, cases_lt, cases_Bool, both_ways}
 use Rattle.std.proofs.lemmas.List.Sums.{sum_by_push}
 use Rattle.tree_check.specs.declared.check.Fault.{Fault}
 use Rattle.tree_check.specs.declared.faults.TreeKind.{TreeKind}
 use Rattle.tree_check.specs.declared.faults.TreeKind.TheVariants.{Total, Unplaced, Member, Rate, Pair, Unfinished}
-use Rattle.tree_check.specs.Written.{Pack, Written, IsWritten, level_at, pack_at, no_pack, level_line, pack_line, end_line}
-use Rattle.tree_check.specs.Faults.{to_place, rate_at, members_of, names_at, rank, LeavesOut, IsUnfinished, HasFault, HasNone, IsFirstOf, HasNoFault, IsFirstFault}
-use Rattle.tree_check.specs.Scans.{names_of, Stands, AreMarks, HasUnmarked, HasPackFault, HasFaultBelow, HasFaultIn, IsUnfilled, IsLineFault}
+use Rattle.tree_check.specs.Written.{Written, level_at, level_line, end_line}
+use Rattle.tree_check.specs.Faults.{to_place, rank, LeavesOut, IsUnfinished, HasFault, HasNone, IsFirstOf, HasNoFault, IsFirstFault}
+use Rattle.tree_check.specs.Scans.{names_of, AreMarks, HasUnmarked, HasFaultBelow, HasFaultIn, IsLineFault}
 use Rattle.tree_check.proofs.PackScans.{IsFirstBelow, length_names}
 
 -- ---- what the marks leave out

@@ -1,7 +1,7 @@
 -- Marks of what a level's members name, one member more.
-use Rattle.std.proofs.Common.{◌≡◌, ◌≢◌, ℕ, zero, suc, ◌+◌, ◌-◌, ◌<◌, ◌≤◌, ◌⊎◌, ◌&&◌, Bool, true, false, List, [], ◌∷◌, ◌++◌, Option, Some, None, map, min, length, get_or, replicate, take, set, MatchBool, refl, ap, arith, inl, inr, sym, subst, ◌∙◌}
+use Rattle.std.proofs.Common.{◌≡◌, ◌≢◌, ℕ, ◌<◌, ◌≤◌, ◌⊎◌, ◌&&◌, Bool, true, false, List, [], ◌∷◌, ◌++◌, Option, Some, None, length, get_or, replicate, take, set, MatchBool, refl, ap, arith, inl, inr, sym, subst, ◌∙◌}
 use Rattle.std.proofs.lemmas.Bool.{cases_eq, cases_lt, both_ways}
-use Rattle.std.proofs.lemmas.List.{append_assoc, length-append, length-set, get_or-set_same, get_or-set_other, get_or_append_left, get_or-append_right, get_or_past, take-append-le, length-replicate, get_or-replicate}
+use Rattle.std.proofs.lemmas.List.{append_assoc, length-append, length-set, get_or-set_same, get_or-set_other, get_or_append_left, get_or_past, take-append-le, length-replicate, get_or-replicate}
 use Rattle.tree_check.specs.Scans.{rate_in, Stands, IsBadAfter, HasBadAfter, AreMarks}
 
 -- ---- names, one more

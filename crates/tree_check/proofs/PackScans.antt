@@ -1,14 +1,14 @@
 -- One pack more of a scan: its bad members, its rate, its pairs, and the first fault so far.
-use Rattle.std.proofs.Common.{◌≡◌, ◌≢◌, ℕ, zero, suc, ◌+◌, ◌-◌, ◌*◌, ◌^◌, ◌<◌, ◌≤◌, ◌⊎◌, Bool, true, false, cond, eqb, leb, List, [], ◌∷◌, ◌++◌, Option, Some, None, map, min, length, get_or, take, drop, MatchOption, refl, ap, arith, inl, inr, sym, subst, ◌∙◌}
+use Rattle.std.proofs.Common.{◌≡◌, ◌≢◌, ℕ, zero, suc, ◌+◌, ◌-◌, ◌^◌, ◌<◌, ◌≤◌, ◌⊎◌, cond, eqb, leb, List, [], ◌∷◌, ◌++◌, Option, Some, None, map, min, length, get_or, take, drop, MatchOption, refl, ap, arith, inl, inr, sym, subst, ◌∙◌}
 use Rattle.std.specs.Prelude.{sum}
 use Rattle.std.proofs.lemmas.Bool.{cases_eq, cases_lt, cond-true, cond-false, eq-eqb, eqb-true, le-leb, leb-true, false_from_ne_true}
-use Rattle.std.proofs.lemmas.List.{append_assoc, length-append, length-map, map-append, get_or_append_left, get_or-append_right}
+use Rattle.std.proofs.lemmas.List.{append_assoc, length-append, length-map, map-append, get_or_append_left}
 use Rattle.tree_check.specs.declared.check.Fault.{Fault}
 use Rattle.tree_check.specs.declared.faults.TreeKind.{TreeKind}
 use Rattle.tree_check.specs.declared.faults.TreeKind.TheVariants.{Total, Unplaced, Member, Rate, Pair, Unfinished}
-use Rattle.tree_check.specs.Written.{Pack, Written, level_at, pack_at, no_pack, level_line, pack_line}
-use Rattle.tree_check.specs.Faults.{to_place, named, rate_of_named, member_rate, members_of, before, names_at, members_rate, rank, IsBadMember, HasBadMember, HasRoomWith, HasNone, IsFirstOf}
-use Rattle.tree_check.specs.Scans.{rate_in, names_of, Stands, IsBadAfter, HasBadAfter, IsLeast, fault_of, HasPackFault, HasFaultBelow, with_fault}
+use Rattle.tree_check.specs.Written.{Pack, Written, level_at, pack_at, pack_line}
+use Rattle.tree_check.specs.Faults.{to_place, named, rate_of_named, member_rate, members_of, before, names_at, members_rate, rank, HasBadMember, HasRoomWith, HasNone, IsFirstOf}
+use Rattle.tree_check.specs.Scans.{rate_in, names_of, IsBadAfter, HasBadAfter, IsLeast, fault_of, HasPackFault, HasFaultBelow, with_fault}
 use Rattle.tree_check.proofs.MoreHomes.{members_more}
 
 -- ---- a part of a list of names

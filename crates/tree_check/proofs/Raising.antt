@@ -1,22 +1,21 @@
 -- A level whose duals go to homes that are told, in an order that is told.
-use Rattle.std.proofs.Common.{◌≡◌, ℕ, zero, suc, ◌+◌, ◌-◌, ◌*◌, ◌<◌, ◌≤◌, List, [], ◌∷◌, ◌++◌, map, length, get_or, refl, ap, ap₂, arith, inl, inr, sym, subst, subst₂, ◌∙◌, None}
+use Rattle.std.proofs.Common.{◌≡◌, ℕ, suc, ◌+◌, ◌-◌, ◌*◌, ◌<◌, ◌≤◌, List, [], ◌∷◌, ◌++◌, length, get_or, refl, ap, ap₂, arith, inl, inr, sym, subst, subst₂, ◌∙◌, None}
 use Rattle.std.proofs.lemmas.Bool.{ltb-true, lt-ltb}
 use Rattle.std.proofs.lemmas.List.{append-nil, length-map}
 use Rattle.std.specs.List.{AllByRecursion}
 use Rattle.sched_base.specs.FirstFit.{with_item}
 use Rattle.run_tree.specs.Tree.{Tree, rate, level, dual, IsPack}
-use Rattle.run_tree.specs.Making.{Making, Item, last_rates, lower_packs, new_level, dual_items, put_items, lifted}
+use Rattle.run_tree.specs.Making.{Making, lower_packs, new_level, dual_items, lifted}
 use Rattle.tree_laws.proofs.LeafEntries.{entries}
 use Rattle.tree_laws.proofs.MakingSteps.{last_at, Among, IsMaking}
-use Rattle.tree_laws.proofs.PackItems.{item_entries, parts}
-use Rattle.tree_laws.proofs.FirstFitRates.{PairsExceed, with_item_some, with_item_one}
+use Rattle.tree_laws.proofs.FirstFitRates.{PairsExceed, with_item_some}
 use Rattle.tree_laws.proofs.LastLevel.{IsLevel, AreApart, AllSome, total, is_lower, kept_in, kept_from, kept_apart, begun, some_with_item, total_with_item}
 use Rattle.tree_laws.proofs.NextLevel.{lift_whole, dual_rates, duals_some, duals_long, duals_have_no_part}
 use Rattle.tree_laws.proofs.RaisedLevels.{duals_no_entries}
 use Rattle.sched_base.proofs.UnitLemmas.{multiple}
 use Rattle.sched_base.proofs.ListLemmas.{sum_list}
 use Rattle.tree_check.proofs.Apart.{sum_of_same}
-use Rattle.tree_check.proofs.Told.{told_rates, item_rates, WithinAfter, IsTold, told_duals}
+use Rattle.tree_check.proofs.Told.{told_rates, WithinAfter, IsTold, told_duals}
 
 -- these are the packs of the last level that aren't roots, in some order
 pub record AreLower (m : Making) (ps : List ℕ) : Type 0 where

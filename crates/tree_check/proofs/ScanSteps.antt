@@ -1,13 +1,12 @@
 -- What the scan of a level has once one pack more was seen, and the numbers of its lines.
-use Rattle.std.proofs.Common.{◌≡◌, ℕ, zero, suc, ◌+◌, ◌-◌, ◌*◌, ◌^◌, ◌<◌, ◌≤◌, List, ◌∷◌, ◌++◌, Bool, Option, Some, None, map, min, length, take, MatchOption, refl, ap, ap₂, arith, sym, subst, ◌∙◌}
+use Rattle.std.proofs.Common.{◌≡◌, ℕ, suc, ◌+◌, ◌-◌, ◌*◌, ◌^◌, ◌<◌, ◌≤◌, ◌≢◌, List, ◌++◌, Bool, Option, Some, None, map, min, length, take, ap, ap₂, arith, sym, subst, ◌∙◌}
 use Rattle.std.specs.Prelude.{sum}
 use Rattle.std.proofs.Math.Nat.{mul-le-mul_left}
 use Rattle.tree_check.specs.declared.check.Fault.{Fault}
-use Rattle.tree_check.specs.declared.faults.TreeKind.{TreeKind}
 use Rattle.tree_check.specs.declared.written.Member.{Member}
-use Rattle.tree_check.specs.Written.{Pack, Written, IsWritten, IsWrittenPack, level_at, pack_at, no_pack, level_line, pack_line, end_line}
-use Rattle.tree_check.specs.Faults.{to_place, named, members_rate}
-use Rattle.tree_check.specs.Scans.{rate_in, names_of, HasBadAfter, AreMarks, IsPlaced, IsLeast, fault_of, with_fault}
+use Rattle.tree_check.specs.Written.{Pack, Written, IsWritten, IsWrittenPack, level_at, pack_at, no_pack, level_line, pack_line}
+use Rattle.tree_check.specs.Faults.{to_place, named}
+use Rattle.tree_check.specs.Scans.{names_of, AreMarks, IsPlaced, IsLeast, IsUnfilled, fault_of, with_fault}
 use Rattle.tree_check.proofs.LevelLists.{all_at}
 use Rattle.tree_check.proofs.PackScans.{names_more, has_bad, no_bad, rates_named, least_more, pack_first, first_more, IsSum, IsFirstBelow}
 use Rattle.tree_check.proofs.LevelScans.{line_more, lines_grow}
@@ -70,3 +69,33 @@ total_right w s iw e =
     let p : w.set.processors * w.scale ≤ w.set.processors * 2 ^ 94 = mul-le-mul_left w.set.processors iw.scale_fits in
     let m = iw.lawful.few_processors in
     omega (arith, e, p, m)
+
+-- of no pack yet any number past the scale is the least
+pub least_none : (scale : ℕ) (packs : List Pack) → scale < 2 ^ 128 - 1 → IsLeast scale packs 0 (2 ^ 128 - 1)
+least_none scale packs fits = record { some = λ r within low. absurd (omega (arith, fits, within, low)); all = λ j low. absurd (omega (arith, low)) }
+
+-- the processors' room is a number
+pub room_fits : (w : Written) (processors scale : ℕ) → IsWritten w → processors ≡ w.set.processors → scale ≡ w.scale → processors * scale < 2 ^ 128 - 1
+room_fits w processors scale iw p s =
+    let most : w.set.processors * w.scale ≤ w.set.processors * 2 ^ 94 = mul-le-mul_left w.set.processors iw.scale_fits in
+    let few = iw.lawful.few_processors in
+    let same : processors * scale ≡ w.set.processors * w.scale = ap₂ (λ (x y : ℕ). x * y) p s in
+    omega (arith, most, few, same)
+
+-- the capped sum of level 0 tells whether its leaves fill the processors
+pub filled : (w : Written) (l : ℕ) (rates : List ℕ) (total processors scale : ℕ) → IsWritten w → rates ≡ to_place w l → total ≡ min (sum rates) (2 ^ 128 - 1)
+    → total ≡ processors * scale → processors ≡ w.set.processors → scale ≡ w.scale → ¬ IsUnfilled w l
+filled w l rates total processors scale iw are is room p s unfilled =
+    unfilled.1 (ap (λ k. sum (to_place w k)) (sym unfilled.0) ∙ sym (ap sum are)
+    ∙ total_right w (sum rates) iw (sym is ∙ room ∙ ap₂ (λ (x y : ℕ). x * y) p s))
+
+pub unfilled : (w : Written) (l : ℕ) (rates : List ℕ) (total processors scale : ℕ) → IsWritten w → rates ≡ to_place w l → total ≡ min (sum rates) (2 ^ 128 - 1)
+    → total ≢ processors * scale → processors ≡ w.set.processors → scale ≡ w.scale → l ≡ 0 → IsUnfilled w l
+unfilled w l rates total processors scale iw are is other p s first = (
+  first,
+  λ full.
+      let fits = room_fits w processors scale iw p s in
+      let same : processors * scale ≡ w.set.processors * w.scale = ap₂ (λ (x y : ℕ). x * y) p s in
+      let whole : sum rates ≡ w.set.processors * w.scale = ap sum are ∙ ap (λ k. sum (to_place w k)) first ∙ full in
+      other (omega (arith, is, fits, same, whole)),
+)

@@ -1,8 +1,8 @@
 -- The levels of a text with no fault are made one by one, and the last one ends the tree.
-use Rattle.std.proofs.Common.{◌≡◌, ℕ, zero, suc, ◌+◌, ◌-◌, ◌*◌, ◌<◌, ◌≤◌, List, [], ◌∷◌, ◌++◌, Option, Some, None, map, length, get_or, refl, ap, ap₂, arith, inl, inr, sym, subst, subst₂, ◌∙◌}
+use Rattle.std.proofs.Common.{◌≡◌, ℕ, zero, suc, ◌+◌, ◌-◌, ◌*◌, ◌<◌, ◌≤◌, List, [], ◌∷◌, map, length, get_or, refl, ap, ap₂, arith, inl, inr, sym, subst, subst₂, ◌∙◌}
 use Rattle.std.specs.Prelude.{sum}
-use Rattle.std.proofs.lemmas.Bool.{cases_eq, cases_lt, ltb-true}
-use Rattle.std.proofs.lemmas.List.{get_or-map, length-map, ext_get_or, get_or_append_left, get_or-append_right, length-append}
+use Rattle.std.proofs.lemmas.Bool.{cases_eq, ltb-true}
+use Rattle.std.proofs.lemmas.List.{get_or-map, length-map, ext_get_or}
 use Rattle.std.specs.List.{AllByRecursion}
 use Rattle.sched_base.specs.FirstFit.{with_item}
 use Rattle.sched_base.specs.Counting.{sum_to}
@@ -11,7 +11,7 @@ use Rattle.run_tree.specs.Tree.{Tree, rate, IsTree}
 use Rattle.run_tree.specs.Making.{Making, Item, started, last_rates, lower_packs, new_level, dual_items, put_items, lifted}
 use Rattle.run_tree.specs.Maker.{packs_named}
 use Rattle.tree_laws.proofs.LeafEntries.{entries}
-use Rattle.tree_laws.proofs.MakingSteps.{last_at, Among}
+use Rattle.tree_laws.proofs.MakingSteps.{last_at}
 use Rattle.tree_laws.proofs.PackItems.{item_entries, parts, IsLeafItem}
 use Rattle.tree_laws.proofs.LastLevel.{IsLevel, AllSome, total, is_lower, kept_in}
 use Rattle.tree_laws.proofs.NextLevel.{is_tree, dual_rates, duals_long}
@@ -20,14 +20,14 @@ use Rattle.tree_laws.proofs.FirstLevel.{same_total, empty_making}
 use Rattle.tree_check.specs.declared.faults.TreeKind.TheVariants as kinds
 use Rattle.tree_check.specs.declared.written.Member.{Member}
 use Rattle.tree_check.specs.declared.written.Member.TheVariants.{Name, Number}
-use Rattle.tree_check.specs.Written.{Pack, Written, IsWritten, level_at, pack_at, no_pack, level_line, end_line}
+use Rattle.tree_check.specs.Written.{Pack, Written, IsWritten, level_at, no_pack, level_line, end_line}
 use Rattle.tree_check.specs.Faults.{to_place, rate_at, named, member_rate, members_of, HasNoFault}
 use Rattle.tree_check.specs.TextTree.{leaf_item, number_of, homes_from, text_making, text_tree}
 use Rattle.tree_check.proofs.Apart.{sum_of_all}
-use Rattle.tree_check.proofs.Told.{told_rates, item_rates, Within, WithinAfter, IsTold, told_leaves, told_room}
+use Rattle.tree_check.proofs.Told.{told_rates, item_rates, Within, WithinAfter, told_leaves, told_room}
 use Rattle.tree_check.proofs.Raising.{AreLower, told_some, told_total, raise_told, raise_level, raise_whole, raise_entries}
 use Rattle.tree_check.proofs.LevelLists.{length-homes}
-use Rattle.tree_check.proofs.Faultless.{number_in, there_is, numbers, numbers_long, numbers_apart, numbers_all, numbers_low, number_some, number_is, named_is, rate_named, printed, printed_at, printed_long, printed_are, printed_within, printed_pairs, printed_some}
+use Rattle.tree_check.proofs.Faultless.{number_in, there_is, numbers, numbers_long, numbers_apart, numbers_all, numbers_low, number_some, rate_named, printed, printed_at, printed_long, printed_are, printed_within, printed_pairs, printed_some}
 
 -- the tree in the making is that of the text's first levels
 pub record IsTextLevel (w : Written) (l : ℕ) (m : Making) : Type 0 where

@@ -1,9 +1,8 @@
 -- No fault stands in what a reduction tree of a set is written as.
-use Rattle.std.proofs.Common.{◌≡◌, ℕ, zero, suc, ◌+◌, ◌-◌, ◌*◌, ◌<◌, ◌≤◌, ◌≢◌, ◌⊎◌, Bool, true, false, List, [], ◌∷◌, ◌++◌, Option, Some, None, map, length, get_or, take, refl, ap, ap₂, arith, inl, inr, sym, subst, ◌∙◌}
+use Rattle.std.proofs.Common.{◌≡◌, ℕ, zero, suc, ◌+◌, ◌-◌, ◌*◌, ◌<◌, ◌≤◌, ◌≢◌, ◌⊎◌, List, [], ◌∷◌, Option, Some, None, map, length, get_or, take, refl, ap, ap₂, arith, inl, inr, sym, subst, ◌∙◌}
 use Rattle.std.specs.Prelude.{sum}
-use Rattle.std.proofs.lemmas.Bool.{cases_eq, cases_lt, cases_Bool}
+use Rattle.std.proofs.lemmas.Bool.{cases_lt, cases_Bool}
 use Rattle.std.proofs.lemmas.List.{get_or-map, length-map, length-append, get_or_past}
-use Rattle.std.specs.List.{flat_map}
 use Rattle.sched_base.specs.declared.rows.Leaf.{Leaf}
 use Rattle.sched_base.specs.declared.rows.Leaf.TheVariants.{Task, Wait, Idle, Empty}
 use Rattle.sched_base.specs.Counting.{sum_to, bit}
@@ -13,25 +12,24 @@ use Rattle.sched_base.proofs.CountingLemmas.{bit_at, bit_off, find_below}
 use Rattle.sched_base.proofs.SumLemmas.{sum_to-same}
 use Rattle.sched_base.proofs.ListLemmas.{sum_list}
 use Rattle.run_tree.specs.Tree.{Tree, IsTree, IsPack, IsMember, IsLeaf, IsDual, kind_at, leaf, leaf_of, rate, home, level, primal, member, members, dual, is_leaf}
-use Rattle.run_tree.specs.TreeOfSet.{IsTreeOf, task_id, idle_count}
+use Rattle.run_tree.specs.TreeOfSet.{IsTreeOf, task_id}
 use Rattle.run_tree.specs.Schedule.{packs_at}
 use Rattle.run_tree.proofs.KindLemmas.{not_pack_leaf, not_pack}
 use Rattle.run_tree.proofs.TreeLemmas.{leaf_at_level}
 use Rattle.tree_laws.proofs.MakingSteps.{Among}
 use Rattle.tree_laws.proofs.LastLevel.{AreApart}
 use Rattle.tree_laws.proofs.FirstLevel.{same_total}
-use Rattle.tree_text.specs.Text.{is_idle_leaf, idle_node, place_in_level}
+use Rattle.tree_text.specs.Text.{is_idle_leaf}
 use Rattle.tree_text.proofs.SearchLemmas.{idle_absent}
 use Rattle.tree_check.specs.declared.faults.TreeKind.TheVariants as kinds
-use Rattle.tree_check.specs.declared.written.Member.{Member}
-use Rattle.tree_check.specs.declared.written.Member.TheVariants.{Name, Number}
-use Rattle.tree_check.specs.Written.{Pack, Written, level_at, pack_at, pack_written, written_of, no_pack}
+use Rattle.tree_check.specs.declared.written.Member.TheVariants.{Number}
+use Rattle.tree_check.specs.Written.{Pack, Written, level_at, pack_at}
 use Rattle.tree_check.specs.Faults.{to_place, rate_at, named, rate_of_named, member_rate, members_of, before, names_at, members_rate, HasNoFault}
 use Rattle.tree_check.proofs.Apart.{sum_of_all}
 use Rattle.tree_check.proofs.Faultless.{number_in, there_is}
 use Rattle.tree_check.proofs.TextLevels.{total_places}
-use Rattle.tree_check.proofs.LevelNodes.{pack_of, pack_in, packs_apart, place_is, placed, nodes_of, node_in_level, nodes_apart, nodes_all}
-use Rattle.tree_check.proofs.WrittenTree.{w, ht, count, levels_long, level_long, pack_is, word, members_long, name_is, is_alone, place_dual, place_idle, idles_long, idle_at, is_idle_true, idle_is_leaf, leaf_names, dual_names, names, rate_some, Names, Is}
+use Rattle.tree_check.proofs.LevelNodes.{pack_of, pack_in, packs_apart, nodes_of, node_in_level, nodes_apart, nodes_all}
+use Rattle.tree_check.proofs.WrittenTree.{w, ht, levels_long, level_long, pack_is, word, members_long, name_is, is_alone, place_dual, place_idle, idles_long, is_idle_true, idle_is_leaf, leaf_names, dual_names, names, rate_some, Names, Is}
 
 -- a task's number
 abbrev pub id_of : Leaf → ℕ

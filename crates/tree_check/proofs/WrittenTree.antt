@@ -1,35 +1,30 @@
 -- What a reduction tree of a set is written as has no fault.
-use Rattle.std.proofs.Common.{◌≡◌, ℕ, zero, suc, ◌+◌, ◌-◌, ◌*◌, ◌<◌, ◌≤◌, ◌≢◌, ◌⊎◌, Bool, true, false, List, [], ◌∷◌, ◌++◌, Option, Some, None, map, length, get_or, refl, ap, ap₂, arith, inl, inr, sym, subst, ◌∙◌, nat_eq, eq-eqb}
-use Rattle.std.specs.Prelude.{sum}
-use Rattle.std.proofs.lemmas.Bool.{cases_eq, cases_lt, cases_Bool, cond-true, cond-false, both_ways, eqb-true}
-use Rattle.std.proofs.lemmas.List.{get_or-map, length-map, length-append, get_or_append_left, get_or-append_right, get_or_past, map-append, ext_get_or}
+use Rattle.std.proofs.Common.{◌≡◌, ℕ, zero, suc, ◌+◌, ◌-◌, ◌<◌, ◌≢◌, ◌⊎◌, true, false, List, [], ◌∷◌, ◌++◌, Some, None, map, length, get_or, refl, ap, arith, inl, inr, sym, subst, ◌∙◌, eq-eqb}
+use Rattle.std.proofs.lemmas.Bool.{cases_Bool, cond-true, cond-false, both_ways, eqb-true}
+use Rattle.std.proofs.lemmas.List.{get_or-map, length-map, get_or_append_left, get_or-append_right, map-append}
 use Rattle.std.proofs.lemmas.List.FromFn.{get_or-map-range_with_len, length-map-range_with_len}
 use Rattle.std.proofs.lemmas.Slice.Eq.{bytes_eq-Decides}
-use Rattle.std.specs.List.{AllByRecursion, position_from, flat_map, range_with_len}
+use Rattle.std.specs.List.{position_from, flat_map}
 use Rattle.std.specs.Str.{bytes_eq}
 use Rattle.sched_base.specs.declared.rows.Leaf.{Leaf}
 use Rattle.sched_base.specs.declared.rows.Leaf.TheVariants.{Task, Wait, Idle, Empty}
 use Rattle.sched_base.specs.declared.sets.Task as declared
-use Rattle.sched_base.specs.Counting.{sum_to, bit}
 use Rattle.sched_base.specs.Scale.{rate_of}
 use Rattle.sched_base.specs.Sets.{SetContents, IsLawful, IsFree, NamesDiffer, task_at, no_task}
-use Rattle.sched_base.proofs.CountingLemmas.{bit_at, find_below}
 use Rattle.run_tree.specs.declared.kinds.Kind.{Kind}
 use Rattle.run_tree.specs.declared.kinds.Kind.TheVariants as kind
-use Rattle.run_tree.specs.Tree.{Tree, IsTree, IsPack, IsMember, IsLeaf, IsDual, kind_at, leaf, leaf_of, rate, home, level, primal, primal_of, members, dual, is_leaf, is_pack, is_dual}
+use Rattle.run_tree.specs.Tree.{Tree, IsTree, IsMember, IsLeaf, IsDual, kind_at, leaf, leaf_of, rate, home, level, primal, primal_of, members, dual, is_leaf, is_pack, is_dual}
 use Rattle.run_tree.specs.TreeOfSet.{IsTreeOf, task_id, idle_count, is_real}
 use Rattle.run_tree.specs.Schedule.{packs_at}
 use Rattle.run_tree.specs.Plans.{PlanContents}
 use Rattle.run_tree.proofs.KindLemmas.{KindOf, kind_of}
-use Rattle.tree_laws.proofs.MakingSteps.{Among}
-use Rattle.tree_laws.proofs.LastLevel.{AreApart}
 use Rattle.tree_text.specs.Text.{is_idle_leaf, idle_node, place_in_level}
-use Rattle.tree_text.proofs.SearchLemmas.{idle_found, idle_absent}
+use Rattle.tree_text.proofs.SearchLemmas.{idle_found}
 use Rattle.tree_check.specs.declared.written.Member.{Member}
-use Rattle.tree_check.specs.declared.written.Member.TheVariants.{Name, Number}
-use Rattle.tree_check.specs.Written.{Pack, Written, level_at, kind_written, leaf_written, pack_written, written_of, no_pack}
-use Rattle.tree_check.specs.Faults.{to_place, rate_at, named, rate_of_named, member_rate, members_of, names_at}
-use Rattle.tree_check.proofs.LevelNodes.{pack_of, pack_in, packs_apart, place_is, placed, nodes_of, node_in_level, nodes_apart, nodes_all}
+use Rattle.tree_check.specs.declared.written.Member.TheVariants.{Number}
+use Rattle.tree_check.specs.Written.{Pack, Written, level_at, kind_written, pack_written, written_of, no_pack}
+use Rattle.tree_check.specs.Faults.{rate_at, named, members_of, names_at}
+use Rattle.tree_check.proofs.LevelNodes.{pack_of, placed, nodes_of}
 
 -- the task of a name is found
 pub name_found : (tasks : List declared.Task) (i j : ℕ) → NamesDiffer tasks → j < length tasks → position_from (λ (u : declared.Task). bytes_eq u.name (task_at tasks j).name) i tasks ≡ Some (i + j)

@@ -1,6 +1,4 @@
 -- Why a tree that was read is refused.
-use Rattle.std.specs.Prelude.{ℕ}
-use Rattle.tree_check.specs.declared.faults.TreeKind.{TreeKind}
 use Rattle.tree_check.specs.declared.faults.TreeRefused.{TreeRefused}
 use Rattle.tree_check.specs.declared.faults.TreeRefused.TheVariants.{Fault, NoMemory}
 use Rattle.tree_check.specs.Written.{Written}

@@ -1,6 +1,6 @@
 -- What a scan of a level's packs finds, and what its marks say.
-use Rattle.std.specs.Prelude.{ℕ, ◌+◌, ◌-◌, ◌*◌, ◌^◌, ◌<◌, ◌≤◌, ◌≡◌, ◌≢◌, ◌⊎◌, ◌==◌, nat_le, Bool}
-use Rattle.std.specs.Prelude.{true, false, if◌then◌else◌, List, [], ◌∷◌, ◌++◌, Option}
+use Rattle.std.specs.Prelude.{ℕ, ◌-◌, ◌*◌, ◌^◌, ◌<◌, ◌≤◌, ◌≡◌, ◌≢◌, ◌⊎◌, ◌==◌, nat_le, Bool}
+use Rattle.std.specs.Prelude.{true, false, if◌then◌else◌, List, ◌++◌, Option}
 use Rattle.std.specs.Prelude.{Some, None, length, map, min, sum, take, slice_index_or, MatchOption}
 use Rattle.tree_check.specs.declared.faults.TreeKind.{TreeKind}
 use Rattle.tree_check.specs.declared.faults.TreeKind.TheVariants as kinds

@@ -14,7 +14,7 @@ use sched_base::NoMemory;
 use std::alloc::Global;
 
 /// A line at fault, and what is wrong there.
-#[derive(Clone, Copy, Debug, PartialEq, Eq)]
+#[derive(Clone, Copy)]
 pub(crate) struct Fault {
     pub(crate) line: u64,
     pub(crate) kind: TreeKind,

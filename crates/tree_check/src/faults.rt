@@ -6,7 +6,7 @@ use sched_base::NoMemory;
 use std::alloc::AllocError;
 
 /// What is wrong at a line of a tree text. Of several at one line the first of this list is told.
-#[derive(Clone, Copy, Debug, PartialEq, Eq)]
+#[derive(Clone, Copy, PartialEq, Eq)]
 pub enum TreeKind {
     /// The leaves' rates don't fill the processors: at the line of level 0.
     Total,
@@ -23,7 +23,7 @@ pub enum TreeKind {
 }
 
 /// Why a tree that was read has no plan.
-#[derive(Clone, Copy, Debug, PartialEq, Eq)]
+#[derive(Clone, Copy)]
 pub enum TreeRefused {
     /// The text is that of no reduction tree of its set. This line is the first at fault, counted from 1.
     Fault { line: u64, kind: TreeKind },

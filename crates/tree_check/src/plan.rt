@@ -1,5 +1,5 @@
 //! The plan of a text with no fault.
-ghost use Rattle.std.specs.Prelude.{◌≡◌, ◌≤◌, ◌<◌, ◌++◌, suc, length, map, replicate, IfOk, OnOk};
+ghost use Rattle.std.specs.Prelude.{◌≡◌, ◌≤◌, ◌<◌, ◌-◌, ◌++◌, [], suc, length, map, replicate, IfOk, OnOk};
 ghost use Rattle.run_tree.specs.Making.{lower_packs, lifted};
 ghost use Rattle.run_tree.specs.Maker.{NamesLower, packs_named};
 ghost use Rattle.tree_check.specs.Faults.{HasNoFault, to_place, before, members_of};
@@ -10,49 +10,39 @@ ghost use Rattle.tree_check.specs.Written.{level_at, pack_at};
 use crate::names::{leaf_of, named, number_of, rate_named};
 use crate::rates::to_place;
 use crate::written::{Member, Pack, ReadTree};
-use run_tree::{Plan, TreeMaker};
+use run_tree::{Plan, Tree, TreeMaker};
 use sched_base::NoMemory;
 use std::alloc::Global;
 
-fn add_numbers(order: &mut Vec<u32>, members: &[Member]) -> Result<(), NoMemory>
-    ensures { OnOk result (order.new.items ≡ order.old.items ++ map number_of members.now) }
+// Adds the number by which each of these members names a pack of the level below, and that of their own pack.
+fn add_members(
+    order: &mut Vec<u32>,
+    homes: &mut Vec<u32>,
+    members: &[Member],
+    pack: u32,
+) -> Result<(), NoMemory>
+    ensures order { OnOk result (order.new.items ≡ order.old.items ++ map number_of members.now) }
+    ensures homes { OnOk result (homes.new.items ≡ homes.old.items ++ replicate (length members.now) pack) }
 {
     for member in members {
         order.push(number_of(member))?;
-    }
-    Ok(())
-}
-
-// The numbers by which the members of these packs name packs of the level below.
-fn order_of(alloc: Global, packs: &[Pack]) -> Result<Vec<u32>, NoMemory>
-    ensures { IfOk result (λ order. order.items ≡ map number_of (members_of packs.now)) }
-{
-    let mut order = Vec::new(alloc);
-    for pack in packs {
-        add_numbers(&mut order, &pack.members)?;
-    }
-    Ok(order)
-}
-
-fn add_homes(homes: &mut Vec<u32>, count: usize, pack: u32) -> Result<(), NoMemory>
-    ensures { OnOk result (homes.new.items ≡ homes.old.items ++ replicate count pack) }
-{
-    for _ in 0..count {
         homes.push(pack)?;
     }
     Ok(())
 }
 
-// The pack of each member.
-fn homes_of(alloc: Global, packs: &[Pack]) -> Result<Vec<u32>, NoMemory>
-    requires { length packs.now ≤ 1280 }
-    ensures { IfOk result (λ homes. homes.items ≡ homes_from 0 packs.now) }
+// The same of the members of these packs, one pack after the other.
+fn add_packs(order: &mut Vec<u32>, homes: &mut Vec<u32>, packs: &[Pack]) -> Result<(), NoMemory>
+    requires few { length packs.now ≤ 1280 }
+    requires order { order.old.items ≡ [] }
+    requires homes { homes.old.items ≡ [] }
+    ensures order { OnOk result (order.new.items ≡ map number_of (members_of packs.now)) }
+    ensures homes { OnOk result (homes.new.items ≡ homes_from 0 packs.now) }
 {
-    let mut homes = Vec::new(alloc);
     for (i, pack) in packs.iter().enumerate() {
-        add_homes(&mut homes, pack.count(), i as u32)?;
+        add_members(order, homes, pack.members(), i as u32)?;
     }
-    Ok(homes)
+    Ok(())
 }
 
 // One more level.
@@ -63,8 +53,9 @@ fn add_level(alloc: Global, maker: &mut TreeMaker, packs: &[Pack]) -> Result<(),
     requires order { NamesLower maker.old (map number_of (members_of packs.now)) }
     ensures { OnOk result (maker.new ≡ lifted (packs_named maker.old (map number_of (members_of packs.now))) (homes_from 0 packs.now) maker.old) }
 {
-    let order = order_of(alloc, packs)?;
-    let homes = homes_of(alloc, packs)?;
+    let mut order = Vec::new(alloc);
+    let mut homes = Vec::new(alloc);
+    add_packs(&mut order, &mut homes, packs)?;
     maker.lift_order(&order, &homes)
 }
 
@@ -106,18 +97,39 @@ fn first_level(tree: &ReadTree, rates: &[u128], maker: &mut TreeMaker) -> Result
     Ok(())
 }
 
+// All levels.
+fn add_levels(alloc: Global, tree: &ReadTree, maker: &mut TreeMaker) -> Result<(), NoMemory>
+    requires no_fault { HasNoFault tree.now }
+    requires maker { maker.old ≡ first_making tree.now 0 }
+    ensures { OnOk result (maker.new ≡ text_making tree.now (length tree.now.levels - 1)) }
+{
+    let levels = tree.levels();
+    let rates = to_place(alloc, tree, 0)?;
+    first_level(tree, &rates, maker)?;
+    for l in 1..levels {
+        add_level(alloc, maker, tree.packs(l))?;
+    }
+    Ok(())
+}
+
+// The tree of the text.
+fn tree_of(alloc: Global, tree: &ReadTree) -> Result<Tree, NoMemory>
+    requires { HasNoFault tree.now }
+    ensures { IfOk result (λ made. made ≡ text_tree tree.now) }
+{
+    let scale = tree.scale();
+    let mut maker = TreeMaker::start(alloc, tree.set().processors(), scale);
+    add_levels(alloc, tree, &mut maker)?;
+    Ok(maker.finish())
+}
+
 /// The plan whose tree is that of the text.
 pub(crate) fn plan_of(alloc: Global, tree: &ReadTree) -> Result<Plan, NoMemory>
     requires { HasNoFault tree.now }
     ensures plan { IfOk result (λ plan. plan ≡ record { set = tree.now.set; tree = text_tree tree.now }) }
     ensures text { IfOk result (λ plan. IsTextOfTree tree.now) }
 {
-    let levels = tree.levels();
-    let rates = to_place(alloc, tree, 0)?;
-    let mut maker = TreeMaker::start(alloc, tree.set().processors(), tree.scale());
-    first_level(tree, &rates, &mut maker)?;
-    for l in 1..levels {
-        add_level(alloc, &mut maker, tree.packs(l))?;
-    }
-    Ok(Plan::new(tree.set().copy()?, tree.scale(), maker.finish()))
+    let scale = tree.scale();
+    let set = tree.set().copy()?;
+    Ok(Plan::new(set, scale, tree_of(alloc, tree)?))
 }

@@ -50,13 +50,6 @@ impl Pack {
     {
         self.members.as_slice()
     }
-
-    /// The number of members.
-    pub(crate) fn count(&self) -> usize
-        ensures { result ≡ length self.now.members }
-    {
-        self.members.len()
-    }
 }
 
 /// The packs of a level, in the order of their lines.

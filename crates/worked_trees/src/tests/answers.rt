@@ -7,7 +7,7 @@ use tree_reader::{TreeFault, read_tree};
 use tree_text::write_tree;
 
 /// What is answered for a tree text.
-#[derive(Debug, PartialEq, Eq, Drop)]
+#[derive(PartialEq, Eq, Drop)]
 pub(super) enum Answer {
     /// It isn't of the form, at this line.
     BadLine(u64),

@@ -1,6 +1,6 @@
 use Rattle.std.proofs.Common.{◌≡◌, ℕ, suc, ◌+◌, ◌<◌, length, ap, sym, subst, ◌∙◌, arith}
 use Rattle.tree_check.specs.declared.faults.TreeKind.TheVariants.{Unfinished}
-use Rattle.tree_check.specs.Written.{level_at, level_line, end_line}
+use Rattle.tree_check.specs.Written.{level_line, end_line}
 use Rattle.tree_check.specs.Faults.{IsFirstFault}
 use Rattle.tree_check.proofs.LevelScans.{IsLevelFirst, IsFineBelow, first_in_level, first_at_end, no_fault, fine_more, line_more}
 use Rattle.tree_check.proofs.ScanSteps.{lines_room}

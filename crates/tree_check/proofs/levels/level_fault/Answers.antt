@@ -1,8 +1,9 @@
-use Rattle.std.proofs.Common.{◌≡◌, ℕ, Bool, false, List, [], length, replicate, ap, sym, subst, ◌∙◌}
+use Rattle.std.proofs.Common.{◌≡◌, ℕ, false, [], length, replicate, ap, sym, subst, ◌∙◌}
 use Rattle.tree_check.specs.Scans.{AreMarks, HasFaultIn}
 use Rattle.tree_check.specs.Faults.{IsFirstOf}
 use Rattle.tree_check.proofs.LevelScans.{level_first, line_first}
 use Rattle.tree_check.proofs.MarkLemmas.{marks_none}
+use Rattle.std.proofs.lemmas.Result.{IfOk-from_err}
 use Rattle.tree_check.proofs.levels.level_fault.Goals as goal
 
 pub returns : goal.returns
@@ -21,3 +22,21 @@ returns-in-Some c =
     let l = c.args.l in
     let kind = c.in-Some.kind in
     subst (λ (line : ℕ). IsFirstOf (HasFaultIn w l) line kind) (sym c.requires.line) (line_first w l kind c.in-Some.ensures)
+
+pub returns-in_err-rates : goal.returns-in_err-rates
+returns-in_err-rates c = IfOk-from_err _ _ c.from_residual.ensures.0
+
+pub returns-in_err-marks : goal.returns-in_err-marks
+returns-in_err-marks c = IfOk-from_err _ _ c.from_residual-in_err-marks.ensures.0
+
+pub scan-first-requires-clause-level : goal.scan-first-requires-clause-level
+scan-first-requires-clause-level c = c.requires.level
+
+pub scan-first-requires-clause-line : goal.scan-first-requires-clause-line
+scan-first-requires-clause-line c = c.requires.line
+
+pub scan-first-requires-clause-rates : goal.scan-first-requires-clause-rates
+scan-first-requires-clause-rates c = c.deref.ensures.value ∙ c.in_ok-rates.ensures
+
+pub line_fault-requires-clause-rates : goal.line_fault-requires-clause-rates
+line_fault-requires-clause-rates c = c.deref-2.ensures.value ∙ c.in_ok-rates.ensures

@@ -1,10 +1,9 @@
-use Rattle.std.proofs.Common.{◌≡◌, ◌+◌, ◌<◌, ℕ, suc, List, length, get_or, min, ap, sym, subst, ◌∙◌, arith}
-use Rattle.std.proofs.lemmas.List.{get_or_default}
-use Rattle.tree_check.specs.declared.faults.TreeKind.{TreeKind}
+use Rattle.std.proofs.Common.{◌≡◌, ◌+◌, ◌<◌, ◌≤◌, ℕ, List, length, get_or, ap, sym, subst, ◌∙◌, arith}
+use Rattle.std.proofs.lemmas.List.{get_or_default, take_all}
 use Rattle.tree_check.specs.Written.{Pack, level_at, pack_at, no_pack, pack_line}
-use Rattle.tree_check.specs.Scans.{IsLeast, fault_of, with_fault}
+use Rattle.tree_check.specs.Scans.{AreMarks, IsLeast, fault_of, names_of, with_fault}
 use Rattle.tree_check.proofs.PackScans.{IsFirstBelow}
-use Rattle.tree_check.proofs.ScanSteps.{IsScanStep, marks_step, least_step, first_step, lines_room}
+use Rattle.tree_check.proofs.ScanSteps.{IsScanStep, least_none, pack_within, marks_step, least_step, first_step, lines_room}
 use Rattle.tree_check.proofs.levels.scan.Goals as goal
 
 pub overflow_add-line : goal.overflow_add-line
@@ -50,3 +49,34 @@ returns-clause-first c =
     let e : c.loop-i.i ≡ length (level_at c.args.tree.now c.args.l) = omega (arith, c.loop-i-test.false, c.loop-i.auto.i-end, ap length c.packs-pack-items.ensures) in
     let P : ℕ → Type 0 = λ n. IsFirstBelow c.args.tree.now c.args.l n c.loop-i.first in
     subst P e c.loop-i.invariant.2
+
+pub packs-pack-items-requires : goal.packs-pack-items-requires
+packs-pack-items-requires c = c.requires.level
+
+pub loop-i-init : goal.loop-i-init
+loop-i-init c =
+    let value = c.scale-scale.ensures.value in
+    let fits = c.scale-scale.ensures.lawful.scale_fits in
+    (c.requires.marks, least_none c.scale-scale.result (level_at c.args.tree.now c.args.l) (omega (arith, value, fits)), λ kind line has. let low = has.1 in absurd (omega (arith, low)))
+
+pub place-sum-requires : goal.place-sum-requires
+place-sum-requires c = c.loop-i.invariant.0.long
+
+pub pack_fault-kind-requires : goal.pack_fault-kind-requires
+pack_fault-kind-requires c =
+    let w = c.args.tree.now in
+    let i = c.loop-i.i in
+    let low : i < length (level_at w c.args.l) = omega (arith, c.loop-i-test.true, ap length c.packs-pack-items.ensures) in
+    let pack : c.pack-item.result ≡ pack_at (level_at w c.args.l) i =
+    c.pack-item.is ∙ get_or_default c.packs-pack-items.result.now i c.pack-item.result no_pack c.loop-i-test.true ∙ ap (λ ps. get_or ps i no_pack) c.packs-pack-items.ensures in
+    let rate = c.rate-rate.ensures ∙ ap (λ (p : Pack). p.rate) pack in
+    let value = c.scale-scale.ensures.value in
+    let within = pack_within w c.args.l i c.scale-scale.ensures.lawful c.requires.level low in
+    omega (arith, rate, value, within)
+
+pub returns-clause-marks : goal.returns-clause-marks
+returns-clause-marks c =
+    let w = c.args.tree.now in
+    let l = c.args.l in
+    let done : length (level_at w l) ≤ c.loop-i.i = omega (arith, c.loop-i-test.false, ap length c.packs-pack-items.ensures) in
+    subst (λ (ps : List Pack). AreMarks c.args.rates.now (names_of w l ps) c.loop-i.marks) (take_all c.loop-i.i (level_at w l) done) c.loop-i.invariant.0

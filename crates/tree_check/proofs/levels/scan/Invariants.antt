@@ -1,4 +1,4 @@
-use Rattle.std.proofs.Common.{◌≡◌, length, take}
+use Rattle.std.proofs.Common.{take}
 use Rattle.tree_check.specs.Written.{level_at}
 use Rattle.tree_check.specs.Scans.{AreMarks, names_of, IsLeast}
 use Rattle.tree_check.proofs.PackScans.{IsFirstBelow}

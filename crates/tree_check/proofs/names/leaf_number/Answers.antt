@@ -1,4 +1,4 @@
-use Rattle.std.proofs.Common.{ap, sym, Some, None, ◌∙◌, ◌≡◌, ◌+◌, arith, ℕ, List, subst}
+use Rattle.std.proofs.Common.{ap, sym, Some, ◌∙◌, ◌≡◌, ◌+◌, arith, ℕ, List, subst}
 use Rattle.sched_base.specs.Sets.{IsFree}
 use Rattle.tree_check.specs.Faults.{leaf_number}
 use Rattle.tree_check.proofs.Naming.{name_absent, name_present}

@@ -1,5 +1,5 @@
 use Rattle.std.proofs.Common.{◌≡◌, ◌+◌, suc, length, ap, ◌∙◌, arith}
-use Rattle.tree_check.specs.Written.{level_at, pack_at}
+use Rattle.tree_check.specs.Written.{level_at}
 use Rattle.tree_check.specs.Faults.{before}
 use Rattle.tree_check.specs.FirstSteps.{first_making}
 use Rattle.tree_check.proofs.LeafSteps.{at_leaf, leaf_asks, leaf_next, pack_done}

@@ -1,5 +1,0 @@
-use Rattle.std.proofs.Common.{◌≡◌, ◌++◌, replicate}
-use Rattle.tree_check.proofs.plan.add_homes.Given as goal
-
-abbrev pub invariant-loop : goal.invariant-loop
-invariant-loop l = l.homes.items ≡ l.initial.homes.items ++ replicate l.counter l.pack
