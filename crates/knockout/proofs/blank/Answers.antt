@@ -1,0 +1,31 @@
+use Rattle.std.proofs.Common.{arith, length, replicate, subst, sym, List, ◌+◌, ◌∙◌, ◌≡◌}
+use Rattle.std.proofs.lemmas.Result.{IfOk-from_err}
+use Rattle.knockout.specs.declared.Entry.{Entry}
+use Rattle.knockout.specs.Knockouts.{ends_of, HasLeaves, never}
+use Rattle.knockout.proofs.KnockoutLemmas.{back}
+use Rattle.std.proofs.Common.{rules, ◌≡◌, ℕ, ◌+◌, ◌*◌, ◌^◌, ◌<◌, ◌≤◌, drop, length, replicate, slice_index_or, slice_set, IfOk, ◌-◌, ◌/◌, ◌%◌, Bool, true, false, nat_eq, nat_lt, List, [], ◌∷◌, ◌++◌, bit_and, bit_or, Fits, w8, w32, w64, Bor, MutBor}
+use Rattle.knockout.specs.Knockouts.{IsFirst, IsKnockout, HasLeaves, ends_of, IsRightBut, AreRightFrom, no_entry, first_of, is_first, never}
+use Rattle.knockout.proofs.blank.Goals as goal
+
+pub overflow_mul-count : goal.overflow_mul-count
+overflow_mul-count c = let few = c.requires.few in omega (arith, few)
+
+pub returns-in_err-entries : goal.returns-in_err-entries
+returns-in_err-entries c = IfOk-from_err c.from_residual.result _ c.from_residual.ensures.0
+
+pub number-requires-clause-count : goal.number-requires-clause-count
+number-requires-clause-count c =
+    let long = c.deref_mut.ensures.len in
+    let all = c.in_ok-entries.ensures.len in
+    omega (arith, long, all)
+
+pub number-requires-clause-few : goal.number-requires-clause-few
+number-requires-clause-few c = c.requires.few
+
+pub returns : goal.returns
+returns c =
+    let long = c.deref_mut.ensures.len in
+    let all = c.in_ok-entries.ensures.len in
+    let count = c.args.count in
+    subst (λ (es : List Entry). (length es ≡ count + count) × HasLeaves count es × (ends_of count es ≡ replicate count never))
+    (sym (back c.in_ok-entries.entries c.deref_mut.result.now c.number.new.entries c.deref_mut.ensures.value c.number.auto.entries)) (c.number.auto.entries ∙ omega (arith, long, all), c.number.ensures.leaves, c.number.ensures.ends)
