@@ -1,3 +1,4 @@
+use Rattle.std.proofs.lemmas.Result.{IfOk-from_err, err_from_is_err_and}
 use Rattle.std.proofs.Common.{◌+◌, drop, length, subst, sym, ap, ◌∙◌}
 use Rattle.std.proofs.lemmas.List.{take_at}
 use Rattle.trace_check.proofs.RowLemmas.{ReadSoFar, some_left, none_left, read_more, read_ends, read_stops}
@@ -55,3 +56,27 @@ returns-clause-read c =
       | else-loop-table-test w ↦ none_left c.args.set.now.tasks read.rows.items read.rest.now (sym w.loop-table-test.ensures)
       | then-loop-table-test+in-Ends w ↦ (rw w.deref.ensures.value at w.in-Ends.ensures)
     ])
+
+pub returns-in_err-table-clause-read : goal.returns-in_err-table-clause-read
+returns-in_err-table-clause-read c = IfOk-from_err _ _ c.from_residual.ensures.0
+
+pub returns-in_err-table-clause-fault : goal.returns-in_err-table-clause-fault
+returns-in_err-table-clause-fault c = let why = err_from_is_err_and c.from_residual.result c.from_residual.ensures.1 in rw (why.1, why.2) tt
+
+pub returns-in_err-totals-clause-read : goal.returns-in_err-totals-clause-read
+returns-in_err-totals-clause-read c = IfOk-from_err _ _ c.from_residual-in_err-totals.ensures.0
+
+pub returns-in_err-totals-clause-fault : goal.returns-in_err-totals-clause-fault
+returns-in_err-totals-clause-fault c = let why = err_from_is_err_and c.from_residual-in_err-totals.result c.from_residual-in_err-totals.ensures.1 in rw (why.1, why.2) tt
+
+pub returns-in_err-push-clause-read : goal.returns-in_err-push-clause-read
+returns-in_err-push-clause-read c = IfOk-from_err _ _ c.from_residual-in_err-push.ensures.0
+
+pub returns-in_err-push-clause-fault : goal.returns-in_err-push-clause-fault
+returns-in_err-push-clause-fault c = let why = err_from_is_err_and c.from_residual-in_err-push.result c.from_residual-in_err-push.ensures.1 in rw (why.1, why.2) tt
+
+pub returns-in-Fault-clause-read : goal.returns-in-Fault-clause-read
+returns-in-Fault-clause-read c = tt
+
+pub returns-clause-fault : goal.returns-clause-fault
+returns-clause-fault c = tt

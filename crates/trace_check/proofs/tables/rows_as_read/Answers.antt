@@ -1,3 +1,4 @@
+use Rattle.std.proofs.lemmas.Result.{IfOk-from_err}
 use Rattle.std.proofs.Common.{◌<◌, ◌≤◌, ◌*◌, length, map, vec_len, vec_capacity, sym, ap, ◌∙◌, subst}
 use Rattle.std.proofs.lemmas.List.{take_all}
 use Rattle.sched_base.specs.Tables.{rounds_of}
@@ -36,3 +37,6 @@ pub returns-clause-rows : goal.returns-clause-rows
 returns-clause-rows c =
     let past : length c.args.table.now.lanes ≤ c.loop-p.p = subst (λ n. n ≤ c.loop-p.p) (sym c.requires.processors) c.loop-p-test.false in
     c.loop-p.invariant.0 ∙ ap (λ lanes. map row_as_read (merged_lanes lanes)) (take_all c.loop-p.p c.args.table.now.lanes past)
+
+pub returns-in_err-rows-clause-rows : goal.returns-in_err-rows-clause-rows
+returns-in_err-rows-clause-rows c = IfOk-from_err _ _ c.from_residual.ensures.0
