@@ -4,3 +4,4 @@ mod DrawLineLemmas
 mod CommandLineLemmas
 mod SpellingLemmas
 mod DrawLemmas
+mod ParserLemmas

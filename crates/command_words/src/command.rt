@@ -3,7 +3,7 @@
 use trace_lines::Asked;
 
 /// What a command line asks for.
-#[derive(Clone, Copy, Debug, PartialEq, Eq)]
+#[derive(Clone, Copy)]
 pub enum Command {
     /// A command that reads, and tells of what it read: it has no threads, calls no gate and no job, and returns.
     Read(Reading),
@@ -14,7 +14,7 @@ pub enum Command {
 }
 
 /// A command that reads.
-#[derive(Clone, Copy, Debug, PartialEq, Eq)]
+#[derive(Clone, Copy, PartialEq, Eq)]
 pub enum Reading {
     /// `rate`: read a task set, and tell its scale, its rates, their total and the room.
     Rate,
@@ -37,7 +37,7 @@ pub enum Reading {
 }
 
 /// A command that executes.
-#[derive(Clone, Copy, Debug, PartialEq, Eq)]
+#[derive(Clone, Copy)]
 pub enum Execution {
     /// `exec`: read a task set, run its schedule, and tell it. A lane may run up to `window` rounds ahead of the others.
     Exec { window: u32 },

@@ -3,6 +3,7 @@
 
 mod command;
 mod command_line;
+mod parser;
 mod words;
 
 pub use command::{Command, Execution, Reading};

@@ -1,5 +1,5 @@
 //! Command lines.
-ghost use Rattle.std.specs.Prelude.{◌≡◌, ◌↔◌, true, false, codes, map, string_bytes, Some, None, IfOk, IfSome, IsTrue, option_map};
+ghost use Rattle.std.specs.Prelude.{◌≡◌, ◌↔◌, true, false, [], ◌∷◌, codes, map, string_bytes, Some, None, IfOk, IfSome, IsTrue, option_map};
 ghost use Rattle.command_words.specs.declared.command.Command.TheVariants.{Read, Batch, Execute};
 ghost use Rattle.command_words.specs.declared.command.Execution.TheVariants.{Exec, Drill};
 ghost use Rattle.command_words.specs.Words.{window_of, exec_with, exec_by, drill_of, drill_with, HasWindow};
@@ -344,14 +344,16 @@ pub fn asks_to_execute(words: &[String]) -> bool
     ensures { result ≡ asks_to_execute (map string_bytes words.now) }
 {
     match words.first() {
-        Some(word) => {
-            word.as_str() == "exec"
-                || word.as_str() == "drill"
-                || word.as_str() == "jobs"
-                || word.as_str() == "modes"
-        }
+        Some(word) => names_execution(word.as_str()),
         None => false,
     }
+}
+
+// Whether a command of this first word executes.
+fn names_execution(word: &str) -> bool
+    ensures { result ≡ asks_to_execute (word.now ∷ []) }
+{
+    word == "exec" || word == "drill" || word == "jobs" || word == "modes"
 }
 
 /// Whether the words ask for many sets, by the first of them.

@@ -1,7 +1,7 @@
 //! What is asked to be seen of a trace.
 
 /// What the user asks to see.
-#[derive(Clone, Copy, Debug, PartialEq, Eq)]
+#[derive(Clone, Copy, PartialEq, Eq)]
 pub struct Asked {
     /// The first unit.
     pub from: u64,

@@ -1,7 +1,7 @@
 use Rattle.std.proofs.Common.{◌≡◌, true, codes, ap, ◌∙◌}
 use Rattle.clap.specs.Words.{app_of, new_app}
 use Rattle.clap.specs.Simple.{app_of_fields, on_top}
-use Rattle.command_words.proofs.command_line.program.Goals as goal
+use Rattle.command_words.proofs.parser.program.Goals as goal
 
 pub returns : goal.returns
 returns c =
