@@ -6,6 +6,7 @@ mod busy_gate;
 
 ghost use Rattle.std.specs.Prelude.{◌≡◌, length, IfOk};
 ghost use Rattle.exec_workers.specs.Kits.{AreFilled};
+ghost use Rattle.exec_book.specs.PlanRows.{IsCompiled};
 
 use anyhow::anyhow;
 use bounded_job::BoundedJob;
@@ -13,6 +14,7 @@ use busy_gate::BusyGate;
 use event_core::count_rounds;
 use exec_workers::{Kit, execute};
 use run_compile::compile;
+use run_tree::Plan;
 use sched_edges::Jobs;
 use std::alloc::Global;
 use std::sync::Wait;
@@ -46,29 +48,47 @@ fn kits_of(alloc: Global, processors: u32) -> anyhow::Result<Vec<Kit<BusyGate>>>
     Ok(kits)
 }
 
-// Executes the set, and tells how long each processor was busy and what each task was given.
-fn execute_set(rt: &(impl Print + Threads + Wait + Sync), alloc: Global) -> anyhow::Result<()> {
+// The plan of the set.
+fn plan_of(alloc: Global) -> anyhow::Result<Plan>
+    ensures { IfOk result (λ plan. IsCompiled plan) }
+{
     let set = read_set(alloc, SET).map_err(|_| anyhow!("the set can't be read"))?;
-    let plan = compile(alloc, set).map_err(|_| anyhow!("the set doesn't fit"))?;
-    let rounds = count_rounds(alloc, &plan)?;
+    compile(alloc, set).map_err(|_| anyhow!("the set doesn't fit"))
+}
+
+// Tells how long each processor was busy, and what each task was given.
+fn tell(rt: &impl Print, kits: &[Kit<BusyGate>], totals: &[u128]) -> anyhow::Result<()> {
+    for (p, kit) in kits.iter().enumerate() {
+        if let Some(gate) = &kit.gate {
+            println!(rt; "processor {p}: busy {}, idle {}", gate.busy(), gate.idle())?;
+        }
+    }
+    for (t, ticks) in totals.iter().enumerate() {
+        println!(rt; "task {t}: {ticks} ticks")?;
+    }
+    Ok(())
+}
+
+// Executes the plan, and tells what came of it.
+fn execute_plan(
+    rt: &(impl Print + Threads + Wait + Sync),
+    alloc: Global,
+    plan: &Plan,
+) -> anyhow::Result<()>
+    requires { IsCompiled plan.now }
+{
+    let rounds = count_rounds(alloc, plan)?;
     let tasks = plan.set().count();
     let mut kits = kits_of(alloc, plan.tree().processors())?;
     let mut jobs = Jobs::with_room(alloc, tasks).map_err(|_| anyhow!("no memory"))?;
     for id in 0..tasks {
         jobs.add(Box::new(alloc, BoundedJob::new(id, BOUND))?);
     }
-    let executed = execute(rt, alloc, &plan, rounds, WINDOW, &mut kits, &mut jobs)?;
-    for (p, kit) in kits.iter().enumerate() {
-        if let Some(gate) = &kit.gate {
-            println!(rt; "processor {p}: busy {}, idle {}", gate.busy(), gate.idle())?;
-        }
-    }
-    for (t, ticks) in executed.totals.as_slice().iter().enumerate() {
-        println!(rt; "task {t}: {ticks} ticks")?;
-    }
-    Ok(())
+    let executed = execute(rt, alloc, plan, rounds, WINDOW, &mut kits, &mut jobs)?;
+    tell(rt, &kits, executed.totals.as_slice())
 }
 
 fn main(rt: HostRuntime) -> anyhow::Result<()> {
-    execute_set(&rt, rt.alloc())
+    let plan = plan_of(rt.alloc())?;
+    execute_plan(&rt, rt.alloc(), &plan)
 }

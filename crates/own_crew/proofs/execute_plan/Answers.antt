@@ -3,8 +3,8 @@ use denote.Param.Object.{read_made}
 use Rattle.run_tree.specs.Tree.{Tree}
 use Rattle.sched_base.specs.Sets.{SetContents}
 use Rattle.own_crew.proofs.CrewLemmas.{length_more, fresh_more}
-use Rattle.own_crew.proofs.execute_set.OwnLists.{own-1, at-1-1}
-use Rattle.own_crew.proofs.execute_set.Goals as goal
+use Rattle.own_crew.proofs.execute_plan.OwnLists.{own-1, at-1-1}
+use Rattle.own_crew.proofs.execute_plan.Goals as goal
 
 pub loop-id-preserved : goal.loop-id-preserved
 loop-id-preserved g c =

@@ -1,7 +1,7 @@
 use Rattle.std.proofs.Common.{◌≡◌, ◌+◌, length}
 use Rattle.exec_workers.specs.Runs.{AreFresh}
-use Rattle.own_crew.proofs.execute_set.OwnLists.{own-1}
-use Rattle.own_crew.proofs.execute_set.Given as goal
+use Rattle.own_crew.proofs.execute_plan.OwnLists.{own-1}
+use Rattle.own_crew.proofs.execute_plan.Given as goal
 
 abbrev pub invariant-loop-id : goal.invariant-loop-id
 invariant-loop-id g l = record {
