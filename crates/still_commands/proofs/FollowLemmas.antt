@@ -29,9 +29,12 @@ use Rattle.reading_laws.proofs.FormLemmas.{set_read}
 use Rattle.still_commands.specs.declared.refusal.Refusal.{Refusal}
 use Rattle.still_commands.specs.declared.refusal.Refusal.TheVariants as why
 use Rattle.still_commands.specs.declared.status.Status.{Status}
-use Rattle.still_commands.specs.declared.status.Status.TheVariants.{BadInput, BadTree, TooLong}
+use Rattle.still_commands.specs.declared.status.Status.TheVariants.{Done, BadInput, BadTree, TooLong}
 use Rattle.still_commands.specs.Faults.{of_check_tree, of_count}
+use Rattle.still_commands.specs.Commands.{set_limit}
+use Rattle.still_commands.specs.Ends.{Streams, IsTold, StopsAs}
 use Rattle.still_commands.specs.Follow.{plan_told, rows_told, followed_text, TellsPlan, WritesFollow, RefusesFollow, StopsAtPlan, FollowsTrees}
+use Rattle.still_commands.specs.Follow.{GaveTree, GaveNoTree, WrotePlan}
 use Rattle.still_commands.specs.Refusals.{status_of}
 
 -- ---- a text is that of a tree, or has a fault
@@ -140,3 +143,46 @@ follows_trees valid bytes w reads =
       valid = subst (λ n. IsValid w.set n (w.set.horizon * n) (w.set.horizon * n) (schedule_of (plan_told w))) (scale_is w is)
           (valid w.set (set_read bytes w reads.read).lawful (text_tree w) is.tree);
     }
+
+-- the same of a set and a scale that are those of the text
+pub followed_is : (w : Written) (p : PlanContents) (s : SetContents) (n : ℕ) (lanes : List (List Row)) → s ≡ w.set → n ≡ p.tree.scale
+    → p ≡ plan_told w → IsTextOfTree w → lanes ≡ lanes_of p.tree.processors (schedule_of p)
+    → trace_text One s n (merged_lanes lanes) ≡ followed_text w
+followed_is w p s n lanes set scale e is at =
+    let same : s ≡ p.set = set ∙ sym (ap (λ (q : PlanContents). q.set) e) in
+    (λ i. trace_text One (same i) (scale i) (merged_lanes lanes)) ∙ text_is w p lanes e is at
+
+-- ---- of the bytes
+
+-- the schedule of a text that was read was told
+pub told_tree : (old new : Streams) (w : Written) → GaveTree old.left new.left set_limit w → WrotePlan old.out new.out w
+    → IsTold set_limit WritesFollow Done old new
+told_tree old new w gave wrote =
+    let (bytes, all, read) = gave.gave in
+    let (text, tells, took) = wrote in
+    record { told = (bytes, text, all, (refl, (w, read, tells)), took) }
+
+-- why it wasn't
+pub stopped_tree : (old new : Streams) (w : Written) (r : Refusal) → GaveTree old.left new.left set_limit w
+    → StopsAtPlan old.out new.out old.out_faults new.out_faults w r → StopsAs set_limit WritesFollow RefusesFollow old new r
+stopped_tree old new w why.WriteFault gave stops =
+    let (bytes, all, read) = gave.gave in
+    let (text, tells, took, rose) = stops in
+    (bytes, text, Done, all, (refl, (w, read, tells)), took, rose)
+stopped_tree old new w why.NoMemory gave stops = stops
+stopped_tree old new w (why.BadTree line kind) gave stops =
+    let (bytes, all, read) = gave.gave in
+    (bytes, all, (w, read, stops.0), stops.1)
+stopped_tree old new w (why.TooLong rows) gave stops =
+    let (bytes, all, read) = gave.gave in
+    (bytes, all, (w, read, stops.0), stops.1)
+stopped_tree old new w _ gave stops = absurd stops.0
+
+-- why no text was read
+pub unread_tree : (old new : Streams) (r : Refusal) → GaveNoTree old.left new.left old.read_faults new.read_faults set_limit r
+    → Keeps old.out new.out → StopsAs set_limit WritesFollow RefusesFollow old new r
+unread_tree old new why.ReadFault none keeps = (none.0, none.1, keeps)
+unread_tree old new why.NoMemory none keeps = keeps
+unread_tree old new (why.InputTooLong count) none keeps = (none.0, none.1, keeps)
+unread_tree old new (why.BadLine line) none keeps = let (bytes, all, bad) = none in (bytes, all, bad, keeps)
+unread_tree old new _ none keeps = absurd none

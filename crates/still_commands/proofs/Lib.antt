@@ -4,5 +4,8 @@ pub mod OneAnswerLemmas
 pub mod AnswerLemmas
 pub mod LineLemmas
 pub mod TraceLemmas
+pub mod EndLemmas
+pub mod SetLemmas
+pub mod CheckLemmas
 pub mod SoundLemmas
 pub mod NumberedLemmas

@@ -26,6 +26,9 @@ pub record HaveOneAnswer (Writes : List ℕ → Status → List ℕ → Type 0) 
   pub one_status : (bytes : List ℕ) (r q : Refusal) → Refuses bytes r → Refuses bytes q → status_of r ≡ status_of q
   pub called_for : (bytes text : List ℕ) (status : Status) → Writes bytes status text → CallsFor bytes status
 
+never_both : (n m : ℕ) → n ≤ m → m < n → ⊥
+never_both n m within over = absurd (omega (arith, within, over))
+
 module _ (limit : ℕ) (CallsFor : List ℕ → Status → Type 0) (Refuses : List ℕ → Refusal → Type 0) where
   -- a call that was refused memory answers
   pub wanting_asked : (left : Option (List ℕ)) (old new : Streams) (status : Status) → status ≡ NoMemory → AnswersAs limit CallsFor Refuses left old new status
@@ -39,7 +42,7 @@ module _ (limit : ℕ) (Writes : List ℕ → Status → List ℕ → Type 0) (C
       → IsAnswerAs limit CallsFor Refuses bytes answer → status ≡ answer
   answer_called_for bytes status Done within called is = one.one_telling bytes status Done called is.1
   answer_called_for bytes status Invalid within called is = one.one_telling bytes status Invalid called is.1
-  answer_called_for bytes status InputTooLong within called is = absurd (omega (arith, within, is))
+  answer_called_for bytes status InputTooLong within called is = absurd (never_both (length bytes) limit within is)
   answer_called_for bytes status BadInput within called is = absurd (one.told_or_refused bytes status is.1.0 called is.1.2)
   answer_called_for bytes status Overload within called is = absurd (one.told_or_refused bytes status is.1.0 called is.1.2)
   answer_called_for bytes status ScaleTooLarge within called is = absurd (one.told_or_refused bytes status is.1.0 called is.1.2)
@@ -59,7 +62,7 @@ module _ (limit : ℕ) (Writes : List ℕ → Status → List ℕ → Type 0) (C
       → IsAnswerAs limit CallsFor Refuses bytes answer → status_of r ≡ answer
   answer_refuses bytes r Done within refuses is = absurd (one.told_or_refused bytes Done r is.1 refuses)
   answer_refuses bytes r Invalid within refuses is = absurd (one.told_or_refused bytes Invalid r is.1 refuses)
-  answer_refuses bytes r InputTooLong within refuses is = absurd (omega (arith, within, is))
+  answer_refuses bytes r InputTooLong within refuses is = absurd (never_both (length bytes) limit within is)
   answer_refuses bytes r BadInput within refuses is = one.one_status bytes r is.1.0 refuses is.1.2 ∙ is.1.1
   answer_refuses bytes r Overload within refuses is = one.one_status bytes r is.1.0 refuses is.1.2 ∙ is.1.1
   answer_refuses bytes r ScaleTooLarge within refuses is = one.one_status bytes r is.1.0 refuses is.1.2 ∙ is.1.1
@@ -77,15 +80,15 @@ module _ (limit : ℕ) (Writes : List ℕ → Status → List ℕ → Type 0) (C
   -- the answer, where there are more bytes than the command reads
   answer_too_long : (bytes : List ℕ) (answer : Status) → limit < length bytes → IsAnswerAs limit CallsFor Refuses bytes answer → InputTooLong ≡ answer
   answer_too_long bytes InputTooLong over is = refl
-  answer_too_long bytes Done over is = let within = is.0 in absurd (omega (arith, within, over))
-  answer_too_long bytes Invalid over is = let within = is.0 in absurd (omega (arith, within, over))
-  answer_too_long bytes BadInput over is = let within = is.0 in absurd (omega (arith, within, over))
-  answer_too_long bytes Overload over is = let within = is.0 in absurd (omega (arith, within, over))
-  answer_too_long bytes ScaleTooLarge over is = let within = is.0 in absurd (omega (arith, within, over))
-  answer_too_long bytes TooLong over is = let within = is.0 in absurd (omega (arith, within, over))
-  answer_too_long bytes BadTree over is = let within = is.0 in absurd (omega (arith, within, over))
-  answer_too_long bytes TooWide over is = let within = is.0 in absurd (omega (arith, within, over))
-  answer_too_long bytes ModeFault over is = let within = is.0 in absurd (omega (arith, within, over))
+  answer_too_long bytes Done over is = absurd (never_both (length bytes) limit is.0 over)
+  answer_too_long bytes Invalid over is = absurd (never_both (length bytes) limit is.0 over)
+  answer_too_long bytes BadInput over is = absurd (never_both (length bytes) limit is.0 over)
+  answer_too_long bytes Overload over is = absurd (never_both (length bytes) limit is.0 over)
+  answer_too_long bytes ScaleTooLarge over is = absurd (never_both (length bytes) limit is.0 over)
+  answer_too_long bytes TooLong over is = absurd (never_both (length bytes) limit is.0 over)
+  answer_too_long bytes BadTree over is = absurd (never_both (length bytes) limit is.0 over)
+  answer_too_long bytes TooWide over is = absurd (never_both (length bytes) limit is.0 over)
+  answer_too_long bytes ModeFault over is = absurd (never_both (length bytes) limit is.0 over)
   answer_too_long bytes Usage over is = absurd is
   answer_too_long bytes ReadFault over is = absurd is
   answer_too_long bytes WriteFault over is = absurd is

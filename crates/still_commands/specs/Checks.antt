@@ -1,6 +1,9 @@
 -- What `check` tells of a trace.
 use Rattle.std.specs.Prelude.{ℕ, ◌≡◌, List, [], ◌∷◌, codes, decimal, Ok, Err}
+use Rattle.std.specs.declared.option.Option.{Option}
+use Rattle.sched_edges.specs.Causes.{Rose}
 use Rattle.sched_edges.specs.Lines.{line_of}
+use Rattle.sched_edges.specs.Streams.{TookPart}
 use Rattle.trace_rows.specs.declared.faults.FaultKind.{FaultKind}
 use Rattle.trace_rows.specs.declared.faults.Verdict.TheVariants.{Fault}
 use Rattle.trace_rows.specs.Faults.{IsVerdict}
@@ -10,7 +13,7 @@ use Rattle.trace_draw.specs.Head.{kind_text}
 use Rattle.stat_report.specs.Report.{IsValidTrace}
 use Rattle.stat_report.specs.Text.{report_text}
 use Rattle.still_commands.specs.declared.refusal.Refusal.{Refusal}
-use Rattle.still_commands.specs.declared.refusal.Refusal.TheVariants.{BadLine}
+use Rattle.still_commands.specs.declared.refusal.Refusal.TheVariants.{BadLine, WriteFault}
 use Rattle.still_commands.specs.declared.status.Status.{Status}
 use Rattle.still_commands.specs.declared.status.Status.TheVariants.{Done, Invalid}
 
@@ -42,3 +45,9 @@ Judges bytes _ = ⊥
 abbrev pub RefusesTrace : List ℕ → Refusal → Type 0
 RefusesTrace bytes (BadLine line) = reading bytes ≡ Err line
 RefusesTrace bytes _ = ⊥
+
+-- why what is told of a trace wasn't written whole: `out` failed, after a first part
+abbrev pub StopsAtTrace : Option (List ℕ) → Option (List ℕ) → ℕ → ℕ → Trace → Refusal → Type 0
+StopsAtTrace out out' faults faults' t WriteFault =
+    (text : List ℕ) × (status : Status) × TellsTrace t status text × TookPart out out' text × Rose faults faults'
+StopsAtTrace out out' faults faults' t _ = ⊥

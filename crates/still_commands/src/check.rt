@@ -1,17 +1,14 @@
 //! The command `check`.
-ghost use Rattle.std.specs.Prelude.{ℕ, List, ◌≡◌, ◌≤◌, IfOk, IfErr, OnErr};
+ghost use Rattle.std.specs.Prelude.{ℕ, List, ◌≡◌, ◌≤◌, IfOk, IfErr};
 ghost use Rattle.std.specs.Io.KnownBytes.{Appends};
-ghost use Rattle.sched_edges.specs.Causes.{HasCause};
-ghost use Rattle.sched_edges.specs.Streams.{TookPart};
 ghost use Rattle.still_commands.specs.Commands.{trace_limit};
-ghost use Rattle.still_commands.specs.Checks.{invalid_line, TellsTrace, WritesVerdict, RefusesTrace};
+ghost use Rattle.still_commands.specs.Checks.{invalid_line, TellsTrace, WritesVerdict, RefusesTrace, StopsAtTrace};
 ghost use Rattle.still_commands.specs.Ends.{streams_of, IsTold, StopsAs};
-ghost use Rattle.still_commands.specs.declared.status.Status.{Status};
 
 use crate::input::read_trace_input;
 use crate::refusal::Refusal;
 use crate::status::Status;
-use sched_edges::{Failed, Line, Sink, Source, write_all};
+use sched_edges::{Line, Sink, Source, write_all};
 use stat_report::write_report;
 use std::alloc::Global;
 use trace_check::{FaultKind, ReadTrace, Verdict, check_trace};
@@ -30,16 +27,14 @@ pub(crate) fn check<R: Source, W: Sink>(
         (streams_of R.Source W.Sink source.old out.old) (streams_of R.Source W.Sink source.new out.new)) }
 {
     let trace = read_trace_input(alloc, source)?;
-    Ok(write_verdict(&trace, out)?)
+    write_verdict(&trace, out)
 }
 
 // Writes the report of a valid trace, or the first fault of another.
-fn write_verdict<W: Sink>(trace: &ReadTrace, out: &mut W) -> Result<Status, Failed>
+fn write_verdict<W: Sink>(trace: &ReadTrace, out: &mut W) -> Result<Status, Refusal>
     ensures told { IfOk result (λ status. (text : List ℕ) × TellsTrace trace.now status text × Appends (W.taken out.old)
         (W.taken out.new) text) }
-    ensures part { OnErr result ((text : List ℕ) × (status : Status) × TellsTrace trace.now status text × TookPart (W.taken out.old)
-        (W.taken out.new) text) }
-    ensures cause { HasCause (W.faults out.old) (W.faults out.new) result }
+    ensures stops { IfErr result (StopsAtTrace (W.taken out.old) (W.taken out.new) (W.faults out.old) (W.faults out.new) trace.now) }
 {
     match check_trace(trace) {
         Verdict::Valid => {

@@ -1,9 +1,14 @@
 //! The command `follow`.
-ghost use Rattle.std.specs.Prelude.{◌≡◌, IfOk, IfErr, OnOk};
+ghost use Rattle.std.specs.Prelude.{◌≡◌, ◌≤◌, ◌*◌, length, IfOk, IfErr, OnOk};
+ghost use Rattle.sched_base.specs.Lanes.{lanes_of};
+ghost use Rattle.sched_base.specs.Tables.{row_limit, rounds_of};
+ghost use Rattle.row_totals.specs.Sums.{totals_of};
+ghost use Rattle.run_tree.specs.Plans.{schedule_of};
+ghost use Rattle.tree_check.specs.TextTree.{IsTextOfTree};
 ghost use Rattle.trace_lines.specs.Conditions.{AreOnTime};
 ghost use Rattle.still_commands.specs.Commands.{set_limit};
 ghost use Rattle.still_commands.specs.Ends.{streams_of, IsTold, StopsAs};
-ghost use Rattle.still_commands.specs.Follow.{WritesFollow, RefusesFollow, GaveTree, GaveNoTree, WrotePlan, StopsAtPlan};
+ghost use Rattle.still_commands.specs.Follow.{WritesFollow, RefusesFollow, GaveTree, GaveNoTree, WrotePlan, StopsAtPlan, plan_told, rows_told};
 ghost use Rattle.still_commands.specs.declared.status.Status.TheVariants.{Done};
 
 use crate::input::SET_LIMIT;
@@ -12,6 +17,8 @@ use crate::trace::rows_of;
 use event_core::count_rounds;
 use reading_laws::form_law;
 use round_table::table_law;
+use run_tree::Plan;
+use sched_base::RowTable;
 use sched_edges::{Sink, Source, read_all};
 use std::alloc::Global;
 use trace_writer::write_trace;
@@ -52,8 +59,47 @@ fn write_schedule<W: Sink>(alloc: Global, tree: &ReadTree, out: &mut W) -> Resul
         (W.faults out.old) (W.faults out.new) tree.now) }
 {
     let plan = check_tree(alloc, tree)?;
-    let rounds = count_rounds(alloc, &plan)?;
-    let (table, totals) = rows_of(alloc, &plan, rounds)?;
+    write_plan(alloc, tree, &plan, out)
+}
+
+// Writes the schedule of the plan of a tree text.
+fn write_plan<W: Sink>(
+    alloc: Global,
+    tree: &ReadTree,
+    plan: &Plan,
+    out: &mut W,
+) -> Result<(), Refusal>
+    requires on_time { AreOnTime tree.now.set.tasks }
+    requires text { IsTextOfTree tree.now }
+    requires plan { plan.now ≡ plan_told tree.now }
+    ensures done { OnOk result (WrotePlan (W.taken out.old) (W.taken out.new) tree.now) }
+    ensures stops { IfErr result (StopsAtPlan (W.taken out.old) (W.taken out.new)
+        (W.faults out.old) (W.faults out.new) tree.now) }
+{
+    let rounds = count_rounds(alloc, plan)?;
+    let (table, totals) = rows_of(alloc, plan, rounds)?;
+    write_table(tree, plan, &table, totals.as_slice(), out)
+}
+
+// Writes the rows of the plan of a tree text.
+fn write_table<W: Sink>(
+    tree: &ReadTree,
+    plan: &Plan,
+    table: &RowTable,
+    totals: &[u128],
+    out: &mut W,
+) -> Result<(), Refusal>
+    requires on_time { AreOnTime tree.now.set.tasks }
+    requires text { IsTextOfTree tree.now }
+    requires plan { plan.now ≡ plan_told tree.now }
+    requires room { rows_told tree.now ≤ row_limit }
+    requires lanes { table.now.lanes ≡ lanes_of plan.now.tree.processors (schedule_of plan.now) }
+    requires few { length table.now.lanes * rounds_of table.now.lanes ≤ row_limit }
+    requires totals { totals.now ≡ totals_of (length plan.now.set.tasks) table.now.lanes }
+    ensures done { OnOk result (WrotePlan (W.taken out.old) (W.taken out.new) tree.now) }
+    ensures stops { IfErr result (StopsAtPlan (W.taken out.old) (W.taken out.new)
+        (W.faults out.old) (W.faults out.new) tree.now) }
+{
     table_law();
-    Ok(write_trace(out, plan.set(), plan.scale(), &table, totals.as_slice())?)
+    Ok(write_trace(out, tree.set(), plan.scale(), table, totals)?)
 }

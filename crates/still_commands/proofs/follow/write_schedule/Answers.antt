@@ -1,6 +1,14 @@
-use Rattle.row_totals.proofs.NameLemmas.{lanes_among}
+use Rattle.std.proofs.lemmas.Result.{err_from_is_err_and}
+use Rattle.still_commands.proofs.FollowLemmas.{refused_tree}
 use Rattle.still_commands.proofs.follow.write_schedule.Goals as goal
 
-pub write_trace-requires-clause-names : goal.write_trace-requires-clause-names
-write_trace-requires-clause-names g c =
-    rw (c.in_ok-table.ensures.lanes, c.set.ensures.value) (lanes_among _ _ (c.table_law.ensures.lanes c.in_ok-plan.plan c.set.ensures.lawful))
+pub returns-in_err-plan-clause-stops : goal.returns-in_err-plan-clause-stops
+returns-in_err-plan-clause-stops g c =
+    let why = err_from_is_err_and c.from_residual.result c.from_residual.ensures.1 in
+    rw (why.1, why.2) (refused_tree c.args.tree.now _ _ _ c.in_err-plan.ensures.refused)
+
+pub returns-clause-done : goal.returns-clause-done
+returns-clause-done g c = c.write_plan.ensures.done
+
+pub returns-clause-stops : goal.returns-clause-stops
+returns-clause-stops g c = c.write_plan.ensures.stops
