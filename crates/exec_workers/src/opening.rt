@@ -36,8 +36,8 @@ pub(crate) fn open_book<Q: PostLedger, J: Job>(
 {
     let n = plan.set().count();
     let mut out = JobList::with_room(alloc, n)?;
-    let copy = plan.copy()?;
     let (side, seats) = unit_ledger::open::<Q>(blank, alloc, plan.tree().processors())?;
+    let copy = plan.copy()?;
     lift_jobs(jobs, &mut out, n);
     match Book::new(alloc, copy, rounds, window, side, out) {
         Ok(book) => Ok((book, seats)),

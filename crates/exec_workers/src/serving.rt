@@ -1,5 +1,5 @@
 //! Serving one lane.
-ghost use Rattle.std.specs.Prelude.{◌≡◌, ◌+◌, ◌<◌, ◌^◌, Some, None, length, IfSome, IfErr};
+ghost use Rattle.std.specs.Prelude.{◌≡◌, ◌+◌, ◌<◌, ◌≤◌, ◌^◌, Some, None, length, IfSome, IfErr};
 ghost use Rattle.exec_book.specs.PlanRows.{IsCompiled, plan_rows};
 ghost use Rattle.exec_workers.specs.Lanes.{HasRisen, JobRose, Served};
 ghost use Rattle.exec_workers.specs.Promises.{IsNextRow, GivesRow};
@@ -80,29 +80,56 @@ fn serve_rows<G: Gate, Q: PostLedger, J: Job, R: Wait>(
     let mut look = take_next(rt, book, plan, &lane.seat);
     wake(waiters);
     for _ in rt.forever() {
-        match look {
-            Look::Ready { row, job } => {
-                waits = 0;
-                match run_row(rt, waiters, book, plan, lane, counts, row, job) {
-                    Some(next) => look = next,
-                    None => return,
-                }
-                wake(waiters);
-            }
-            Look::NotYet { lane: _, posted: _ } => {
-                waits += 1;
-                if waits >= PATIENCE {
-                    return;
-                }
-                wait(rt, waiters, lane.seat.lane(), lane.seat.posted());
-                look = take_next(rt, book, plan, &lane.seat);
-                wake(waiters);
-            }
-            Look::Done => return,
-            Look::Halted => return,
+        match follow(
+            rt, waiters, book, plan, lane, counts, &mut waits, look,
+        ) {
+            Some(next) => look = next,
+            None => return,
         }
+        wake(waiters);
     }
     unreachable!()
+}
+
+// Does what a look at the lane says: runs the row that was taken, or waits. It gives the lane's next look, and None where the lane
+// has come to an end. `waits` says how often in a row the lane was found waiting.
+fn follow<G: Gate, Q: PostLedger, J: Job, R: Wait>(
+    rt: &R,
+    waiters: Option<&Waiters>,
+    book: &Mutex<Book<Q, J>>,
+    plan: &Plan,
+    lane: &mut Lane<G, Q>,
+    counts: &[u64],
+    waits: &mut u32,
+    look: Look<J>,
+) -> Option<Look<J>>
+    requires compiled { IsCompiled plan.now }
+    requires set { plan.now.set ≡ Q.set }
+    requires counts { length counts.now ≡ length plan.now.set.tasks }
+    requires fresh { lane.old.cause ≡ None }
+    requires waits { waits.old ≤ 10000 }
+    requires look { GivesRow J.id J.used J.made Q.made plan.now lane.old.seat look }
+    ensures served { Served (plan_rows plan.now) counts.now lane.old lane.new }
+    ensures waits { IfSome result (λ look. waits.new ≤ 10000) }
+    ensures more { IfSome result (λ look. lane.new.cause ≡ None) }
+    ensures look { IfSome result (λ look. GivesRow J.id J.used J.made Q.made plan.now lane.new.seat look) }
+{
+    match look {
+        Look::Ready { row, job } => {
+            *waits = 0;
+            run_row(rt, waiters, book, plan, lane, counts, row, job)
+        }
+        Look::NotYet { lane: _, posted: _ } => {
+            *waits += 1;
+            if *waits >= PATIENCE {
+                return None;
+            }
+            wait(rt, waiters, lane.seat.lane(), lane.seat.posted());
+            Some(take_next(rt, book, plan, &lane.seat))
+        }
+        Look::Done => None,
+        Look::Halted => None,
+    }
 }
 
 // Runs a row that was taken, posts it and looks for the lane's next one. None where the gate or the job failed.

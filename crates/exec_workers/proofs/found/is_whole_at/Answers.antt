@@ -1,3 +1,4 @@
+use Rattle.exec_workers.proofs.RefusedLemmas.{untrue}
 use Rattle.std.proofs.Common.{◌≡◌, ◌<◌, ◌∙◌, ℕ, length, ap, sym, arith, below_more}
 use Rattle.run_tree.specs.Tree.{Tree}
 use Rattle.run_tree.specs.Plans.{PlanContents}
@@ -28,3 +29,42 @@ returns-clause-none_out g c _ = none_out c.args.book.now.state (λ q within. (c.
 pub returns-clause-counts : goal.returns-clause-counts
 returns-clause-counts g c _ =
     counts_are c.args.book.now.state.lanes c.args.posted.now (wide g c ∙ sym c.requires.lanes) (λ q within. (c.loop-p.invariant q (passed g c q within)).1)
+
+pub is_of_run-requires-clause-compiled : goal.is_of_run-requires-clause-compiled
+is_of_run-requires-clause-compiled g c = c.requires.compiled
+
+pub is_of_run-requires-clause-set : goal.is_of_run-requires-clause-set
+is_of_run-requires-clause-set g c = c.requires.set
+
+pub returns-then-not-is_of_run-clause-plan : goal.returns-then-not-is_of_run-clause-plan
+returns-then-not-is_of_run-clause-plan g c = c.is_of_run.ensures.plan
+
+pub returns-then-not-is_of_run-clause-open : goal.returns-then-not-is_of_run-clause-open
+returns-then-not-is_of_run-clause-open g c = untrue
+
+pub returns-then-not-is_of_run-clause-none_out : goal.returns-then-not-is_of_run-clause-none_out
+returns-then-not-is_of_run-clause-none_out g c = untrue
+
+pub returns-then-not-is_of_run-clause-counts : goal.returns-then-not-is_of_run-clause-counts
+returns-then-not-is_of_run-clause-counts g c = untrue
+
+pub loop-p-init : goal.loop-p-init
+loop-p-init g c = λ q below. absurd (omega (arith, below))
+
+pub returns-then-lane-clause-plan : goal.returns-then-lane-clause-plan
+returns-then-lane-clause-plan g c = c.is_of_run.ensures.plan
+
+pub returns-then-lane-clause-open : goal.returns-then-lane-clause-open
+returns-then-lane-clause-open g c = untrue
+
+pub returns-then-lane-clause-none_out : goal.returns-then-lane-clause-none_out
+returns-then-lane-clause-none_out g c = untrue
+
+pub returns-then-lane-clause-counts : goal.returns-then-lane-clause-counts
+returns-then-lane-clause-counts g c = untrue
+
+pub returns-clause-plan : goal.returns-clause-plan
+returns-clause-plan g c = c.is_of_run.ensures.plan
+
+pub returns-clause-open : goal.returns-clause-open
+returns-clause-open g c = λ _. c.is_of_run.ensures.open c.if-not-is_of_run.false

@@ -1,4 +1,7 @@
-use Rattle.std.proofs.Common.{rules, ◌≡◌, ℕ, ◌<◌, inl, inr, length, ap, ◌∙◌, arith}
+use Rattle.unit_ledger.specs.Seats.{seats_at_start}
+use Rattle.run_tree.specs.Tree.{Tree}
+use Rattle.exec_workers.proofs.RefusedLemmas.{no_answer, each_error}
+use Rattle.std.proofs.Common.{rules, ◌≡◌, ℕ, ◌<◌, inl, inr, length, ap, ◌∙◌, arith, refl, sym}
 use Rattle.std.specs.Prelude.{slice_get}
 use Rattle.sched_base.specs.Sets.{SetContents}
 use Rattle.sched_edges.specs.Jobs.{JobAt}
@@ -49,3 +52,81 @@ returns-in-Err-clause-kept g c =
       | inl below ↦ c.lay_jobs.ensures.jobs t below ∙ ap (λ places. slice_get places t) same ∙ c.lift_jobs.ensures.out t below
       | inr past ↦ c.lay_jobs.ensures.other_jobs t past ∙ c.lift_jobs.ensures.other_jobs t past
     ])
+
+pub returns-in_err-out-clause-seats : goal.returns-in_err-out-clause-seats
+returns-in_err-out-clause-seats g c = no_answer _ _ c.from_residual.ensures.0
+
+pub returns-in_err-out-clause-lent : goal.returns-in_err-out-clause-lent
+returns-in_err-out-clause-lent g c = no_answer _ _ c.from_residual.ensures.0
+
+pub returns-in_err-out-clause-others : goal.returns-in_err-out-clause-others
+returns-in_err-out-clause-others g c = no_answer _ _ c.from_residual.ensures.0
+
+pub returns-in_err-out-clause-kept : goal.returns-in_err-out-clause-kept
+returns-in_err-out-clause-kept g c = each_error _ _ (λ _. refl)
+
+pub returns-in_err-side-clause-seats : goal.returns-in_err-side-clause-seats
+returns-in_err-side-clause-seats g c = no_answer _ _ c.from_residual-in_err-side.ensures.0
+
+pub returns-in_err-side-clause-lent : goal.returns-in_err-side-clause-lent
+returns-in_err-side-clause-lent g c = no_answer _ _ c.from_residual-in_err-side.ensures.0
+
+pub returns-in_err-side-clause-others : goal.returns-in_err-side-clause-others
+returns-in_err-side-clause-others g c = no_answer _ _ c.from_residual-in_err-side.ensures.0
+
+pub returns-in_err-side-clause-kept : goal.returns-in_err-side-clause-kept
+returns-in_err-side-clause-kept g c = each_error _ _ (λ _. refl)
+
+pub returns-in_err-copy-clause-seats : goal.returns-in_err-copy-clause-seats
+returns-in_err-copy-clause-seats g c = no_answer _ _ c.from_residual-in_err-copy.ensures.0
+
+pub returns-in_err-copy-clause-lent : goal.returns-in_err-copy-clause-lent
+returns-in_err-copy-clause-lent g c = no_answer _ _ c.from_residual-in_err-copy.ensures.0
+
+pub returns-in_err-copy-clause-others : goal.returns-in_err-copy-clause-others
+returns-in_err-copy-clause-others g c = no_answer _ _ c.from_residual-in_err-copy.ensures.0
+
+pub returns-in_err-copy-clause-kept : goal.returns-in_err-copy-clause-kept
+returns-in_err-copy-clause-kept g c = each_error _ _ (λ _. refl)
+
+pub open-requires-clause-name : goal.open-requires-clause-name
+open-requires-clause-name g c = c.requires.name
+
+pub open-requires-clause-parts : goal.open-requires-clause-parts
+open-requires-clause-parts g c = c.requires.parts
+
+pub new-requires-clause-compiled : goal.new-requires-clause-compiled
+new-requires-clause-compiled g c = rw c.in_ok-copy.ensures c.requires.executable.compiled
+
+pub new-requires-clause-set : goal.new-requires-clause-set
+new-requires-clause-set g c = rw c.in_ok-copy.ensures c.requires.set
+
+pub new-requires-clause-rounds : goal.new-requires-clause-rounds
+new-requires-clause-rounds g c = rw c.in_ok-copy.ensures c.requires.executable.rounds
+
+pub new-requires-clause-few : goal.new-requires-clause-few
+new-requires-clause-few g c = rw c.in_ok-copy.ensures c.requires.executable.few
+
+pub new-requires-clause-some_window : goal.new-requires-clause-some_window
+new-requires-clause-some_window g c = c.requires.executable.some_window
+
+pub new-requires-clause-small_window : goal.new-requires-clause-small_window
+new-requires-clause-small_window g c = c.requires.executable.small_window
+
+pub lay_jobs-requires-clause-empty : goal.lay_jobs-requires-clause-empty
+lay_jobs-requires-clause-empty g c = λ t below. c.lift_jobs.ensures.jobs t below
+
+pub open-requires-clause-a_part_each : goal.open-requires-clause-a_part_each
+open-requires-clause-a_part_each g c = c.requires.a_part_each ∙ sym (c.processors.ensures.value ∙ ap (λ (t : Tree). t.processors) c.tree.ensures.value)
+
+pub lift_jobs-requires-clause-none : goal.lift_jobs-requires-clause-none
+lift_jobs-requires-clause-none g c = c.in_ok-out.ensures.none
+
+pub lift_jobs-requires-clause-room : goal.lift_jobs-requires-clause-room
+lift_jobs-requires-clause-room g c = let room = c.in_ok-out.ensures.room in omega (arith, room)
+
+pub new-requires-clause-side : goal.new-requires-clause-side
+new-requires-clause-side g c = c.in_ok-side.ensures.book
+
+pub returns-in-Ok-clause-seats : goal.returns-in-Ok-clause-seats
+returns-in-Ok-clause-seats g c = c.in_ok-side.ensures.seats ∙ ap seats_at_start (c.processors.ensures.value ∙ ap (λ (t : Tree). t.processors) c.tree.ensures.value)
