@@ -50,3 +50,18 @@ look-node-requires c =
     let many = c.processors-count.ensures.value ∙ ap (λ (t : Tree). t.processors) c.tree.ensures.value in
     let on = c.others-test.true in
     record { on = c.others.invariant.node (omega (arith, many, on)) }
+
+pub next_other-other-requires-clause-belongs : goal.next_other-other-requires-clause-belongs
+next_other-other-requires-clause-belongs c = c.requires.belongs
+
+pub next_other-other-requires-clause-round : goal.next_other-other-requires-clause-round
+next_other-other-requires-clause-round c = c.requires.round
+
+pub next_other-other-requires-in-others-clause-belongs : goal.next_other-other-requires-in-others-clause-belongs
+next_other-other-requires-in-others-clause-belongs c = c.requires.belongs
+
+pub next_other-other-requires-in-others-clause-round : goal.next_other-other-requires-in-others-clause-round
+next_other-other-requires-in-others-clause-round c = c.requires.round
+
+pub next_other-other-requires-clause-kept : goal.next_other-other-requires-clause-kept
+next_other-other-requires-clause-kept c = c.requires.kept

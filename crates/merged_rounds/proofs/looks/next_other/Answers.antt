@@ -20,3 +20,9 @@ loop-q-preserved c = λ k from low.
           let P = λ (j : ℕ). IsLooked c.args.plan.now c.args.start c.args.core.now.tick j (get_or kept j None) (get_or kept j None) None in
           subst P same (looked_again c.args.plan.now c.args.start c.args.core.now.tick q kept _ here (c.goes_on.ensures c.if-not-goes_on.false)))
     ]
+
+pub node_on-node-requires-clause-belongs : goal.node_on-node-requires-clause-belongs
+node_on-node-requires-clause-belongs c = c.requires.belongs
+
+pub node_on-node-requires-clause-round : goal.node_on-node-requires-clause-round
+node_on-node-requires-clause-round c = c.requires.round

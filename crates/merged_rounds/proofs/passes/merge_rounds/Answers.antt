@@ -1,3 +1,5 @@
+use Rattle.std.proofs.lemmas.Result.{IfOk-from_err}
+use Rattle.event_core.specs.Rounds.{IsRoundUpTo}
 use Rattle.std.proofs.Common.{[], List, None, Option, Some, get_or, ap, arith, length, map, subst, sym, ℕ, ◌*◌, ◌+◌, ◌/◌, ◌<◌, ◌∙◌, ◌≡◌}
 use Rattle.sched_base.specs.declared.rows.Leaf.TheVariants.{Empty}
 use Rattle.sched_base.specs.declared.rows.NodeId.{NodeId}
@@ -129,3 +131,21 @@ returns-clause-lawful c =
     (subst (λ (n : ℕ). IsTable (lanes_of m (rows_before p n))) here c.rounds.invariant.table)
     (ap (λ n. rounds_in (lanes_of m (rows_before p n))) (sym here) ∙ c.rounds.invariant.rounds)
     (omega (arith, all, few))
+
+pub returns-in_err-merged-clause-rows : goal.returns-in_err-merged-clause-rows
+returns-in_err-merged-clause-rows c = IfOk-from_err c.from_residual.result _ c.from_residual.ensures.0
+
+pub returns-in_err-merged-clause-lawful : goal.returns-in_err-merged-clause-lawful
+returns-in_err-merged-clause-lawful c = IfOk-from_err c.from_residual.result _ c.from_residual.ensures.0
+
+pub returns-in_err-merged-clause-few : goal.returns-in_err-merged-clause-few
+returns-in_err-merged-clause-few c = IfOk-from_err c.from_residual.result _ c.from_residual.ensures.0
+
+pub go-requires-clause-belongs : goal.go-requires-clause-belongs
+go-requires-clause-belongs c = c.rounds.invariant.belongs
+
+pub look_each-requires-clause-belongs : goal.look_each-requires-clause-belongs
+look_each-requires-clause-belongs c = c.go.ensures.belongs
+
+pub look_each-requires-clause-round : goal.look_each-requires-clause-round
+look_each-requires-clause-round c = subst (λ (n : ℕ). IsRoundUpTo c.args.plan.now n c.go.new.self.tick) (sym c.now-start.ensures.value) c.go.ensures.round
