@@ -1,5 +1,5 @@
 //! The head of a picture: what a screen reader reads, the style, the words above the plot, the lanes and the axis.
-ghost use Rattle.std.specs.Prelude.{◌≡◌, ◌+◌, ◌*◌, ◌≤◌, ◌<◌, ◌^◌, length};
+ghost use Rattle.std.specs.Prelude.{◌≡◌, ◌+◌, ◌*◌, ◌≤◌, ◌<◌, ◌^◌, ◌++◌, length, decimal};
 ghost use Rattle.std.specs.List.{concat};
 ghost use Rattle.sched_edges.specs.Causes.{HasCause};
 ghost use Rattle.sched_edges.specs.Streams.{Wrote};
@@ -8,7 +8,9 @@ ghost use Rattle.trace_draw.specs.Head.{bottom, height, plural, size_text, units
 ghost use Rattle.trace_draw.specs.Head.{title_line, description_line, paper_line, style_lines, opening_lines, caption_lines, head_text};
 ghost use Rattle.trace_draw.specs.Head.{lane_lines, lanes_text, axis_step, first_mark, mark_count, mark_lines, axis_text};
 
-use crate::shapes::{box_line, grid_line, label_line, lane_top, number_text, roomy_line, task_top};
+use crate::shapes::{
+    add_number, box_line, grid_line, label_line, lane_top, number_text, roomy_line, task_top,
+};
 use crate::windows::{LEFT, WIDTH, Window};
 use sched_base::TaskSet;
 use sched_edges::{Failed, Line, Sink, word_line, write_lines};
@@ -30,22 +32,27 @@ fn plural(count: u128) -> &'static [u8]
     if count == 1 { b"" } else { b"s" }
 }
 
+// Adds how many of a thing there are, and its name.
+fn add_count(line: &mut Line, count: u128, name: &[u8])
+    requires { length line.old + length name.now ≤ 200 }
+    ensures text { line.new ≡ line.old ++ (decimal count ++ (name.now ++ plural count)) }
+    ensures short { length line.new ≤ length line.old + length name.now + 41 }
+{
+    line.number(count);
+    line.text(name);
+    line.text(plural(count));
+}
+
 // How many tasks and processors there are.
 #[tactic(auto, unfolding(crate::specs::Head::size_text))]
 fn size_text(set: &TaskSet) -> Line
     ensures text { result ≡ size_text set.now }
     ensures short { length result ≤ 120 }
 {
-    let tasks = u128::from(set.count());
-    let processors = u128::from(set.processors());
     let mut text = Line::new();
-    text.number(tasks);
-    text.text(b" task");
-    text.text(plural(tasks));
+    add_count(&mut text, u128::from(set.count()), b" task");
     text.text(b" on ");
-    text.number(processors);
-    text.text(b" processor");
-    text.text(plural(processors));
+    add_count(&mut text, u128::from(set.processors()), b" processor");
     text
 }
 
@@ -57,12 +64,9 @@ fn units_text(set: &TaskSet, window: &Window) -> Line
     ensures short { length result ≤ 136 }
 {
     let mut text = Line::new();
-    text.text(b"units ");
-    text.number(u128::from(window.from));
-    text.text(b" to ");
-    text.number(u128::from(window.from + window.units));
-    text.text(b" of ");
-    text.number(u128::from(set.horizon()));
+    add_number(&mut text, b"units ", window.from);
+    add_number(&mut text, b" to ", window.from + window.units);
+    add_number(&mut text, b" of ", set.horizon());
     text
 }
 
@@ -74,9 +78,7 @@ fn scale_text(scale: u128) -> Line
 {
     let mut text = Line::new();
     text.text(b"one unit is ");
-    text.number(scale);
-    text.text(b" tick");
-    text.text(plural(scale));
+    add_count(&mut text, scale, b" tick");
     text
 }
 
@@ -107,8 +109,7 @@ fn verdict_text(verdict: Verdict) -> Line
             text
         }
         Verdict::Fault { line, kind } => {
-            text.text(b"line ");
-            text.number(u128::from(line));
+            add_number(&mut text, b"line ", line);
             text.text(b": ");
             text.text(kind_text(kind));
             text
@@ -132,8 +133,7 @@ fn size_line(set: &TaskSet) -> Line
     ensures { result ≡ size_line set.now }
 {
     let mut line = Line::new();
-    line.text(b" viewBox='0 0 12000 ");
-    line.number(u128::from(bottom(set) + 400));
+    add_number(&mut line, b" viewBox='0 0 12000 ", bottom(set) + 400);
     line.text(b"'>");
     line.end();
     line
@@ -170,8 +170,11 @@ fn paper_line(set: &TaskSet) -> Line
     ensures { result ≡ paper_line set.now }
 {
     let mut line = Line::new();
-    line.text(b"<rect width='12000' height='");
-    line.number(u128::from(bottom(set) + 400));
+    add_number(
+        &mut line,
+        b"<rect width='12000' height='",
+        bottom(set) + 400,
+    );
     line.text(b"' fill='#fff'/>");
     line.end();
     line
@@ -281,8 +284,7 @@ fn lane_lines(processor: u32) -> [Line; 2]
 {
     let top = lane_top(processor);
     let mut name = Line::new();
-    name.text(b"cpu ");
-    name.number(u128::from(processor));
+    add_number(&mut name, b"cpu ", u64::from(processor));
     [
         roomy_line(b"l", 1760, 1780, top + 215, name.as_slice()),
         box_line(b"p", LEFT, top, WIDTH, 340),

@@ -9,7 +9,9 @@ ghost use Rattle.trace_draw.specs.Periods.{title_look, title_lines, marks_text, 
 
 use crate::rows::task_of;
 use crate::served::{Served, served_between};
-use crate::shapes::{arrow_line, base_line, box_line, line_if, ring_line, roomy_line, task_top};
+use crate::shapes::{
+    add_number, arrow_line, base_line, box_line, line_if, ring_line, roomy_line, task_top,
+};
 use crate::windows::{WIDTH, Window};
 use sched_base::Task;
 use sched_edges::{Failed, Line, Sink, write_lines};
@@ -148,11 +150,9 @@ fn numbers_text(task: &Task) -> Line
 {
     let mut text = Line::new();
     text.number(u128::from(task.work));
-    text.text(b"/");
-    text.number(u128::from(task.period));
+    add_number(&mut text, b"/", task.period);
     if task.offset != 0 {
-        text.text(b" @");
-        text.number(u128::from(task.offset));
+        add_number(&mut text, b" @", task.offset);
     }
     text
 }

@@ -16,6 +16,16 @@ pub(crate) fn number_text(number: u64) -> Line
     text
 }
 
+/// Adds a text, and a number after it.
+pub(crate) fn add_number(line: &mut Line, text: &[u8], number: u64)
+    requires { length line.old + length text.now ≤ 216 }
+    ensures text { line.new ≡ line.old ++ (text.now ++ decimal number) }
+    ensures short { length line.new ≤ length line.old + length text.now + 40 }
+{
+    line.text(text);
+    line.number(u128::from(number));
+}
+
 /// The line, where it is to be shown.
 pub(crate) fn line_if(shown: bool, line: Line) -> Line
     ensures { result ≡ line_if shown line }
@@ -32,14 +42,10 @@ pub(crate) fn box_line(look: &[u8], x: u64, y: u64, width: u64, height: u64) -> 
     let mut line = Line::new();
     line.text(b"<rect class='");
     line.text(look);
-    line.text(b"' x='");
-    line.number(u128::from(x));
-    line.text(b"' y='");
-    line.number(u128::from(y));
-    line.text(b"' width='");
-    line.number(u128::from(width));
-    line.text(b"' height='");
-    line.number(u128::from(height));
+    add_number(&mut line, b"' x='", x);
+    add_number(&mut line, b"' y='", y);
+    add_number(&mut line, b"' width='", width);
+    add_number(&mut line, b"' height='", height);
     line.text(b"'/>");
     line.end();
     line
@@ -55,10 +61,8 @@ pub(crate) fn label_line(look: &[u8], x: u64, y: u64, text: &[u8]) -> Line
     let mut line = Line::new();
     line.text(b"<text class='");
     line.text(look);
-    line.text(b"' x='");
-    line.number(u128::from(x));
-    line.text(b"' y='");
-    line.number(u128::from(y));
+    add_number(&mut line, b"' x='", x);
+    add_number(&mut line, b"' y='", y);
     line.text(b"'>");
     line.text(text);
     line.text(b"</text>");
@@ -100,10 +104,8 @@ pub(crate) fn grid_line(x: u64, y: u64) -> Line
     ensures { result ≡ grid_line x y }
 {
     let mut line = Line::new();
-    line.text(b"<path class='g' d='M");
-    line.number(u128::from(x));
-    line.text(b" 880V");
-    line.number(u128::from(y));
+    add_number(&mut line, b"<path class='g' d='M", x);
+    add_number(&mut line, b" 880V", y);
     line.text(b"'/>");
     line.end();
     line
@@ -115,8 +117,7 @@ pub(crate) fn base_line(y: u64) -> Line
     ensures { result ≡ base_line y }
 {
     let mut line = Line::new();
-    line.text(b"<path class='b' d='M1900 ");
-    line.number(u128::from(y));
+    add_number(&mut line, b"<path class='b' d='M1900 ", y);
     line.text(b"H11600'/>");
     line.end();
     line
@@ -128,10 +129,8 @@ pub(crate) fn arrow_line(x: u64, y: u64) -> Line
     ensures { result ≡ arrow_line x y }
 {
     let mut line = Line::new();
-    line.text(b"<path class='r' d='M");
-    line.number(u128::from(x));
-    line.space();
-    line.number(u128::from(y));
+    add_number(&mut line, b"<path class='r' d='M", x);
+    add_number(&mut line, b" ", y);
     line.text(b"v-290m-45 70l45-70l45 70'/>");
     line.end();
     line
@@ -143,10 +142,8 @@ pub(crate) fn ring_line(x: u64, y: u64) -> Line
     ensures { result ≡ ring_line x y }
 {
     let mut line = Line::new();
-    line.text(b"<circle class='o' cx='");
-    line.number(u128::from(x));
-    line.text(b"' cy='");
-    line.number(u128::from(y));
+    add_number(&mut line, b"<circle class='o' cx='", x);
+    add_number(&mut line, b"' cy='", y);
     line.text(b"' r='40'/>");
     line.end();
     line

@@ -14,7 +14,7 @@ pub(crate) const WIDTH: u64 = 9700;
 const LEAST: u64 = 6;
 
 /// A stretch of time: so many units from one on.
-#[derive(Clone, Copy, Debug, PartialEq, Eq)]
+#[derive(Clone, Copy)]
 pub struct Window {
     /// The ticks of a unit.
     pub scale: u128,

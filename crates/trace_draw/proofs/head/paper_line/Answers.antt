@@ -5,4 +5,4 @@ use Rattle.trace_draw.proofs.head.paper_line.Goals as goal
 pub returns : goal.returns
 unfolding paper_line
 returns c =
-    simp (c.end.ensures, c.text-2.ensures, c.number.ensures.text, c.from.ensures, c.bottom.ensures.value, c.text.ensures, c.new-line.ensures, append_assoc) refl
+    simp (c.end.ensures, c.text.ensures, c.add_number.ensures.text, c.bottom.ensures.value, c.new-line.ensures, append_assoc) refl

@@ -1,0 +1,8 @@
+use Rattle.std.proofs.Common.{refl, append_assoc}
+use Rattle.trace_draw.specs.Head.{units_text}
+use Rattle.trace_draw.proofs.head.units_text.Goals as goal
+
+pub returns-clause-text : goal.returns-clause-text
+unfolding units_text
+returns-clause-text c =
+    simp (c.add_number-3.ensures.text, c.horizon.ensures.value, c.add_number-2.ensures.text, c.add_number.ensures.text, c.new-text.ensures, append_assoc) refl
