@@ -2,6 +2,7 @@
 ghost use Rattle.std.specs.Prelude.{◌≡◌, ℕ, ◌<◌, ◌≤◌, length, true, false, slice_index, slice_index_or, IfOk, IfErr};
 ghost use Rattle.sched_base.specs.declared.rows.Row.{Row as DeclaredRow};
 ghost use Rattle.run_tree.specs.Plans.{stop_of};
+ghost use Rattle.event_core.specs.Cores.{IsCoreOf};
 ghost use Rattle.event_core.specs.Rounds.{IsRoundUpTo, rows_of_round};
 ghost use Rattle.round_steps.specs.Refusals.{IsRefusedFor};
 ghost use Rattle.round_steps.specs.Steps.{IsPlanOf, task_shown};
@@ -10,7 +11,7 @@ use crate::faults::OpenFault;
 use event_core::Core;
 use run_compile::compile;
 use run_tree::Plan;
-use sched_base::{Leaf, Row, blank_rows};
+use sched_base::{Leaf, NoMemory, Row, blank_rows};
 use std::alloc::Global;
 use std::marker::Model;
 use task_reader::read_set;
@@ -42,6 +43,36 @@ impl Model for Steps {
     ghost invariant = { λ s. IsCoreOf s.plan s.core × (length s.rows.items ≡ s.plan.tree.processors) };
 }
 
+// The plan of a task set, written as a TOML document.
+fn plan_of(alloc: Global, bytes: &[u8]) -> Result<Plan, OpenFault>
+    requires { length bytes.now ≤ 1048576 }
+    ensures plan { IfOk result (IsPlanOf bytes.now) }
+    ensures refused { IfErr result (IsRefusedFor bytes.now) }
+{
+    let set = read_set(alloc, bytes)?;
+    Ok(compile(alloc, set)?)
+}
+
+// The schedule of a plan, before its first round.
+fn start(alloc: Global, plan: Plan) -> Result<Steps, NoMemory>
+    ensures plan { IfOk result (λ s. s.plan ≡ plan) }
+    ensures start { IfOk result (λ s. s.core.tick ≡ 0) }
+{
+    let (core, rows) = core_of(alloc, &plan)?;
+    Ok(Steps { plan, core, rows })
+}
+
+// The core of a plan before its first round, and room for the rows of a round.
+fn core_of(alloc: Global, plan: &Plan) -> Result<(Core, Vec<Row>), NoMemory>
+    ensures belongs { IfOk result (λ made. IsCoreOf plan.now made.0) }
+    ensures start { IfOk result (λ made. made.0.tick ≡ 0) }
+    ensures rows { IfOk result (λ made. length made.1.items ≡ plan.now.tree.processors) }
+{
+    let rows = blank_rows(alloc, plan.tree().processors())?;
+    let core = Core::new(alloc, plan)?;
+    Ok((core, rows))
+}
+
 impl Steps {
     /// The schedule of a task set, written as a TOML document, before its first round.
     pub fn open(alloc: Global, bytes: &[u8]) -> Result<Steps, OpenFault>
@@ -52,11 +83,8 @@ impl Steps {
         if bytes.len() > SET_LIMIT {
             return Err(OpenFault::InputTooLong);
         }
-        let set = read_set(alloc, bytes)?;
-        let plan = compile(alloc, set)?;
-        let core = Core::new(alloc, &plan)?;
-        let rows = blank_rows(alloc, plan.tree().processors())?;
-        Ok(Steps { plan, core, rows })
+        let plan = plan_of(alloc, bytes)?;
+        Ok(start(alloc, plan)?)
     }
 
     /// The tick at which the next round starts, or at which the last one ended.
