@@ -1,4 +1,5 @@
-//! Tests alone: sets whose rounds are known, compiled, run round by round and put into tables.
+//! Tests alone: sets whose rounds are known or follow from the rules, compiled, run round by round and put into tables; the parts
+//! of a round, and trees.
 #![tactic(auto)]
 
 #[cfg(test)]

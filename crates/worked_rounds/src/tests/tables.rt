@@ -1,12 +1,8 @@
-//! The tables of worked sets.
+//! Tables of whole rounds.
+ghost use Rattle.std.specs.Prelude.{◌≡◌};
 
-use event_core::count_rounds;
-use round_table::table_of;
-use run_plain::plan_of;
-use run_tree::Plan;
-use sched_base::{Leaf, Row, RowTable, TaskId};
-use std::alloc::Global;
-use std::test::Fail;
+use super::{Round, is_row};
+use sched_base::{Leaf, NoMemory, Row, RowTable, TaskId};
 
 const A: Leaf = Leaf::Task(TaskId(0));
 
@@ -14,7 +10,25 @@ const B: Leaf = Leaf::Task(TaskId(1));
 
 const C: Leaf = Leaf::Task(TaskId(2));
 
-fn row(processor: u32, start: u128, end: u128, leaf: Leaf) -> Row {
+/// Whether the table has these rounds of so many processors.
+pub(super) fn is_table(table: &RowTable, processors: u32, rounds: &[Round]) -> bool {
+    for p in 0..table.processors() {
+        let lane = table.lane(p);
+        if lane.len() != rounds.len() {
+            return false;
+        }
+        for (row, round) in lane.iter().zip(rounds) {
+            if !is_row(row, p, round) {
+                return false;
+            }
+        }
+    }
+    table.processors() == processors && table.rounds() == rounds.len() as u64
+}
+
+fn row(processor: u32, start: u128, end: u128, leaf: Leaf) -> Row
+    ensures { result ≡ record { processor = processor; start = start; end = end; leaf = leaf } }
+{
     Row {
         processor,
         start,
@@ -23,40 +37,15 @@ fn row(processor: u32, start: u128, end: u128, leaf: Leaf) -> Row {
     }
 }
 
-/// All rounds of a plan.
-fn whole_table(alloc: Global, plan: &Plan) -> Result<RowTable, Fail> {
-    let rounds = count_rounds(alloc, plan)?;
-    Ok(table_of(alloc, plan, rounds)?)
-}
-
+/// Three tasks of rate 2/3 on two processors, over one period.
 #[test]
-fn holds_the_rounds_of_three_tasks(rt: HostRuntime) -> Result<(), Fail> {
-    let three_tasks: &[(&str, u64, u64, u64)] = &[("a", 2, 3, 0), ("b", 2, 3, 0), ("c", 2, 3, 0)];
-    let plan = plan_of(rt.alloc(), 2, 3, three_tasks)?;
-    let table = whole_table(rt.alloc(), &plan)?;
-    let first = [row(0, 0, 3, B), row(0, 3, 6, A), row(0, 6, 9, A)];
-    let second = [row(1, 0, 3, C), row(1, 3, 6, C), row(1, 6, 9, B)];
-    assert!(rt; table.processors() == 2);
-    assert_eq!(rt; table.rounds(), 3);
-    assert_eq!(rt; table.lane(0), first.as_slice());
-    assert_eq!(rt; table.lane(1), second.as_slice());
-    Ok(())
-}
-
-#[test]
-fn holds_rows_of_idle_and_of_waiting(rt: HostRuntime) -> Result<(), Fail> {
-    let late: &[(&str, u64, u64, u64)] = &[("a", 1, 1, 1)];
-    let wait = Leaf::Wait(TaskId(0));
-    let idle = Leaf::Idle(0);
-    let cases: [(u64, &[(&str, u64, u64, u64)], &[Row]); 2] = [
-        (2, late, &[row(0, 0, 1, wait), row(0, 1, 2, A)]),
-        (1, &[], &[row(0, 0, 1, idle)]),
-    ];
-    for (horizon, tasks, lane) in cases {
-        let plan = plan_of(rt.alloc(), 1, horizon, tasks)?;
-        let table = whole_table(rt.alloc(), &plan)?;
-        assert!(rt; table.processors() == 1);
-        assert_eq!(rt; table.lane(0), lane);
-    }
+fn holds_three_rounds(rt: HostRuntime) -> Result<(), NoMemory> {
+    let mut table = RowTable::new(rt.alloc(), 2, 3)?;
+    assert!(rt; table.rounds() == 0);
+    table.push_round(&[row(0, 0, 3, B), row(1, 0, 3, C)]);
+    table.push_round(&[row(0, 3, 6, A), row(1, 3, 6, C)]);
+    table.push_round(&[row(0, 6, 9, A), row(1, 6, 9, B)]);
+    let rounds = [(0, 3, "bc"), (3, 6, "ac"), (6, 9, "ab")];
+    assert!(rt; is_table(&table, 2, &rounds));
     Ok(())
 }

@@ -1,4 +1,5 @@
 //! The tree of a worked set, node by node.
+use super::THREE_TASKS;
 use run_plain::plan_of;
 use run_tree::{Kind, Tree};
 use sched_base::{Leaf, NodeId, TaskId};
@@ -17,20 +18,19 @@ fn assert_node(
 ) {
     assert!(rt; n < tree.nodes());
     let node = NodeId(n);
-    assert_eq!(rt; tree.kind(node), kind, "{n}");
-    assert_eq!(rt; tree.rate(node), rate, "{n}");
-    assert_eq!(rt; tree.members(node), members, "{n}");
-    assert_eq!(rt; tree.dual(node), dual, "{n}");
+    assert!(rt; tree.kind(node) == kind, "{n}");
+    assert!(rt; tree.rate(node) == rate, "{n}");
+    assert!(rt; tree.members(node) == members, "{n}");
+    assert!(rt; tree.dual(node) == dual, "{n}");
 }
 
 /// Three tasks of rate 2/3 on two processors: each in a pack of its own, and the three duals in one pack.
 #[test]
 fn makes_the_tree_of_three_tasks(rt: HostRuntime) -> Result<(), Fail> {
-    let tasks = [("a", 2, 3, 0), ("b", 2, 3, 0), ("c", 2, 3, 0)];
-    let plan = plan_of(rt.alloc(), 2, 3, &tasks)?;
+    let plan = plan_of(rt.alloc(), 2, 3, THREE_TASKS)?;
     let tree = plan.tree();
-    assert_eq!(rt; (tree.processors(), tree.scale(), tree.levels()), (2, 3, 2));
-    assert_eq!(rt; tree.nodes(), 10);
+    assert!(rt; (tree.processors(), tree.scale(), tree.levels()) == (2, 3, 2));
+    assert!(rt; tree.nodes() == 10);
     // A pack stands just before its first member. Each member has its kind and its rate; a pack its members and its dual.
     for j in 0..3 {
         let pack = NodeId(2 * j);

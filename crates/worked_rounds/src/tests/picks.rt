@@ -1,7 +1,7 @@
 //! Steps of a round by worked tables: which member is picked, and where packs are placed.
 use cpu_assign::Places;
 use edf_pick::{Candidate, earliest};
-use std::test::Fail;
+use sched_base::NoMemory;
 
 #[test]
 fn picks(rt: HostRuntime) {
@@ -26,7 +26,7 @@ fn picks(rt: HostRuntime) {
 }
 
 #[test]
-fn places_tick_by_tick(rt: HostRuntime) -> Result<(), Fail> {
+fn places_tick_by_tick(rt: HostRuntime) -> Result<(), NoMemory> {
     let mut places = Places::new(rt.alloc(), 3, 2)?;
     for (runs, placed) in [
         ([false, true, true], [Some(1), Some(2)]),

@@ -1,5 +1,0 @@
-use Rattle.event_core.specs.Cores.{IsCoreOf}
-use Rattle.worked_rounds.proofs.tests.run_rounds.Given as goal
-
-abbrev pub invariant-loop-k : goal.invariant-loop-k
-invariant-loop-k g l = IsCoreOf l.plan l.core
