@@ -2,39 +2,12 @@
 //! program of its own, and looked at.
 ghost use Rattle.std.specs.Prelude.{◌≤◌, IfSome};
 
-use sched_base::NoMemory;
-use sched_edges::{Failed, MemSink};
+use sched_edges::MemSink;
 use std::alloc::Global;
-use std::test::Fail;
-use trace_check::{TraceFault, check_trace, read_trace};
+use std::process::Abort;
+use trace_check::{ReadTrace, check_trace, read_trace};
 use trace_draw::{shown_window, write_picture};
 use trace_lines::Asked;
-
-/// Why there is no picture.
-#[derive(Debug, Drop)]
-enum NoPicture {
-    NotRead,
-    NotWritten,
-    NoMemory,
-}
-
-impl From<TraceFault> for NoPicture {
-    fn from(_: TraceFault) -> NoPicture {
-        NoPicture::NotRead
-    }
-}
-
-impl From<Failed> for NoPicture {
-    fn from(_: Failed) -> NoPicture {
-        NoPicture::NotWritten
-    }
-}
-
-impl From<NoMemory> for NoPicture {
-    fn from(_: NoMemory) -> NoPicture {
-        NoPicture::NoMemory
-    }
-}
 
 // ---- parts that several worked pictures share
 
@@ -148,7 +121,7 @@ const THREE_TASKS: &str =
     "run-trace 1\nprocessors 2\nhorizon 3\nscale 3\ntasks 3\ntask a 2 3\ntask b 2 3\ntask c 2 3\nrow 0 0 3 b\n\
         row 0 3 9 a\nrow 1 0 6 c\nrow 1 6 9 b\ntotal a 6\ntotal b 6\ntotal c 6\nrows 4\n";
 
-const THREE_TASKS_PICTURE: [&str; 20] = [
+const THREE_TASKS_PICTURE: &[&str] = &[
     SVG,
     TITLE,
     "valid",
@@ -240,7 +213,7 @@ const SHORT: &str =
     "run-trace 1\nprocessors 2\nhorizon 3\nscale 3\ntasks 3\ntask a 2 3\ntask b 2 3\ntask c 2 3\nrow 0 0 3 b\n\
         row 0 3 8 a\nrow 1 0 6 c\nrow 1 6 9 b\ntotal a 5\ntotal b 6\ntotal c 6\nrows 4\n";
 
-const SHORT_PICTURE: [&str; 20] = [
+const SHORT_PICTURE: &[&str] = &[
     SVG,
     TITLE,
     "line 13: supply",
@@ -272,7 +245,7 @@ const OVERLAP: &str =
     "run-trace 1\nprocessors 2\nhorizon 3\nscale 3\ntasks 3\ntask a 2 3\ntask b 2 3\ntask c 2 3\nrow 0 0 3 b\n\
         row 0 3 9 c\nrow 1 0 6 c\nrow 1 6 9 b\ntotal a 0\ntotal b 6\ntotal c 12\nrows 4\n";
 
-const OVERLAP_PICTURE: [&str; 21] = [
+const OVERLAP_PICTURE: &[&str] = &[
     SVG,
     TITLE,
     "line 11: task-overlap",
@@ -302,68 +275,64 @@ const OVERLAP_PICTURE: [&str; 21] = [
     LEGEND,
 ];
 
-// What a sink takes of the picture of a trace text.
-fn picture_of(alloc: Global, text: &str, asked: &Asked) -> Result<MemSink, NoPicture>
+/// Compares what a sink takes of the picture of a trace with these parts. Where calls of the sink fail, it is a first part of them.
+fn compare_picture(
+    rt: &impl Abort,
+    alloc: Global,
+    trace: &ReadTrace,
+    asked: &Asked,
+    fails: &[u64],
+    parts: &[&str],
+)
     requires { IfSome asked.now.units (λ n. 1 ≤ n) }
 {
-    let trace = read_trace(alloc, text.as_bytes())?;
-    let window = shown_window(&trace, asked);
-    let mut sink = MemSink::new(alloc, 16_384, &[])?;
-    write_picture(&mut sink, &trace, &window, check_trace(&trace))?;
-    Ok(sink)
+    let window = shown_window(trace, asked);
+    let mut sink = MemSink::new(alloc, 16_384, fails).expect(rt, "there is memory");
+    let written = write_picture(&mut sink, trace, &window, check_trace(trace));
+    assert!(rt; written.is_ok() == fails.is_empty());
+    compare_bytes(rt, alloc, sink.taken(), parts, fails.is_empty());
 }
 
-fn is_picture(taken: &[u8], parts: &[&str]) -> bool {
-    let mut left = taken;
-    for part in parts {
-        match left.strip_prefix(part.as_bytes()) {
-            Some(rest) => left = rest,
-            None => return false,
-        }
-    }
-    left.is_empty()
+/// Compares bytes with these parts, of which they are a first part if not the whole.
+fn compare_bytes(rt: &impl Abort, alloc: Global, taken: &[u8], parts: &[&str], whole: bool) {
+    let all = parts.concat(alloc).expect(rt, "there is memory");
+    assert!(rt; all.as_bytes().starts_with(taken));
+    assert!(rt; !whole || all.len() == taken.len());
 }
 
-// Whether these bytes are a first part of the picture.
-fn begins_picture(taken: &[u8], parts: &[&str]) -> bool {
-    let mut left = taken;
-    for part in parts {
-        match left.strip_prefix(part.as_bytes()) {
-            Some(rest) => left = rest,
-            None => return part.as_bytes().starts_with(left),
-        }
-    }
-    left.is_empty()
+fn trace_of(rt: &impl Abort, alloc: Global, text: &str) -> ReadTrace {
+    read_trace(alloc, text.as_bytes()).expect(rt, "the text is a trace")
 }
 
-const ALL: Asked = Asked {
-    from: 0,
-    units: None,
-};
+/// The same of the picture of a trace text.
+fn compare(rt: &impl Abort, alloc: Global, text: &str, asked: &Asked, fails: &[u64], parts: &[&str])
+    requires { IfSome asked.now.units (λ n. 1 ≤ n) }
+{
+    let trace = trace_of(rt, alloc, text);
+    compare_picture(rt, alloc, &trace, asked, fails, parts);
+}
 
 #[test]
-fn pictures(rt: HostRuntime) -> Result<(), Fail> {
+fn pictures(rt: HostRuntime) {
     let alloc = rt.alloc();
+    let all = Asked {
+        from: 0,
+        units: None,
+    };
     let middle = Asked {
         from: 1,
         units: Some(3),
     };
     let offset: [&str; 4] = [SVG, OFFSET_ABOVE, STYLE, OFFSET_BELOW];
-    let sink = picture_of(alloc, THREE_TASKS, &ALL)?;
-    assert!(rt; is_picture(sink.taken(), &THREE_TASKS_PICTURE));
-    let sink = picture_of(alloc, OFFSET, &middle)?;
-    assert!(rt; is_picture(sink.taken(), &offset));
-    let sink = picture_of(alloc, SHORT, &ALL)?;
-    assert!(rt; is_picture(sink.taken(), &SHORT_PICTURE));
-    let sink = picture_of(alloc, OVERLAP, &ALL)?;
-    assert!(rt; is_picture(sink.taken(), &OVERLAP_PICTURE));
-    Ok(())
+    compare(&rt, alloc, THREE_TASKS, &all, &[], THREE_TASKS_PICTURE);
+    compare(&rt, alloc, THREE_TASKS, &all, &[3], THREE_TASKS_PICTURE);
+    compare(&rt, alloc, OFFSET, &middle, &[], &offset);
+    compare(&rt, alloc, SHORT, &all, &[], SHORT_PICTURE);
+    compare(&rt, alloc, OVERLAP, &all, &[], OVERLAP_PICTURE);
 }
 
 /// A window past the horizon is its last unit, and one never has no unit.
-#[test]
-fn windows(rt: HostRuntime) -> Result<(), Fail> {
-    let trace = read_trace(rt.alloc(), OFFSET.as_bytes())?;
+fn compare_windows(rt: &impl Abort, trace: &ReadTrace) {
     let table: [(u64, Option<u64>, u64, u64); 5] = [
         (0, None, 0, 5),
         (2, None, 2, 3),
@@ -372,18 +341,13 @@ fn windows(rt: HostRuntime) -> Result<(), Fail> {
         (4_294_967_296, Some(1), 4, 1),
     ];
     for (from, units, first, count) in table {
-        let window = shown_window(&trace, &Asked { from, units });
+        let window = shown_window(trace, &Asked { from, units });
         assert!(rt; (window.scale, window.from, window.units) == (2, first, count));
     }
-    Ok(())
 }
 
 #[test]
-fn a_sink_that_fails_takes_a_first_part(rt: HostRuntime) -> Result<(), Fail> {
-    let trace = read_trace(rt.alloc(), THREE_TASKS.as_bytes())?;
-    let window = shown_window(&trace, &ALL);
-    let mut sink = MemSink::new(rt.alloc(), 16_384, &[3])?;
-    assert!(rt; write_picture(&mut sink, &trace, &window, check_trace(&trace)) == Err(Failed));
-    assert!(rt; begins_picture(sink.taken(), &THREE_TASKS_PICTURE));
-    Ok(())
+fn windows(rt: HostRuntime) {
+    let trace = trace_of(&rt, rt.alloc(), OFFSET);
+    compare_windows(&rt, &trace);
 }

@@ -1,16 +1,36 @@
 //! Worked schedules in C, and a sink that fails. That of three tasks stands whole in the tests of the command `table`.
+ghost use Rattle.std.specs.Prelude.{◌≡◌, ◌*◌, ◌<◌, ◌^◌, length};
+
 use super::A;
 use merged_rows::MergedRows;
-use sched_base::{Leaf, TaskId, TaskSet};
-use sched_edges::{Failed, MemSink};
-use std::test::Fail;
+use sched_base::{Leaf, NoMemory, TaskId, TaskSet};
+use sched_edges::MemSink;
+use std::alloc::Global;
+use std::process::Abort;
 use table_text::write_table;
+
+/// What a sink takes of the schedule of a set, where these calls of it fail.
+fn written(
+    rt: &impl Abort,
+    alloc: Global,
+    set: &TaskSet,
+    scale: u128,
+    rows: &MergedRows,
+    fails: &[u64],
+) -> MemSink
+    requires fits { set.now.horizon * scale < 2 ^ 64 }
+    requires processors { length rows.now.lanes ≡ set.now.processors }
+{
+    let mut sink = MemSink::new(alloc, 4096, fails).expect(rt, "there is memory");
+    assert!(rt; write_table(&mut sink, set, scale, rows).is_ok() == fails.is_empty());
+    sink
+}
 
 /// The ticks of a row have the narrowest type that holds those up to the horizon.
 #[test]
-fn the_narrowest_types(rt: HostRuntime) -> Result<(), Fail> {
-    let set = TaskSet::start(rt.alloc(), 1, 1);
+fn the_narrowest_types(rt: HostRuntime) -> Result<(), NoMemory> {
     let rows = MergedRows::new(rt.alloc(), 1)?;
+    let set = TaskSet::start(rt.alloc(), 1, 1);
     let table: [(u128, &[u8]); 7] = [
         (255, b"  uint8_t start, end;\n"),
         (256, b"  uint16_t start, end;\n"),
@@ -22,8 +42,7 @@ fn the_narrowest_types(rt: HostRuntime) -> Result<(), Fail> {
     ];
     for (scale, line) in table {
         assert!(rt; scale < 1 << 64);
-        let mut sink = MemSink::new(rt.alloc(), 4096, &[])?;
-        assert!(rt; write_table(&mut sink, &set, scale, &rows).is_ok());
+        let sink = written(&rt, rt.alloc(), &set, scale, &rows, &[]);
         assert!(rt; sink.taken().windows(line.len()).any(|part| part == line));
     }
     Ok(())
@@ -58,16 +77,18 @@ const struct furnacelime_table furnacelime_table = {
 ";
 
 #[test]
-fn a_late_task(rt: HostRuntime) -> Result<(), Fail> {
-    let mut set = TaskSet::start(rt.alloc(), 1, 50);
-    set.add_late(b"late", 1, 2, 1)?;
+fn a_late_task(rt: HostRuntime) -> Result<(), NoMemory> {
     let rows = MergedRows::new(rt.alloc(), 1)?;
     let rows = rows.with_round(6, &[Some(Leaf::Wait(TaskId(0)))])?;
     let rows = rows.with_round(256, &[Some(A)])?;
     let rows = rows.with_round(300, &[Some(Leaf::Idle(0))])?;
-    let mut sink = MemSink::new(rt.alloc(), 4096, &[])?;
-    assert!(rt; write_table(&mut sink, &set, 6, &rows).is_ok());
-    assert!(rt; sink.taken().ends_with(LATE));
+    let mut set = TaskSet::start(rt.alloc(), 1, 50);
+    set.add_late(b"late", 1, 2, 1)?;
+    assert!(rt;
+        written(&rt, rt.alloc(), &set, 6, &rows, &[])
+            .taken()
+            .ends_with(LATE)
+    );
     Ok(())
 }
 
@@ -101,27 +122,17 @@ const struct furnacelime_table furnacelime_table = {
 };
 ";
 
+/// Of no tasks, and what a sink takes of it whose third call fails.
 #[test]
-fn no_tasks(rt: HostRuntime) -> Result<(), Fail> {
-    let set = TaskSet::start(rt.alloc(), 2, 1);
+fn no_tasks(rt: HostRuntime) -> Result<(), NoMemory> {
     let rows = MergedRows::new(rt.alloc(), 2)?;
     let rows = rows.with_round(1, &[Some(Leaf::Idle(0)), Some(Leaf::Empty)])?;
-    let mut sink = MemSink::new(rt.alloc(), 4096, &[])?;
-    assert!(rt; write_table(&mut sink, &set, 1, &rows).is_ok());
-    assert!(rt; sink.taken().ends_with(NONE));
-    Ok(())
-}
-
-#[test]
-fn a_sink_that_fails_takes_a_first_part(rt: HostRuntime) -> Result<(), Fail> {
-    let set = TaskSet::start(rt.alloc(), 1, 1);
-    let rows = MergedRows::new(rt.alloc(), 1)?;
-    let rows = rows.with_round(1, &[Some(Leaf::Idle(0))])?;
-    let mut sink = MemSink::new(rt.alloc(), 4096, &[3])?;
-    assert!(rt; write_table(&mut sink, &set, 1, &rows) == Err(Failed));
-    assert!(rt;
-        sink.taken()
-            .ends_with(b"struct furnacelime_row {\n  uint8_t start, end;\n")
-    );
+    let set = TaskSet::start(rt.alloc(), 2, 1);
+    let first = b"struct furnacelime_row {\n  uint8_t start, end;\n";
+    let rows_taken: [(&[u64], &[u8]); 2] = [(&[], NONE), (&[3], first)];
+    for (fails, taken) in rows_taken {
+        let sink = written(&rt, rt.alloc(), &set, 1, &rows, fails);
+        assert!(rt; sink.taken().ends_with(taken));
+    }
     Ok(())
 }

@@ -2,6 +2,7 @@
 ghost use Rattle.std.specs.Prelude.{◌≤◌, ◌^◌};
 ghost use Rattle.sched_base.specs.Scale.{Fits, IsScale};
 
+use merged_rows::MergedRows;
 use named_sets::{NoSet, add_task, set_of};
 use rate_scale::{fits, scale_of};
 use sched_base::{Leaf, Row, TaskSet};
@@ -72,6 +73,26 @@ fn compare(rt: &impl Abort, lane: &[Row], starts: &[u128], letters: &str) {
     }
 }
 
+/// Compares the first lanes of a set that is wrapped, each with letters as in `compare`.
+fn compare_wrapped(
+    rt: &impl Abort,
+    alloc: Global,
+    set: &TaskSet,
+    starts: &[u128],
+    lanes: &[&str],
+) -> Result<(), WrapFault> {
+    let scale = scale_that_fits(rt, set);
+    let rounds = wrap_rounds(alloc, set, scale)?;
+    assert!(rt; rounds.saturating_add(1) == starts.len() as u64);
+    let table = wrap(alloc, set, scale, rounds)?;
+    assert!(rt; table.processors() == set.processors());
+    assert!(rt; lanes.len() <= table.processors() as usize);
+    for p in 0..lanes.len() {
+        compare(rt, table.lane(p as u32), starts, lanes[p]);
+    }
+    Ok(())
+}
+
 #[test]
 fn wraps_worked_sets(rt: HostRuntime) -> Result<(), Fail> {
     let two_thirds: &[(u32, u64, u64, u64)] = &[(3, 2, 3, 0)];
@@ -112,37 +133,36 @@ fn wraps_worked_sets(rt: HostRuntime) -> Result<(), Fail> {
     ];
     for (processors, horizon, tasks, starts, lanes) in rows {
         let set = grouped_set(rt.alloc(), processors, horizon, tasks)?;
-        let scale = scale_that_fits(&rt, &set);
-        let rounds = wrap_rounds(rt.alloc(), &set, scale)?;
-        assert!(rt; rounds + 1 == starts.len() as u64);
-        let table = wrap(rt.alloc(), &set, scale, rounds)?;
-        assert!(rt; table.processors() == processors);
-        assert!(rt; lanes.len() <= processors as usize);
-        for p in 0..lanes.len() {
-            compare(&rt, table.lane(p as u32), starts, lanes[p]);
-        }
+        compare_wrapped(&rt, rt.alloc(), &set, starts, lanes)?;
     }
     Ok(())
+}
+
+/// The merged rows of a set that is wrapped to three rounds.
+fn merged(rt: &impl Abort, alloc: Global, set: &TaskSet) -> Result<MergedRows, WrapFault> {
+    let scale = scale_that_fits(rt, set);
+    assert!(rt; wrap_rounds(alloc, set, scale)? == 3);
+    Ok(merged_wrap(alloc, set, scale)?)
+}
+
+/// Compares the two rows of a processor with these, each told by its start, its end and a letter.
+fn compare_merged(rt: &impl Abort, rows: &MergedRows, processor: u32, want: [(u128, u128, u8); 2]) {
+    assert!(rt; processor < rows.processors());
+    assert!(rt; rows.count(processor) == 2);
+    for i in 0..2 {
+        let row = rows.row(processor, i);
+        assert!(rt; (row.start, row.end, letter(row.leaf)) == want[i]);
+    }
 }
 
 // Three tasks of rate 2/3 on two processors: on each of them two rounds under one name are one row.
 #[test]
 fn merges_the_rows_of_a_worked_set(rt: HostRuntime) -> Result<(), Fail> {
     let set = grouped_set(rt.alloc(), 2, 3, &[(3, 2, 3, 0)])?;
-    let scale = scale_that_fits(&rt, &set);
-    assert!(rt; wrap_rounds(rt.alloc(), &set, scale)? == 3);
-    let rows = merged_wrap(rt.alloc(), &set, scale)?;
+    let rows = merged(&rt, rt.alloc(), &set)?;
     assert!(rt; rows.processors() == 2);
-    for (processor, want) in [
-        (0, [(0, 6, b'a'), (6, 9, b'b')]),
-        (1, [(0, 3, b'b'), (3, 9, b'c')]),
-    ] {
-        assert!(rt; rows.count(processor) == 2);
-        for i in 0..2 {
-            let row = rows.row(processor, i);
-            assert!(rt; (row.start, row.end, letter(row.leaf)) == want[i]);
-        }
-    }
+    compare_merged(&rt, &rows, 0, [(0, 6, b'a'), (6, 9, b'b')]);
+    compare_merged(&rt, &rows, 1, [(0, 3, b'b'), (3, 9, b'c')]);
     Ok(())
 }
 

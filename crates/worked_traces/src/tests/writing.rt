@@ -6,13 +6,11 @@ use super::{A, row};
 use sched_base::{Leaf, NoMemory, RowTable, TaskSet};
 use sched_edges::MemSink;
 use std::alloc::Global;
-use std::test::Fail;
 use trace_writer::{write_met, write_trace};
 
 #[test]
-fn numbers_past_64_bits(rt: HostRuntime) -> Result<(), Fail> {
-    let mut set = TaskSet::start(rt.alloc(), 1, 1);
-    set.add(b"a", 1, 1)?;
+fn numbers_past_64_bits(rt: HostRuntime) -> Result<(), NoMemory> {
+    let mut sink = MemSink::new(rt.alloc(), 1024, &[])?;
     let mut table = RowTable::new(rt.alloc(), 1, 5)?;
     table.push_round(&[row(0, 0, 18_446_744_073_709_551_615, A)]);
     table.push_round(&[row(
@@ -39,7 +37,8 @@ fn numbers_past_64_bits(rt: HostRuntime) -> Result<(), Fail> {
         170_141_183_460_469_231_731_687_303_715_884_105_727,
         A,
     )]);
-    let mut sink = MemSink::new(rt.alloc(), 1024, &[])?;
+    let mut set = TaskSet::start(rt.alloc(), 1, 1);
+    set.add(b"a", 1, 1)?;
     let total = 70_141_183_460_469_231_831_687_303_715_884_105_733;
     assert!(rt; write_trace(&mut sink, &set, 1, &table, &[total]).is_ok());
     let text = concat!(
@@ -69,7 +68,7 @@ fn long_table(alloc: Global, rounds: u64) -> Result<RowTable, NoMemory>
 
 // Were each of the million periods looked up in each of the rounds, this would take minutes.
 #[test]
-fn many_rounds_and_many_periods(rt: HostRuntime) -> Result<(), Fail> {
+fn many_rounds_and_many_periods(rt: HostRuntime) -> Result<(), NoMemory> {
     let mut set = TaskSet::start(rt.alloc(), 1, 1_000_000);
     set.add(b"a", 1, 1)?;
     let table = long_table(rt.alloc(), 200_000)?;
