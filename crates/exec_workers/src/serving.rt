@@ -80,9 +80,7 @@ fn serve_rows<G: Gate, Q: PostLedger, J: Job, R: Wait>(
     let mut look = take_next(rt, book, plan, &lane.seat);
     wake(waiters);
     for _ in rt.forever() {
-        match follow(
-            rt, waiters, book, plan, lane, counts, &mut waits, look,
-        ) {
+        match follow(rt, waiters, book, plan, lane, counts, &mut waits, look) {
             Some(next) => look = next,
             None => return,
         }
