@@ -3,6 +3,7 @@ use Rattle.std.proofs.Common.{◌≡◌, ◌⊎◌, ℕ, zero, suc, ◌+◌, ◌
 use Rattle.std.proofs.Common.{refl, sym, ap, ◌∙◌, subst, arith, append_assoc, take_all, add-one}
 use Rattle.std.specs.Prelude.{slice_get}
 use Rattle.std.specs.List.{AllByRecursion, AllZip}
+use Rattle.std.specs.Result.{IsErrAnd}
 use Rattle.std.proofs.lemmas.List.Sums.{sum_by-cons}
 use Rattle.sched_base.specs.declared.rows.Row.{Row}
 use Rattle.sched_base.specs.Tables.{lane_of, row_limit}
@@ -330,3 +331,21 @@ run_through gate job m modes all j runs old new past some =
 pub ran_none : {G J : Type 0} (gate : GateTells G) (job : JobTells J) (modes : List Mode) (runs : List Executed) (start : Roster G J) → runs ≡ []
     → RanModes gate job (take 0 modes) runs start start
 ran_none gate job modes runs start none = subst (λ rs. RanModes gate job [] rs start start) (sym none) refl
+
+-- where memory was refused before the first mode all is as it was
+pub refused_outcome : {G J : Type 0} (gate : GateTells G) (job : JobTells J) (modes : List Mode) (old : Roster G J) (answer : Result (List Executed) ModesFault) →
+    IsErrAnd answer (λ e. e ≡ fault.NoMemory) → ModesOutcome gate job modes old old answer
+refused_outcome gate job modes old (Ok runs) refused = absurd refused
+refused_outcome gate job modes old (Err (fault.Gate j q r)) refused = absurd (let e = refused in cc)
+refused_outcome gate job modes old (Err (fault.Job j t q r)) refused = absurd (let e = refused in cc)
+refused_outcome gate job modes old (Err fault.NoMemory) refused = inl refl
+
+-- what holds of the fault that is told holds of the one that there is
+pub told_fault : {T E : Type 0} (answer : Result T E) (fault : E) (P : E → Type 0) → IsErrAnd answer (λ e. e ≡ fault) → P fault → IfErr answer P
+told_fault (Ok v) fault P told here = tt
+told_fault (Err e) fault P told here = subst P (sym told) here
+
+-- a fault says nothing of an answer
+pub no_answer : {T E : Type 0} (answer : Result T E) (fault : E) (P : T → Type 0) → IsErrAnd answer (λ e. e ≡ fault) → IfOk answer P
+no_answer (Ok v) fault P told = absurd told
+no_answer (Err e) fault P told = tt

@@ -2,7 +2,9 @@ use Rattle.std.proofs.Common.{◌≡◌, ◌+◌, ◌≤◌, ◌<◌, [], ◌∷
 use Rattle.sched_base.specs.Tables.{row_limit}
 use Rattle.run_tree.specs.Plans.{PlanContents}
 use Rattle.mode_join.proofs.ModeLemmas.{few_modes}
-use Rattle.mode_switch.proofs.RunLemmas.{all_get, next_mode, modes_back, filled_after, own_after, stopped_in, ran_more, run_through, ran_first, names_risen, are_back}
+use Rattle.mode_switch.proofs.RunLemmas.{all_get, next_mode, modes_back, filled_after, own_after, stopped_in, ran_more, run_through, ran_first, names_risen, are_back, refused_outcome, told_fault, no_answer, ran_none}
+use Rattle.mode_switch.specs.declared.answers.ModesFault.TheVariants as fault
+use Rattle.mode_switch.specs.Runs.{Roster}
 use Rattle.mode_switch.proofs.running.run_modes.Goals as goal
 
 pub plan-requires : goal.plan-requires
@@ -125,3 +127,47 @@ returns-clause-back g c =
 
 pub returns-clause-risen : goal.returns-clause-risen
 returns-clause-risen g c = tt
+
+pub returns-in_err-runs-clause-outcome : goal.returns-in_err-runs-clause-outcome
+returns-in_err-runs-clause-outcome g c = refused_outcome _ _ c.args.modes.now.modes (record { kits = c.args.kits.now.items; places = c.args.jobs.now.places }) c.from_residual.result c.from_residual.ensures.1
+
+pub returns-in_err-runs-clause-gates : goal.returns-in_err-runs-clause-gates
+returns-in_err-runs-clause-gates g c = no_answer c.from_residual.result fault.NoMemory _ c.from_residual.ensures.1
+
+pub returns-in_err-runs-clause-whole : goal.returns-in_err-runs-clause-whole
+returns-in_err-runs-clause-whole g c = no_answer c.from_residual.result fault.NoMemory _ c.from_residual.ensures.1
+
+pub returns-in_err-runs-clause-jobs : goal.returns-in_err-runs-clause-jobs
+returns-in_err-runs-clause-jobs g c = no_answer c.from_residual.result fault.NoMemory _ c.from_residual.ensures.1
+
+pub returns-in_err-runs-clause-first : goal.returns-in_err-runs-clause-first
+returns-in_err-runs-clause-first g c =
+    let start : Roster g.row.G.Denot _ = record { kits = c.args.kits.now.items; places = c.args.jobs.now.places } in
+    ran_first g.G.Gate (record {
+        id = λ j. (g.dyn-1.0.entry j.vtable).1.id j.value;
+        used = λ j. (g.dyn-1.0.entry j.vtable).1.used j.value;
+        faults = λ j. (g.dyn-1.0.entry j.vtable).1.faults j.value;
+        made = λ j. (g.dyn-1.0.entry j.vtable).1.made j.value;
+      }) c.args.modes.now.processors c.args.modes.now.modes c.count.ensures.lawful.each start start c.from_residual.result
+    (refused_outcome _ _ c.args.modes.now.modes start c.from_residual.result c.from_residual.ensures.1)
+
+pub returns-in_err-runs-clause-risen : goal.returns-in_err-runs-clause-risen
+returns-in_err-runs-clause-risen g c = told_fault c.from_residual.result fault.NoMemory _ c.from_residual.ensures.1 tt
+
+pub returns-in_err-runs-clause-back : goal.returns-in_err-runs-clause-back
+returns-in_err-runs-clause-back g c =
+    let start : Roster g.row.G.Denot _ = record { kits = c.args.kits.now.items; places = c.args.jobs.now.places } in
+    are_back _ _ c.args.modes.now.modes start start c.from_residual.result
+    (refused_outcome _ _ c.args.modes.now.modes start c.from_residual.result c.from_residual.ensures.1)
+
+pub loop-j-init : goal.loop-j-init
+loop-j-init g c = record {
+  count = ap length c.in_ok-runs.ensures.items;
+  room = (let capacity = c.in_ok-runs.ensures.capacity in let count = c.count.ensures.value in omega (arith, capacity, count));
+  ran = ran_none g.G.Gate (record {
+        id = λ j. (g.dyn-1.0.entry j.vtable).1.id j.value;
+        used = λ j. (g.dyn-1.0.entry j.vtable).1.used j.value;
+        faults = λ j. (g.dyn-1.0.entry j.vtable).1.faults j.value;
+        made = λ j. (g.dyn-1.0.entry j.vtable).1.made j.value;
+      }) c.args.modes.now.modes c.in_ok-runs.runs.items _ c.in_ok-runs.ensures.items;
+}
