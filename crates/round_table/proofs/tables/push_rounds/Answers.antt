@@ -72,3 +72,9 @@ rounds-preserved c =
       count = ap rounds_in is ∙ next_count p h start end round lanes long ∙ ap (λ n. n + 1) c.rounds.invariant.count ∙ sym next;
       room = omega (arith, next, room, less);
     }
+
+pub advance-requires-clause-belongs : goal.advance-requires-clause-belongs
+advance-requires-clause-belongs c = c.rounds.invariant.belongs
+
+pub advance-requires-clause-rows : goal.advance-requires-clause-rows
+advance-requires-clause-rows c = c.rounds.auto.rows ∙ c.requires.rows
