@@ -1,3 +1,4 @@
+use Rattle.std.proofs.lemmas.Result.{IfOk-from_err}
 use Rattle.std.proofs.Common.{ap, map, sym, subst, take, ℕ, List, [], ◌∷◌, ◌++◌, ◌≤◌, ◌∙◌}
 use Rattle.std.specs.Int.{◌∣◌}
 use Rattle.std.proofs.lemmas.List.{get_or_default, map_more}
@@ -29,3 +30,12 @@ loop-task-preserved c =
     let is = c.task-item.is ∙ get_or_default tasks i c.task-item.result no_task c.loop-task-test.true in
     c.in_ok-push.ensures.items ∙ ap (λ (rates : List ℕ). rates ++ c.rate.result ∷ []) c.loop-task.invariant
     ∙ ap (λ (r : ℕ). map (rate_of c.args.scale) (take i tasks) ++ r ∷ []) (c.rate.ensures.value ∙ ap (rate_of c.args.scale) is) ∙ sym (map_more (rate_of c.args.scale) tasks i no_task c.loop-task-test.true)
+
+pub loop-task-init : goal.loop-task-init
+loop-task-init c = c.new-rates.ensures.items
+
+pub rate-requires-clause-scale_fits : goal.rate-requires-clause-scale_fits
+rate-requires-clause-scale_fits c = c.requires.scale_fits
+
+pub returns-in_err-push : goal.returns-in_err-push
+returns-in_err-push c = IfOk-from_err c.from_residual.result _ c.from_residual.ensures.0
