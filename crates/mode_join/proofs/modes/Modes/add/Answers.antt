@@ -1,5 +1,5 @@
 use Rattle.std.proofs.Common.{rules, ◌≡◌, ◌+◌, ◌*◌, ◌≤◌, ◌<◌, ◌^◌, ◌++◌, ◌∷◌, [], length, sym, ap, ◌∙◌, arith}
-use Rattle.std.proofs.lemmas.Result.{err_from_is_err_and}
+use Rattle.std.proofs.lemmas.Result.{IfOk-from_err, err_from_is_err_and}
 use Rattle.std.proofs.lemmas.List.Sums.{sum_by_push}
 use Rattle.sched_base.specs.Sets.{SetContents}
 use Rattle.sched_base.specs.Tables.{row_limit}
@@ -102,3 +102,24 @@ returns-clause-ok c =
 
 pub returns-clause-lawful : goal.returns-clause-lawful
 returns-clause-lawful c = are (goal.at.returns-clause-lawful c).In_ok-push
+
+pub returns-in_err-plan-clause-ok : goal.returns-in_err-plan-clause-ok
+returns-in_err-plan-clause-ok c = IfOk-from_err _ _ c.from_residual.ensures.0
+
+pub returns-in_err-plan-clause-lawful : goal.returns-in_err-plan-clause-lawful
+returns-in_err-plan-clause-lawful c = IfOk-from_err _ _ c.from_residual.ensures.0
+
+pub returns-in_err-rounds-clause-ok : goal.returns-in_err-rounds-clause-ok
+returns-in_err-rounds-clause-ok c = IfOk-from_err _ _ c.from_residual-in_err-rounds.ensures.0
+
+pub returns-in_err-rounds-clause-lawful : goal.returns-in_err-rounds-clause-lawful
+returns-in_err-rounds-clause-lawful c = IfOk-from_err _ _ c.from_residual-in_err-rounds.ensures.0
+
+pub returns-in_err-push-clause-ok : goal.returns-in_err-push-clause-ok
+returns-in_err-push-clause-ok c = IfOk-from_err _ _ c.from_residual-in_err-push.ensures.0
+
+pub returns-in_err-push-clause-lawful : goal.returns-in_err-push-clause-lawful
+returns-in_err-push-clause-lawful c = IfOk-from_err _ _ c.from_residual-in_err-push.ensures.0
+
+pub plan_of-requires : goal.plan_of-requires
+plan_of-requires c = c.in_default.ensures.none.whole_periods

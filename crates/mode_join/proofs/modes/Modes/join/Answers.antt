@@ -1,6 +1,6 @@
 use Rattle.std.proofs.Common.{rules, ◌≡◌, ◌++◌, ◌∷◌, [], length, map, sym, ap, ◌∙◌, subst, append-nil, append_assoc}
 use Rattle.std.proofs.lemmas.List.{nil_from_length}
-use Rattle.std.proofs.lemmas.Result.{err_from_is_err_and}
+use Rattle.std.proofs.lemmas.Result.{IfOk-from_err, err_from_is_err_and}
 use Rattle.mode_join.specs.Modes.{sets_of}
 use Rattle.mode_join.proofs.ModeLemmas.{all_end, can_be_joined, refused_next}
 use Rattle.mode_join.proofs.modes.Modes.join.Goals as goal
@@ -22,3 +22,24 @@ returns-clause-joined c =
     let whole : sets_of c.loop-set.modes.modes ≡ c.args.sets.items =
     sym (c.loop-set.invariant.whole ∙ ap (λ xs. sets_of c.loop-set.modes.modes ++ xs) none ∙ append-nil (sets_of c.loop-set.modes.modes)) in
     can_be_joined c.loop-set.modes c.loop-set.invariant.are c.args.sets.items whole c.loop-set.invariant.wide
+
+pub returns-in_err-add-clause-processors : goal.returns-in_err-add-clause-processors
+returns-in_err-add-clause-processors c = IfOk-from_err _ _ c.from_residual.ensures.0
+
+pub returns-in_err-add-clause-sets : goal.returns-in_err-add-clause-sets
+returns-in_err-add-clause-sets c = IfOk-from_err _ _ c.from_residual.ensures.0
+
+pub returns-in_err-add-clause-lawful : goal.returns-in_err-add-clause-lawful
+returns-in_err-add-clause-lawful c = IfOk-from_err _ _ c.from_residual.ensures.0
+
+pub returns-in_err-add-clause-no_crossing : goal.returns-in_err-add-clause-no_crossing
+returns-in_err-add-clause-no_crossing c = IfOk-from_err _ _ c.from_residual.ensures.0
+
+pub returns-in_err-add-clause-joined : goal.returns-in_err-add-clause-joined
+returns-in_err-add-clause-joined c = IfOk-from_err _ _ c.from_residual.ensures.0
+
+pub returns-clause-processors : goal.returns-clause-processors
+returns-clause-processors c = c.loop-set.invariant.wide
+
+pub returns-clause-lawful : goal.returns-clause-lawful
+returns-clause-lawful c = c.loop-set.invariant.are
