@@ -4,10 +4,11 @@ ghost use Rattle.mode_join.specs.declared.faults.ModeFault.TheVariants.{NoMemory
 
 use sched_base::NoMemory;
 use std::alloc::{AllocError, AllocFailed};
+use thiserror::Error;
 
 /// What is wrong with a set as a mode. Of several the first of this list is told. That a scale is past its limit can't come:
 /// each period divides the horizon, so the scale is at most that.
-#[derive(Clone, Copy, PartialEq, Eq)]
+#[derive(Clone, Copy, Debug, PartialEq, Eq)]
 pub enum ModeKind {
     /// It has not as many processors as the first set.
     Processors,
@@ -23,11 +24,13 @@ pub enum ModeKind {
 }
 
 /// Why sets aren't joined.
-#[derive(Clone, Copy, PartialEq, Eq)]
+#[derive(Clone, Copy, Debug, PartialEq, Eq, Error)]
 pub enum ModeFault {
     /// This set, the first such one, can't be a mode.
+    #[error("mode {mode} can't be joined: {kind:?}")]
     Refused { mode: u32, kind: ModeKind },
     /// Memory was refused. No clause says when.
+    #[error("there is no memory for the modes")]
     NoMemory,
 }
 

@@ -10,16 +10,19 @@ use crate::cuts::{cuts_of, rates_of};
 use crate::points::next_point;
 use sched_base::{NoMemory, ROW_LIMIT, TaskSet};
 use std::alloc::Global;
+use thiserror::Error;
 
 /// Why the rounds of a wrapped schedule aren't counted.
-#[derive(Clone, Copy, Debug, PartialEq, Eq)]
+#[derive(Clone, Copy, Debug, PartialEq, Eq, Error)]
 pub enum WrapFault {
     /// The rounds have more than 2,097,152 rows.
+    #[error("more rows than a schedule may have: {rows}")]
     TooLong {
         /// The least multiple of the number of processors above that limit.
         rows: u64,
     },
     /// Memory was refused.
+    #[error("no memory")]
     NoMemory,
 }
 
