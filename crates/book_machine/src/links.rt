@@ -15,14 +15,14 @@ use std::alloc::Global;
 use std::marker::Model;
 
 /// The place of a row: its processor and its round.
-#[derive(Clone, Copy, Debug, PartialEq, Eq)]
+#[derive(Clone, Copy)]
 pub struct Place {
     pub lane: u32,
     pub round: u32,
 }
 
 /// What is kept of the rows of a row's task that stand before it on other processors.
-#[derive(Clone, Copy, Debug, PartialEq, Eq)]
+#[derive(Clone, Copy)]
 pub enum Link {
     /// There is none.
     First,
@@ -33,7 +33,7 @@ pub enum Link {
 }
 
 /// Where a task's last row stands so far.
-#[derive(Clone, Copy, Debug, PartialEq, Eq)]
+#[derive(Clone, Copy)]
 pub(crate) enum Trail {
     /// There is none.
     NoRow,

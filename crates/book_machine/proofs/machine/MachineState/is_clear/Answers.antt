@@ -1,4 +1,4 @@
-use Rattle.std.proofs.Common.{◌≡◌, ◌≤◌, ◌<◌, ◌∙◌, ◌+◌, sym, ap, subst, arith, Bool, true, nat_eq, IsTrue}
+use Rattle.std.proofs.Common.{◌≡◌, ◌≤◌, ◌<◌, ◌∙◌, ◌+◌, sym, ap, subst, arith, Bool, true, false, nat_eq, IsTrue}
 use Rattle.std.proofs.lemmas.Bool.{eqb-true}
 use Rattle.sched_base.specs.declared.rows.Row.{Row}
 use Rattle.sched_base.specs.Tables.{RowAt}
@@ -39,3 +39,12 @@ returns-in-Idle c = at_least (goal.at.returns-in-Idle c).After-row
 
 pub returns-in-Empty : goal.returns-in-Empty
 returns-in-Empty c = at_least (goal.at.returns-in-Empty c).After-row
+
+pub posted-round-requires : goal.posted-round-requires
+posted-round-requires c = c.requires.lane
+
+pub returns-then-round-self : goal.returns-then-round-self
+returns-then-round-self c = λ e. absurd (let is : false ≡ true = e in cc)
+
+pub link-requires-clause-processor : goal.link-requires-clause-processor
+link-requires-clause-processor c = let lane = c.requires.lane in let same = c.requires.lanes in omega (arith, lane, same)
