@@ -1,5 +1,5 @@
-use Rattle.std.proofs.Common.{◌≡◌, ◌∙◌, None, Some, ap, refl, subst, sym, length-set}
-use Rattle.std.proofs.lemmas.Option.{get_or_from_slice_get, none-some}
+use Rattle.std.proofs.Common.{◌≡◌, ◌∙◌, None, Some, ap, refl, subst, sym, length-set, arith}
+use Rattle.std.proofs.lemmas.Option.{get_or_from_slice_get, none-some, slice_get_within}
 use Rattle.std.specs.Prelude.{IsSome}
 use Rattle.unit_ledger.proofs.SeatLemmas.{at_home_with}
 use Rattle.unit_ledger.proofs.seats.Seats.lift.Goals.{After-index_mut-place}
@@ -27,3 +27,8 @@ returns-clause-rest g c = rw (c.take.ensures.after, c.self.view_is) refl
 pub invariant_of-self : goal.invariant_of-self
 invariant_of-self g c =
     rw c.take.ensures.after (rw length-set c.self.invariant.0, at_home_with c.self.inside.places.items c.args.p None (λ seat none. absurd (none-some _ none)) c.self.invariant.1)
+
+pub index_mut-place-requires : goal.index_mut-place-requires
+index_mut-place-requires g c =
+    let within = slice_get_within c.self.inside.places.items c.args.p _ (rw (← c.self.view_is) at c.requires.1) in
+    omega (arith, within)
