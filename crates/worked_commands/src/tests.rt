@@ -3,6 +3,7 @@
 mod batches;
 mod bytes;
 mod calls;
+mod cases;
 mod checks;
 mod draws;
 mod drills;

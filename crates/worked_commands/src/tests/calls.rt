@@ -1,16 +1,17 @@
 //! One call of the commands: what is outside, and what it leaves.
 ghost use Rattle.std.specs.Prelude.{◌≡◌, ◌≤◌, ◌<◌, ◌+◌, ℕ, [], OnOk, IfOk};
 ghost use Rattle.sched_edges.specs.Jobs.{JobAt};
-ghost use Rattle.run_tool.specs.Executions.{gates_of, jobs_of};
-ghost use Rattle.run_tool.specs.Ready.{AreFirstGates, AreFirstJobs};
+ghost use Rattle.run_tool.specs.Executions.{AreBack, IsFreshCrew, crew_of, gates_of};
+ghost use Rattle.run_tool.specs.Ready.{AreFirstGates};
 
 use exec_workers::Kit;
 use job_vm::VmJob;
 use run_tool::{Status, run};
-use sched_base::{NoMemory, Row};
-use sched_edges::{FailJob, Job, JobList, Jobs, ListGate, MemSink, MemSource, read_all};
+use sched_base::NoMemory;
+use sched_edges::{
+    BoxedJob, FailJob, Gate, Job, JobList, Jobs, ListGate, MemSink, MemSource, read_all,
+};
 use std::alloc::{AllocError, Global};
-use std::process::Abort;
 use std::sync::Wait;
 use std::test::Fail;
 use std::thread::Threads;
@@ -55,49 +56,50 @@ pub(super) const SURE: Outside = Outside {
 };
 
 /// What a job tells after a call.
-#[derive(Clone, Copy, Debug, PartialEq, Eq)]
+#[derive(Clone, Copy)]
 pub(super) struct Worked {
     pub id: u32,
     pub ticks: u128,
     pub faults: u64,
 }
 
+/// How a call ended, and what its streams hold.
+#[derive(Drop)]
+pub(super) struct Told {
+    pub status: Status,
+    pub out: MemSink,
+    pub err: MemSink,
+    /// How many bytes the source has still to give.
+    pub unread: usize,
+}
+
 /// What a call left.
 #[derive(Drop)]
 pub(super) struct Left {
-    pub status: Status,
-    /// What `out` took.
-    pub out: Vec<u8>,
-    /// What `err` took.
-    pub err: Vec<u8>,
-    /// How many bytes the source has still to give.
-    pub unread: usize,
-    /// The rows that each gate ran.
-    pub gates: Vec<Vec<Row>>,
+    pub told: Told,
+    pub kits: Vec<Kit<ListGate>>,
     /// What each job tells.
     pub jobs: Vec<Worked>,
 }
 
-/// Calls the commands with these words, with a gate for each processor and a job for each task.
-pub(super) fn call<X: Abort + Threads + Wait + Sync>(
+/// Has the gates and the jobs do what the words ask for.
+pub(super) fn perform<G: Gate + Send, X: Threads + Wait + Sync>(
     rt: &X,
     alloc: Global,
     words: &[&str],
     input: &[u8],
     outside: &Outside,
-) -> Result<Left, Fail> {
+    kits: &mut Vec<Kit<G>>,
+    jobs: &mut Jobs,
+) -> Result<Told, Fail>
+    requires ready { IsFreshCrew (crew_of G.Gate ⟦<BoxedJob as Job>⟧ kits.old jobs.old) }
+    ensures { IfOk result (λ _. AreBack (crew_of G.Gate ⟦<BoxedJob as Job>⟧ kits.old jobs.old)
+        (crew_of G.Gate ⟦<BoxedJob as Job>⟧ kits.new jobs.new)) }
+{
+    let words = owned(alloc, words)?;
     let mut source = MemSource::new(alloc, input, outside.source)?;
     let mut out = MemSink::new(alloc, outside.out_room, outside.out)?;
     let mut err = MemSink::new(alloc, outside.err_room, outside.err)?;
-    let words = owned(alloc, words)?;
-    let mut kits = kits_of(alloc, outside)?;
-    let mut jobs = Jobs::with_room(alloc, JOBS)?;
-    for id in 0..JOBS {
-        match failing(outside, id) {
-            Some(call) => jobs.add(Box::new(alloc, FailJob::new(alloc, id, &[call])?)?),
-            None => jobs.add(Box::new(alloc, VmJob::new(alloc, id))?),
-        }
-    }
     let status = run(
         rt,
         alloc,
@@ -105,24 +107,37 @@ pub(super) fn call<X: Abort + Threads + Wait + Sync>(
         &mut source,
         &mut out,
         &mut err,
-        &mut kits,
-        &mut jobs,
+        kits,
+        jobs,
     );
-    Ok(Left {
+    let unread = unread(alloc, &mut source);
+    Ok(Told {
         status,
-        out: Vec::from_slice(alloc, out.taken())?,
-        err: Vec::from_slice(alloc, err.taken())?,
-        unread: unread(alloc, &mut source),
-        gates: lists_of(rt, alloc, &kits)?,
-        jobs: told_by(alloc, &mut jobs)?,
+        out,
+        err,
+        unread,
     })
 }
 
-/// Makes sure that the call ended with this status, and what `out` and `err` took.
-pub(super) fn assert_told(rt: &impl Abort, left: &Left, status: Status, out: &str, err: &str) {
-    assert_eq!(rt; left.status, status, "{out} {err}");
-    assert_eq!(rt; left.out.as_slice(), out.as_bytes(), "{out} {err}");
-    assert_eq!(rt; left.err.as_slice(), err.as_bytes(), "{out} {err}");
+/// Calls the commands with these words, with a gate for each processor and a job for each task.
+pub(super) fn call<X: Threads + Wait + Sync>(
+    rt: &X,
+    alloc: Global,
+    words: &[&str],
+    input: &[u8],
+    outside: &Outside,
+) -> Result<Left, Fail> {
+    let mut jobs = Jobs::with_room(alloc, JOBS)?;
+    for id in 0..JOBS {
+        match failing(outside, id) {
+            Some(call) => jobs.add(Box::new(alloc, FailJob::new(alloc, id, &[call])?)?),
+            None => jobs.add(Box::new(alloc, VmJob::new(alloc, id))?),
+        }
+    }
+    let mut kits = kits_of(alloc, outside)?;
+    let told = perform(rt, alloc, words, input, outside, &mut kits, &mut jobs)?;
+    let jobs = told_by(alloc, &mut jobs)?;
+    Ok(Left { told, kits, jobs })
 }
 
 fn owned(alloc: Global, words: &[&str]) -> Result<Vec<String>, AllocError> {
@@ -168,22 +183,6 @@ fn unread(alloc: Global, source: &mut MemSource) -> usize {
         Ok(bytes) => bytes.as_slice().len(),
         Err(_) => 0,
     }
-}
-
-// The lists of the gates, each in its kit.
-fn lists_of(
-    rt: &impl Abort,
-    alloc: Global,
-    kits: &[Kit<ListGate>],
-) -> Result<Vec<Vec<Row>>, AllocError> {
-    let mut lists = Vec::new(alloc);
-    for kit in kits {
-        match &kit.gate {
-            Some(gate) => lists.push(Vec::from_slice(alloc, gate.ran())?)?,
-            None => panic!(rt; "a gate is not in its kit"),
-        }
-    }
-    Ok(lists)
 }
 
 // What the jobs tell, each lifted out of its place.

@@ -1,11 +1,11 @@
-//! Pictures of traces by the command: worked ones, the lines and what is no line, refused texts, and faults in mid-stream. The pictures
+//! Pictures of traces by the command: worked ones, the windows of lines, refused texts, and faults in mid-stream. The pictures
 //! were made by a plain program of its own, and looked at. The tests of pictures have some byte for byte, with the style sheet.
 
-use super::calls::{Left, Outside, SURE, assert_told, call};
+use super::calls::{Outside, SURE};
+use super::cases::{FaultCase, assert_faults, assert_replaced, holds, text_of};
+use super::lanes::Did;
 use super::texts::LATE_ROWS;
-use super::usage::assert_refused;
 use run_tool::Status;
-use std::process::Abort;
 use std::test::Fail;
 
 /// The trace of three tasks of rate 2/3.
@@ -105,154 +105,122 @@ const OVERLAP_BELOW: &str = "<rect class='c1 v0' x='1900' y='1000' width='3233' 
 </svg>
 ";
 
-// Makes sure that the call was done, and how the picture begins and ends.
-fn assert_drawn(rt: &impl Abort, left: &Left, above: &str, below: &str) {
-    assert_eq!(rt; (left.status, left.err.len()), (Status::Done, 0));
-    assert!(rt; left.out.as_slice().starts_with(above.as_bytes()));
-    assert!(rt; left.out.as_slice().ends_with(below.as_bytes()));
-}
-
 #[test]
 fn worked_pictures(rt: HostRuntime) -> Result<(), Fail> {
-    let words = ["draw", "--from", "1", "--units=1"];
-    let left = call(&rt, rt.alloc(), &words, ROWS.as_bytes(), &SURE)?;
-    assert_drawn(&rt, &left, UNIT_ABOVE, UNIT_BELOW);
-
-    // An invalid trace is drawn too, and the command is done.
-    let invalid = ROWS.replace(rt.alloc(), "row 1 6 9 b", "row 1 5 8 b")?;
-    let left = call(&rt, rt.alloc(), &["draw"], invalid.as_bytes(), &SURE)?;
-    assert_drawn(&rt, &left, OVERLAP_ABOVE, OVERLAP_BELOW);
+    let line = ["draw", "--from", "1", "--units=1"];
+    let picture = text_of(&rt, rt.alloc(), &line, ROWS.as_bytes())?;
+    assert!(rt; picture.as_slice().starts_with(UNIT_ABOVE.as_bytes()));
+    assert!(rt; picture.as_slice().ends_with(UNIT_BELOW.as_bytes()));
     Ok(())
 }
 
+/// An invalid trace is drawn too, and the command is done.
 #[test]
-fn lines_and_their_windows(rt: HostRuntime) -> Result<(), Fail> {
-    // the words, and the units that the picture says it shows
-    let rows: [(&[&str], &str); 15] = [
-        (&["draw"], "units 0 to 5 of 5"),
-        (&["draw", "--from", "2"], "units 2 to 5 of 5"),
-        (&["draw", "--from=2"], "units 2 to 5 of 5"),
-        (&["draw", "--units", "2"], "units 0 to 2 of 5"),
-        (&["draw", "--units=2"], "units 0 to 2 of 5"),
-        (
-            &["draw", "--from", "1", "--units", "2"],
-            "units 1 to 3 of 5",
-        ),
-        (&["draw", "--from", "1", "--units=2"], "units 1 to 3 of 5"),
-        (&["draw", "--from=1", "--units", "2"], "units 1 to 3 of 5"),
-        (&["draw", "--from=1", "--units=2"], "units 1 to 3 of 5"),
-        (&["draw", "--from", "0"], "units 0 to 5 of 5"),
-        (&["draw", "--units", "4294967295"], "units 0 to 5 of 5"),
-        // At the horizon and past it the last unit is shown.
-        (&["draw", "--from", "4"], "units 4 to 5 of 5"),
-        (&["draw", "--from", "5"], "units 4 to 5 of 5"),
-        (&["draw", "--from=4294967295"], "units 4 to 5 of 5"),
-        (&["draw", "--from=9", "--units=9"], "units 4 to 5 of 5"),
-    ];
-    for (words, units) in rows {
-        let left = call(&rt, rt.alloc(), words, LATE_ROWS.as_bytes(), &SURE)?;
-        assert_eq!(rt; (left.status, left.err.len()), (Status::Done, 0));
-        let text = std::str::from_utf8(left.out.as_slice())?;
-        assert!(rt; text.contains(units), "{units}");
-    }
+fn a_picture_of_an_invalid_trace(rt: HostRuntime) -> Result<(), Fail> {
+    let invalid = ROWS.replace(rt.alloc(), "row 1 6 9 b", "row 1 5 8 b")?;
+    let picture = text_of(&rt, rt.alloc(), &["draw"], invalid.as_bytes())?;
+    assert!(rt; picture.as_slice().starts_with(OVERLAP_ABOVE.as_bytes()));
+    assert!(rt; picture.as_slice().ends_with(OVERLAP_BELOW.as_bytes()));
     Ok(())
 }
 
-/// Words that are no command line.
-const FAULTY: [&[&str]; 36] = [
-    &["draw", "--units", "0"],
-    &["draw", "--units=0"],
-    &["draw", "--units", "07"],
-    &["draw", "--units=07"],
-    &["draw", "--from", "07"],
-    &["draw", "--from=00"],
-    &["draw", "--from"],
-    &["draw", "--units"],
-    &["draw", "--from="],
-    &["draw", "--units="],
-    &["draw", "--from=1="],
-    &["draw", "--units", "1", "--from", "0"],
-    &["draw", "--units=1", "--from=0"],
-    &["draw", "--units=1", "--from", "0"],
-    &["draw", "--from", "1", "--from", "2"],
-    &["draw", "--from=1", "--from=1"],
-    &["draw", "--units=1", "--units=1"],
-    &["draw", "--from", "--units", "1"],
-    &["draw", "--from", "1", "--units"],
-    &["draw", "--from", "1", "--units", "2", "3"],
-    &["draw", "--from", "-1"],
-    &["draw", "--from=-1"],
-    &["draw", "--from", "+1"],
-    &["draw", "--from", " 1"],
-    &["draw", "--from", ""],
-    // 2^32, and 2^128 + 1.
-    &["draw", "--from", "4294967296"],
-    &["draw", "--units", "4294967296"],
-    &["draw", "--units", "340282366920938463463374607431768211457"],
-    &["draw", "--fro", "1"],
-    &["draw", "-f", "1"],
-    &["draw", "1"],
-    &["draw", "draw"],
-    &["draw", "--met"],
-    &["draw", "--", "--from", "1"],
-    &["--from", "1", "draw"],
-    &["check", "--from", "1"],
+/// The words, and the units that the picture says it shows.
+const WINDOWS: [(&[&str], &str); 15] = [
+    (&["draw"], "units 0 to 5 of 5"),
+    (&["draw", "--from", "2"], "units 2 to 5 of 5"),
+    (&["draw", "--from=2"], "units 2 to 5 of 5"),
+    (&["draw", "--units", "2"], "units 0 to 2 of 5"),
+    (&["draw", "--units=2"], "units 0 to 2 of 5"),
+    (
+        &["draw", "--from", "1", "--units", "2"],
+        "units 1 to 3 of 5",
+    ),
+    (&["draw", "--from", "1", "--units=2"], "units 1 to 3 of 5"),
+    (&["draw", "--from=1", "--units", "2"], "units 1 to 3 of 5"),
+    (&["draw", "--from=1", "--units=2"], "units 1 to 3 of 5"),
+    (&["draw", "--from", "0"], "units 0 to 5 of 5"),
+    (&["draw", "--units", "4294967295"], "units 0 to 5 of 5"),
+    // At the horizon and past it the last unit is shown.
+    (&["draw", "--from", "4"], "units 4 to 5 of 5"),
+    (&["draw", "--from", "5"], "units 4 to 5 of 5"),
+    (&["draw", "--from=4294967295"], "units 4 to 5 of 5"),
+    (&["draw", "--from=9", "--units=9"], "units 4 to 5 of 5"),
 ];
 
 #[test]
-fn other_words_are_no_line(rt: HostRuntime) -> Result<(), Fail> {
-    for words in FAULTY {
-        assert_refused(&rt, rt.alloc(), words)?;
+fn lines_and_their_windows(rt: HostRuntime) -> Result<(), Fail> {
+    for (line, units) in &WINDOWS {
+        let picture = text_of(&rt, rt.alloc(), line, LATE_ROWS.as_bytes())?;
+        assert!(rt; holds(picture.as_slice(), units), "{units}");
     }
     Ok(())
 }
 
-#[test]
-fn texts_that_are_no_trace(rt: HostRuntime) -> Result<(), Fail> {
-    // what stands in place of a part of the text
-    let rows = [
-        ("row 1 6 9 b", "row 1 6 8 b", "refused 6 BadLine 14\n"),
-        ("scale 3", "scale 4", "refused 6 BadLine 4\n"),
-        ("tasks 3", "tasks 4", "refused 6 BadLine 9\n"),
-        ("rows 4", "rows 5", "refused 6 BadLine 16\n"),
-        ("run-trace 1", "run-trace 3", "refused 6 BadLine 1\n"),
-    ];
-    for (part, other, err) in rows {
-        let text = ROWS.replace(rt.alloc(), part, other)?;
-        let left = call(&rt, rt.alloc(), &["draw"], text.as_bytes(), &SURE)?;
-        assert_told(&rt, &left, Status::BadInput, "", err);
-    }
-    Ok(())
-}
+/// What stands in place of a part of the text.
+const REPLACED: [(&str, &str, Status, &str); 5] = [
+    (
+        "row 1 6 9 b",
+        "row 1 6 8 b",
+        Status::BadInput,
+        "refused 6 BadLine 14\n",
+    ),
+    (
+        "scale 3",
+        "scale 4",
+        Status::BadInput,
+        "refused 6 BadLine 4\n",
+    ),
+    (
+        "tasks 3",
+        "tasks 4",
+        Status::BadInput,
+        "refused 6 BadLine 9\n",
+    ),
+    (
+        "rows 4",
+        "rows 5",
+        Status::BadInput,
+        "refused 6 BadLine 16\n",
+    ),
+    (
+        "run-trace 1",
+        "run-trace 3",
+        Status::BadInput,
+        "refused 6 BadLine 1\n",
+    ),
+];
+
+/// A fault leaves a first part.
+const FAULTS: [FaultCase; 3] = [
+    (
+        Outside {
+            source: &[2],
+            ..SURE
+        },
+        Status::ReadFault,
+        "",
+        "refused 3 ReadFault\n",
+        Did::Nothing,
+    ),
+    (
+        Outside { out: &[1], ..SURE },
+        Status::WriteFault,
+        "",
+        "refused 4 WriteFault\n",
+        Did::Nothing,
+    ),
+    (
+        Outside { out: &[3], ..SURE },
+        Status::WriteFault,
+        "<svg xmlns='http://www.w3.org/2000/svg' role='img' aria-labelledby='t d'\n viewBox='0 0 12000 3670'>\n",
+        "refused 4 WriteFault\n",
+        Did::Nothing,
+    ),
+];
 
 #[test]
-fn streams_that_fail(rt: HostRuntime) -> Result<(), Fail> {
-    let rows = [
-        (
-            Outside {
-                source: &[2],
-                ..SURE
-            },
-            Status::ReadFault,
-            "",
-            "refused 3 ReadFault\n",
-        ),
-        (
-            Outside { out: &[1], ..SURE },
-            Status::WriteFault,
-            "",
-            "refused 4 WriteFault\n",
-        ),
-        (
-            Outside { out: &[3], ..SURE },
-            Status::WriteFault,
-            "<svg xmlns='http://www.w3.org/2000/svg' role='img' aria-labelledby='t d'\n viewBox='0 0 12000 3670'>\n",
-            "refused 4 WriteFault\n",
-        ),
-    ];
-    for (fails, status, out, err) in rows {
-        let left = call(&rt, rt.alloc(), &["draw"], ROWS.as_bytes(), &fails)?;
-        assert_told(&rt, &left, status, out, err);
-    }
-    Ok(())
+fn texts_and_streams_that_fail(rt: HostRuntime) -> Result<(), Fail> {
+    let alloc = rt.alloc();
+    assert_replaced(&rt, alloc, &["draw"], ROWS, &REPLACED)?;
+    assert_faults(&rt, alloc, &["draw"], &[ROWS], &FAULTS)
 }

@@ -1,7 +1,8 @@
 //! Drills: task sets that are drawn from a number, executed and judged.
 
-use super::calls::{Outside, SURE, assert_told, call};
-use super::lanes::assert_worked;
+use super::calls::{Outside, SURE, call};
+use super::cases::{assert_told, assert_valid, joined, rest_behind, text_of};
+use super::lanes::{assert_worked, list_of};
 use run_tool::Status;
 use std::alloc::Global;
 use std::process::Abort;
@@ -22,7 +23,9 @@ struct Drill {
     set: &'static str,
     /// The lines of its head that `rate` tells of the set too.
     head: &'static str,
+    /// Its rounds, and the line that tells them.
     rounds: usize,
+    line: &'static str,
     /// The lines that `check` tells of the set's trace too.
     counts: &'static str,
     /// The ticks that the tasks work.
@@ -37,6 +40,7 @@ const FIRST: Drill = Drill {
         {name = \"t8\", work = 2, period = 10}]\n",
     head: "tasks 9\nscale 60\n",
     rounds: 8600,
+    line: "rounds 8600\n",
     counts: "rows 9101\npreemptions 4300\nmigrations 2700\n",
     ticks: &[
         270000, 360000, 36000, 90000, 150000, 252000, 132000, 72000, 72000,
@@ -50,6 +54,7 @@ const SECOND: Drill = Drill {
         {name = \"t5\", work = 19, period = 30}]\n",
     head: "tasks 6\nscale 60\n",
     rounds: 9300,
+    line: "rounds 9300\n",
     counts: "rows 9303\npreemptions 5000\nmigrations 3900\n",
     ticks: &[180000, 288000, 360000, 72000, 270000, 228000],
 };
@@ -63,6 +68,7 @@ const LAST: Drill = Drill {
         {name = \"t11\", work = 11, period = 30}, {name = \"t12\", work = 1, period = 15}]\n",
     head: "tasks 13\nscale 60\n",
     rounds: 7500,
+    line: "rounds 7500\n",
     counts: "rows 9101\npreemptions 3800\nmigrations 1900\n",
     ticks: &[
         54000, 60000, 180000, 48000, 60000, 216000, 180000, 36000, 360000, 18000, 72000, 132000,
@@ -70,99 +76,89 @@ const LAST: Drill = Drill {
     ],
 };
 
-/// The bytes are these texts, one after the other.
-fn is_text(bytes: &[u8], texts: &[&str]) -> bool {
-    let mut left = bytes;
-    for text in texts {
-        match left.strip_prefix(text.as_bytes()) {
-            Some(rest) => left = rest,
-            None => return false,
-        }
-    }
-    left.is_empty()
-}
-
 /// Makes sure that `trace`, `check` and `rate` tell of the drill's set what the drill tells.
 fn assert_told_alike<X: Abort + Threads + Wait + Sync>(
     rt: &X,
     alloc: Global,
     drill: &Drill,
 ) -> Result<(), Fail> {
-    let rates = call(rt, alloc, &["rate"], drill.set.as_bytes(), &SURE)?;
-    let told = rates
-        .out
-        .strip_prefix(b"processors 4\nhorizon 6000\n".as_slice());
-    assert!(rt; told.is_some_and(|rest| rest.starts_with(drill.head.as_bytes())));
-    let rows = call(rt, alloc, &["trace"], drill.set.as_bytes(), &SURE)?;
-    let report = call(rt, alloc, &["check"], rows.out.as_slice(), &SURE)?;
-    let told = report.out.strip_prefix(b"valid\n".as_slice());
-    assert!(rt; told.is_some_and(|rest| rest.starts_with(drill.counts.as_bytes())));
+    let rates = text_of(rt, alloc, &["rate"], drill.set.as_bytes())?;
+    let head = ["processors 4\nhorizon 6000\n", drill.head];
+    assert!(rt; rest_behind(rates.as_slice(), &head).is_some());
+    let rows = text_of(rt, alloc, &["trace"], drill.set.as_bytes())?;
+    assert_valid(rt, alloc, rows.as_slice(), drill.counts)
+}
+
+/// Makes sure of what a drill tells and of what its gates and jobs did. It reads nothing.
+fn assert_drilled<X: Abort + Threads + Wait + Sync>(
+    rt: &X,
+    alloc: Global,
+    drill: &Drill,
+) -> Result<(), Fail> {
+    let left = call(rt, alloc, &["drill", drill.number], b"unread", &ROOMY)?;
+    let texts = [
+        "drill ",
+        drill.number,
+        "\n",
+        drill.head,
+        drill.line,
+        drill.counts,
+        "verdict valid\n",
+    ];
+    assert_told(rt, &left.told, (Status::Done, &texts, ""));
+    assert!(rt; left.told.unread == 6);
+    for (p, kit) in left.kits.iter().enumerate() {
+        let want = if p < 4 { drill.rounds } else { 0 };
+        assert!(rt; list_of(rt, kit).len() == want, "on processor {p}");
+    }
+    assert_worked(rt, &left, drill.ticks);
     Ok(())
 }
 
 /// The counts were worked out by a program outside, which goes tick by tick.
 #[test]
 fn drills_are_valid(rt: HostRuntime) -> Result<(), Fail> {
-    let alloc = rt.alloc();
     for drill in [FIRST, SECOND, LAST] {
-        let left = call(&rt, alloc, &["drill", drill.number], b"unread", &ROOMY)?;
-        let rounds = format!(in alloc; "rounds {}\n", drill.rounds)?;
-        let texts = [
-            "drill ",
-            drill.number,
-            "\n",
-            drill.head,
-            rounds.as_str(),
-            drill.counts,
-            "verdict valid\n",
-        ];
-        assert_eq!(rt; left.status, Status::Done);
-        assert!(rt; is_text(left.out.as_slice(), &texts), "{}", drill.number);
-        assert_eq!(rt; left.err.as_slice(), b"".as_slice());
-        assert_eq!(rt; left.unread, 6);
-        for (p, list) in left.gates.iter().enumerate() {
-            let want = if p < 4 { drill.rounds } else { 0 };
-            assert_eq!(rt; list.len(), want, "on processor {p}");
-        }
-        assert_worked(&rt, &left, drill.ticks);
-        assert_told_alike(&rt, alloc, &drill)?;
+        assert_drilled(&rt, rt.alloc(), &drill)?;
+        assert_told_alike(&rt, rt.alloc(), &drill)?;
     }
     Ok(())
 }
 
-/// Where a stream, a gate or a job fails, a drill stops as an execution does, and reads nothing.
+/// Where a stream, a gate or a job fails, a drill stops as an execution does.
+const FAULTS: [(Outside, Status, &str, &str); 3] = [
+    (
+        Outside { out: &[3], ..ROOMY },
+        Status::WriteFault,
+        "drill 1\ntasks 9\n",
+        "refused 4 WriteFault\n",
+    ),
+    (
+        Outside {
+            gate: Some((3, 1)),
+            ..ROOMY
+        },
+        Status::GateFault,
+        "",
+        "refused 10 GateFault processor 3 row 0 32 t6\n",
+    ),
+    (
+        Outside {
+            job: Some((2, 1)),
+            ..ROOMY
+        },
+        Status::JobFault,
+        "",
+        "refused 11 JobFault task t2 processor 0 row 0 32\n",
+    ),
+];
+
 #[test]
 fn drills_that_stop(rt: HostRuntime) -> Result<(), Fail> {
-    let rows = [
-        (
-            Outside { out: &[3], ..ROOMY },
-            Status::WriteFault,
-            "drill 1\ntasks 9\n",
-            "refused 4 WriteFault\n",
-        ),
-        (
-            Outside {
-                gate: Some((3, 1)),
-                ..ROOMY
-            },
-            Status::GateFault,
-            "",
-            "refused 10 GateFault processor 3 row 0 32 t6\n",
-        ),
-        (
-            Outside {
-                job: Some((2, 1)),
-                ..ROOMY
-            },
-            Status::JobFault,
-            "",
-            "refused 11 JobFault task t2 processor 0 row 0 32\n",
-        ),
-    ];
-    for (outside, status, out, err) in rows {
-        let left = call(&rt, rt.alloc(), &["drill", "1"], b"unread", &outside)?;
-        assert_told(&rt, &left, status, out, err);
-        assert_eq!(rt; left.unread, 6);
+    for (outside, status, out, err) in &FAULTS {
+        let left = call(&rt, rt.alloc(), &["drill", "1"], b"unread", outside)?;
+        assert_told(&rt, &left.told, (*status, &[*out], *err));
+        assert!(rt; left.told.unread == 6);
     }
     Ok(())
 }

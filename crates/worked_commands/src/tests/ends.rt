@@ -1,77 +1,91 @@
 //! Faults of the streams in mid-stream, and the end of a run.
 
-use super::calls::{Outside, SURE, assert_told, call};
+use super::calls::{Outside, SURE};
+use super::cases::{FaultCase, assert_faults};
+use super::lanes::Did;
 use super::texts::{THREE_RATES, THREE_TASKS};
 use run_tool::{Status, close_flushed};
 use sched_edges::{Failed, MemSink};
 use std::test::Fail;
 
+/// Faults leave a first part.
+const FAULTS: [FaultCase; 4] = [
+    // The first read gives all, and the second one is to find the end.
+    (
+        Outside {
+            source: &[2],
+            ..SURE
+        },
+        Status::ReadFault,
+        "",
+        "refused 3 ReadFault\n",
+        Did::Nothing,
+    ),
+    // Each line is one piece.
+    (
+        Outside { out: &[3], ..SURE },
+        Status::WriteFault,
+        "processors 2\nhorizon 3\n",
+        "refused 4 WriteFault\n",
+        Did::Nothing,
+    ),
+    // A fault of `err` changes nothing.
+    (
+        Outside {
+            source: &[1],
+            err: &[1],
+            ..SURE
+        },
+        Status::ReadFault,
+        "",
+        "",
+        Did::Nothing,
+    ),
+    (
+        Outside { err: &[1], ..SURE },
+        Status::Done,
+        THREE_RATES,
+        "",
+        Did::Nothing,
+    ),
+];
+
 #[test]
 fn faults_leave_a_first_part(rt: HostRuntime) -> Result<(), Fail> {
-    let rows = [
-        // The first read gives all, and the second one is to find the end.
-        (
-            Outside {
-                source: &[2],
-                ..SURE
-            },
-            Status::ReadFault,
-            "",
-            "refused 3 ReadFault\n",
-        ),
-        // Each line is one piece.
-        (
-            Outside { out: &[3], ..SURE },
-            Status::WriteFault,
-            "processors 2\nhorizon 3\n",
-            "refused 4 WriteFault\n",
-        ),
-        // A fault of `err` changes nothing.
-        (
-            Outside {
-                source: &[1],
-                err: &[1],
-                ..SURE
-            },
-            Status::ReadFault,
-            "",
-            "",
-        ),
-        (Outside { err: &[1], ..SURE }, Status::Done, THREE_RATES, ""),
-    ];
-    for (fails, status, out, err) in rows {
-        let left = call(&rt, rt.alloc(), &["rate"], THREE_TASKS.as_bytes(), &fails)?;
-        assert_told(&rt, &left, status, out, err);
-    }
-    Ok(())
+    assert_faults(&rt, rt.alloc(), &["rate"], &[THREE_TASKS], &FAULTS)
 }
+
+/// How a call ended, what became of the bytes kept back, how the run ends, and what `err` takes.
+const CLOSED: [(Status, bool, Status, &str); 6] = [
+    (Status::Done, true, Status::Done, ""),
+    (
+        Status::Done,
+        false,
+        Status::WriteFault,
+        "refused 4 WriteFault\n",
+    ),
+    (Status::Invalid, true, Status::Invalid, ""),
+    (
+        Status::Invalid,
+        false,
+        Status::WriteFault,
+        "refused 4 WriteFault\n",
+    ),
+    // Why it ended was told already.
+    (Status::WriteFault, false, Status::WriteFault, ""),
+    (Status::Overload, false, Status::Overload, ""),
+];
 
 #[test]
 fn a_text_kept_back_is_not_lost_silently(rt: HostRuntime) -> Result<(), Fail> {
-    let rows = [
-        (Status::Done, Ok(()), Status::Done, ""),
-        (
-            Status::Done,
-            Err(Failed),
-            Status::WriteFault,
-            "refused 4 WriteFault\n",
-        ),
-        (Status::Invalid, Ok(()), Status::Invalid, ""),
-        (
-            Status::Invalid,
-            Err(Failed),
-            Status::WriteFault,
-            "refused 4 WriteFault\n",
-        ),
-        // Why it ended was told already.
-        (Status::WriteFault, Err(Failed), Status::WriteFault, ""),
-        (Status::Overload, Err(Failed), Status::Overload, ""),
-    ];
-    for (status, flushed, at_the_end, line) in rows {
+    for (status, is_flushed, at_the_end, line) in &CLOSED {
+        let flushed = if *is_flushed { Ok(()) } else { Err(Failed) };
         let mut err = MemSink::new(rt.alloc(), 64, &[])?;
-        let closed = close_flushed(status, flushed, &mut err);
-        assert_eq!(rt; closed, at_the_end);
-        assert_eq!(rt; err.taken(), line.as_bytes());
+        let closed = close_flushed(*status, flushed, &mut err);
+        assert!(rt;
+            closed == *at_the_end && err.taken() == line.as_bytes(),
+            "{line}"
+        );
     }
     Ok(())
 }

@@ -1,14 +1,20 @@
 //! Sets that follow each other as modes, and the line `modes`.
 
-use super::calls::{Outside, SURE, Worked, assert_told, call};
-use super::lanes::{assert_idle, assert_worked, modes_lanes};
+use super::calls::{Outside, SURE, call};
+use super::cases::{
+    DoneCase, FaultCase, RefusedCase, assert_call, assert_done, assert_faults, assert_refused,
+};
+use super::lanes::{Did, Front, modes_lanes};
+use super::stops::assert_stop;
 use super::texts::{
     NO_TASKS, NO_TASKS_ROWS, ONE_IDLE, ONE_IDLE_ROWS, OVERLOAD, THREE_ROWS, THREE_TASKS,
 };
-use super::usage::assert_refused;
 use run_tool::Status;
 use std::alloc::Global;
+use std::process::Abort;
+use std::sync::Wait;
 use std::test::Fail;
+use std::thread::Threads;
 
 /// Two tasks of rate 1/2 and one of rate 1/4 on two processors.
 const HALVES: &str =
@@ -30,284 +36,283 @@ const LATE: &str =
 const OVER: &str =
     "processors = 2\nhorizon = 3\ntask = [{name = \"a\", work = 3, period = 3}, {name = \"b\", work = 3, period = 3}, {name = \"c\", work = 3, period = 3}]\n";
 
-#[test]
-fn two_modes(rt: HostRuntime) -> Result<(), Fail> {
-    let alloc = rt.alloc();
-    let text = format!(in alloc; "{THREE_TASKS}%%\n{HALVES}")?;
-    let out = format!(in alloc;
-        "run-modes 1\nmodes 2\nmode 0 0 3\n{THREE_ROWS}mode 1 3 4\n{HALVES_ROWS}"
-    )?;
-    let left = call(&rt, alloc, &["modes"], text.as_bytes(), &SURE)?;
-    assert_told(&rt, &left, Status::Done, out.as_str(), "");
-    assert_eq!(rt; left.unread, 0);
+const MODES: [DoneCase; 3] = [
     // Each gate's list is the rows of the first mode, and then those of the second.
-    for (list, lane) in left.gates.iter().zip(modes_lanes().iter()) {
-        assert_eq!(rt; list.as_slice(), lane.as_slice());
-    }
-    assert_worked(&rt, &left, &[8, 8, 4]);
-    Ok(())
-}
+    (
+        &[THREE_TASKS, "%%\n", HALVES],
+        &[
+            "run-modes 1\nmodes 2\nmode 0 0 3\n",
+            THREE_ROWS,
+            "mode 1 3 4\n",
+            HALVES_ROWS,
+        ],
+        Did::RanModes,
+    ),
+    // The scales are others. The last mode has no tasks, so the jobs tell what they worked in the mode before it.
+    (
+        &[THREE_TASKS, "%%\n", ONE_IDLE, "%%\n", NO_TASKS],
+        &[
+            "run-modes 1\nmodes 3\nmode 0 0 3\n",
+            THREE_ROWS,
+            "mode 1 3 5\n",
+            ONE_IDLE_ROWS,
+            "mode 2 8 1\n",
+            NO_TASKS_ROWS,
+        ],
+        Did::Worked(&[15, 15, 15]),
+    ),
+    (
+        &[THREE_TASKS],
+        &["run-modes 1\nmodes 1\nmode 0 0 3\n", THREE_ROWS],
+        Did::RanThree,
+    ),
+];
 
-#[test]
-fn three_modes_with_other_scales(rt: HostRuntime) -> Result<(), Fail> {
-    let alloc = rt.alloc();
-    let text = format!(in alloc; "{THREE_TASKS}%%\n{ONE_IDLE}%%\n{NO_TASKS}")?;
-    let out = format!(in alloc;
-        "run-modes 1\nmodes 3\nmode 0 0 3\n{THREE_ROWS}mode 1 3 5\n{ONE_IDLE_ROWS}mode 2 8 1\n{NO_TASKS_ROWS}"
-    )?;
-    let left = call(&rt, alloc, &["modes"], text.as_bytes(), &SURE)?;
-    assert_told(&rt, &left, Status::Done, out.as_str(), "");
-    // The last mode has no tasks, so the jobs tell what they worked in the mode before it.
-    assert_worked(&rt, &left, &[15, 15, 15]);
-    let out = format!(in alloc; "run-modes 1\nmodes 1\nmode 0 0 3\n{THREE_ROWS}")?;
-    let left = call(&rt, alloc, &["modes"], THREE_TASKS.as_bytes(), &SURE)?;
-    assert_told(&rt, &left, Status::Done, out.as_str(), "");
-    Ok(())
-}
+/// A mode with 1,048,577 rounds of one row.
+const LONG: &str =
+    "processors = 1\nhorizon = 1048577\ntask = [{name = \"a\", work = 1, period = 1}]\n";
 
-#[test]
-fn refused_modes(rt: HostRuntime) -> Result<(), Fail> {
-    let alloc = rt.alloc();
-    // Each set, its status, and the line that tells why.
-    let rows: [(&[&str], Status, &str); 13] = [
-        (
-            &[OPEN],
-            Status::ModeFault,
-            "set 0 refused 15 Mode period 0\n",
-        ),
-        (
-            &[THREE_TASKS, OPEN],
-            Status::ModeFault,
-            "set 1 refused 15 Mode period 0\n",
-        ),
-        (
-            &[HALVES, OVERLOAD],
-            Status::ModeFault,
-            "set 1 refused 15 Mode processors\n",
-        ),
-        (
-            &[LATE, OVERLOAD],
-            Status::ModeFault,
-            "set 0 refused 15 Mode offset 1\n",
-        ),
-        (
-            &[HALVES, HALVES, LATE],
-            Status::ModeFault,
-            "set 2 refused 15 Mode offset 1\n",
-        ),
-        (
-            &[OVER, OPEN],
-            Status::Overload,
-            "set 0 refused 7 Overload total 9 room 6\n",
-        ),
-        (
-            &[HALVES, OVER],
-            Status::Overload,
-            "set 1 refused 7 Overload total 9 room 6\n",
-        ),
-        // All sets are read before any is joined, and the first that is none is told.
-        (
-            &[OPEN, HALVES, "="],
-            Status::BadInput,
-            "set 2 refused 6 NotToml\n",
-        ),
-        (
-            &[OPEN, "x = 1\n", "="],
-            Status::BadInput,
-            "set 1 refused 6 UnknownKey top x\n",
-        ),
-        (
-            &[HALVES, ""],
-            Status::BadInput,
-            "set 1 refused 6 Missing top processors\n",
-        ),
-        (
-            &[""],
-            Status::BadInput,
-            "set 0 refused 6 Missing top processors\n",
-        ),
-        // A set that doesn't fit comes before one that is refused later.
-        (
-            &[OVERLOAD],
-            Status::Overload,
-            "set 0 refused 7 Overload total 7 room 6\n",
-        ),
-        (
-            &[OVER, "processors = 0\nhorizon = 1\n"],
-            Status::BadInput,
-            "set 1 refused 6 BadProcessors 0\n",
-        ),
-    ];
-    for (sets, status, err) in rows {
-        let mut text = String::new(alloc);
-        for (j, set) in sets.iter().enumerate() {
-            if j > 0 {
-                text.push_str("%%\n")?;
-            }
-            text.push_str(set)?;
-        }
-        let left = call(&rt, alloc, &["modes"], text.as_bytes(), &SURE)?;
-        assert_told(&rt, &left, status, "", err);
-        assert_idle(&rt, &left);
-    }
-    assert_eq!(rt; Status::ModeFault.code(), 15);
-    Ok(())
-}
-
-#[test]
-fn rounds_past_the_limit_in_the_sum(rt: HostRuntime) -> Result<(), Fail> {
-    let alloc = rt.alloc();
-    // Each mode has 1,048,577 rounds of one row.
-    let set = "processors = 1\nhorizon = 1048577\ntask = [{name = \"a\", work = 1, period = 1}]\n";
-    let text = format!(in alloc; "{set}%%\n{set}")?;
-    let left = call(&rt, alloc, &["modes"], text.as_bytes(), &SURE)?;
-    assert_told(
-        &rt,
-        &left,
+/// Sets with the line that tells why they are refused.
+const REFUSED: [RefusedCase; 14] = [
+    (
+        &[OPEN],
+        Status::ModeFault,
+        "set 0 refused 15 Mode period 0\n",
+    ),
+    (
+        &[THREE_TASKS, "%%\n", OPEN],
+        Status::ModeFault,
+        "set 1 refused 15 Mode period 0\n",
+    ),
+    (
+        &[HALVES, "%%\n", OVERLOAD],
+        Status::ModeFault,
+        "set 1 refused 15 Mode processors\n",
+    ),
+    (
+        &[LATE, "%%\n", OVERLOAD],
+        Status::ModeFault,
+        "set 0 refused 15 Mode offset 1\n",
+    ),
+    (
+        &[HALVES, "%%\n", HALVES, "%%\n", LATE],
+        Status::ModeFault,
+        "set 2 refused 15 Mode offset 1\n",
+    ),
+    (
+        &[OVER, "%%\n", OPEN],
+        Status::Overload,
+        "set 0 refused 7 Overload total 9 room 6\n",
+    ),
+    (
+        &[HALVES, "%%\n", OVER],
+        Status::Overload,
+        "set 1 refused 7 Overload total 9 room 6\n",
+    ),
+    // All sets are read before any is joined, and the first that is none is told.
+    (
+        &[OPEN, "%%\n", HALVES, "%%\n", "="],
+        Status::BadInput,
+        "set 2 refused 6 NotToml\n",
+    ),
+    (
+        &[OPEN, "%%\n", "x = 1\n", "%%\n", "="],
+        Status::BadInput,
+        "set 1 refused 6 UnknownKey top x\n",
+    ),
+    (
+        &[HALVES, "%%\n", ""],
+        Status::BadInput,
+        "set 1 refused 6 Missing top processors\n",
+    ),
+    (
+        &[""],
+        Status::BadInput,
+        "set 0 refused 6 Missing top processors\n",
+    ),
+    // A set that doesn't fit comes before one that is refused later.
+    (
+        &[OVERLOAD],
+        Status::Overload,
+        "set 0 refused 7 Overload total 7 room 6\n",
+    ),
+    (
+        &[OVER, "%%\n", "processors = 0\nhorizon = 1\n"],
+        Status::BadInput,
+        "set 1 refused 6 BadProcessors 0\n",
+    ),
+    // Two modes of which each has fewer rounds than there may be.
+    (
+        &[LONG, "%%\n", LONG],
         Status::TooLong,
-        "",
         "set 1 refused 9 TooLong rows 2097153\n",
+    ),
+];
+
+/// What fails.
+const FAULTS: [FaultCase; 3] = [
+    (
+        Outside {
+            source: &[1],
+            ..SURE
+        },
+        Status::ReadFault,
+        "",
+        "refused 3 ReadFault\n",
+        Did::Unseen,
+    ),
+    (
+        Outside { out: &[1], ..SURE },
+        Status::WriteFault,
+        "",
+        "refused 4 WriteFault\n",
+        Did::Unseen,
+    ),
+    (
+        Outside {
+            out_room: 12,
+            ..SURE
+        },
+        Status::WriteFault,
+        "run-modes 1\n",
+        "refused 4 WriteFault\n",
+        Did::Unseen,
+    ),
+];
+
+#[test]
+fn sets_as_modes(rt: HostRuntime) -> Result<(), Fail> {
+    assert!(rt; Status::ModeFault.code() == 15);
+    let alloc = rt.alloc();
+    assert_done(&rt, alloc, &["modes"], &MODES)?;
+    assert_refused(&rt, alloc, &["modes"], &REFUSED)?;
+    let input = [THREE_TASKS, "%%\n", NO_TASKS];
+    assert_faults(&rt, alloc, &["modes"], &input, &FAULTS)?;
+    // The line of a mode that `err` doesn't take.
+    let outside = Outside { err: &[1], ..SURE };
+    let end = (Status::ModeFault, [].as_slice(), "");
+    assert_call(&rt, alloc, &["modes"], &[OPEN], &outside, end, Did::Nothing)
+}
+
+/// Three tasks of rate 2/3, and then a mode without tasks.
+const CUT: &str =
+    "processors = 2\nhorizon = 3\ntask = [{name = \"a\", work = 2, period = 3}, {name = \"b\", work = 2, period = 3}, \
+        {name = \"c\", work = 2, period = 3}]\n%%\nprocessors = 2\nhorizon = 1\n";
+
+// Makes sure of what is told of the text cut after so many bytes.
+fn assert_cut<X: Threads + Wait + Abort + Sync>(
+    rt: &X,
+    alloc: Global,
+    cut: &[u8],
+) -> Result<(), Fail> {
+    let first = THREE_TASKS.len();
+    let head = "processors = 2\nhorizon = 3\n".len();
+    let left = call(rt, alloc, &["modes"], cut, &SURE)?;
+    // Without its tasks it is a set too. The last line feed of a set may be missing.
+    let end = cut.len();
+    let next = end.saturating_add(1);
+    let last = [head, first, CUT.len()];
+    let is_whole = last.contains(&end) || last.contains(&next);
+    let status = if is_whole {
+        Status::Done
+    } else {
+        Status::BadInput
+    };
+    assert!(rt; left.told.status == status, "after {end}");
+    let start = if end <= first.saturating_add(1) {
+        b"set 0 refused 6 ".as_slice()
+    } else {
+        b"set 1 refused 6 ".as_slice()
+    };
+    assert!(rt;
+        is_whole || left.told.err.taken().starts_with(start),
+        "after {end}"
     );
-    assert_idle(&rt, &left);
     Ok(())
 }
 
 #[test]
 fn a_text_cut_after_each_byte(rt: HostRuntime) -> Result<(), Fail> {
-    let alloc = rt.alloc();
-    let text = format!(in alloc; "{THREE_TASKS}%%\n{NO_TASKS}")?;
-    let first = THREE_TASKS.len();
-    let head = "processors = 2\nhorizon = 3\n".len();
+    let text = CUT.as_bytes();
     for end in 0..=text.len() {
-        let left = call(&rt, alloc, &["modes"], &text.as_bytes()[..end], &SURE)?;
-        // Without its tasks it is a set too. The last line feed of a set may be missing.
-        let last = [head, first, text.len()];
-        let whole = last.contains(&end) || last.contains(&end.saturating_add(1));
-        let status = if whole {
-            Status::Done
-        } else {
-            Status::BadInput
-        };
-        assert_eq!(rt; left.status, status, "after {end}");
-        let start = if end <= first.saturating_add(1) {
-            b"set 0 refused 6 ".as_slice()
-        } else {
-            b"set 1 refused 6 ".as_slice()
-        };
-        assert!(rt; whole || left.err.starts_with(start), "after {end}");
+        assert_cut(&rt, rt.alloc(), &text[..end])?;
     }
     Ok(())
 }
 
+/// The gate and its call that fails, how many rows it ran, and what `err` takes.
+const GATE_FAULTS: [(u32, u64, usize, &str); 4] = [
+    (
+        1,
+        2,
+        1,
+        "set 0 refused 10 GateFault processor 1 row 3 6 c\n",
+    ),
+    (
+        0,
+        4,
+        3,
+        "set 1 refused 10 GateFault processor 0 row 0 4 a\n",
+    ),
+    (
+        1,
+        4,
+        3,
+        "set 1 refused 10 GateFault processor 1 row 0 4 c\n",
+    ),
+    (
+        0,
+        5,
+        4,
+        "set 1 refused 10 GateFault processor 0 row 4 8 b\n",
+    ),
+];
+
 #[test]
 fn a_gate_or_a_job_fails_in_a_mode(rt: HostRuntime) -> Result<(), Fail> {
-    let alloc = rt.alloc();
-    let text = format!(in alloc; "{THREE_TASKS}%%\n{HALVES}%%\n{NO_TASKS}")?;
-    // The gate and its call that fails, and how many rows it ran.
-    let rows = [
-        (
-            1,
-            2,
-            1,
-            "set 0 refused 10 GateFault processor 1 row 3 6 c\n",
-        ),
-        (
-            0,
-            4,
-            3,
-            "set 1 refused 10 GateFault processor 0 row 0 4 a\n",
-        ),
-        (
-            1,
-            4,
-            3,
-            "set 1 refused 10 GateFault processor 1 row 0 4 c\n",
-        ),
-        (
-            0,
-            5,
-            4,
-            "set 1 refused 10 GateFault processor 0 row 4 8 b\n",
-        ),
-    ];
-    for (processor, call_number, ran, err) in rows {
+    let (alloc, lanes) = (rt.alloc(), modes_lanes());
+    let input = [THREE_TASKS, "%%\n", HALVES, "%%\n", NO_TASKS];
+    for (processor, number, ran, err) in &GATE_FAULTS {
         let outside = Outside {
-            gate: Some((processor, call_number)),
+            gate: Some((*processor, *number)),
             ..SURE
         };
-        let left = call(&rt, alloc, &["modes"], text.as_bytes(), &outside)?;
-        assert_told(&rt, &left, Status::GateFault, "", err);
-        for (p, (list, lane)) in left.gates.iter().zip(modes_lanes().iter()).enumerate() {
-            assert!(rt; lane.starts_with(list), "on processor {p}");
-            assert!(rt;
-                p != processor as usize || list.len() == ran,
-                "on processor {p}"
-            );
-        }
+        let front = Front {
+            processor: *processor,
+            ran: *ran,
+            most: 7,
+            failed: None,
+        };
+        assert_stop(
+            &rt,
+            alloc,
+            &["modes"],
+            &input,
+            &outside,
+            &lanes,
+            (front, *err),
+        )?;
     }
     // The job of c has two rows in the first mode, so its third is in the second one.
     let outside = Outside {
         job: Some((2, 3)),
         ..SURE
     };
-    let left = call(&rt, alloc, &["modes"], text.as_bytes(), &outside)?;
-    assert_told(
-        &rt,
-        &left,
-        Status::JobFault,
-        "",
-        "set 1 refused 11 JobFault task c processor 1 row 0 4\n",
-    );
-    let worked = Worked {
-        id: 2,
-        ticks: 0,
-        faults: 1,
+    let front = Front {
+        processor: 1,
+        ran: 4,
+        most: 7,
+        failed: Some(2),
     };
-    assert_eq!(rt; left.jobs.get(2).copied(), Some(worked));
-    Ok(())
-}
-
-#[test]
-fn modes_that_stop(rt: HostRuntime) -> Result<(), Fail> {
-    let alloc = rt.alloc();
-    let text = format!(in alloc; "{THREE_TASKS}%%\n{NO_TASKS}")?;
-    // What fails, the status, what `out` took, and the line that tells why.
-    let rows: [(Outside, Status, &str, &str); 3] = [
-        (
-            Outside {
-                source: &[1],
-                ..SURE
-            },
-            Status::ReadFault,
-            "",
-            "refused 3 ReadFault\n",
-        ),
-        (
-            Outside { out: &[1], ..SURE },
-            Status::WriteFault,
-            "",
-            "refused 4 WriteFault\n",
-        ),
-        (
-            Outside {
-                out_room: 12,
-                ..SURE
-            },
-            Status::WriteFault,
-            "run-modes 1\n",
-            "refused 4 WriteFault\n",
-        ),
-    ];
-    for (outside, status, out, err) in rows {
-        let left = call(&rt, alloc, &["modes"], text.as_bytes(), &outside)?;
-        assert_told(&rt, &left, status, out, err);
-    }
-    // The line of a mode that `err` doesn't take.
-    let outside = Outside { err: &[1], ..SURE };
-    let left = call(&rt, alloc, &["modes"], OPEN.as_bytes(), &outside)?;
-    assert_told(&rt, &left, Status::ModeFault, "", "");
-    for words in [["modes", "modes"], ["modes", "--met"], ["modes", "x"]] {
-        assert_refused(&rt, alloc, &words)?;
-    }
+    let err = "set 1 refused 11 JobFault task c processor 1 row 0 4\n";
+    assert_stop(
+        &rt,
+        alloc,
+        &["modes"],
+        &input,
+        &outside,
+        &lanes,
+        (front, err),
+    )?;
     Ok(())
 }

@@ -1,164 +1,198 @@
 //! The commands `rate` and `tree` on worked sets.
 
-use super::calls::{SURE, assert_told, call};
+use super::calls::{Outside, SURE, call};
+use super::cases::{DoneCase, RefusedCase, assert_done, assert_refused, assert_told};
+use super::lanes::Did;
 use super::texts::{
     NINE_TASKS, NO_TASKS, ONE_IDLE, OVERLOAD, THREE_RATES, THREE_TASKS, TWO_REDUCTIONS,
 };
 use run_tool::Status;
+use std::alloc::{AllocError, Global};
+use std::process::Abort;
+use std::sync::Wait;
 use std::test::Fail;
+use std::thread::Threads;
 
-#[test]
-fn each_end_has_its_texts(rt: HostRuntime) -> Result<(), Fail> {
-    let rows = [
-        (THREE_TASKS, Status::Done, THREE_RATES, ""),
-        (
-            NO_TASKS,
-            Status::Done,
-            "processors 2\nhorizon 1\ntasks 0\nscale 1\ntotal 0\nroom 2\nverdict fits\n",
-            "",
-        ),
-        (
+const RATES: [DoneCase; 3] = [
+    (&[THREE_TASKS], &[THREE_RATES], Did::Nothing),
+    (
+        &[NO_TASKS],
+        &["processors 2\nhorizon 1\ntasks 0\nscale 1\ntotal 0\nroom 2\nverdict fits\n"],
+        Did::Nothing,
+    ),
+    (
+        &[
             "processors = 1\nhorizon = 1\ntask = [{name = \"a\", work = 1, period = 4294967295}, \
                 {name = \"b\", work = 1, period = 4294967294}, {name = \"c\", work = 1, period = 1073741822}]\n",
-            Status::Done,
+        ],
+        &[
             "processors 1\nhorizon 1\ntasks 3\nscale 9903520288918769111801004030\nrate a 2305843003844984834\nrate b 2305843004381855745\n\
                 rate c 9223372030412324865\ntotal 13835058038639165444\nroom 9903520288918769111801004030\nverdict fits\n",
-            "",
-        ),
-        (
-            OVERLOAD,
-            Status::Overload,
-            "",
-            "refused 7 Overload total 7 room 6\n",
-        ),
-        (
+        ],
+        Did::Nothing,
+    ),
+];
+
+const REFUSED: [RefusedCase; 11] = [
+    (
+        &[OVERLOAD],
+        Status::Overload,
+        "refused 7 Overload total 7 room 6\n",
+    ),
+    (
+        &[
             "processors = 1\nhorizon = 1\ntask = [{name = \"a\", work = 1, period = 4294967295}, \
                 {name = \"b\", work = 1, period = 4294967294}, {name = \"c\", work = 1, period = 4294967293}]\n",
-            Status::ScaleTooLarge,
-            "",
-            "refused 8 ScaleTooLarge task 2\n",
-        ),
-        // It asks for too much besides, which comes later in the order.
-        (
+        ],
+        Status::ScaleTooLarge,
+        "refused 8 ScaleTooLarge task 2\n",
+    ),
+    // It asks for too much besides, which comes later in the order.
+    (
+        &[
             "processors = 1\nhorizon = 1\ntask = [{name = \"a\", work = 4294967295, period = 4294967295}, \
                 {name = \"b\", work = 4294967294, period = 4294967294}, {name = \"c\", work = 4294967293, period = 4294967293}]\n",
-            Status::ScaleTooLarge,
-            "",
-            "refused 8 ScaleTooLarge task 2\n",
-        ),
-        (
-            "",
-            Status::BadInput,
-            "",
-            "refused 6 Missing top processors\n",
-        ),
-        (
-            "processors = 2\nhorizon = 3\n[[task]]\nname = \"a",
-            Status::BadInput,
-            "",
-            "refused 6 NotToml\n",
-        ),
-        (
-            "processors = -9223372036854775808\nhorizon = 3\n",
-            Status::BadInput,
-            "",
-            "refused 6 BadProcessors -9223372036854775808\n",
-        ),
-        (
-            "processors = 1\nhorizon = 3\ntask = [{name = \"a\", work = 4, period = 3}]\n",
-            Status::BadInput,
-            "",
-            "refused 6 BadWork 0\n",
-        ),
-        (
+        ],
+        Status::ScaleTooLarge,
+        "refused 8 ScaleTooLarge task 2\n",
+    ),
+    (
+        &[""],
+        Status::BadInput,
+        "refused 6 Missing top processors\n",
+    ),
+    (
+        &["processors = 2\nhorizon = 3\n[[task]]\nname = \"a"],
+        Status::BadInput,
+        "refused 6 NotToml\n",
+    ),
+    (
+        &["processors = -9223372036854775808\nhorizon = 3\n"],
+        Status::BadInput,
+        "refused 6 BadProcessors -9223372036854775808\n",
+    ),
+    (
+        &["processors = 1\nhorizon = 3\ntask = [{name = \"a\", work = 4, period = 3}]\n"],
+        Status::BadInput,
+        "refused 6 BadWork 0\n",
+    ),
+    (
+        &[
             "processors = 2\nhorizon = 3\ntask = [{name = \"a\", work = 2, period = 3, deadline = 3}]\n",
-            Status::BadInput,
-            "",
-            "refused 6 UnknownKey task 0 deadline\n",
-        ),
-        (
-            "processors = 2\nhorizon = 3\n\"a \\u00E9~\" = 1\n",
-            Status::BadInput,
-            "",
-            "refused 6 UnknownKey top a???~\n",
-        ),
-        (
-            "processors = 2\nhorizon = \"x\"\n",
-            Status::BadInput,
-            "",
-            "refused 6 WrongKind top horizon\n",
-        ),
-        (
+        ],
+        Status::BadInput,
+        "refused 6 UnknownKey task 0 deadline\n",
+    ),
+    (
+        &["processors = 2\nhorizon = 3\n\"a \\u00E9~\" = 1\n"],
+        Status::BadInput,
+        "refused 6 UnknownKey top a???~\n",
+    ),
+    (
+        &["processors = 2\nhorizon = \"x\"\n"],
+        Status::BadInput,
+        "refused 6 WrongKind top horizon\n",
+    ),
+    (
+        &[
             "processors = 2\nhorizon = 3\ntask = [{name = \"a\", work = 2, period = 3, offset = -1}]\n",
-            Status::BadInput,
-            "",
-            "refused 6 BadOffset 0\n",
-        ),
-    ];
-    for (input, status, out, err) in rows {
-        let left = call(&rt, rt.alloc(), &["rate"], input.as_bytes(), &SURE)?;
-        assert_told(&rt, &left, status, out, err);
-    }
-    Ok(())
-}
+        ],
+        Status::BadInput,
+        "refused 6 BadOffset 0\n",
+    ),
+];
 
-#[test]
-fn trees_of_worked_sets(rt: HostRuntime) -> Result<(), Fail> {
-    let rows = [
-        // One idle leaf takes the slack.
-        (
-            ONE_IDLE,
+const TREES: [DoneCase; 3] = [
+    // One idle leaf takes the slack.
+    (
+        &[ONE_IDLE],
+        &[
             "run-tree 1\nprocessors 2\nhorizon 5\nscale 5\ntasks 3\ntask a 3 5\ntask b 3 5\ntask c 3 5\nidles 1\nidle 0 1\nlevel 0 3\n\
                 pack 4 a -0\npack 3 b\npack 3 c\nlevel 1 1\npack 5 ~0 ~1 ~2\nlevels 2\n",
-        ),
-        // Two reductions.
-        (
-            TWO_REDUCTIONS,
+        ],
+        Did::Nothing,
+    ),
+    // Two reductions.
+    (
+        &[TWO_REDUCTIONS],
+        &[
             "run-tree 1\nprocessors 3\nhorizon 5\nscale 5\ntasks 5\ntask a 3 5\ntask b 3 5\ntask c 3 5\ntask d 3 5\ntask e 3 5\nidles 0\n\
                 level 0 5\npack 3 a\npack 3 b\npack 3 c\npack 3 d\npack 3 e\nlevel 1 3\npack 4 ~0 ~1\npack 4 ~2 ~3\npack 2 ~4\nlevel 2 1\n\
                 pack 5 ~0 ~1 ~2\nlevels 3\n",
-        ),
-        // Nine tasks of a vehicle, in microseconds.
-        (
-            NINE_TASKS,
+        ],
+        Did::Nothing,
+    ),
+    // Nine tasks of a vehicle, in microseconds.
+    (
+        &[NINE_TASKS],
+        &[
             "run-tree 1\nprocessors 4\nhorizon 1000000\nscale 1000000\ntasks 9\ntask control 600 1000\ntask sense 1200 2000\n\
                 task fuse 3000 5000\ntask plan 6000 10000\ntask video 12000 20000\ntask log 10000 50000\ntask net 30000 100000\n\
                 task store 60000 200000\ntask health 200000 1000000\nidles 0\nlevel 0 5\npack 1000000 control log health\n\
                 pack 900000 sense net\npack 900000 fuse store\npack 600000 plan\npack 600000 video\nlevel 1 1\npack 1000000 ~1 ~2 ~3 ~4\n\
                 levels 2\n",
-        ),
-    ];
-    for (input, out) in rows {
-        let left = call(&rt, rt.alloc(), &["tree"], input.as_bytes(), &SURE)?;
-        assert_told(&rt, &left, Status::Done, out, "");
+        ],
+        Did::Nothing,
+    ),
+];
+
+const WITHOUT_A_TREE: [RefusedCase; 1] = [(
+    &[OVERLOAD],
+    Status::Overload,
+    "refused 7 Overload total 7 room 6\n",
+)];
+
+#[test]
+fn rates_and_trees_of_worked_sets(rt: HostRuntime) -> Result<(), Fail> {
+    let alloc = rt.alloc();
+    assert_done(&rt, alloc, &["rate"], &RATES)?;
+    assert_refused(&rt, alloc, &["rate"], &REFUSED)?;
+    assert_done(&rt, alloc, &["tree"], &TREES)?;
+    assert_refused(&rt, alloc, &["tree"], &WITHOUT_A_TREE)
+}
+
+// The text, and line feeds up to so many bytes.
+fn padded(alloc: Global, text: &str, count: usize) -> Result<Vec<u8>, AllocError> {
+    let mut bytes = Vec::from_slice(alloc, text.as_bytes())?;
+    for _ in text.len()..count {
+        bytes.push(b'\n')?;
     }
-    let left = call(&rt, rt.alloc(), &["tree"], OVERLOAD.as_bytes(), &SURE)?;
-    assert_told(
-        &rt,
-        &left,
-        Status::Overload,
-        "",
-        "refused 7 Overload total 7 room 6\n",
-    );
+    Ok(bytes)
+}
+
+// Makes sure of what a command leaves of a text with so many bytes.
+fn assert_padded<X: Abort + Threads + Wait + Sync>(
+    rt: &X,
+    alloc: Global,
+    word: &str,
+    (text, count): (&str, usize),
+    outside: &Outside,
+    end: (Status, &[&str], &str),
+) -> Result<(), Fail> {
+    let bytes = padded(alloc, text, count)?;
+    let left = call(rt, alloc, &[word], bytes.as_slice(), outside)?;
+    assert_told(rt, &left.told, end);
     Ok(())
 }
 
 #[test]
 fn a_set_has_at_most_a_mebibyte(rt: HostRuntime) -> Result<(), Fail> {
-    let mut bytes = Vec::from_slice(rt.alloc(), THREE_TASKS.as_bytes())?;
-    for _ in THREE_TASKS.len()..1_048_576 {
-        bytes.push(b'\n')?;
-    }
-    let left = call(&rt, rt.alloc(), &["rate"], &bytes, &SURE)?;
-    assert_told(&rt, &left, Status::Done, THREE_RATES, "");
-    bytes.push(b'\n')?;
-    let left = call(&rt, rt.alloc(), &["rate"], &bytes, &SURE)?;
-    assert_told(
-        &rt,
-        &left,
+    let alloc = rt.alloc();
+    let done = (Status::Done, [THREE_RATES].as_slice(), "");
+    assert_padded(&rt, alloc, "rate", (THREE_TASKS, 1_048_576), &SURE, done)?;
+    let long: (Status, &[&str], &str) = (
         Status::InputTooLong,
-        "",
+        &[],
         "refused 12 InputTooLong 1048577\n",
     );
+    assert_padded(&rt, alloc, "rate", (THREE_TASKS, 1_048_577), &SURE, long)?;
+    // A source that gives one byte too many has done so, though it would fail at the next call.
+    let outside = Outside {
+        source: &[18],
+        ..SURE
+    };
+    for word in ["batch", "rate"] {
+        assert_padded(&rt, alloc, word, ("", 1_048_577), &outside, long)?;
+    }
     Ok(())
 }

@@ -1,67 +1,87 @@
 //! Executions that a gate or a job stops.
 
-use super::calls::{Left, Outside, SURE, Worked, assert_told, call};
-use super::lanes::{assert_ran_first, assert_stands, three_lanes, two_lanes};
+use super::calls::{Left, Outside, SURE, call};
+use super::cases::{assert_told, joined};
+use super::lanes::{Front, assert_stopped, three_lanes, two_lanes};
 use super::texts::{THREE_TASKS, TWO_REDUCTIONS};
 use run_tool::Status;
+use sched_base::Row;
 use std::alloc::Global;
 use std::process::Abort;
 use std::sync::Wait;
 use std::test::Fail;
 use std::thread::Threads;
 
-/// Windows as words, and as numbers of rounds.
-const WINDOWS: [(&str, usize); 3] = [("1", 1), ("2", 2), ("32", 32)];
+/// Makes sure of where an execution of a text, told in parts, stops at a gate or a job, and what `err` takes. `out` takes nothing.
+pub(super) fn assert_stop<const N: usize, X: Abort + Threads + Wait + Sync>(
+    rt: &X,
+    alloc: Global,
+    line: &[&str],
+    input: &[&str],
+    outside: &Outside,
+    lanes: &[[Row; N]],
+    (front, err): (Front, &str),
+) -> Result<Left, Fail> {
+    let text = joined(alloc, input)?;
+    let left = call(rt, alloc, line, text.as_bytes(), outside)?;
+    let status = match front.failed {
+        Some(_) => Status::JobFault,
+        None => Status::GateFault,
+    };
+    assert_told(rt, &left.told, (status, &[], err));
+    assert_stopped(rt, &left, lanes, &front);
+    Ok(left)
+}
 
 #[test]
-fn a_gate_of_three_tasks_fails(rt: HostRuntime) -> Result<(), Fail> {
+fn a_gate_or_a_job_of_three_tasks_fails(rt: HostRuntime) -> Result<(), Fail> {
     let outside = Outside {
         gate: Some((1, 2)),
         ..SURE
     };
-    let left = call(&rt, rt.alloc(), &["exec"], THREE_TASKS.as_bytes(), &outside)?;
-    assert_told(
-        &rt,
-        &left,
-        Status::GateFault,
-        "",
-        "refused 10 GateFault processor 1 row 3 6 c\n",
-    );
-    assert_stands(&rt, &left, &three_lanes(), 1, 1);
-    assert_ran_first(&rt, &left, &three_lanes(), 3);
-    let worked = Worked {
-        id: 2,
-        ticks: 3,
-        faults: 0,
+    let front = Front {
+        processor: 1,
+        ran: 1,
+        most: 3,
+        failed: None,
     };
-    assert_eq!(rt; left.jobs.get(2).copied(), Some(worked));
-    Ok(())
-}
-
-#[test]
-fn a_job_of_three_tasks_fails(rt: HostRuntime) -> Result<(), Fail> {
+    let err = "refused 10 GateFault processor 1 row 3 6 c\n";
+    let (alloc, input, lanes) = (rt.alloc(), [THREE_TASKS], three_lanes());
+    let left = assert_stop(
+        &rt,
+        alloc,
+        &["exec"],
+        &input,
+        &outside,
+        &lanes,
+        (front, err),
+    )?;
+    for job in &left.jobs {
+        assert!(rt; job.id != 2 || job.ticks == 3);
+    }
     let outside = Outside {
         job: Some((2, 1)),
         ..SURE
     };
-    let left = call(&rt, rt.alloc(), &["exec"], THREE_TASKS.as_bytes(), &outside)?;
-    assert_told(
-        &rt,
-        &left,
-        Status::JobFault,
-        "",
-        "refused 11 JobFault task c processor 1 row 0 3\n",
-    );
-    assert_stands(&rt, &left, &three_lanes(), 1, 1);
-    assert_ran_first(&rt, &left, &three_lanes(), 3);
-    let worked = Worked {
-        id: 2,
-        ticks: 0,
-        faults: 1,
+    let front = Front {
+        failed: Some(2),
+        ..front
     };
-    assert_eq!(rt; left.jobs.get(2).copied(), Some(worked));
+    let err = "refused 11 JobFault task c processor 1 row 0 3\n";
+    assert_stop(
+        &rt,
+        alloc,
+        &["exec"],
+        &input,
+        &outside,
+        &lanes,
+        (front, err),
+    )?;
     Ok(())
 }
+
+/// Windows as words, and as numbers of rounds.
+const WINDOWS: [(&str, usize); 3] = [("1", 1), ("2", 2), ("32", 32)];
 
 /// A call of a gate that fails.
 #[derive(Clone, Copy)]
@@ -135,14 +155,6 @@ const GATE_FAULTS: [GateFault; 12] = [
     },
 ];
 
-#[test]
-fn each_gate_fails_at_each_call(rt: HostRuntime) -> Result<(), Fail> {
-    for (word, rounds) in WINDOWS {
-        fail_gates(&rt, rt.alloc(), word, rounds)?;
-    }
-    Ok(())
-}
-
 // Has each gate of two reductions fail at each call, in a window.
 fn fail_gates<X: Abort + Threads + Wait + Sync>(
     rt: &X,
@@ -150,31 +162,31 @@ fn fail_gates<X: Abort + Threads + Wait + Sync>(
     word: &str,
     rounds: usize,
 ) -> Result<(), Fail> {
-    for fault in GATE_FAULTS {
-        let line = fault.line;
+    for fault in &GATE_FAULTS {
         let outside = Outside {
             gate: Some((fault.processor, fault.call)),
             ..SURE
         };
-        let words = ["exec", "--window", word];
-        let left = call(rt, alloc, &words, TWO_REDUCTIONS.as_bytes(), &outside)?;
-        assert_told(rt, &left, Status::GateFault, "", line);
         // The rows before the failed one were run, and no processor was further ahead than the window.
         let ran = fault.call.saturating_sub(1) as usize;
-        assert_stands(rt, &left, &two_lanes(), fault.processor, ran);
-        assert_ran_first(rt, &left, &two_lanes(), ran.saturating_add(rounds));
-        assert_faults(rt, &left, None);
+        let front = Front {
+            processor: fault.processor,
+            ran,
+            most: ran.saturating_add(rounds),
+            failed: None,
+        };
+        let (line, stop) = (["exec", "--window", word], (front, fault.line));
+        assert_stop(
+            rt,
+            alloc,
+            &line,
+            &[TWO_REDUCTIONS],
+            &outside,
+            &two_lanes(),
+            stop,
+        )?;
     }
     Ok(())
-}
-
-// Makes sure that this job failed once, where one is to fail, and worked nothing, and that no other failed.
-fn assert_faults(rt: &impl Abort, left: &Left, failed: Option<u32>) {
-    for job in &left.jobs {
-        let is_failed = Some(job.id) == failed;
-        assert_eq!(rt; job.faults, u64::from(is_failed), "of job {job:?}");
-        assert!(rt; !is_failed || job.ticks == 0, "of job {job:?}");
-    }
 }
 
 /// A job that fails at its first call.
@@ -221,14 +233,6 @@ const JOB_FAULTS: [JobFault; 5] = [
     },
 ];
 
-#[test]
-fn each_job_fails_at_its_first_call(rt: HostRuntime) -> Result<(), Fail> {
-    for (word, rounds) in WINDOWS {
-        fail_jobs(&rt, rt.alloc(), word, rounds)?;
-    }
-    Ok(())
-}
-
 // Has the job of each task of two reductions fail at its first call, in a window.
 fn fail_jobs<X: Abort + Threads + Wait + Sync>(
     rt: &X,
@@ -236,20 +240,37 @@ fn fail_jobs<X: Abort + Threads + Wait + Sync>(
     word: &str,
     rounds: usize,
 ) -> Result<(), Fail> {
-    for fault in JOB_FAULTS {
-        let line = fault.line;
+    for fault in &JOB_FAULTS {
         let outside = Outside {
             job: Some((fault.task, 1)),
             ..SURE
         };
-        let words = ["exec", "--window", word];
-        let left = call(rt, alloc, &words, TWO_REDUCTIONS.as_bytes(), &outside)?;
-        assert_told(rt, &left, Status::JobFault, "", line);
         // The gate ran the row at which the job failed.
-        let ran = fault.before.saturating_add(1);
-        assert_stands(rt, &left, &two_lanes(), fault.processor, ran);
-        assert_ran_first(rt, &left, &two_lanes(), fault.before.saturating_add(rounds));
-        assert_faults(rt, &left, Some(fault.task));
+        let front = Front {
+            processor: fault.processor,
+            ran: fault.before.saturating_add(1),
+            most: fault.before.saturating_add(rounds),
+            failed: Some(fault.task),
+        };
+        let (line, stop) = (["exec", "--window", word], (front, fault.line));
+        assert_stop(
+            rt,
+            alloc,
+            &line,
+            &[TWO_REDUCTIONS],
+            &outside,
+            &two_lanes(),
+            stop,
+        )?;
+    }
+    Ok(())
+}
+
+#[test]
+fn each_gate_and_each_job_fails(rt: HostRuntime) -> Result<(), Fail> {
+    for (word, rounds) in &WINDOWS {
+        fail_gates(&rt, rt.alloc(), word, *rounds)?;
+        fail_jobs(&rt, rt.alloc(), word, *rounds)?;
     }
     Ok(())
 }

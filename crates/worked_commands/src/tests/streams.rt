@@ -1,9 +1,9 @@
 //! Executions over streams that fail.
 
-use super::calls::{Outside, SURE, assert_told, call};
-use super::lanes::{
-    TWO_TICKS, assert_idle, assert_ran, assert_ran_first, assert_stands, two_lanes,
-};
+use super::calls::{Outside, SURE};
+use super::cases::{FaultCase, assert_faults};
+use super::lanes::{Did, Front, two_lanes};
+use super::stops::assert_stop;
 use super::texts::{TWO_REDUCTIONS, TWO_ROWS};
 use run_tool::Status;
 use std::test::Fail;
@@ -14,53 +14,130 @@ const LINES: [&[&str]; 3] = [
     &["exec", "--window", "32"],
 ];
 
-#[test]
-fn the_source_fails(rt: HostRuntime) -> Result<(), Fail> {
-    // The read that fails, and the bytes left: the first read gives all, and the second one is to find the end.
-    let rows: [(&'static [u64], usize); 2] = [(&[1], TWO_REDUCTIONS.len()), (&[2], 0)];
-    for words in LINES {
-        for (source, unread) in rows {
-            let outside = Outside { source, ..SURE };
-            let left = call(&rt, rt.alloc(), words, TWO_REDUCTIONS.as_bytes(), &outside)?;
-            assert_told(&rt, &left, Status::ReadFault, "", "refused 3 ReadFault\n");
-            assert_eq!(rt; left.unread, unread);
-            assert_idle(&rt, &left);
-        }
-    }
-    Ok(())
-}
+/// The source fails before anything runs, and `out` after all rows ran.
+const FAULTS: [FaultCase; 11] = [
+    // The first read gives all, and the second one is to find the end.
+    (
+        Outside {
+            source: &[1],
+            ..SURE
+        },
+        Status::ReadFault,
+        "",
+        "refused 3 ReadFault\n",
+        Did::NothingRead(TWO_REDUCTIONS.len()),
+    ),
+    (
+        Outside {
+            source: &[2],
+            ..SURE
+        },
+        Status::ReadFault,
+        "",
+        "refused 3 ReadFault\n",
+        Did::NothingRead(0),
+    ),
+    // Each line is one piece.
+    (
+        Outside {
+            out: &[1],
+            out_room: 4096,
+            ..SURE
+        },
+        Status::WriteFault,
+        "",
+        "refused 4 WriteFault\n",
+        Did::RanTwo,
+    ),
+    (
+        Outside {
+            out: &[2],
+            out_room: 4096,
+            ..SURE
+        },
+        Status::WriteFault,
+        "run-trace 1\n",
+        "refused 4 WriteFault\n",
+        Did::RanTwo,
+    ),
+    (
+        Outside {
+            out: &[3],
+            out_room: 4096,
+            ..SURE
+        },
+        Status::WriteFault,
+        "run-trace 1\nprocessors 3\n",
+        "refused 4 WriteFault\n",
+        Did::RanTwo,
+    ),
+    (
+        Outside {
+            out: &[4],
+            out_room: 4096,
+            ..SURE
+        },
+        Status::WriteFault,
+        "run-trace 1\nprocessors 3\nhorizon 5\n",
+        "refused 4 WriteFault\n",
+        Did::RanTwo,
+    ),
+    (
+        Outside {
+            out_room: 0,
+            ..SURE
+        },
+        Status::WriteFault,
+        "",
+        "refused 4 WriteFault\n",
+        Did::RanTwo,
+    ),
+    (
+        Outside {
+            out_room: 5,
+            ..SURE
+        },
+        Status::WriteFault,
+        "run-t",
+        "refused 4 WriteFault\n",
+        Did::RanTwo,
+    ),
+    (
+        Outside {
+            out_room: 12,
+            ..SURE
+        },
+        Status::WriteFault,
+        "run-trace 1\n",
+        "refused 4 WriteFault\n",
+        Did::RanTwo,
+    ),
+    (
+        Outside {
+            out_room: 13,
+            ..SURE
+        },
+        Status::WriteFault,
+        "run-trace 1\np",
+        "refused 4 WriteFault\n",
+        Did::RanTwo,
+    ),
+    (
+        Outside {
+            out_room: 30,
+            ..SURE
+        },
+        Status::WriteFault,
+        "run-trace 1\nprocessors 3\nhoriz",
+        "refused 4 WriteFault\n",
+        Did::RanTwo,
+    ),
+];
 
 #[test]
-fn out_fails_after_all_rows_ran(rt: HostRuntime) -> Result<(), Fail> {
-    // The write that fails or the room, and what `out` took: each line is one piece.
-    let rows: [(&'static [u64], usize, &str); 9] = [
-        (&[1], 4096, ""),
-        (&[2], 4096, "run-trace 1\n"),
-        (&[3], 4096, "run-trace 1\nprocessors 3\n"),
-        (&[4], 4096, "run-trace 1\nprocessors 3\nhorizon 5\n"),
-        (&[], 0, ""),
-        (&[], 5, "run-t"),
-        (&[], 12, "run-trace 1\n"),
-        (&[], 13, "run-trace 1\np"),
-        (&[], 30, "run-trace 1\nprocessors 3\nhoriz"),
-    ];
-    for words in LINES {
-        for (out, out_room, taken) in rows {
-            let outside = Outside {
-                out,
-                out_room,
-                ..SURE
-            };
-            let left = call(&rt, rt.alloc(), words, TWO_REDUCTIONS.as_bytes(), &outside)?;
-            assert_told(
-                &rt,
-                &left,
-                Status::WriteFault,
-                taken,
-                "refused 4 WriteFault\n",
-            );
-            assert_ran(&rt, &left, &two_lanes(), &TWO_TICKS);
-        }
+fn the_source_or_out_fails(rt: HostRuntime) -> Result<(), Fail> {
+    for line in &LINES {
+        assert_faults(&rt, rt.alloc(), line, &[TWO_REDUCTIONS], &FAULTS)?;
     }
     Ok(())
 }
@@ -79,25 +156,36 @@ const ERRORS: [(&[u64], usize, &str); 8] = [
 
 #[test]
 fn a_fault_of_err_changes_nothing_else(rt: HostRuntime) -> Result<(), Fail> {
-    for words in LINES {
-        for (err, err_room, taken) in ERRORS {
+    let front = Front {
+        processor: 1,
+        ran: 0,
+        most: 4,
+        failed: None,
+    };
+    for line in &LINES {
+        for (err, err_room, taken) in &ERRORS {
             let sure = Outside {
-                err,
-                err_room,
+                err: *err,
+                err_room: *err_room,
                 ..SURE
             };
             let outside = Outside {
                 gate: Some((1, 1)),
                 ..sure
             };
-            let left = call(&rt, rt.alloc(), words, TWO_REDUCTIONS.as_bytes(), &outside)?;
-            assert_told(&rt, &left, Status::GateFault, "", taken);
-            assert_stands(&rt, &left, &two_lanes(), 1, 0);
-            assert_ran_first(&rt, &left, &two_lanes(), 4);
+            let input = [TWO_REDUCTIONS];
+            assert_stop(
+                &rt,
+                rt.alloc(),
+                line,
+                &input,
+                &outside,
+                &two_lanes(),
+                (front, *taken),
+            )?;
             // Where all is done `err` isn't called.
-            let left = call(&rt, rt.alloc(), words, TWO_REDUCTIONS.as_bytes(), &sure)?;
-            assert_told(&rt, &left, Status::Done, TWO_ROWS, "");
-            assert_ran(&rt, &left, &two_lanes(), &TWO_TICKS);
+            let done = [(sure, Status::Done, TWO_ROWS, "", Did::RanTwo)];
+            assert_faults(&rt, rt.alloc(), line, &input, &done)?;
         }
     }
     Ok(())

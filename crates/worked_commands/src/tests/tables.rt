@@ -1,8 +1,8 @@
 //! Worked schedules as C source, and the lines of `table`.
 
-use super::calls::{SURE, assert_told, call};
+use super::cases::{DoneCase, RefusedCase, assert_done, assert_refused, holds, text_of};
+use super::lanes::Did;
 use super::texts::{LATE_TASK, OVERLOAD, THREE_TASKS};
-use super::usage::assert_refused;
 use run_tool::Status;
 use std::test::Fail;
 
@@ -73,104 +73,86 @@ const struct furnacelime_table furnacelime_table = {
 };
 ";
 
-#[test]
-fn three_tasks_in_c(rt: HostRuntime) -> Result<(), Fail> {
-    let left = call(&rt, rt.alloc(), &["table"], THREE_TASKS.as_bytes(), &SURE)?;
-    assert_told(&rt, &left, Status::Done, THREE_TABLE, "");
-    Ok(())
-}
+const TABLES: [DoneCase; 1] = [(&[THREE_TASKS], &[THREE_TABLE], Did::Nothing)];
 
 /// One unit of each of two tasks: 641 units have 2^64 - 1 ticks.
 const WIDEST: &str =
     "processors = 1\nhorizon = 641\ntask = [{name = \"a\", work = 1, period = 4294967295}, {name = \"b\", work = 1, period = 6700417}]\n";
 
-#[test]
-fn rows_of_worked_sets(rt: HostRuntime) -> Result<(), Fail> {
-    let rows = [
-        // A late task waits in ticks that are no row's.
-        (
-            LATE_TASK,
-            "  uint8_t start, end;\n",
-            "  {\"a\", 1u, 2u, 1u},\n  {\"b\", 1u, 2u, 0u},\n  {\"\", 0u, 0u, 0u}\n};\n\n\
-                static const struct furnacelime_row furnacelime_rows_0[] = {\n  {0u, 1u, -1},\n  {1u, 3u, 1},\n  {3u, 5u, 0},\n\
-                \x20 {5u, 7u, 1},\n  {7u, 9u, 0},\n  {9u, 10u, 1},\n  {0u, 0u, -1}\n};\n",
-        ),
-        (
-            WIDEST,
-            "  uint64_t start, end;\n",
-            "furnacelime_rows_0[] = {\n  {0u, 28778071877862015u, 1},\n  {28778071877862015u, 57556143755724030u, 0},\n\
-                \x20 {57556143755724030u, 18446744073709551615u, -1},\n  {0u, 0u, -1}\n};\n",
-        ),
-    ];
-    for (input, width, part) in rows {
-        let left = call(&rt, rt.alloc(), &["table"], input.as_bytes(), &SURE)?;
-        assert_eq!(rt; left.status, Status::Done);
-        for text in [width, part] {
-            assert!(rt;
-                left.out
-                    .as_slice()
-                    .windows(text.len())
-                    .any(|piece| piece == text.as_bytes())
-            );
-        }
-    }
-    Ok(())
-}
+/// Sets, each with the line of its rows' width and its rows.
+const PARTS: [(&str, &str, &str); 2] = [
+    // A late task waits in ticks that are no row's.
+    (
+        LATE_TASK,
+        "  uint8_t start, end;\n",
+        "  {\"a\", 1u, 2u, 1u},\n  {\"b\", 1u, 2u, 0u},\n  {\"\", 0u, 0u, 0u}\n};\n\n\
+            static const struct furnacelime_row furnacelime_rows_0[] = {\n  {0u, 1u, -1},\n  {1u, 3u, 1},\n  {3u, 5u, 0},\n\
+            \x20 {5u, 7u, 1},\n  {7u, 9u, 0},\n  {9u, 10u, 1},\n  {0u, 0u, -1}\n};\n",
+    ),
+    (
+        WIDEST,
+        "  uint64_t start, end;\n",
+        "furnacelime_rows_0[] = {\n  {0u, 28778071877862015u, 1},\n  {28778071877862015u, 57556143755724030u, 0},\n\
+            \x20 {57556143755724030u, 18446744073709551615u, -1},\n  {0u, 0u, -1}\n};\n",
+    ),
+];
 
-#[test]
-fn a_set_without_a_table(rt: HostRuntime) -> Result<(), Fail> {
-    let rows = [
-        // The first number from 2^64 on that a horizon and a scale make.
-        (
+const WITHOUT: [RefusedCase; 6] = [
+    // The first number from 2^64 on that a horizon and a scale make.
+    (
+        &[
             "processors = 1\nhorizon = 20\ntask = [{name = \"a\", work = 1, period = 2147418113}, {name = \"b\", work = 1, period = 429509837}]\n",
-            Status::TooWide,
-            "refused 17 TooWide ticks 18446744073709551620\n",
-        ),
-        // Too many rows besides, which comes later in the order.
-        (
+        ],
+        Status::TooWide,
+        "refused 17 TooWide ticks 18446744073709551620\n",
+    ),
+    // Too many rows besides, which comes later in the order.
+    (
+        &[
             "processors = 1\nhorizon = 4294967295\ntask = [{name = \"a\", work = 1, period = 641}, {name = \"b\", work = 1, period = 6700417}, \
                 {name = \"c\", work = 1, period = 3}]\n",
-            Status::TooWide,
-            "refused 17 TooWide ticks 55340232221128654845\n",
-        ),
-        // More than there is, which comes before.
-        (
+        ],
+        Status::TooWide,
+        "refused 17 TooWide ticks 55340232221128654845\n",
+    ),
+    // More than there is, which comes before.
+    (
+        &[
             "processors = 1\nhorizon = 4294967295\ntask = [{name = \"a\", work = 641, period = 641}, {name = \"b\", work = 1, period = 6700417}, \
                 {name = \"c\", work = 3, period = 3}]\n",
-            Status::Overload,
-            "refused 7 Overload total 25769805705 room 12884901891\n",
-        ),
-        (
-            OVERLOAD,
-            Status::Overload,
-            "refused 7 Overload total 7 room 6\n",
-        ),
-        (
-            "processors = 32\nhorizon = 65537\ntask = [{name = \"a\", work = 1, period = 1}]\n",
-            Status::TooLong,
-            "refused 9 TooLong rows 2097184\n",
-        ),
-        ("", Status::BadInput, "refused 6 Missing top processors\n"),
-    ];
-    for (input, status, err) in rows {
-        let left = call(&rt, rt.alloc(), &["table"], input.as_bytes(), &SURE)?;
-        assert_told(&rt, &left, status, "", err);
-    }
-    Ok(())
+        ],
+        Status::Overload,
+        "refused 7 Overload total 25769805705 room 12884901891\n",
+    ),
+    (
+        &[OVERLOAD],
+        Status::Overload,
+        "refused 7 Overload total 7 room 6\n",
+    ),
+    (
+        &["processors = 32\nhorizon = 65537\ntask = [{name = \"a\", work = 1, period = 1}]\n"],
+        Status::TooLong,
+        "refused 9 TooLong rows 2097184\n",
+    ),
+    (
+        &[""],
+        Status::BadInput,
+        "refused 6 Missing top processors\n",
+    ),
+];
+
+#[test]
+fn worked_schedules_in_c(rt: HostRuntime) -> Result<(), Fail> {
+    let alloc = rt.alloc();
+    assert_done(&rt, alloc, &["table"], &TABLES)?;
+    assert_refused(&rt, alloc, &["table"], &WITHOUT)
 }
 
 #[test]
-fn words_near_the_line_are_none(rt: HostRuntime) -> Result<(), Fail> {
-    let faulty: [&[&str]; 6] = [
-        &["tables"],
-        &["Table"],
-        &["table", ""],
-        &["table", "table"],
-        &["table", "--met"],
-        &["table", "--by=wrap"],
-    ];
-    for words in faulty {
-        assert_refused(&rt, rt.alloc(), words)?;
+fn rows_of_worked_sets(rt: HostRuntime) -> Result<(), Fail> {
+    for (input, width, part) in &PARTS {
+        let text = text_of(&rt, rt.alloc(), &["table"], input.as_bytes())?;
+        assert!(rt; holds(text.as_slice(), width) && holds(text.as_slice(), part));
     }
     Ok(())
 }

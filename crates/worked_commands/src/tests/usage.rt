@@ -1,7 +1,8 @@
 //! Words that are no command line.
 
-use super::calls::{SURE, assert_told, call};
-use super::lanes::assert_idle;
+use super::calls::{SURE, call};
+use super::cases::assert_told;
+use super::lanes::{Did, assert_did};
 use super::texts::THREE_TASKS;
 use run_tool::Status;
 use std::alloc::Global;
@@ -9,20 +10,6 @@ use std::process::Abort;
 use std::sync::Wait;
 use std::test::Fail;
 use std::thread::Threads;
-
-/// Makes sure that the words are refused: nothing is read, nothing is written to `out`, and no gate and no job is called.
-pub(super) fn assert_refused<X: Abort + Threads + Wait + Sync>(
-    rt: &X,
-    alloc: Global,
-    words: &[&str],
-) -> Result<(), Fail> {
-    let left = call(rt, alloc, words, THREE_TASKS.as_bytes(), &SURE)?;
-    assert_told(rt, &left, Status::Usage, "", "refused 2 Usage\n");
-    assert_eq!(rt; left.status.code(), 2);
-    assert_eq!(rt; left.unread, THREE_TASKS.len());
-    assert_idle(rt, &left);
-    Ok(())
-}
 
 /// Words that are no command line.
 const FAULTY: [&[&str]; 86] = [
@@ -121,10 +108,112 @@ const FAULTY: [&[&str]; 86] = [
     &["Drill", "1"],
 ];
 
-#[test]
-fn other_words_are_no_line(rt: HostRuntime) -> Result<(), Fail> {
-    for words in FAULTY {
-        assert_refused(&rt, rt.alloc(), words)?;
+/// Words that are near the lines of `draw`, and are none.
+const DRAWS: [&[&str]; 36] = [
+    &["draw", "--units", "0"],
+    &["draw", "--units=0"],
+    &["draw", "--units", "07"],
+    &["draw", "--units=07"],
+    &["draw", "--from", "07"],
+    &["draw", "--from=00"],
+    &["draw", "--from"],
+    &["draw", "--units"],
+    &["draw", "--from="],
+    &["draw", "--units="],
+    &["draw", "--from=1="],
+    &["draw", "--units", "1", "--from", "0"],
+    &["draw", "--units=1", "--from=0"],
+    &["draw", "--units=1", "--from", "0"],
+    &["draw", "--from", "1", "--from", "2"],
+    &["draw", "--from=1", "--from=1"],
+    &["draw", "--units=1", "--units=1"],
+    &["draw", "--from", "--units", "1"],
+    &["draw", "--from", "1", "--units"],
+    &["draw", "--from", "1", "--units", "2", "3"],
+    &["draw", "--from", "-1"],
+    &["draw", "--from=-1"],
+    &["draw", "--from", "+1"],
+    &["draw", "--from", " 1"],
+    &["draw", "--from", ""],
+    // 2^32, and 2^128 + 1.
+    &["draw", "--from", "4294967296"],
+    &["draw", "--units", "4294967296"],
+    &["draw", "--units", "340282366920938463463374607431768211457"],
+    &["draw", "--fro", "1"],
+    &["draw", "-f", "1"],
+    &["draw", "1"],
+    &["draw", "draw"],
+    &["draw", "--met"],
+    &["draw", "--", "--from", "1"],
+    &["--from", "1", "draw"],
+    &["check", "--from", "1"],
+];
+
+/// Words that are near the lines of `trace --by wrap`, and are none.
+const WRAPS: [&[&str]; 15] = [
+    &["trace", "--by"],
+    &["trace", "--by="],
+    &["trace", "--by", ""],
+    &["trace", "--by", "rm"],
+    &["trace", "--by=rm"],
+    &["trace", "--by", "Wrap"],
+    &["trace", "--by=wrap", "--met"],
+    &["trace", "--met", "--by", "wrap"],
+    &["trace", "--by", "wrap", "--met"],
+    &["trace", "--by", "wrap", "--by", "wrap"],
+    &["trace", "--by=wrap", "x"],
+    &["trace", "wrap"],
+    &["--by", "wrap", "trace"],
+    &["exec", "--by", "wrap"],
+    &["rate", "--by=wrap"],
+];
+
+/// Words that are near the line of `table`, and are none.
+const TABLES: [&[&str]; 6] = [
+    &["tables"],
+    &["Table"],
+    &["table", ""],
+    &["table", "table"],
+    &["table", "--met"],
+    &["table", "--by=wrap"],
+];
+
+/// Words that are near the line of `batch`, and are none.
+const BATCHES: [&[&str]; 7] = [
+    &["batch", ""],
+    &["batch", "x"],
+    &["batch", "batch"],
+    &["batch", "--met"],
+    &["--", "batch"],
+    &["batch", "--"],
+    &["Batch"],
+];
+
+/// Words that are near the line of `modes`, and are none.
+const MODES: [&[&str]; 3] = [&["modes", "modes"], &["modes", "--met"], &["modes", "x"]];
+
+/// Makes sure that such words are refused: nothing is read, nothing is written to `out`, and no gate and no job is called.
+fn assert_no_lines<X: Abort + Threads + Wait + Sync>(
+    rt: &X,
+    alloc: Global,
+    lines: &[&[&str]],
+) -> Result<(), Fail> {
+    for line in lines {
+        let left = call(rt, alloc, line, THREE_TASKS.as_bytes(), &SURE)?;
+        assert_told(rt, &left.told, (Status::Usage, &[], "refused 2 Usage\n"));
+        assert_did(rt, &left, Did::NothingRead(THREE_TASKS.len()));
     }
     Ok(())
+}
+
+#[test]
+fn other_words_are_no_line(rt: HostRuntime) -> Result<(), Fail> {
+    assert!(rt; Status::Usage.code() == 2);
+    let alloc = rt.alloc();
+    assert_no_lines(&rt, alloc, &FAULTY)?;
+    assert_no_lines(&rt, alloc, &DRAWS)?;
+    assert_no_lines(&rt, alloc, &WRAPS)?;
+    assert_no_lines(&rt, alloc, &TABLES)?;
+    assert_no_lines(&rt, alloc, &BATCHES)?;
+    assert_no_lines(&rt, alloc, &MODES)
 }

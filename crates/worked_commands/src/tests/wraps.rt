@@ -1,8 +1,8 @@
 //! Wrapped schedules of worked sets, and the lines of `trace --by wrap`.
 
-use super::calls::{SURE, assert_told, call};
+use super::cases::{DoneCase, RefusedCase, assert_done, assert_refused, assert_valid};
+use super::lanes::Did;
 use super::texts::{LATE_TASK, NO_TASKS, NO_TASKS_ROWS, OVERLOAD, THREE_TASKS};
-use super::usage::assert_refused;
 use run_tool::Status;
 use std::test::Fail;
 
@@ -11,96 +11,59 @@ const THREE_WRAPPED: &str =
     "run-trace 1\nprocessors 2\nhorizon 3\nscale 3\ntasks 3\ntask a 2 3\ntask b 2 3\ntask c 2 3\nrow 0 0 6 a\nrow 0 6 9 b\n\
         row 1 0 3 b\nrow 1 3 9 c\ntotal a 6\ntotal b 6\ntotal c 6\nrows 4\n";
 
-#[test]
-fn wrapped_schedules_of_worked_sets(rt: HostRuntime) -> Result<(), Fail> {
-    let rows: [(&[&str], &str, &str); 5] = [
-        (&["trace", "--by", "wrap"], THREE_TASKS, THREE_WRAPPED),
-        (&["trace", "--by=wrap"], THREE_TASKS, THREE_WRAPPED),
-        // The second processor has a task of its own, and is idle behind it in each of two slices.
-        (
-            &["trace", "--by", "wrap"],
+const WRAPPED: [DoneCase; 4] = [
+    (&[THREE_TASKS], &[THREE_WRAPPED], Did::Nothing),
+    // The second processor has a task of its own, and is idle behind it in each of two slices.
+    (
+        &[
             "processors = 2\nhorizon = 4\ntask = [{name = \"a\", work = 1, period = 2}, {name = \"b\", work = 1, period = 2}, \
                 {name = \"c\", work = 1, period = 4}]\n",
+        ],
+        &[
             "run-trace 1\nprocessors 2\nhorizon 4\nscale 4\ntasks 3\ntask a 1 2\ntask b 1 2\ntask c 1 4\nrow 0 0 4 a\nrow 0 4 8 b\n\
                 row 0 8 12 a\nrow 0 12 16 b\nrow 1 0 2 c\nrow 1 2 8 -\nrow 1 8 10 c\nrow 1 10 16 -\ntotal a 8\ntotal b 8\ntotal c 4\n\
                 rows 8\n",
-        ),
-        (&["trace", "--by", "wrap"], NO_TASKS, NO_TASKS_ROWS),
-        // A task that is released late keeps its place idle before its offset, and its periods are told.
-        (
-            &["trace", "--by", "wrap"],
-            LATE_TASK,
+        ],
+        Did::Nothing,
+    ),
+    (&[NO_TASKS], &[NO_TASKS_ROWS], Did::Nothing),
+    // A task that is released late keeps its place idle before its offset, and its periods are told.
+    (
+        &[LATE_TASK],
+        &[
             "run-trace 2\nprocessors 1\nhorizon 5\nscale 2\ntasks 2\ntask a 1 2 1\ntask b 1 2 0\nrow 0 0 1 -\nrow 0 1 2 b\nrow 0 2 3 a\n\
                 row 0 3 4 b\nrow 0 4 5 a\nrow 0 5 6 b\nrow 0 6 7 a\nrow 0 7 8 b\nrow 0 8 9 a\nrow 0 9 10 b\ntotal a 4\ntotal b 5\n\
                 met a 0 5\nmet a 1 9\nmet b 0 4\nmet b 1 8\nrows 10\n",
-        ),
-    ];
-    for (words, input, out) in rows {
-        let left = call(&rt, rt.alloc(), words, input.as_bytes(), &SURE)?;
-        assert_told(&rt, &left, Status::Done, out, "");
-    }
-    Ok(())
-}
+        ],
+        Did::Nothing,
+    ),
+];
 
-#[test]
-fn a_wrapped_schedule_is_checked(rt: HostRuntime) -> Result<(), Fail> {
-    let left = call(&rt, rt.alloc(), &["check"], THREE_WRAPPED.as_bytes(), &SURE)?;
-    assert_eq!(rt; left.status, Status::Done);
-    assert!(rt;
-        left.out
-            .as_slice()
-            .starts_with(b"valid\nrows 4\npreemptions 1\nmigrations 1\n")
-    );
-    Ok(())
-}
-
-#[test]
-fn a_set_without_a_wrapped_schedule(rt: HostRuntime) -> Result<(), Fail> {
-    let rows = [
-        (
-            OVERLOAD,
-            Status::Overload,
-            "refused 7 Overload total 7 room 6\n",
-        ),
-        // A slice at each unit: one more than the table may have.
-        (
-            "processors = 32\nhorizon = 65537\ntask = [{name = \"a\", work = 1, period = 1}]\n",
-            Status::TooLong,
-            "refused 9 TooLong rows 2097184\n",
-        ),
-        ("", Status::BadInput, "refused 6 Missing top processors\n"),
-    ];
-    for (input, status, err) in rows {
-        let words = ["trace", "--by", "wrap"];
-        let left = call(&rt, rt.alloc(), &words, input.as_bytes(), &SURE)?;
-        assert_told(&rt, &left, status, "", err);
-    }
-    Ok(())
-}
-
-/// Words that are near the lines, and are none.
-const FAULTY: [&[&str]; 15] = [
-    &["trace", "--by"],
-    &["trace", "--by="],
-    &["trace", "--by", ""],
-    &["trace", "--by", "rm"],
-    &["trace", "--by=rm"],
-    &["trace", "--by", "Wrap"],
-    &["trace", "--by=wrap", "--met"],
-    &["trace", "--met", "--by", "wrap"],
-    &["trace", "--by", "wrap", "--met"],
-    &["trace", "--by", "wrap", "--by", "wrap"],
-    &["trace", "--by=wrap", "x"],
-    &["trace", "wrap"],
-    &["--by", "wrap", "trace"],
-    &["exec", "--by", "wrap"],
-    &["rate", "--by=wrap"],
+const WITHOUT: [RefusedCase; 3] = [
+    (
+        &[OVERLOAD],
+        Status::Overload,
+        "refused 7 Overload total 7 room 6\n",
+    ),
+    // A slice at each unit: one more than the table may have.
+    (
+        &["processors = 32\nhorizon = 65537\ntask = [{name = \"a\", work = 1, period = 1}]\n"],
+        Status::TooLong,
+        "refused 9 TooLong rows 2097184\n",
+    ),
+    (
+        &[""],
+        Status::BadInput,
+        "refused 6 Missing top processors\n",
+    ),
 ];
 
 #[test]
-fn words_near_the_lines_are_none(rt: HostRuntime) -> Result<(), Fail> {
-    for words in FAULTY {
-        assert_refused(&rt, rt.alloc(), words)?;
-    }
-    Ok(())
+fn wrapped_schedules_of_worked_sets(rt: HostRuntime) -> Result<(), Fail> {
+    let alloc = rt.alloc();
+    assert_done(&rt, alloc, &["trace", "--by", "wrap"], &WRAPPED)?;
+    assert_done(&rt, alloc, &["trace", "--by=wrap"], &WRAPPED[..1])?;
+    assert_refused(&rt, alloc, &["trace", "--by", "wrap"], &WITHOUT)?;
+    let report = "rows 4\npreemptions 1\nmigrations 1\n";
+    assert_valid(&rt, alloc, THREE_WRAPPED.as_bytes(), report)
 }

@@ -3,7 +3,8 @@ ghost use Rattle.std.specs.Prelude.{◌≡◌, ◌+◌, ◌<◌, ◌^◌, None, 
 ghost use Rattle.run_tool.specs.Executions.{gates_of};
 ghost use Rattle.run_tool.specs.Ready.{AreFirstGates};
 
-use super::call;
+use crate::tests::calls::{SURE, perform};
+use crate::tests::cases::assert_told;
 use crate::tests::texts::{THREE_ROWS, THREE_TASKS};
 use exec_workers::Kit;
 use run_tool::Status;
@@ -117,19 +118,18 @@ fn assert_lasting<X: Threads + Wait + Abort + Sync>(
     want: (Status, &str, &str),
 ) -> Result<(), Fail> {
     let drops = Arc::new(alloc, AtomicU64::new(0))?;
-    let mut kits = kits_of(alloc, gate_fails)?;
     let mut jobs = Jobs::with_room(alloc, 256)?;
     for id in 0..256 {
         jobs.add(Box::new(alloc, LastingJob::new(id, job_fails && id == 2, &drops)?)?);
     }
-    let left = call(rt, alloc, &["exec"], THREE_TASKS, &mut kits, &mut jobs)?;
+    let mut kits = kits_of(alloc, gate_fails)?;
+    let input = THREE_TASKS.as_bytes();
+    let told = perform(rt, alloc, &["exec"], input, &SURE, &mut kits, &mut jobs)?;
     let (status, out, err) = want;
-    assert_eq!(rt; left.status, status);
-    assert_eq!(rt; left.out.as_slice(), out.as_bytes());
-    assert_eq!(rt; left.err.as_slice(), err.as_bytes());
-    assert_eq!(rt; drops.load(Ordering::SeqCst), 0);
+    assert_told(rt, &told, (status, &[out], err));
+    assert!(rt; drops.load(Ordering::SeqCst) == 0);
     drop(jobs);
-    assert_eq!(rt; drops.load(Ordering::SeqCst), 256);
+    assert!(rt; drops.load(Ordering::SeqCst) == 256);
     Ok(())
 }
 

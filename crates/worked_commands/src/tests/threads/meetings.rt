@@ -4,8 +4,9 @@ ghost use Rattle.run_tool.specs.Executions.{gates_of};
 ghost use Rattle.run_tool.specs.Ready.{AreFirstGates};
 
 use super::patient_gate::PatientGate;
-use super::{Left, call};
-use crate::tests::texts::{THREE_ROWS, THREE_TASKS};
+use crate::tests::calls::{SURE, Told, perform};
+use crate::tests::cases::assert_told;
+use crate::tests::texts::{THREE_ROWS, THREE_TASKS, TWO_REDUCTIONS, TWO_ROWS};
 use exec_workers::Kit;
 use run_tool::Status;
 use sched_edges::{CountJob, Jobs};
@@ -15,16 +16,6 @@ use std::sync::{Arc, Wait};
 use std::test::Fail;
 use std::thread::Threads;
 use std::time::Clock;
-
-/// Five tasks of rate 3/5 on three processors, over one period.
-const TWO_REDUCTIONS: &str =
-    "processors = 3\nhorizon = 5\ntask = [{name = \"a\", work = 3, period = 5}, {name = \"b\", work = 3, period = 5}, \
-        {name = \"c\", work = 3, period = 5}, {name = \"d\", work = 3, period = 5}, {name = \"e\", work = 3, period = 5}]\n";
-
-const TWO_REDUCTION_ROWS: &str =
-    "run-trace 1\nprocessors 3\nhorizon 5\nscale 5\ntasks 5\ntask a 3 5\ntask b 3 5\ntask c 3 5\ntask d 3 5\ntask e 3 5\nrow 0 0 5 a\n\
-        row 0 5 10 c\nrow 0 10 25 e\nrow 1 0 15 b\nrow 1 15 25 a\nrow 2 0 15 d\nrow 2 15 25 c\ntotal a 15\ntotal b 15\ntotal c 15\n\
-        total d 15\ntotal e 15\nrows 7\n";
 
 /// Kits with gates of which the first waits, in its first call, for so many calls of the second, and the second for so many of
 /// the first. The other gates wait for none.
@@ -57,54 +48,55 @@ fn run_waiting<X: Threads + Wait + Clock + Copy + Send + Sync>(
     words: &[&str],
     input: &str,
     waits: [u64; 2],
-) -> Result<Left, Fail> {
-    let mut kits = kits_of(rt, alloc, waits)?;
+) -> Result<Told, Fail> {
     let mut jobs = Jobs::with_room(alloc, 256)?;
     for id in 0..256 {
         jobs.add(Box::new(alloc, CountJob::new(id))?);
     }
-    call(&rt, alloc, words, input, &mut kits, &mut jobs)
+    let mut kits = kits_of(rt, alloc, waits)?;
+    perform(
+        &rt,
+        alloc,
+        words,
+        input.as_bytes(),
+        &SURE,
+        &mut kits,
+        &mut jobs,
+    )
 }
 
 /// Each of two gates waits for the first call of the other. Workers that serve one lane after the other can't end this.
 #[test]
 fn two_gates_meet(rt: HostRuntime) -> Result<(), Fail> {
-    let left = run_waiting(rt, rt.alloc(), &["exec"], THREE_TASKS, [1, 1])?;
-    assert_eq!(rt; left.status, Status::Done);
-    assert_eq!(rt; left.out.as_slice(), THREE_ROWS.as_bytes());
-    assert!(rt; left.err.is_empty());
+    let told = run_waiting(rt, rt.alloc(), &["exec"], THREE_TASKS, [1, 1])?;
+    assert_told(&rt, &told, (Status::Done, &[THREE_ROWS], ""));
     Ok(())
 }
+
+/// The words, the status, and what `out` and `err` take.
+const WINDOWS: [(&[&str], Status, &str, &str); 4] = [
+    (&["exec"], Status::Done, TWO_ROWS, ""),
+    (&["exec", "--window=3"], Status::Done, TWO_ROWS, ""),
+    (
+        &["exec", "--window=2"],
+        Status::GateFault,
+        "",
+        "refused 10 GateFault processor 0 row 0 5 a\n",
+    ),
+    (
+        &["exec", "--window", "1"],
+        Status::GateFault,
+        "",
+        "refused 10 GateFault processor 0 row 0 5 a\n",
+    ),
+];
 
 /// Gate 0 waits in its first call for the third call of gate 1, which comes only where lane 1 may run two rounds ahead.
 #[test]
 fn the_window_bounds_how_far_a_lane_runs_ahead(rt: HostRuntime) -> Result<(), Fail> {
-    let rows: [(&[&str], Status, &str, &str); 4] = [
-        (&["exec"], Status::Done, TWO_REDUCTION_ROWS, ""),
-        (
-            &["exec", "--window=3"],
-            Status::Done,
-            TWO_REDUCTION_ROWS,
-            "",
-        ),
-        (
-            &["exec", "--window=2"],
-            Status::GateFault,
-            "",
-            "refused 10 GateFault processor 0 row 0 5 a\n",
-        ),
-        (
-            &["exec", "--window", "1"],
-            Status::GateFault,
-            "",
-            "refused 10 GateFault processor 0 row 0 5 a\n",
-        ),
-    ];
-    for (words, status, out, err) in rows {
-        let left = run_waiting(rt, rt.alloc(), words, TWO_REDUCTIONS, [3, 0])?;
-        assert_eq!(rt; left.status, status);
-        assert_eq!(rt; left.out.as_slice(), out.as_bytes());
-        assert_eq!(rt; left.err.as_slice(), err.as_bytes());
+    for (words, status, out, err) in &WINDOWS {
+        let told = run_waiting(rt, rt.alloc(), words, TWO_REDUCTIONS, [3, 0])?;
+        assert_told(&rt, &told, (*status, &[*out], *err));
     }
     Ok(())
 }

@@ -24,8 +24,8 @@ loop-id-preserved g c =
           ∙ ap (λ j. j.used) (w.in_ok-new-in-None.ensures.ok ∙ w.new-in-None.ensures)))
     ]
 
-pub run-status-requires-clause-ready : goal.run-status-requires-clause-ready
-run-status-requires-clause-ready g c =
+pub perform-requires-clause-ready : goal.perform-requires-clause-ready
+perform-requires-clause-ready g c =
     λ _ _.
     let past = c.loop-id-test.false in
     let within = c.loop-id.auto.id-end in
@@ -35,6 +35,6 @@ pub told_by-requires : goal.told_by-requires
 told_by-requires g c = λ i within.
     let past = c.loop-id-test.false in
     let (j, at, own, unused) = c.loop-id.invariant.first.unused i (omega (arith, within, past)) in
-    let (k, there, same, count) = c.run-status.ensures.back.jobs i j at in
+    let (k, there, same, count) = c.in_ok-told.ensures.jobs i j at in
     let (job, in_place, shown) = job_in_place _ _ _ _ _ i k there in
     (job, in_place)

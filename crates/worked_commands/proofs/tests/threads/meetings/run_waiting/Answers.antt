@@ -15,8 +15,8 @@ loop-id-preserved g c =
     (read_made own-1 (own-1.entry at-1-1) at-1-1 refl ℕ (λ e x. e.1.used x) _ _ _ c.into_dyn_box.ensures.1
     ∙ ap (λ j. j.used) (c.in_ok-new.ensures.ok ∙ c.new.ensures))
 
-pub call-requires-clause-ready : goal.call-requires-clause-ready
-call-requires-clause-ready g c =
+pub perform-requires-clause-ready : goal.perform-requires-clause-ready
+perform-requires-clause-ready g c =
     λ _ _.
     let past = c.loop-id-test.false in
     let within = c.loop-id.auto.id-end in
