@@ -1,22 +1,20 @@
 //! What is answered for a tree text.
 use sched_edges::MemSink;
-use std::alloc::{AllocError, Global};
-use std::test::Fail;
-use tree_check::{TreeKind, TreeRefused, check_tree};
+use std::alloc::Global;
+use std::process::Abort;
+use tree_check::{ReadTree, TreeKind, TreeRefused, check_tree};
 use tree_reader::{TreeFault, read_tree};
 use tree_text::write_tree;
 
 /// What is answered for a tree text.
-#[derive(PartialEq, Eq, Drop)]
+#[derive(Clone, Copy, PartialEq, Eq)]
 pub(super) enum Answer {
     /// It isn't of the form, at this line.
     BadLine(u64),
     /// It is that of no reduction tree, at this line and for this reason.
     Fault(u64, TreeKind),
-    /// It is that of a tree, which is written as this.
-    Tree(String),
-    /// There was no memory, or the text of the tree wasn't written.
-    Other,
+    /// It is that of a tree.
+    Tree,
 }
 
 /// Five tasks of rate 3/5 on three processors. Another rule packed level 1.
@@ -32,38 +30,54 @@ pub(super) const ONE_IDLE: &str =
 
 /// The text with each of these lines, counted from 1, as it is told.
 pub(super) fn with_lines(
+    rt: &impl Abort,
     alloc: Global,
     text: &str,
     told: &[(usize, &str)],
-) -> Result<String, AllocError> {
+) -> String {
     let mut edited = String::new(alloc);
-    for (i, line) in text.lines().enumerate() {
-        match told.iter().find(|(at, _)| *at == i + 1) {
-            Some((_, other)) => edited.push_str(other)?,
-            None => {
-                edited.push_str(line)?;
-                edited.push_str("\n")?;
-            }
-        }
+    for (i, line) in text.split_inclusive('\n').enumerate() {
+        let line = match told.iter().find(|(at, _)| *at == i + 1) {
+            Some((_, other)) => other,
+            None => line,
+        };
+        edited.push_str(line).expect(rt, "there is memory");
     }
-    Ok(edited)
+    edited
 }
 
-/// What is answered for this text.
-pub(super) fn answer_for(alloc: Global, text: &str) -> Result<Answer, Fail> {
-    let tree = match read_tree(alloc, text.as_bytes()) {
-        Ok(tree) => tree,
-        Err(TreeFault::BadLine { line }) => return Ok(Answer::BadLine(line)),
-        Err(TreeFault::NoMemory) => return Ok(Answer::Other),
-    };
-    let plan = match check_tree(alloc, &tree) {
-        Ok(plan) => plan,
-        Err(TreeRefused::Fault { line, kind }) => return Ok(Answer::Fault(line, kind)),
-        Err(TreeRefused::NoMemory) => return Ok(Answer::Other),
-    };
-    let mut sink = MemSink::new(alloc, 4096, &[])?;
-    match write_tree(&plan, &mut sink) {
-        Ok(()) => Ok(Answer::Tree(String::from_utf8_lossy(alloc, sink.taken())?)),
-        Err(_) => Ok(Answer::Other),
+/// What is answered for these bytes. Where they are the text of a tree, it is written as this text.
+pub(super) fn answer_for(rt: &impl Abort, alloc: Global, bytes: &[u8], written: &str) -> Answer {
+    match read_tree(alloc, bytes) {
+        Ok(tree) => answer_checked(rt, alloc, &tree, written),
+        Err(TreeFault::BadLine { line }) => Answer::BadLine(line),
+        Err(TreeFault::NoMemory) => panic!(rt; "no memory"),
+    }
+}
+
+fn answer_checked(rt: &impl Abort, alloc: Global, tree: &ReadTree, written: &str) -> Answer {
+    match check_tree(alloc, tree) {
+        Ok(plan) => {
+            let mut sink = MemSink::new(alloc, 4096, &[]).expect(rt, "there is memory");
+            assert!(rt; write_tree(&plan, &mut sink).is_ok());
+            assert!(rt; sink.taken() == written.as_bytes());
+            Answer::Tree
+        }
+        Err(TreeRefused::Fault { line, kind }) => Answer::Fault(line, kind),
+        Err(TreeRefused::NoMemory) => panic!(rt; "no memory"),
+    }
+}
+
+/// The lines of a text that differ, and what is then answered.
+pub(super) type Row<'a> = (&'a [(usize, &'a str)], Answer);
+
+/// Compares what is answered for a text with lines that differ.
+pub(super) fn compare(rt: &impl Abort, alloc: Global, text: &str, rows: &[Row]) {
+    for (told, answer) in rows {
+        let edited = with_lines(rt, alloc, text, told);
+        assert!(rt;
+            answer_for(rt, alloc, edited.as_bytes(), &edited) == *answer,
+            "{edited}"
+        );
     }
 }

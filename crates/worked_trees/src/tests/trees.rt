@@ -1,6 +1,6 @@
 //! Texts of trees, whatever rule packed them.
-use super::answers::{Answer, ONE_IDLE, THREE_LEVELS, answer_for, with_lines};
-use std::test::Fail;
+use super::answers::Answer::Tree;
+use super::answers::{ONE_IDLE, Row, THREE_LEVELS, answer_for, compare, with_lines};
 
 /// Three processors, on which a root stands beside packs that are none.
 const ROOT_BESIDE_PACKS: &str =
@@ -12,44 +12,37 @@ const NO_TASK: &str =
     "run-tree 1\nprocessors 2\nhorizon 1\nscale 1\ntasks 0\nidles 2\nidle 0 1\nidle 1 1\nlevel 0 2\npack 1 -1\npack 1 -0\nlevels 1\n";
 
 #[test]
-fn trees_are_written_again(rt: HostRuntime) -> Result<(), Fail> {
+fn trees_are_written_again(rt: HostRuntime) {
     for text in [THREE_LEVELS, ONE_IDLE, ROOT_BESIDE_PACKS, NO_TASK] {
-        let again = answer_for(rt.alloc(), text)?;
-        assert!(rt; again == Answer::Tree(String::from_str(rt.alloc(), text)?));
+        assert!(rt; answer_for(&rt, rt.alloc(), text.as_bytes(), text) == Tree);
     }
-    Ok(())
+    // The last line feed may be missing.
+    let text = with_lines(&rt, rt.alloc(), THREE_LEVELS, &[(24, "levels 3")]);
+    assert!(rt; answer_for(&rt, rt.alloc(), text.as_bytes(), THREE_LEVELS) == Tree);
 }
 
-#[test]
-fn trees_packed_by_any_rule_are_written_again(rt: HostRuntime) -> Result<(), Fail> {
-    // the lines that differ
-    let rows: &[&[(usize, &str)]] = &[
-        // as first fit packs it
-        &[(19, "pack 4 ~0 ~1\n"), (20, "pack 4 ~2 ~3\n")],
-        // packs and members in another order
-        &[(13, "pack 3 e\n"), (17, "pack 3 a\n")],
-        &[(19, "pack 4 ~3 ~1\n"), (20, "pack 4 ~2 ~0\n")],
+const PACKED: &[Row] = &[
+    // as first fit packs it
+    (&[(19, "pack 4 ~0 ~1\n"), (20, "pack 4 ~2 ~3\n")], Tree),
+    // packs and members in another order
+    (&[(13, "pack 3 e\n"), (17, "pack 3 a\n")], Tree),
+    (&[(19, "pack 4 ~3 ~1\n"), (20, "pack 4 ~2 ~0\n")], Tree),
+    (
         &[
             (19, "pack 2 ~0\n"),
             (21, "pack 4 ~4 ~2\n"),
             (23, "pack 5 ~2 ~0 ~1\n"),
         ],
-    ];
-    for told in rows {
-        let text = with_lines(rt.alloc(), THREE_LEVELS, told)?;
-        let again = answer_for(rt.alloc(), &text)?;
-        assert!(rt; again == Answer::Tree(text));
-    }
-    Ok(())
-}
+        Tree,
+    ),
+];
 
-#[test]
-fn idle_leaves_are_packed_anywhere(rt: HostRuntime) -> Result<(), Fail> {
-    // the lines that differ
-    let rows: &[&[(usize, &str)]] = &[
-        &[(12, "pack 4 -0 a\n")],
-        &[(12, "pack 3 a\n"), (14, "pack 4 c -0\n")],
-        // a processor that no task asks for
+/// idle leaves anywhere
+const IDLE_ANYWHERE: &[Row] = &[
+    (&[(12, "pack 4 -0 a\n")], Tree),
+    (&[(12, "pack 3 a\n"), (14, "pack 4 c -0\n")], Tree),
+    // a processor that no task asks for
+    (
         &[
             (2, "processors 3\n"),
             (9, "idles 2\n"),
@@ -57,19 +50,12 @@ fn idle_leaves_are_packed_anywhere(rt: HostRuntime) -> Result<(), Fail> {
             (11, "level 0 4\n"),
             (14, "pack 3 c\npack 5 -1\n"),
         ],
-    ];
-    for told in rows {
-        let text = with_lines(rt.alloc(), ONE_IDLE, told)?;
-        let again = answer_for(rt.alloc(), &text)?;
-        assert!(rt; again == Answer::Tree(text));
-    }
-    Ok(())
-}
+        Tree,
+    ),
+];
 
 #[test]
-fn the_last_line_feed_may_be_missing(rt: HostRuntime) -> Result<(), Fail> {
-    let text = with_lines(rt.alloc(), THREE_LEVELS, &[(24, "levels 3")])?;
-    let again = answer_for(rt.alloc(), &text)?;
-    assert!(rt; again == Answer::Tree(String::from_str(rt.alloc(), THREE_LEVELS)?));
-    Ok(())
+fn trees_packed_by_any_rule_are_written_again(rt: HostRuntime) {
+    compare(&rt, rt.alloc(), THREE_LEVELS, PACKED);
+    compare(&rt, rt.alloc(), ONE_IDLE, IDLE_ANYWHERE);
 }

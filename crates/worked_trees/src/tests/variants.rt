@@ -1,90 +1,76 @@
 //! Texts that differ from that of a tree in one place: cut after each byte, a line twice or left out, a number one more.
 use super::answers::{Answer, answer_for};
-use super::worked_texts::{NINE_TASKS, ONE_IDLE_LEAF, THREE_TASKS, TWO_REDUCTIONS, Wanted, Worked};
-use std::alloc::{AllocError, Global};
-use std::test::Fail;
+use super::worked_texts::{NINE_TASKS, ONE_IDLE_LEAF, THREE_TASKS, TWO_REDUCTIONS, Worked};
+use std::alloc::Global;
+use std::process::Abort;
 
-const TEXTS: [Worked; 4] = [THREE_TASKS, ONE_IDLE_LEAF, TWO_REDUCTIONS, NINE_TASKS];
-
-/// The answer that is wanted, where the tree is written as this text.
-fn answer_wanted(alloc: Global, wanted: Wanted, text: &str) -> Result<Answer, AllocError> {
-    Ok(match wanted {
-        Wanted::BadLine(line) => Answer::BadLine(line),
-        Wanted::Fault(line, kind) => Answer::Fault(line, kind),
-        Wanted::Tree => Answer::Tree(String::from_str(alloc, text)?),
-    })
-}
+const TEXTS: &[Worked] = &[THREE_TASKS, ONE_IDLE_LEAF, TWO_REDUCTIONS, NINE_TASKS];
 
 /// What a mark in the place of the last byte of a text says, if that byte stands on this line.
-fn marked(mark: char, line: u64) -> Wanted {
+fn marked(mark: u8, line: u64) -> Answer {
     match mark {
-        '+' => Wanted::BadLine(line.saturating_add(1)),
-        '=' => Wanted::Tree,
-        _ => Wanted::BadLine(line),
+        b'+' => Answer::BadLine(line.saturating_add(1)),
+        b'=' => Answer::Tree,
+        _ => Answer::BadLine(line),
     }
 }
 
 #[test]
-fn texts_cut_after_each_byte(rt: HostRuntime) -> Result<(), Fail> {
+fn texts_cut_after_each_byte(rt: HostRuntime) {
     for worked in TEXTS {
-        let mut cut = String::new(rt.alloc());
+        let bytes = worked.text.as_bytes();
         let mut line: u64 = 1;
-        for (byte, mark) in worked.text.chars().zip(worked.cuts.chars()) {
-            cut.push(byte)?;
-            if byte == '\n' {
+        assert!(rt; worked.cuts.len() + 1 == bytes.len());
+        for (i, mark) in worked.cuts.as_bytes().iter().enumerate() {
+            if bytes[i] == b'\n' {
                 line = line.saturating_add(1);
             }
-            let wanted = answer_wanted(rt.alloc(), marked(mark, line), worked.text)?;
-            assert!(rt; answer_for(rt.alloc(), &cut)? == wanted, "{cut}");
+            assert!(rt;
+                answer_for(&rt, rt.alloc(), &bytes[..=i], worked.text) == marked(*mark, line),
+                "the first bytes up to {i} of {}",
+                worked.text
+            );
         }
-        cut.push('\n')?;
-        assert!(rt; cut.as_str() == worked.text);
+        assert!(rt; bytes.ends_with(b"\n"));
     }
-    Ok(())
 }
 
 /// The text with the line of this number, counted from 0, so often as told.
 fn with_line_repeated(
+    rt: &impl Abort,
     alloc: Global,
     text: &str,
     number: usize,
     times: usize,
-) -> Result<String, AllocError> {
+) -> String {
     let mut edited = String::new(alloc);
-    for (i, line) in text.lines().enumerate() {
-        push_lines(&mut edited, line, if i == number { times } else { 1 })?;
+    for (i, line) in text.split_inclusive('\n').enumerate() {
+        let count = if i == number { times } else { 1 };
+        for _ in 0..count {
+            edited.push_str(line).expect(rt, "there is memory");
+        }
     }
-    Ok(edited)
-}
-
-/// Adds a line so often as told.
-fn push_lines(text: &mut String, line: &str, times: usize) -> Result<(), AllocError> {
-    for _ in 0..times {
-        text.push_str(line)?;
-        text.push_str("\n")?;
-    }
-    Ok(())
+    edited
 }
 
 #[test]
-fn texts_with_a_line_twice_or_left_out(rt: HostRuntime) -> Result<(), Fail> {
+fn texts_with_a_line_twice_or_left_out(rt: HostRuntime) {
     for worked in TEXTS {
         for (times, lines) in [(2, worked.doubled), (0, worked.left_out)] {
             assert!(rt; lines.len() == worked.text.lines().count());
             for (i, line) in lines.iter().enumerate() {
-                let text = with_line_repeated(rt.alloc(), worked.text, i, times)?;
+                let text = with_line_repeated(&rt, rt.alloc(), worked.text, i, times);
                 assert!(rt;
-                    answer_for(rt.alloc(), &text)? == Answer::BadLine(*line),
+                    answer_for(&rt, rt.alloc(), text.as_bytes(), "") == Answer::BadLine(*line),
                     "{text}"
                 );
             }
         }
     }
-    Ok(())
 }
 
 /// The text with the number of this place, counted from 0, one more, and how many numbers it has.
-fn with_number_raised(alloc: Global, text: &str, place: usize) -> Result<(String, usize), Fail> {
+fn with_number_raised(rt: &impl Abort, alloc: Global, text: &str, place: usize) -> (String, usize) {
     let mut edited = String::new(alloc);
     let mut count: usize = 0;
     let mut number: Option<u64> = None;
@@ -97,26 +83,32 @@ fn with_number_raised(alloc: Global, text: &str, place: usize) -> Result<(String
             None => {
                 if let Some(found) = number {
                     let more = found.saturating_add(u64::from(count == place));
-                    edited.push_str(&format!(in alloc; "{more}")?)?;
+                    push_number(rt, alloc, &mut edited, more);
                     count = count.saturating_add(1);
                 }
                 number = None;
-                edited.push(c)?;
+                edited.push(c).expect(rt, "there is memory");
             }
         }
     }
-    Ok((edited, count))
+    (edited, count)
+}
+
+fn push_number(rt: &impl Abort, alloc: Global, text: &mut String, number: u64) {
+    let digits = format!(in alloc; "{number}").expect(rt, "there is memory");
+    text.push_str(&digits).expect(rt, "there is memory");
 }
 
 #[test]
-fn texts_with_a_number_one_more(rt: HostRuntime) -> Result<(), Fail> {
+fn texts_with_a_number_one_more(rt: HostRuntime) {
     for worked in TEXTS {
-        for (i, wanted) in worked.raised.iter().enumerate() {
-            let (text, count) = with_number_raised(rt.alloc(), worked.text, i)?;
+        for (i, answer) in worked.raised.iter().enumerate() {
+            let (text, count) = with_number_raised(&rt, rt.alloc(), worked.text, i);
             assert!(rt; count == worked.raised.len());
-            let wanted = answer_wanted(rt.alloc(), *wanted, &text)?;
-            assert!(rt; answer_for(rt.alloc(), &text)? == wanted, "{text}");
+            assert!(rt;
+                answer_for(&rt, rt.alloc(), text.as_bytes(), &text) == *answer,
+                "{text}"
+            );
         }
     }
-    Ok(())
 }

@@ -1,18 +1,7 @@
 //! Tree texts that `tree` writes of worked sets, with what is answered for each text that differs from one in a line or a number.
-use Wanted::{BadLine, Fault, Tree};
-use tree_check::TreeKind;
+use super::answers::Answer;
+use super::answers::Answer::{BadLine, Fault, Tree};
 use tree_check::TreeKind::{Rate, Total, Unplaced};
-
-/// What is to be answered for a text.
-#[derive(Clone, Copy)]
-pub(super) enum Wanted {
-    /// It isn't of the form, at this line.
-    BadLine(u64),
-    /// It is that of no reduction tree, at this line and for this reason.
-    Fault(u64, TreeKind),
-    /// It is that of a tree.
-    Tree,
-}
 
 /// A tree text, and what is to be answered for others.
 #[derive(Clone, Copy)]
@@ -26,7 +15,7 @@ pub(super) struct Worked {
     /// The line at fault where each line in turn is left out.
     pub left_out: &'static [u64],
     /// What is answered where each number in turn, in the order of the text, is one more.
-    pub raised: &'static [Wanted],
+    pub raised: &'static [Answer],
 }
 
 /// Three tasks of rate 2/3 on two processors.

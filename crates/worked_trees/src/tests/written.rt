@@ -4,7 +4,7 @@ use named_sets::{NamedTask, set_of};
 use run_compile::compile;
 use sched_edges::{Failed, MemSink};
 use std::alloc::Global;
-use std::test::Fail;
+use std::process::Abort;
 use tree_text::write_tree;
 
 /// A set: its processors, its horizon and its tasks.
@@ -81,22 +81,26 @@ const LONG_PACK: &str =
 const NO_TASK: &str =
     "run-tree 1\nprocessors 2\nhorizon 1\nscale 1\ntasks 0\nidles 2\nidle 0 1\nidle 1 1\nlevel 0 2\npack 1 -0\npack 1 -1\nlevels 1\n";
 
-/// Whether the text of a set's tree was written, and what the sink took of it.
-fn written(
+/// Compares whether the text of a set's tree is written to a sink of this room that fails at these calls, and what it takes.
+fn compare(
+    rt: &impl Abort,
     alloc: Global,
     set: Set,
     room: usize,
     fails: &[u64],
-) -> Result<(Result<(), Failed>, MemSink), Fail> {
+    written: Result<(), Failed>,
+    taken: &str,
+) {
     let (processors, horizon, tasks) = set;
-    let plan = compile(alloc, set_of(alloc, processors, horizon, tasks)?)?;
-    let mut sink = MemSink::new(alloc, room, fails)?;
-    let result = write_tree(&plan, &mut sink);
-    Ok((result, sink))
+    let set = set_of(alloc, processors, horizon, tasks).expect(rt, "a set");
+    let plan = compile(alloc, set).expect(rt, "a plan");
+    let mut sink = MemSink::new(alloc, room, fails).expect(rt, "there is memory");
+    assert!(rt; write_tree(&plan, &mut sink) == written);
+    assert!(rt; sink.taken() == taken.as_bytes());
 }
 
 #[test]
-fn texts_of_worked_sets(rt: HostRuntime) -> Result<(), Fail> {
+fn texts_of_worked_sets(rt: HostRuntime) {
     for (set, text) in [
         (TWO_THIRDS, THREE_TASKS.text),
         (THREE_FIFTHS, ONE_IDLE_LEAF.text),
@@ -105,15 +109,12 @@ fn texts_of_worked_sets(rt: HostRuntime) -> Result<(), Fail> {
         (LONG_NAMES, LONG_PACK),
         ((2, 1, &[]), NO_TASK),
     ] {
-        let (result, sink) = written(rt.alloc(), set, 2048, &[])?;
-        assert!(rt; result == Ok(()));
-        assert!(rt; sink.taken() == text.as_bytes());
+        compare(&rt, rt.alloc(), set, 2048, &[], Ok(()), text);
     }
-    Ok(())
 }
 
 #[test]
-fn sinks_that_fail_take_a_first_part(rt: HostRuntime) -> Result<(), Fail> {
+fn sinks_that_fail_take_a_first_part(rt: HostRuntime) {
     let fails: &[u64] = &[3];
     // room, calls that fail, what was taken
     for (room, fails, taken) in [
@@ -121,9 +122,6 @@ fn sinks_that_fail_take_a_first_part(rt: HostRuntime) -> Result<(), Fail> {
         (20, &[], "run-tree 1\nprocessor"),
         (0, &[], ""),
     ] {
-        let (result, sink) = written(rt.alloc(), TWO_THIRDS, room, fails)?;
-        assert!(rt; result == Err(Failed));
-        assert!(rt; sink.taken() == taken.as_bytes());
+        compare(&rt, rt.alloc(), TWO_THIRDS, room, fails, Err(Failed), taken);
     }
-    Ok(())
 }
