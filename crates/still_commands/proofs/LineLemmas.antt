@@ -8,11 +8,9 @@ use Rattle.sched_edges.proofs.Wrote.{part_then, part_cut}
 use Rattle.task_reader.specs.declared.refusals.Place.{Place}
 use Rattle.task_reader.specs.declared.refusals.Place.TheVariants as place
 use Rattle.sched_edges.specs.Lines.{line_end, line_of}
-use Rattle.still_commands.specs.Refusals.{place_and, place_text, key_start, printed_byte, refusal_line, mode_line, set_start, IsOfCommand, IsShort}
+use Rattle.still_commands.specs.Refusals.{place_and, place_text, key_start, printed_byte, refusal_line, mode_line, set_start}
 use Rattle.still_commands.specs.declared.mode_refusal.ModeRefusal.{ModeRefusal}
-use Rattle.still_commands.specs.declared.refusal.Refusal.{Refusal}
 use Rattle.still_commands.specs.declared.refusal.Refusal.TheVariants.{BadSet, OfMode}
-use Rattle.task_reader.specs.declared.refusals.ReadSet.{ReadSet}
 use Rattle.task_reader.specs.declared.refusals.ReadSet.TheVariants.{UnknownKey}
 
 line_end-place : (p : Place) (word : List ℕ) → line_end (place_and p word) ≡ place_text p ++ (32 ∷ (word ++ 10 ∷ []))
@@ -139,16 +137,3 @@ took_as a b xs ys same took = subst (λ zs. TookPart a b zs) same took
 
 pub wrote_as : {T E : Type 0} (a b : Option (List ℕ)) (xs ys : List ℕ) (r : Result T E) → xs ≡ ys → Wrote a b xs r → Wrote a b ys r
 wrote_as a b xs ys r same wrote = subst (λ zs. Wrote a b zs r) same wrote
-
--- ---- lines that are made whole
-
--- a refusal of no set and of no mode has a line without parts
-pub of_command : (r : Refusal) → ((q : ReadSet) → r ≡ BadSet q → ⊥) → ((j : ℕ) (m : ModeRefusal) → r ≡ OfMode j m → ⊥) → IsOfCommand r
-of_command (BadSet q) no_set no_mode = no_set q refl
-of_command (OfMode j m) no_set no_mode = no_mode j m refl
-of_command _ no_set no_mode = tt
-
--- a refusal of a set for another reason than an unknown key has a short line
-pub is_short : (q : ReadSet) → ((p : Place) (key : List ℕ) → q ≡ UnknownKey p key → ⊥) → IsShort q
-is_short (UnknownKey p key) other = other p key refl
-is_short _ other = tt

@@ -184,14 +184,3 @@ place_text (place.Task i) = space ∷ (codes "task" ++ (space ∷ decimal i))
 -- what stands before an unknown key in its line
 abbrev pub key_start : Place → List ℕ
 key_start p = ((codes "refused" ++ (space ∷ (decimal (code_of status.BadInput) ++ (space ∷ codes "UnknownKey")))) ++ place_text p) ++ space ∷ []
-
--- a refusal of the command itself, whose line has no parts: not of a set, and not of a mode
-abbrev pub IsOfCommand : Refusal → Type 0
-IsOfCommand (BadSet refusal) = ⊥
-IsOfCommand (OfMode j refusal) = ⊥
-IsOfCommand _ = Unit {0}
-
--- a refusal of a set whose line is short: that of an unknown key isn't, since its key may be of any length
-abbrev pub IsShort : ReadSet → Type 0
-IsShort (set.UnknownKey p key) = ⊥
-IsShort _ = Unit {0}
