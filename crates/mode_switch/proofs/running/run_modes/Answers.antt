@@ -144,11 +144,11 @@ pub returns-in_err-runs-clause-first : goal.returns-in_err-runs-clause-first
 returns-in_err-runs-clause-first g c =
     let start : Roster g.row.G.Denot _ = record { kits = c.args.kits.now.items; places = c.args.jobs.now.places } in
     ran_first g.G.Gate (record {
-        id = λ j. (g.dyn-1.0.entry j.vtable).1.id j.value;
-        used = λ j. (g.dyn-1.0.entry j.vtable).1.used j.value;
-        faults = λ j. (g.dyn-1.0.entry j.vtable).1.faults j.value;
-        made = λ j. (g.dyn-1.0.entry j.vtable).1.made j.value;
-      }) c.args.modes.now.processors c.args.modes.now.modes c.count.ensures.lawful.each start start c.from_residual.result
+      id = λ j. (g.dyn-1.0.entry j.vtable).1.id j.value;
+      used = λ j. (g.dyn-1.0.entry j.vtable).1.used j.value;
+      faults = λ j. (g.dyn-1.0.entry j.vtable).1.faults j.value;
+      made = λ j. (g.dyn-1.0.entry j.vtable).1.made j.value;
+    }) c.args.modes.now.processors c.args.modes.now.modes c.count.ensures.lawful.each start start c.from_residual.result
     (refused_outcome _ _ c.args.modes.now.modes start c.from_residual.result c.from_residual.ensures.1)
 
 pub returns-in_err-runs-clause-risen : goal.returns-in_err-runs-clause-risen
@@ -165,9 +165,9 @@ loop-j-init g c = record {
   count = ap length c.in_ok-runs.ensures.items;
   room = (let capacity = c.in_ok-runs.ensures.capacity in let count = c.count.ensures.value in omega (arith, capacity, count));
   ran = ran_none g.G.Gate (record {
-        id = λ j. (g.dyn-1.0.entry j.vtable).1.id j.value;
-        used = λ j. (g.dyn-1.0.entry j.vtable).1.used j.value;
-        faults = λ j. (g.dyn-1.0.entry j.vtable).1.faults j.value;
-        made = λ j. (g.dyn-1.0.entry j.vtable).1.made j.value;
-      }) c.args.modes.now.modes c.in_ok-runs.runs.items _ c.in_ok-runs.ensures.items;
+    id = λ j. (g.dyn-1.0.entry j.vtable).1.id j.value;
+    used = λ j. (g.dyn-1.0.entry j.vtable).1.used j.value;
+    faults = λ j. (g.dyn-1.0.entry j.vtable).1.faults j.value;
+    made = λ j. (g.dyn-1.0.entry j.vtable).1.made j.value;
+  }) c.args.modes.now.modes c.in_ok-runs.runs.items _ c.in_ok-runs.ensures.items;
 }
