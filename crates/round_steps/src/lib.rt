@@ -4,8 +4,6 @@
 mod faults;
 mod halves;
 mod steps;
-#[cfg(test)]
-mod tests;
 
 pub use faults::OpenFault;
 pub use halves::{Halves, halves_of};

@@ -262,25 +262,3 @@ fn is_same_text(a: &[u8], b: &[u8]) -> bool
 {
     a == b
 }
-
-#[cfg(test)]
-mod tests {
-    use super::TaskSet;
-    use crate::memory::NoMemory;
-
-    #[test]
-    fn tasks_are_found_and_copied(rt: HostRuntime) -> Result<(), NoMemory> {
-        let mut set = TaskSet::start(rt.alloc(), 2, 5);
-        set.add(b"a", 1, 2)?;
-        let before = set.copy()?;
-        set.add_late(b"b", 2, 3, 1)?;
-        assert_eq!(rt; set.count(), 2);
-        assert_eq!(rt; set.name(1), b"b".as_slice());
-        assert_eq!(rt; (set.work(1), set.period(1), set.offset(1)), (2, 3, 1));
-        assert_eq!(rt; set.find(b"b"), Some(1));
-        assert_eq!(rt; set.find(b"c"), None);
-        assert!(rt; set.is_same(&set.copy()?));
-        assert!(rt; !set.is_same(&before));
-        Ok(())
-    }
-}

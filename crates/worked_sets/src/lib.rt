@@ -1,4 +1,4 @@
-//! Tests alone: sets, several sets, and programs of jobs, read; sets scaled, packed, compiled and drawn.
+//! Tests alone: names of tasks; sets, several sets, and programs of jobs, read; sets scaled, packed, compiled and drawn.
 #![tactic(auto)]
 
 #[cfg(test)]
