@@ -24,27 +24,36 @@ stop() { for it in $builds; do kill -- "-$it" 2>/dev/null; done; }
 trap 'rm -rf "$work"' EXIT
 trap 'echo >&2; say "stopped; what is done is kept, and the next call goes on"; stop; exit 130' INT TERM
 
-# The length of what is to be proved for a crate: the guess of the time that is left goes by it, and the order of the builds.
-size_of() { find "$top/crates/$1/src" "$top/crates/$1/specs" "$top/crates/$1/proofs" -type f -exec cat {} + 2>/dev/null | wc -c; }
+# The length of a crate's code. What a crate takes goes by that, and not by the length of its proofs.
+size_of() { find "$top/crates/$1/src" -type f -exec cat {} + 2>/dev/null | wc -c; }
 
 sed -n 's/^\([a-z][a-z_]*\).*:.*/\1/p' "$top/crates.txt" | while read -r name; do
     echo "$name $(size_of "$name")"
 done >"$work/sizes"
 
-# Each crate of the repository that the wanted one needs, with its size and those of them that it stands on: first the one with
-# the longest chain of crates above it, since that chain decides how long the whole takes.
+# Each crate of the repository that the wanted one needs, with what it takes and those of them that it stands on: first the one with
+# the longest chain of crates above it, since that chain decides how long the whole takes. The guess of the time that is left goes by
+# what a crate takes too: each byte of its code takes as long as twelve of the crates below it, whose statements are read.
 awk -v wanted="$wanted" '
     NR == FNR { size[$1] = $2; next }
     /^[a-z]/ { name = $1; sub(":.*", "", name); line = $0; sub("^[^:]*:", "", line); below[name] = line }
+    function read_below(crate, of,    names, n, i) {
+        if ((of, crate) in seen) return 0
+        seen[of, crate] = 1
+        n = split(below[crate], names, " ")
+        for (i = 1; i <= n; i++) if (names[i] in below) read_below(names[i], of)
+        takes[of] += crate == of ? 12 * size[crate] : size[crate]
+    }
     function visit(crate, chain,    names, n, i) {
-        chain += size[crate]
+        if (!(crate in takes)) read_below(crate, crate)
+        chain += takes[crate]
         if (crate in above && above[crate] >= chain) return
         above[crate] = chain
         own[crate] = ""
         n = split(below[crate], names, " ")
         for (i = 1; i <= n; i++) if (names[i] in below) { own[crate] = own[crate] " " names[i]; visit(names[i], chain) }
     }
-    END { visit(wanted, 0); for (crate in above) print above[crate] " " crate " " size[crate] own[crate] }' "$work/sizes" "$top/crates.txt" |
+    END { visit(wanted, 0); for (crate in above) print above[crate] " " crate " " takes[crate] own[crate] }' "$work/sizes" "$top/crates.txt" |
     sort -k 1,1nr -k 2,2 | cut -d ' ' -f 2- >"$work/crates"
 
 count=$(wc -l <"$work/crates")
