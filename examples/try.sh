@@ -119,8 +119,9 @@ else
     echo "examples: the program isn't built here, so no table was tried"
 fi
 
+began=$(date +%s)
 command -v rt >/dev/null && kit=$(dirname "$(dirname "$(readlink -f "$(command -v rt)")")") &&
-    timeout 40m sh "$top/build.sh" furnacelime_c >/dev/null 2>&1
+    timeout 40m sh "$top/build.sh" furnacelime_c >/dev/null 2>&1 && echo "examples: the library for C was built in $((($(date +%s) - began) / 60)) minutes"
 if [ -f "$library" ] && [ -n "$kit" ]; then
     for compiler in $compilers; do
         try_rounds "$compiler"
