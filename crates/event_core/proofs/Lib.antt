@@ -18,3 +18,4 @@ pub mod RoundsInOrder
 pub mod FirstLevel
 pub mod SettledPacks
 pub mod RowsGone
+pub mod PlanRounds

@@ -5,7 +5,7 @@ use Rattle.sched_base.specs.Lanes.{NamesOneOf, lanes_of}
 use Rattle.sched_base.specs.Tables.{IsTable, rounds_of as rounds_in, row_limit}
 use Rattle.sched_base.proofs.ScheduleLanes.{lanes_of-all, length-lanes_of}
 use Rattle.run_tree.specs.Plans.{IsPlan, PlanContents, schedule_of}
-use Rattle.round_table.proofs.RowNames.{schedule_names}
+use Rattle.sched_laws.proofs.RowNames.{schedule_names}
 use Rattle.merged_rows.specs.Lawful.{AreLawful}
 use Rattle.merged_rows.proofs.MergedTables.{lawful_rows}
 use Rattle.merged_rounds.specs.Passes.{AreMergedOf}

@@ -19,3 +19,5 @@ pub mod LevelBound
 pub mod BetweenEvents
 pub mod WholeRounds
 pub mod Examples
+pub mod RowNames
+pub mod TableRows

@@ -17,7 +17,7 @@ use Rattle.trace_lines.specs.Merging.{merged}
 use Rattle.event_core.specs.Rounds.{rounds_before, rows_before, rows_of_round}
 use Rattle.event_core.proofs.NextCores.{event_before_end}
 use Rattle.event_core.proofs.RoundsInOrder.{next_rounds, no_rounds, no_rows, too_long}
-use Rattle.round_table.proofs.PlanRounds.{is_round, next_count, next_end, next_lanes, no_end, no_round}
+use Rattle.event_core.proofs.PlanRounds.{is_round, next_count, next_end, next_lanes, no_end, no_round}
 use Rattle.merged_rows.specs.Columns.{ends_showing}
 use Rattle.merged_rows.proofs.PushLemmas.{round_ends}
 use Rattle.merged_rounds.specs.Passes.{IsLooked}

@@ -3,8 +3,8 @@ use Rattle.run_tree.specs.Plans.{schedule_of}
 use Rattle.sched_laws.proofs.ValidRows.{set_valid}
 use Rattle.sched_base.specs.Lanes.{NamesOneOf}
 use Rattle.sched_base.proofs.ScheduleLanes.{lane_of-lanes_of, lanes_of-all, length-lanes_of}
-use Rattle.round_table.proofs.RowNames.{schedule_names}
-use Rattle.round_table.proofs.TableRows.{schedule_within}
+use Rattle.sched_laws.proofs.RowNames.{schedule_names}
+use Rattle.sched_laws.proofs.TableRows.{schedule_within}
 use Rattle.round_table.proofs.laws.table_law.Goals as goal
 
 pub returns-clause-valid : goal.returns-clause-valid

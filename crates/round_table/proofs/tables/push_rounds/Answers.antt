@@ -8,7 +8,7 @@ use Rattle.event_core.proofs.RoundsInOrder.{more_rounds, next_rounds, no_rounds,
 use Rattle.sched_laws.proofs.WholeRounds.{length-round}
 use Rattle.sched_base.specs.Lanes.{lanes_of}
 use Rattle.sched_base.proofs.ScheduleLanes.{lanes_of-none, length-lanes_of}
-use Rattle.round_table.proofs.PlanRounds.{is_round, next_count, next_end, next_lanes, no_end, no_round}
+use Rattle.event_core.proofs.PlanRounds.{is_round, next_count, next_end, next_lanes, no_end, no_round}
 use Rattle.round_table.proofs.tables.push_rounds.Goals as goal
 
 pub rounds-init : goal.rounds-init

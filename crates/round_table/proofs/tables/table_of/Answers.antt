@@ -1,6 +1,6 @@
 use Rattle.std.proofs.lemmas.Result.{IfOk-from_err}
 use Rattle.std.proofs.Common.{◌∙◌}
-use Rattle.round_table.proofs.TableRows.{lanes_valid}
+use Rattle.sched_laws.proofs.TableRows.{lanes_valid}
 use Rattle.round_table.proofs.tables.table_of.Goals as goal
 
 pub returns-clause-valid : goal.returns-clause-valid

@@ -1,3 +1,0 @@
-pub mod PlanRounds
-pub mod RowNames
-pub mod TableRows
