@@ -1,26 +1,33 @@
 #!/bin/sh
 # Proves and builds the program, or the crate that is named (furnacelime_c: the library for C), and the crates that it needs,
 # as many at once as there are processors and memory for, each as soon as those below it are done. It tells on standard error
-# how far it is. What is done is kept: a build that was stopped goes on where it was.
+# how far it is.
 #
-# rt locks a crate and all below it, and all crates stand on the same lowest one. So each of the builds that go on at once has
-# a copy of the sources of its own. A library that is proved in one copy is handed to the others and to this checkout, where rt
-# takes it as it is: it is known by a sum of all that it was made from.
+# The kit's compiler is called as the gate calls it: a crate's library holds what the crate states and not its proofs, so those above
+# read less. A library is kept under a sum of all that it was made from. So a build that was stopped goes on where it was, and after
+# an edit the crates that changed are proved, and those above them.
 top=$(dirname "$(readlink -f "$0")")
 program=furnacelime
 wanted=${1:-$program}
-copies=$top/.git/build
-[ -d "$top/.git" ] || copies=${XDG_CACHE_HOME:-$HOME/.cache}/furnacelime-build
+libraries=$top/.git/build
+[ -d "$top/.git" ] || libraries=${XDG_CACHE_HOME:-$HOME/.cache}/furnacelime-build
 
 say() { echo "furnacelime: $*" >&2; }
 
 grep -q "^$wanted[ :]" "$top/crates.txt" || { say "there is no crate $wanted"; exit 2; }
 command -v rt >/dev/null || { say "the command rt of the Rattle kit is needed to build the program"; exit 127; }
+kit=$(dirname "$(dirname "$(readlink -f "$(command -v rt)")")")
+
+# One build at a time works on the libraries.
+mkdir -p "$libraries" && exec 9>"$libraries/lock" || { say "nothing can be written to $libraries"; exit 126; }
+if command -v flock >/dev/null && ! flock -n 9; then
+    say "another build is at work; this one waits for it"
+    flock 9
+fi
 
 work=$(mktemp -d) || exit 126
-builds=
 # Ends the builds that go on, each with all that it called.
-stop() { for it in $builds; do kill -- "-$it" 2>/dev/null; done; }
+stop() { for it in "$work"/*.group; do [ -e "$it" ] && kill -- "-$(cat "$it")" 2>/dev/null; done; }
 trap 'rm -rf "$work"' EXIT
 trap 'echo >&2; say "stopped; what is done is kept, and the next call goes on"; stop; exit 130' INT TERM
 
@@ -56,8 +63,53 @@ awk -v wanted="$wanted" '
     END { visit(wanted, 0); for (crate in above) print above[crate] " " crate " " takes[crate] own[crate] }' "$work/sizes" "$top/crates.txt" |
     sort -k 1,1nr -k 2,2 | cut -d ' ' -f 2- >"$work/crates"
 
-count=$(wc -l <"$work/crates")
-whole=$(awk '{ whole += $2 } END { print whole }' "$work/crates")
+# The sum of all that a crate is made from: the kit, its line, its files, and the sums of the crates of the repository that it stands on.
+version=$(rt version)
+sum_of() {
+    crate=$1
+    shift
+    {
+        echo "$version"
+        grep "^$crate[ :]" "$top/crates.txt"
+        (cd "$top/crates/$crate" && find src specs proofs -type f -exec sha256sum {} + 2>/dev/null | LC_ALL=C sort)
+        for below in "$@"; do cat "$work/$below.sum"; done
+    } | sha256sum | cut -d ' ' -f 1
+}
+
+# What is made of a crate: a library for the crates above it, the program, or a library for C.
+kind_of() {
+    if [ -e "$top/crates/$1/src/main.rt" ]; then echo program
+    elif grep -q "^$1 .*staticlib.*:" "$top/crates.txt"; then echo archive
+    else echo library
+    fi
+}
+
+# Where that is.
+made_of() {
+    case $(kind_of "$1") in
+    program) echo "$top/crates/$1/out/$1" ;;
+    archive) echo "$top/crates/$1/out/lib$1.a" ;;
+    library) echo "$libraries/$1.rlib" ;;
+    esac
+}
+
+# The crates that are built from what they are now need nothing. (In this order each stands behind those that it stands on.)
+while read -r name _ below; do
+    sum_of "$name" $below >"$work/$name.sum"
+    [ -e "$(made_of "$name")" ] && cmp -s "$work/$name.sum" "$libraries/$name.sum" || echo "$name" >>"$work/wanting"
+done <"$work/crates"
+touch "$work/wanting"
+while read -r name _; do
+    grep -qx "$name" "$work/wanting" || { : >"$work/$name.begun" && : >"$work/$name.done"; }
+done <"$work/crates"
+
+count=$(wc -l <"$work/wanting")
+whole=$(awk 'NR == FNR { wanting[$1] = 1; next } $1 in wanting { whole += $2 } END { print whole + 0 }' "$work/wanting" "$work/crates")
+
+if [ "$count" -eq 0 ]; then
+    touch "$(made_of "$wanted")"
+    exit 0
+fi
 
 # A check takes up to 2 GB of memory and a processor.
 processors=$(getconf _NPROCESSORS_ONLN 2>/dev/null || echo 1)
@@ -66,17 +118,7 @@ jobs=$processors
 [ -n "$memory" ] && [ "$memory" -lt "$jobs" ] && jobs=$memory
 [ "$jobs" -lt 1 ] && jobs=1
 
-say "proving and building $wanted first: $count crates, $jobs at once; it takes 2 GB of memory for each of them and 5 GB of disk"
-
-# Brings a copy of the sources up to date; what was proved in it stays.
-copy_sources() {
-    mkdir -p "$1" && rm -rf "$1"/crates/*/src "$1"/crates/*/specs "$1"/crates/*/proofs &&
-        (cd "$top" && tar --exclude=out -cf - crates.txt HANDLES crates) | tar -C "$1" -xf -
-}
-
-for copy in $(seq "$jobs"); do
-    copy_sources "$copies/$copy" || { say "the sources could not be copied to $copies"; exit 126; }
-done
+say "proving and building $wanted first: $count crates, $jobs at once; it takes 2 GB of memory for each of them and 2 GB of disk"
 
 began=$(date +%s)
 done_count=0
@@ -104,67 +146,64 @@ may_begin() {
     done
 }
 
-# A copy that no build is at work in: the one in which the crate was worked on before, if that is free.
-free_copy() {
-    found=
-    for copy in $(seq "$jobs"); do
-        [ ! -e "$work/copy$copy" ] || continue
-        [ -d "$copies/$copy/crates/$1/out/incremental" ] && { echo "$copy"; return; }
-        [ -n "$found" ] || found=$copy
-    done
-    echo "$found"
+# Runs a command in a process group of its own, by which it can be ended with all that it calls.
+alone() {
+    setsid "$@" &
+    echo $! >"$work/$crate.group"
+    wait $!
 }
 
-# Proves and builds one crate with so many jobs in a process group of its own, in a copy that no other build is at work in, and
-# notes how it ended. The wanted crate is built in this checkout, the program by running it: with no words it answers at once, with
-# status 2.
+# The kit's compiler over one crate with so many jobs. It makes nothing of a crate that isn't proved.
+compile() {
+    crate=$1
+    made=$2
+    set -- --crate-name "$crate" --jobs "$3" --extern "std=$kit/rlibs/std.rlib"
+    for below in $(sed -n "s/^$crate\( [^:]*\)\{0,1\}://p" "$top/crates.txt"); do
+        at=$kit/rlibs
+        [ -d "$top/crates/$below" ] && at=$libraries
+        set -- "$@" --extern "$below=$at/$below.rlib"
+    done
+    set -- "$@" -L "dependency=$kit/rlibs" -L "dependency=$libraries" --links "$crate="
+    set -- "$@" --antt-project "$kit/rattle/logic/antt-project.json" --logic-built "$kit/logic_built"
+    cd "$top/crates/$crate" && mkdir -p "$(dirname "$made")" || return
+    case $(kind_of "$crate") in
+    library)
+        alone "$kit/bin/rattle" build src/lib.rt "$@" --statements -o "$made"
+        ;;
+    archive)
+        alone "$kit/bin/rattle" build src/lib.rt "$@" --crate-type staticlib --backend llvm --toolchain "$kit/toolchain" -o "$made"
+        ;;
+    program)
+        alone "$kit/bin/rattle" build src/main.rt "$@" --backend llvm --toolchain "$kit/toolchain" -o "$made.o" &&
+            alone "$kit/bin/rattle-link" --target x86_64-unknown-linux-gnu --toolchain "$kit/toolchain" -o "$made" "$made.o" \
+                "$kit/c/libos_c.a" "$kit/c/liblibc_c.a"
+        ;;
+    esac
+}
+
+# Proves and builds one crate with so many jobs, and notes how that ended.
 build() {
-    verb=lib
-    at=$top
-    if [ "$1" = "$wanted" ]; then
-        [ "$1" = "$program" ] && verb=run
-    else
-        copy=$(free_copy "$1")
-        : >"$work/copy$copy"
-        at=$copies/$copy
-    fi
     echo "$2" >"$work/$1.jobs"
-    echo "$at" >"$work/$1.at"
-    setsid sh -c 'cd "$1" && rt "$2" --jobs "$3" </dev/null >"$4.log" 2>&1; ended=$?; rm -f "$5"; echo $ended >"$4.ended"' \
-        sh "$at/crates/$1" "$verb" "$2" "$work/$1" "$work/copy$copy" &
-    builds="$builds $!"
+    made=$(made_of "$1")
+    rm -rf "$made" "$libraries/$1.sum"
+    (
+        compile "$1" "$made" "$2" </dev/null >"$work/$1.log" 2>&1
+        echo $? >"$work/$1.status" && mv "$work/$1.status" "$work/$1.ended"
+    ) 2>/dev/null &
 }
 
-# Hands the library of a crate that is built to the other copies and to this checkout, but where it is already.
-hand_on() {
-    [ "$1" != "$wanted" ] || return 0
-    made=$(cat "$work/$1.at")/crates/$1/out/rlib
-    [ -f "$made/stamp" ] || return 0
-    for to in "$top" "$copies"/*; do
-        out=$to/crates/$1/out
-        cmp -s "$made/stamp" "$out/rlib/stamp" && continue
-        rm -rf "$out/rlib" && mkdir -p "$out" && { cp -al "$made" "$out/" 2>/dev/null || cp -a "$made" "$out/"; } ||
-            say "the library $1 could not be handed to $to"
-    done
-}
-
-# Whether a crate whose build has ended is built.
-is_built() {
-    [ "$(cat "$work/$1.ended")" = 0 ] || { [ "$1" = "$program" ] && [ -x "$top/crates/$1/out/$1" ]; }
-}
-
-# Takes note of the builds that have ended; the first that failed ends this one.
+# Takes note of the builds that have ended; the first that failed ends this one. What was edited meanwhile is built again by the next.
 take_ended() {
-    while read -r name size _; do
+    while read -r name size below; do
         [ -e "$work/$name.ended" ] && [ ! -e "$work/$name.done" ] || continue
-        if ! is_built "$name"; then
+        if [ "$(cat "$work/$name.ended")" != 0 ]; then
             [ -t 2 ] && echo >&2
             grep -E 'error|not proved|no proof' "$work/$name.log" | head -n 20 >&2
             say "the crate $name could not be built"
             stop
             exit 126
         fi
-        hand_on "$name"
+        [ "$(sum_of "$name" $below)" = "$(cat "$work/$name.sum")" ] && cp "$work/$name.sum" "$libraries/"
         : >"$work/$name.done"
         free=$((free + $(cat "$work/$name.jobs")))
         done_count=$((done_count + 1))
@@ -180,8 +219,7 @@ ready() {
     done <"$work/crates"
 }
 
-# Each crate has one job, since several take more work for the same proofs; a processor that no crate waits for is one job more. The
-# wanted one has no other: most of its time it reads all libraries, which each job does anew.
+# Each crate has one job, since several take more work for the same proofs; a processor that no crate waits for is one job more.
 free=$jobs
 while [ "$done_count" -lt "$count" ]; do
     take_ended
@@ -191,13 +229,12 @@ while [ "$done_count" -lt "$count" ]; do
         share=$((free / left))
         [ "$share" -lt 1 ] && share=1
         [ "$share" -gt 4 ] && share=4
-        [ "$name" = "$wanted" ] && share=1
         : >"$work/$name.begun"
         build "$name" "$share"
         free=$((free - share))
         left=$((left - 1))
     done <"$work/ready"
-    sleep 1
+    sleep 0.2
 done
 [ -t 2 ] && echo >&2
 say "built"
