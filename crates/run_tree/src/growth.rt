@@ -79,10 +79,9 @@ fn open(
 {
     let alloc = *nodes.allocator();
     nodes.reserve(2)?;
-    packs.reserve(1)?;
     let number = base + nodes.len() as u32;
     let pack = opened(alloc, level, NodeId(number + 1), rate)?;
-    packs.push_reserved(number);
+    packs.push(number)?;
     nodes.push_reserved(pack);
     nodes.push_reserved(Node::member(alloc, kind, rate, number, 0));
     Ok(())
