@@ -145,8 +145,8 @@ impl Growth {
         ensures { IfOk result (λ g. g ≡ self.now) }
     {
         Ok(Growth {
-            nodes: copies(&self.nodes)?,
             packs: Vec::from_slice(*self.packs.allocator(), self.packs.as_slice())?,
+            nodes: copies(&self.nodes)?,
         })
     }
 

@@ -3,7 +3,7 @@
 use sched_base::{Leaf, NodeId};
 
 /// What a node of a tree is.
-#[derive(Clone, Copy, Debug, PartialEq, Eq)]
+#[derive(Clone, Copy, PartialEq, Eq)]
 pub enum Kind {
     /// A task, or an idle leaf.
     Leaf(Leaf),

@@ -224,8 +224,8 @@ impl TreeMaker {
             processors: self.processors,
             scale: self.scale,
             levels: self.levels,
-            growth: self.growth.copy()?,
             lower: copies(&self.lower)?,
+            growth: self.growth.copy()?,
         })
     }
 

@@ -1,7 +1,7 @@
 //! Candidates for the earliest deadline.
 
 /// A member of a server at one tick: where its window ends, and what is left of its due.
-#[derive(Clone, Copy, Debug, PartialEq, Eq)]
+#[derive(Clone, Copy)]
 pub struct Candidate {
     /// The end of its window. Only the order of ends matters, so units and ticks serve alike.
     pub end: u128,

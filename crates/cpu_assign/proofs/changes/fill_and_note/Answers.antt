@@ -1,4 +1,4 @@
-use Rattle.std.proofs.Common.{ap, arith, get_or, None, subst, sym, ◌∙◌, List, Option, ℕ}
+use Rattle.std.proofs.Common.{ap, arith, get_or, None, subst, sym, ◌∙◌, List, Option, ℕ, length}
 use Rattle.cpu_assign.specs.Noted.{IsNoted}
 use Rattle.cpu_assign.proofs.ChangeLemmas.{fill_nobody}
 use Rattle.cpu_assign.proofs.NoteLemmas.{noted_same}
@@ -13,3 +13,36 @@ returns-then-begun-eq0-clause-last c = noted_same c.args.onto.now c.args.last.no
 pub note_below-requires-clause-noted : goal.note_below-requires-clause-noted
 note_below-requires-clause-noted c = λ p i m e.
     (c.requires.noted.noted p i (sym (c.fill_begun-count.ensures.rest p m ∙ ap (λ (os : List (Option ℕ)). get_or os p None) c.requires.back) ∙ e)).1
+
+pub returns-then-begun-eq0-clause-told : goal.returns-then-begun-eq0-clause-told
+returns-then-begun-eq0-clause-told c = sym c.requires.back
+
+pub fill_begun-count-requires-clause-back : goal.fill_begun-count-requires-clause-back
+fill_begun-count-requires-clause-back c = c.requires.back
+
+pub fill_begun-count-requires-clause-noted : goal.fill_begun-count-requires-clause-noted
+fill_begun-count-requires-clause-noted c = c.requires.noted
+
+pub fill_begun-count-requires-clause-within : goal.fill_begun-count-requires-clause-within
+fill_begun-count-requires-clause-within c = c.requires.within
+
+pub note_below-requires-clause-packs : goal.note_below-requires-clause-packs
+note_below-requires-clause-packs c = λ p i e. c.requires.packs p i (ap (λ (os : List (Option ℕ)). get_or os p None) (sym c.fill_begun-count.ensures.filled) ∙ e)
+
+pub note_below-requires-clause-count : goal.note_below-requires-clause-count
+note_below-requires-clause-count c = c.fill_begun-count.ensures.within
+
+pub note_below-requires-clause-few : goal.note_below-requires-clause-few
+note_below-requires-clause-few c = let few = c.requires.noted.few_processors in let same = c.fill_begun-count.auto.onto in let back = ap (λ (os : List (Option ℕ)). length os) c.requires.back in omega (arith, few, same, back)
+
+pub returns-clause-onto : goal.returns-clause-onto
+returns-clause-onto c = c.fill_begun-count.ensures.filled
+
+pub returns-clause-last : goal.returns-clause-last
+returns-clause-last c = c.note_below.ensures
+
+pub copy_from_slice-requires : goal.copy_from_slice-requires
+copy_from_slice-requires c = let same = c.fill_begun-count.auto.onto in let back = ap (λ (os : List (Option ℕ)). length os) c.requires.back in omega (arith, same, back)
+
+pub returns-clause-told : goal.returns-clause-told
+returns-clause-told c = c.copy_from_slice.ensures.after

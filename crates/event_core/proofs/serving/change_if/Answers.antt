@@ -1,3 +1,4 @@
+use Rattle.std.proofs.Common.{refl}
 use Rattle.event_core.proofs.serving.change_if.Goals as goal
 
 pub change_over-requires-clause-before : goal.change_over-requires-clause-before
@@ -23,3 +24,15 @@ returns-then-ne-clause-remains c = c.change_over.ensures.remains
 
 pub returns-then-ne-clause-over : goal.returns-then-ne-clause-over
 returns-then-ne-clause-over c = c.change_over.ensures.over
+
+pub change_over-requires-clause-tree : goal.change_over-requires-clause-tree
+change_over-requires-clause-tree c = c.requires.tree
+
+pub change_over-requires-clause-pack : goal.change_over-requires-clause-pack
+change_over-requires-clause-pack c = c.requires.pack
+
+pub returns-else-ne-clause-tick : goal.returns-else-ne-clause-tick
+returns-else-ne-clause-tick c = refl
+
+pub returns-else-ne-clause-remains : goal.returns-else-ne-clause-remains
+returns-else-ne-clause-remains c = refl

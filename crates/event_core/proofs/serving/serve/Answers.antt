@@ -65,3 +65,24 @@ returns-clause-remains c = c.change_if.ensures.remains
 
 pub returns-clause-rest : goal.returns-clause-rest
 returns-clause-rest c = c.change_if.ensures.over.rest
+
+pub hand_over-next-requires-clause-tree : goal.hand_over-next-requires-clause-tree
+hand_over-next-requires-clause-tree c = c.requires.tree
+
+pub hand_over-next-requires-clause-pack : goal.hand_over-next-requires-clause-pack
+hand_over-next-requires-clause-pack c = c.requires.pack
+
+pub hand_over-next-requires-clause-stale : goal.hand_over-next-requires-clause-stale
+hand_over-next-requires-clause-stale c = c.requires.stale
+
+pub hand_over-next-requires-clause-runs : goal.hand_over-next-requires-clause-runs
+hand_over-next-requires-clause-runs c = c.requires.runs
+
+pub change_if-requires-clause-tree : goal.change_if-requires-clause-tree
+change_if-requires-clause-tree c = c.requires.tree
+
+pub change_if-requires-clause-pack : goal.change_if-requires-clause-pack
+change_if-requires-clause-pack c = c.requires.pack
+
+pub change_if-requires-clause-nodes : goal.change_if-requires-clause-nodes
+change_if-requires-clause-nodes c = c.requires.nodes

@@ -1,4 +1,4 @@
-use Rattle.std.proofs.Common.{arith, refl, subst, ℕ, List, ◌≡◌, ◌∙◌}
+use Rattle.std.proofs.Common.{arith, refl, subst, ℕ, List, ◌≡◌, ◌∙◌, sym, ◌-◌, ◌+◌}
 use Rattle.tree_select.specs.Reselected.{AreFreshFrom, AreServed}
 use Rattle.tree_select.proofs.SelectLemmas.{all_selected}
 use Rattle.tree_select.proofs.ReselectLemmas.{fresh_top, led_right}
@@ -93,3 +93,36 @@ returns-clause-nodes c = c.serve_first_level.ensures.nodes ∙ c.loop-level.inva
 
 pub returns-clause-serving : goal.returns-clause-serving
 returns-clause-serving c = c.serve_first_level.ensures.serving
+
+pub serve_level-requires-clause-tree : goal.serve_level-requires-clause-tree
+serve_level-requires-clause-tree c = c.levels-level.ensures.lawful.tree
+
+pub serve_level-requires-clause-level : goal.serve_level-requires-clause-level
+serve_level-requires-clause-level c = let most = c.loop-level.invariant.0 in let on = c.loop-level-test.true in omega (arith, most, on)
+
+pub serve_level-requires-clause-above_first : goal.serve_level-requires-clause-above_first
+serve_level-requires-clause-above_first c = let on = c.loop-level-test.true in omega (arith, on)
+
+pub serve_level-requires-clause-above : goal.serve_level-requires-clause-above
+serve_level-requires-clause-above c = let on = c.loop-level-test.true in let one : c.loop-level.level - 1 + 1 ≡ c.loop-level.level = omega (arith, on) in subst (λ (l : ℕ). AreFreshFrom c.args.tree.now c.loop-level.stale l) (sym one) c.loop-level.invariant.5
+
+pub loop-level-smaller : goal.loop-level-smaller
+loop-level-smaller c = let on = c.loop-level-test.true in omega (arith, on)
+
+pub serve_first_level-requires-clause-tree : goal.serve_first_level-requires-clause-tree
+serve_first_level-requires-clause-tree c = c.levels-level.ensures.lawful.tree
+
+pub serve_first_level-requires-clause-last : goal.serve_first_level-requires-clause-last
+serve_first_level-requires-clause-last c = c.requires.last
+
+pub serve_first_level-requires-clause-room : goal.serve_first_level-requires-clause-room
+serve_first_level-requires-clause-room c = c.requires.room
+
+pub returns-clause-fresh : goal.returns-clause-fresh
+returns-clause-fresh c = c.serve_first_level.ensures.fresh
+
+pub returns-clause-changed : goal.returns-clause-changed
+returns-clause-changed c = c.serve_first_level.ensures.changed
+
+pub returns-clause-room : goal.returns-clause-room
+returns-clause-room c = c.serve_first_level.ensures.room

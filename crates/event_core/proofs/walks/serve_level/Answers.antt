@@ -70,3 +70,45 @@ returns-clause-serving c = c.marked.invariant.3
 
 pub returns-clause-settled : goal.returns-clause-settled
 returns-clause-settled c = c.marked.invariant.5
+
+pub packs-count-requires : goal.packs-count-requires
+packs-count-requires c = c.requires.level
+
+pub next_marked-i-requires-clause-tree : goal.next_marked-i-requires-clause-tree
+next_marked-i-requires-clause-tree c = c.requires.tree
+
+pub next_marked-i-requires-clause-level : goal.next_marked-i-requires-clause-level
+next_marked-i-requires-clause-level c = c.requires.level
+
+pub next_marked-i-requires-clause-stale : goal.next_marked-i-requires-clause-stale
+next_marked-i-requires-clause-stale c = c.requires.long.stale
+
+pub pack_of-p-requires-clause-tree : goal.pack_of-p-requires-clause-tree
+pack_of-p-requires-clause-tree c = c.requires.tree
+
+pub pack_of-p-requires-clause-level : goal.pack_of-p-requires-clause-level
+pack_of-p-requires-clause-level c = c.requires.level
+
+pub pack_of-p-requires-clause-pack : goal.pack_of-p-requires-clause-pack
+pack_of-p-requires-clause-pack c = let n = c.packs-count.ensures in let on = c.marked-test.true in omega (arith, n, on)
+
+pub serve_pack-requires-clause-tree : goal.serve_pack-requires-clause-tree
+serve_pack-requires-clause-tree c = c.requires.tree
+
+pub serve_pack-requires-clause-pack : goal.serve_pack-requires-clause-pack
+serve_pack-requires-clause-pack c = c.pack_of-p.ensures.pack
+
+pub next_marked-i-requires-in-marked-clause-tree : goal.next_marked-i-requires-in-marked-clause-tree
+next_marked-i-requires-in-marked-clause-tree c = c.requires.tree
+
+pub next_marked-i-requires-in-marked-clause-level : goal.next_marked-i-requires-in-marked-clause-level
+next_marked-i-requires-in-marked-clause-level c = c.requires.level
+
+pub next_marked-i-requires-in-marked-clause-from : goal.next_marked-i-requires-in-marked-clause-from
+next_marked-i-requires-in-marked-clause-from c = let n = c.packs-count.ensures in let on = c.marked-test.true in omega (arith, n, on)
+
+pub next_marked-i-requires-in-marked-clause-stale : goal.next_marked-i-requires-in-marked-clause-stale
+next_marked-i-requires-in-marked-clause-stale c = c.serve_pack.auto.stale ∙ c.marked.auto.stale ∙ c.requires.long.stale
+
+pub marked-smaller : goal.marked-smaller
+marked-smaller c = let after = c.next_marked-i-in-marked.ensures.after in let on = c.marked-test.true in omega (arith, after, on)

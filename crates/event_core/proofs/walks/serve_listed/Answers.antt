@@ -1,4 +1,4 @@
-use Rattle.std.proofs.Common.{ap, false, get_or, not, Bool, ◌&&◌, ◌∙◌}
+use Rattle.std.proofs.Common.{ap, false, get_or, not, Bool, ◌&&◌, ◌∙◌, arith}
 use Rattle.cpu_assign.specs.Changed.{with_pack}
 use Rattle.event_core.proofs.walks.serve_listed.Goals as goal
 
@@ -39,3 +39,24 @@ returns-clause-stopped c =
 pub returns-clause-begun : goal.returns-clause-begun
 returns-clause-begun c =
     c.see.ensures.begun ∙ ap (λ (held : Bool). with_pack c.args.changes.now.begun c.args.i (get_or c.serve_pack.new.runs c.args.p.0 false && not held)) c.holds.ensures
+
+pub serve_pack-requires-clause-tree : goal.serve_pack-requires-clause-tree
+serve_pack-requires-clause-tree c = c.requires.tree
+
+pub serve_pack-requires-clause-pack : goal.serve_pack-requires-clause-pack
+serve_pack-requires-clause-pack c = c.requires.pack
+
+pub holds-requires : goal.holds-requires
+holds-requires c = c.requires.held
+
+pub see-requires-clause-stopped : goal.see-requires-clause-stopped
+see-requires-clause-stopped c = c.requires.stopped
+
+pub see-requires-clause-begun : goal.see-requires-clause-begun
+see-requires-clause-begun c = c.requires.begun
+
+pub bounds-runs-p : goal.bounds-runs-p
+bounds-runs-p c = let b = c.requires.pack.0 in let kept = c.serve_pack.auto.runs in let long = c.requires.long.runs in omega (arith, b, kept, long)
+
+pub returns-clause-room : goal.returns-clause-room
+returns-clause-room c = c.see.ensures.room

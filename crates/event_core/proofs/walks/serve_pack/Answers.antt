@@ -62,3 +62,39 @@ returns-clause-own c = c.serve-next.ensures.own
 
 pub returns-clause-marks : goal.returns-clause-marks
 returns-clause-marks c = c.serve-next.ensures.marks
+
+pub slice_copy_out-was : goal.slice_copy_out-was
+slice_copy_out-was c = let b = c.requires.pack.0 in let long = c.requires.long.serves in omega (arith, b, long)
+
+pub ready_at-requires : goal.ready_at-requires
+ready_at-requires c = let b = c.requires.pack.0 in let long = c.requires.long.ready in omega (arith, b, long)
+
+pub serve-next-requires-clause-tree : goal.serve-next-requires-clause-tree
+serve-next-requires-clause-tree c = c.requires.tree
+
+pub serve-next-requires-clause-pack : goal.serve-next-requires-clause-pack
+serve-next-requires-clause-pack c = c.requires.pack
+
+pub serve-next-requires-clause-nodes : goal.serve-next-requires-clause-nodes
+serve-next-requires-clause-nodes c = c.requires.long.dues
+
+pub serve-next-requires-clause-stale : goal.serve-next-requires-clause-stale
+serve-next-requires-clause-stale c = c.requires.long.stale
+
+pub serve-next-requires-clause-runs : goal.serve-next-requires-clause-runs
+serve-next-requires-clause-runs c = c.requires.long.runs
+
+pub serve-next-requires-clause-fits : goal.serve-next-requires-clause-fits
+serve-next-requires-clause-fits c = c.requires.fits
+
+pub bounds-serves-p : goal.bounds-serves-p
+bounds-serves-p c = let b = c.requires.pack.0 in let long = c.requires.long.serves in omega (arith, b, long)
+
+pub dry_of-requires-clause-tree : goal.dry_of-requires-clause-tree
+dry_of-requires-clause-tree c = c.requires.tree
+
+pub dry_of-requires-clause-pack : goal.dry_of-requires-clause-pack
+dry_of-requires-clause-pack c = c.requires.pack
+
+pub bounds-dry-p : goal.bounds-dry-p
+bounds-dry-p c = let b = c.requires.pack.0 in let long = c.requires.long.dry in omega (arith, b, long)

@@ -31,3 +31,18 @@ returns c =
     let e : c.loop-member.member-index ≡ length (members p.tree c.args.p.0) = omega (arith, c.loop-member-test.false, c.loop-member.auto.member-index-end, length-members p.tree c.args.p.0 c.members-member-items.result.now all) in
     first_is p c.requires.plan c.args.p.0 c.args.at c.loop-member.first c.requires.pack
     (subst (λ count. IsLeastOf p c.args.p.0 c.args.at count c.loop-member.first) e c.loop-member.invariant)
+
+pub member_end-requires-clause-plan : goal.member_end-requires-clause-plan
+member_end-requires-clause-plan c = c.requires.plan
+
+pub member_end-requires-clause-at : goal.member_end-requires-clause-at
+member_end-requires-clause-at c = c.requires.at
+
+pub member_end-requires-clause-ends : goal.member_end-requires-clause-ends
+member_end-requires-clause-ends c = c.requires.ends
+
+pub member_end-requires-clause-known : goal.member_end-requires-clause-known
+member_end-requires-clause-known c = c.requires.known
+
+pub members-member-items-requires : goal.members-member-items-requires
+members-member-items-requires c = let b = c.requires.pack.0 in let same = ap (λ (t : Tree). length t.nodes) c.tree.ensures.value in omega (arith, b, same)

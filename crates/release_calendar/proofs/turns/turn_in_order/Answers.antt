@@ -1,4 +1,4 @@
-use Rattle.std.proofs.Common.{arith, ap, subst, sym, take, ◌+◌, ◌∙◌, ◌<◌, List, ℕ}
+use Rattle.std.proofs.Common.{arith, ap, subst, sym, take, ◌+◌, ◌∙◌, ◌<◌, List, ℕ, length}
 use Rattle.std.proofs.Math.ListN.{set}
 use Rattle.knockout.specs.Knockouts.{IsFirst}
 use Rattle.run_tree.specs.Windows.{window_end}
@@ -87,3 +87,42 @@ loop-first-preserved c =
           let same = c.list_one.auto.begun in
           omega (arith, less, is, room, same)),
     )
+
+pub turn_due-requires-clause-plan : goal.turn_due-requires-clause-plan
+turn_due-requires-clause-plan c = c.requires.plan
+
+pub turn_due-requires-clause-at : goal.turn_due-requires-clause-at
+turn_due-requires-clause-at c = c.requires.at
+
+pub turn_due-requires-clause-begins : goal.turn_due-requires-clause-begins
+turn_due-requires-clause-begins c = c.loop-first.auto.begins ∙ c.requires.begins
+
+pub turn_due-requires-clause-ends : goal.turn_due-requires-clause-ends
+turn_due-requires-clause-ends c = c.loop-first.auto.ends ∙ c.requires.ends
+
+pub turn_due-requires-clause-order : goal.turn_due-requires-clause-order
+turn_due-requires-clause-order c = ap (λ (xs : List ℕ). length xs) c.loop-first.invariant.0 ∙ c.loop-first.auto.ends ∙ c.requires.ends
+
+pub turn_due-requires-clause-due : goal.turn_due-requires-clause-due
+turn_due-requires-clause-due c = c.loop-first.auto.due ∙ c.requires.due
+
+pub returns-clause-order : goal.returns-clause-order
+returns-clause-order c = c.loop-first.invariant.0
+
+pub returns-clause-turning : goal.returns-clause-turning
+returns-clause-turning c = c.loop-first.invariant.1
+
+pub returns-clause-first : goal.returns-clause-first
+returns-clause-first c = c.loop-first.invariant.2
+
+pub returns-clause-later : goal.returns-clause-later
+returns-clause-later c = c.loop-first-test.false
+
+pub returns-clause-fit : goal.returns-clause-fit
+returns-clause-fit c = c.loop-first.invariant.3
+
+pub returns-clause-listed : goal.returns-clause-listed
+returns-clause-listed c = c.loop-first.invariant.4
+
+pub returns-clause-count : goal.returns-clause-count
+returns-clause-count c = let room = c.loop-first.invariant.5 in omega (arith, room)

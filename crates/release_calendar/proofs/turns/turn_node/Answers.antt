@@ -1,7 +1,7 @@
-use Rattle.std.proofs.Common.{refl, ap, sym, ◌∙◌, not}
+use Rattle.std.proofs.Common.{refl, ap, sym, ◌∙◌, not, arith}
 use Rattle.run_tree.specs.Tree.{Tree, is_pack, kind_at}
 use Rattle.release_calendar.proofs.TurnLemmas.{no_pack, no_member}
-use Rattle.release_calendar.proofs.OrderLemmas.{other_at}
+use Rattle.release_calendar.proofs.OrderLemmas.{fit_set, other_at}
 use Rattle.release_calendar.proofs.turns.turn_node.Goals as goal
 
 pub returns-then-ends-n-clause-kept : goal.returns-then-ends-n-clause-kept
@@ -42,3 +42,21 @@ returns-else-is_member-clause-packs c = λ pack. refl
 
 pub returns-else-is_member-clause-fit : goal.returns-else-is_member-clause-fit
 returns-else-is_member-clause-fit c = λ fit. fit
+
+pub next_boundary-requires-clause-node : goal.next_boundary-requires-clause-node
+next_boundary-requires-clause-node c = c.requires.node
+
+pub next_boundary-requires-clause-after : goal.next_boundary-requires-clause-after
+next_boundary-requires-clause-after c = c.requires.at
+
+pub bounds-ends-n : goal.bounds-ends-n
+bounds-ends-n c = let b = c.requires.node in let long = c.requires.ends in omega (arith, b, long)
+
+pub bounds-begins-n : goal.bounds-begins-n
+bounds-begins-n c = let b = c.requires.node in let long = c.requires.begins in omega (arith, b, long)
+
+pub bounds-ends-n-then-ends-n : goal.bounds-ends-n-then-ends-n
+bounds-ends-n-then-ends-n c = let b = c.requires.node in let long = c.requires.ends in omega (arith, b, long)
+
+pub returns-then-ends-n-clause-fit : goal.returns-then-ends-n-clause-fit
+returns-then-ends-n-clause-fit c = λ fit. let e = c.from-then-ends-n.ensures in let t = c.next_boundary.type_inv in let b = c.requires.node in let long = c.requires.ends in fit_set c.args.ends.now c.args.n.0 c.from-then-ends-n.result fit (omega (arith, e, t)) (omega (arith, b, long))

@@ -41,3 +41,24 @@ returns-clause-own c =
 
 pub returns-clause-marks : goal.returns-clause-marks
 returns-clause-marks c = handed_marks c.args.tree.now c.requires.tree c.args.p.0 c.served_by-next.result c.args.stale.now c.args.runs.now c.hand_on.new.stale c.hand_on.new.runs c.hand_on.ensures
+
+pub bounds-stale-p : goal.bounds-stale-p
+bounds-stale-p c = let b = c.requires.pack.0 in let long = c.requires.stale in omega (arith, b, long)
+
+pub bounds-runs-p : goal.bounds-runs-p
+bounds-runs-p c = let b = c.requires.pack.0 in let long = c.requires.runs in omega (arith, b, long)
+
+pub hand_on-requires-clause-tree : goal.hand_on-requires-clause-tree
+hand_on-requires-clause-tree c = c.requires.tree
+
+pub hand_on-requires-clause-pack : goal.hand_on-requires-clause-pack
+hand_on-requires-clause-pack c = c.requires.pack
+
+pub hand_on-requires-clause-was : goal.hand_on-requires-clause-was
+hand_on-requires-clause-was c = c.requires.was
+
+pub hand_on-requires-clause-runs : goal.hand_on-requires-clause-runs
+hand_on-requires-clause-runs c = c.requires.runs
+
+pub hand_on-requires-clause-before : goal.hand_on-requires-clause-before
+hand_on-requires-clause-before c = c.requires.within

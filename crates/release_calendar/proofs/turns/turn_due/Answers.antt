@@ -1,0 +1,45 @@
+use Rattle.std.proofs.Common.{arith, refl, ap, ◌∙◌}
+use Rattle.std.proofs.Math.ListN.{set}
+use Rattle.release_calendar.proofs.turns.turn_due.Goals as goal
+
+pub end_from-end-requires-clause-plan : goal.end_from-end-requires-clause-plan
+end_from-end-requires-clause-plan c = c.requires.plan
+
+pub end_from-end-requires-clause-member : goal.end_from-end-requires-clause-member
+end_from-end-requires-clause-member c = c.requires.member
+
+pub end_from-end-requires-clause-at : goal.end_from-end-requires-clause-at
+end_from-end-requires-clause-at c = c.requires.at
+
+pub end_from-end-requires-clause-ends : goal.end_from-end-requires-clause-ends
+end_from-end-requires-clause-ends c = c.requires.ends
+
+pub end_from-end-requires-clause-known : goal.end_from-end-requires-clause-known
+end_from-end-requires-clause-known c = c.requires.known
+
+pub bounds-begins-n : goal.bounds-begins-n
+bounds-begins-n c = let b = c.requires.member.0 in let long = c.requires.begins in omega (arith, b, long)
+
+pub bounds-ends-n : goal.bounds-ends-n
+bounds-ends-n c = let b = c.requires.member.0 in let long = c.requires.ends in omega (arith, b, long)
+
+pub set-requires : goal.set-requires
+set-requires c = let b = c.requires.member.0 in let long = c.requires.order in omega (arith, b, long)
+
+pub bounds-due-n : goal.bounds-due-n
+bounds-due-n c = let b = c.requires.member.0 in let long = c.requires.due in omega (arith, b, long)
+
+pub returns-clause-begins : goal.returns-clause-begins
+returns-clause-begins c = refl
+
+pub returns-clause-due : goal.returns-clause-due
+returns-clause-due c = refl
+
+pub returns-clause-ends : goal.returns-clause-ends
+returns-clause-ends c = ap (set c.args.ends.now c.args.n.0) (c.from.ensures ∙ c.end_from-end.ensures)
+
+pub returns-clause-order : goal.returns-clause-order
+returns-clause-order c = c.set.ensures ∙ ap (set c.args.order.now c.args.n.0) c.end_from-end.ensures
+
+pub returns-clause-fits : goal.returns-clause-fits
+returns-clause-fits c = let t = c.end_from-end.type_inv in let e = c.end_from-end.ensures in omega (arith, t, e)
