@@ -1,24 +1,25 @@
 //! The execution of a plan.
-ghost use Rattle.std.specs.Prelude.{◌≡◌, ◌<◌, ◌*◌, ℕ, None, length, slice_index_or, IfOk, OnOk};
+ghost use Rattle.std.specs.Prelude.{◌≡◌, ◌<◌, ◌≤◌, ◌*◌, ℕ, [], None, length, slice_index_or, IfOk, OnOk};
 ghost use Rattle.sched_edges.specs.Jobs.{JobAt};
 ghost use Rattle.exec_workers.specs.Kits.{AreFilled};
+ghost use Rattle.exec_workers.specs.Rooms.{IsAnswerOf};
 ghost use Rattle.exec_workers.specs.Runs.{IsExecutable, OutcomeOf, AreFresh, AreEmpty, GatesGrew, GatesList, GatesListFirst, JobsUsedAll};
 
-use crate::answers::{ExecFault, Executed};
+use crate::answers::{ExecFault, Executed, FirstFault};
 use crate::kits::Kit;
 use crate::opening::open_book;
+use crate::room::Room;
 use crate::run::{Ended, run_gates};
-use crate::stage::{fault_counts, lay_jobs, push_totals};
-use crate::waiters::Waiters;
+use crate::stage::{lay_jobs, push_totals};
 use run_tree::Plan;
-use sched_base::Totals;
+use sched_base::{RowTable, Totals};
 use sched_edges::{BoxedJob, Gate, Job, JobList, Jobs};
 use std::alloc::Global;
 use std::marker::Brand;
+use std::sync::Wait;
 use std::sync::ledger::Blank;
-use std::sync::{Mutex, Wait};
 use std::thread::Threads;
-use unit_ledger::PostLedger;
+use unit_ledger::{PostLedger, Posts};
 
 /// Executes a plan: runs each row of its schedule on its processor's gate and on its task's job. The gates' lists must be
 /// empty where they are told; else it is as `execute_on`.
@@ -103,15 +104,16 @@ fn execute_in<G: Gate + Send, Q: PostLedger + Send + Sync, J: Job + Send, X: Thr
     requires made { (t : ℕ) (job : J) → t < length plan.now.set.tasks → JobAt jobs.old.places t job → J.made job ≡ slice_index_or Q.made t None }
     ensures { OutcomeOf G.Gate J.Job plan.now kits.old kits.new jobs.old jobs.new result }
 {
-    let m = plan.tree().processors();
     let n = plan.set().count();
-    let mut counts = fault_counts(alloc, jobs, n)?;
-    let mut posted = vec![in alloc; 0u64; m as usize]?;
-    let waiters = Waiters::of_lanes(rt, alloc, m)?;
-    let mut totals = Totals::with_room(alloc, n)?;
-    let lanes = Vec::with_capacity(alloc, m as usize)?;
+    let room = Room::of_plan(rt, alloc, plan, jobs)?;
     let (book, seats) = open_book::<Q, J>(alloc, blank, plan, rounds, window, jobs)?;
-    let book = Mutex::new(book);
+    let Room {
+        mut counts,
+        mut posted,
+        waiters,
+        totals,
+        lanes,
+    } = room;
     let Ended {
         jobs: mut back,
         table,
@@ -119,7 +121,7 @@ fn execute_in<G: Gate + Send, Q: PostLedger + Send + Sync, J: Job + Send, X: Thr
         posts,
     } = run_gates(
         rt,
-        &book,
+        book,
         plan,
         rounds,
         seats,
@@ -130,9 +132,27 @@ fn execute_in<G: Gate + Send, Q: PostLedger + Send + Sync, J: Job + Send, X: Thr
         &waiters,
     );
     lay_jobs(&mut back, jobs, n);
+    answer(table, fault, posts, jobs, totals, n)
+}
+
+// What a run answers that ended so, with the jobs of the first n tasks back in their places.
+fn answer<J: Job>(
+    table: RowTable,
+    fault: Option<FirstFault>,
+    posts: Posts,
+    jobs: &JobList<J>,
+    totals: Totals,
+    n: u32,
+) -> Result<Executed, ExecFault>
+    requires none { totals.ticks ≡ [] }
+    requires room { n ≤ totals.room }
+    requires there { (t : ℕ) → t < n → (job : J) × JobAt jobs.now.places t job }
+    ensures { IsAnswerOf J.used n jobs.now.places table posts fault result }
+{
     match fault {
         Some(fault) => Err(fault.with_posts(posts)),
         None => {
+            let mut totals = totals;
             push_totals(jobs, &mut totals, n);
             Ok(Executed {
                 table,

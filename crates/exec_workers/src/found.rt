@@ -1,13 +1,12 @@
 //! What is tested of a book that is found under the lock.
-ghost use Rattle.std.specs.Prelude.{◌≡◌, ◌<◌, ◌≤◌, ◌+◌, ◌-◌, ℕ, length, false, true, IsTrue, slice_index};
-ghost use Rattle.sched_base.specs.Tables.{RowAt};
+ghost use Rattle.std.specs.Prelude.{◌≡◌, ◌+◌, ◌-◌, ℕ, length, false, IsTrue};
 ghost use Rattle.sched_edges.specs.Jobs.{FaultsAre};
 ghost use Rattle.run_tree.specs.Plans.{IsPlan};
-ghost use Rattle.book_machine.specs.Machine.{IsOut, lane_at, posted_at};
-ghost use Rattle.book_machine.specs.Reached.{OutRow, counts_of};
+ghost use Rattle.book_machine.specs.Reached.{OutRow};
 ghost use Rattle.exec_book.specs.PlanRows.{IsCompiled, plan_rows};
 ghost use Rattle.exec_book.specs.Jobs.{IsJobOf, posted_ticks};
 ghost use Rattle.exec_book.specs.Books.{IsDismissed};
+ghost use Rattle.exec_workers.specs.Found.{IsFreeAt, IsOutAt, IsWholeAt};
 ghost use Rattle.exec_workers.specs.Promises.{Agrees};
 
 use crate::same_plan::is_same_plan;
@@ -55,11 +54,7 @@ pub(crate) fn is_free_at<Q: PostLedger, J: Job>(
 ) -> bool
     requires compiled { IsCompiled plan.now }
     requires set { plan.now.set ≡ Q.set }
-    ensures plan { book.now.plan ≡ plan.now }
-    ensures open { IsTrue result → ¬ (IsDismissed book.now) }
-    ensures lane { IsTrue result → seat.now.lane < length book.now.state.lanes }
-    ensures free { IsTrue result → (lane_at book.now.state.lanes seat.now.lane).out ≡ false }
-    ensures count { IsTrue result → posted_at book.now.state seat.now.lane ≡ seat.now.posted }
+    ensures { IsTrue result → IsFreeAt plan.now book.now seat.now }
 {
     if !is_of_run(book, plan) || seat.lane() >= plan.tree().processors() {
         return false;
@@ -86,10 +81,7 @@ pub(crate) fn is_out_at<Q: PostLedger, J: Job>(
 ) -> bool
     requires compiled { IsCompiled plan.now }
     requires set { plan.now.set ≡ Q.set }
-    ensures plan { book.now.plan ≡ plan.now }
-    ensures open { IsTrue result → ¬ (IsDismissed book.now) }
-    ensures count { IsTrue result → posted_at book.now.state seat.now.lane ≡ seat.now.posted }
-    ensures row { IsTrue result → OutRow (plan_rows book.now.plan) book.now.state seat.now.lane row.now }
+    ensures { IsTrue result → IsOutAt plan.now book.now seat.now row.now }
 {
     let p = seat.lane();
     if !is_of_run(book, plan) || p >= plan.tree().processors() {
@@ -140,10 +132,7 @@ pub(crate) fn is_whole_at<Q: PostLedger, J: Job>(
     requires compiled { IsCompiled plan.now }
     requires set { plan.now.set ≡ Q.set }
     requires lanes { length posted.now ≡ plan.now.tree.processors }
-    ensures plan { book.now.plan ≡ plan.now }
-    ensures open { IsTrue result → ¬ (IsDismissed book.now) }
-    ensures none_out { IsTrue result → (p : ℕ) → ¬ (IsOut book.now.state p) }
-    ensures counts { IsTrue result → counts_of book.now.state.lanes ≡ posted.now }
+    ensures { IsTrue result → IsWholeAt plan.now book.now posted.now }
 {
     if !is_of_run(book, plan) {
         return false;

@@ -16,6 +16,7 @@ mod kits;
 mod lanes;
 mod opening;
 mod passes;
+mod room;
 mod rows;
 mod run;
 mod same_plan;

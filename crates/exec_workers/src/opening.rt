@@ -1,7 +1,7 @@
 //! The book of a run, opened with its ledger and with the jobs.
-ghost use Rattle.std.specs.Prelude.{◌≡◌, ◌≤◌, ◌<◌, ℕ, None, Some, length, slice_get, slice_index_or, IfOk, IfErr, OnOk};
+ghost use Rattle.std.specs.Prelude.{◌≡◌, ◌<◌, ℕ, None, length, slice_index_or, IfOk, IfErr};
 ghost use Rattle.sched_edges.specs.Jobs.{JobAt};
-ghost use Rattle.unit_ledger.specs.Seats.{seats_at_start};
+ghost use Rattle.exec_workers.specs.Rooms.{IsOpened};
 ghost use Rattle.exec_workers.specs.Runs.{IsExecutable, AreFresh};
 
 use crate::stage::{lay_jobs, lift_jobs};
@@ -29,9 +29,7 @@ pub(crate) fn open_book<Q: PostLedger, J: Job>(
     requires set { plan.now.set ≡ Q.set }
     requires jobs { AreFresh J.id J.used (length plan.now.set.tasks) jobs.old.places }
     requires made { (t : ℕ) (job : J) → t < length plan.now.set.tasks → JobAt jobs.old.places t job → J.made job ≡ slice_index_or Q.made t None }
-    ensures seats { IfOk result (λ opened. opened.1 ≡ seats_at_start plan.now.tree.processors) }
-    ensures lent { OnOk result ((t : ℕ) → t < length plan.now.set.tasks → slice_get jobs.new.places t ≡ Some None) }
-    ensures others { OnOk result ((t : ℕ) → length plan.now.set.tasks ≤ t → slice_get jobs.new.places t ≡ slice_get jobs.old.places t) }
+    ensures opened { IfOk result (λ opened. IsOpened plan.now jobs.old.places jobs.new.places opened.1) }
     ensures kept { IfErr result (λ refused. jobs.new.places ≡ jobs.old.places) }
 {
     let n = plan.set().count();

@@ -1,6 +1,8 @@
 //! Taking a row from the book, and putting it back.
 ghost use Rattle.std.specs.Prelude.{◌≡◌, ◌+◌, length};
+ghost use Rattle.std.specs.Sync.Mutex.{mutex_guard_value};
 ghost use Rattle.exec_book.specs.PlanRows.{IsCompiled};
+ghost use Rattle.exec_workers.specs.Found.{IsFreeAt, IsOutWith};
 ghost use Rattle.exec_workers.specs.Promises.{Agrees, Gives, GivesRow};
 
 use crate::found::{is_free_at, is_halted_or_told, is_job_of, is_of_plan, is_out_at, ticks_of};
@@ -9,7 +11,7 @@ use exec_book::{Book, Look};
 use run_tree::Plan;
 use sched_base::Row;
 use sched_edges::Job;
-use std::sync::{Mutex, Wait};
+use std::sync::{Mutex, MutexGuard, Wait};
 use unit_ledger::{LaneSeat, PostLedger};
 
 /// Takes the next row of a seat's lane, with its task's job. `counts` says how often the job of each task has failed.
@@ -53,18 +55,11 @@ pub fn post_row<Q: PostLedger, J: Job, R: Wait>(
     requires agrees { Agrees J.made Q.made row.now.leaf job }
     ensures { seat.new ≡ record seat.old { posted = seat.old.posted + 1 } }
 {
-    let ticks = ticks_of(row);
     agree(rt, book, plan);
-    for _ in rt.forever() {
-        let mut guard = book.lock(rt);
-        let held = &mut *guard;
-        let p = seat.lane();
-        if is_out_at(held, plan, seat, row) && is_job_of(held, p, row, &job, ticks) {
-            held.post(p, seat, job);
-            return;
-        }
-    }
-    unreachable!()
+    let lane = seat.lane();
+    let mut guard = lock_out_at(rt, book, plan, seat, row, &job, ticks_of(row));
+    let held = &mut *guard;
+    held.post(lane, seat, job);
 }
 
 /// Puts a row that is out on a seat's lane back unposted, with its job, which hasn't worked for it, and halts the book.
@@ -81,13 +76,32 @@ pub fn halt_row<Q: PostLedger, J: Job, R: Wait>(
     requires agrees { Agrees J.made Q.made row.now.leaf job }
 {
     agree(rt, book, plan);
+    let mut guard = lock_out_at(rt, book, plan, seat, row, &job, 0);
+    let held = &mut *guard;
+    held.halt(seat.lane(), job);
+}
+
+// Takes the lock of a book with this row out on the seat's lane, at the seat's count, to which the job belongs, having worked that many
+// ticks for the row.
+fn lock_out_at<'a, Q: PostLedger, J: Job, R: Wait>(
+    rt: &R,
+    book: &'a Mutex<Book<Q, J>>,
+    plan: &Plan,
+    seat: &LaneSeat<Q>,
+    row: &Row,
+    job: &Option<J>,
+    ticks: u128,
+) -> MutexGuard<'a, Book<Q, J>>
+    requires compiled { IsCompiled plan.now }
+    requires set { plan.now.set ≡ Q.set }
+    requires agrees { Agrees J.made Q.made row.now.leaf job.now }
+    ensures { IsOutWith J.id J.used J.made Q.made plan.now (mutex_guard_value result) seat.now row.now job.now ticks }
+{
     for _ in rt.forever() {
-        let mut guard = book.lock(rt);
-        let held = &mut *guard;
-        let p = seat.lane();
-        if is_out_at(held, plan, seat, row) && is_job_of(held, p, row, &job, 0) {
-            held.halt(p, job);
-            return;
+        let guard = lock_soon(rt, book);
+        let held = &*guard;
+        if is_out_at(held, plan, seat, row) && is_job_of(held, seat.lane(), row, job, ticks) {
+            return guard;
         }
     }
     unreachable!()
@@ -122,12 +136,27 @@ pub(crate) fn take_next<Q: PostLedger, J: Job, R: Wait>(
     requires set { plan.now.set ≡ Q.set }
     ensures { GivesRow J.id J.used J.made Q.made plan.now seat.now result }
 {
-    plan.know_lawful();
+    let mut guard = lock_free_at(rt, book, plan, seat);
+    let held = &mut *guard;
+    held.take(seat.lane())
+}
+
+// Takes the lock of a book that isn't dismissed, and stands at the seat's count with no row out on the seat's lane.
+fn lock_free_at<'a, Q: PostLedger, J: Job, R: Wait>(
+    rt: &R,
+    book: &'a Mutex<Book<Q, J>>,
+    plan: &Plan,
+    seat: &LaneSeat<Q>,
+) -> MutexGuard<'a, Book<Q, J>>
+    requires compiled { IsCompiled plan.now }
+    requires set { plan.now.set ≡ Q.set }
+    ensures { IsFreeAt plan.now (mutex_guard_value result) seat.now }
+{
     for _ in rt.forever() {
-        let mut guard = lock_soon(rt, book);
-        let held = &mut *guard;
+        let guard = lock_soon(rt, book);
+        let held = &*guard;
         if is_free_at(held, plan, seat) {
-            return held.take(seat.lane());
+            return guard;
         }
     }
     unreachable!()
@@ -150,17 +179,10 @@ pub(crate) fn post_and_take<Q: PostLedger, J: Job, R: Wait>(
     ensures seat { seat.new ≡ record seat.old { posted = seat.old.posted + 1 } }
     ensures gives { GivesRow J.id J.used J.made Q.made plan.now seat.new result }
 {
-    plan.know_lawful();
-    let ticks = ticks_of(row);
-    for _ in rt.forever() {
-        let mut guard = lock_soon(rt, book);
-        let held = &mut *guard;
-        let lane = seat.lane();
-        if is_out_at(held, plan, seat, row) && is_job_of(held, lane, row, &job, ticks) {
-            held.post(lane, seat, job);
-            tell(waiters, held.least());
-            return held.take(lane);
-        }
-    }
-    unreachable!()
+    let lane = seat.lane();
+    let mut guard = lock_out_at(rt, book, plan, seat, row, &job, ticks_of(row));
+    let held = &mut *guard;
+    held.post(lane, seat, job);
+    tell(waiters, held.least());
+    held.take(lane)
 }

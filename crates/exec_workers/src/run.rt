@@ -48,7 +48,7 @@ pub(crate) fn run_gates<
     R: Threads + Wait + Sync,
 >(
     rt: &R,
-    book: &Mutex<Book<Q, J>>,
+    book: Book<Q, J>,
     plan: &Plan,
     rounds: u64,
     seats: Seats<Q>,
@@ -75,7 +75,7 @@ pub(crate) fn run_gates<
     fill_lanes(kits, &mut seats, &mut lanes, m);
     let (closing, fault) = serve_book(
         rt,
-        book,
+        &Mutex::new(book),
         plan,
         rounds,
         lanes.as_mut_slice(),

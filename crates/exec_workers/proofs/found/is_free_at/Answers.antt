@@ -17,54 +17,33 @@ is_of_run-requires-clause-compiled g c = c.requires.compiled
 pub is_of_run-requires-clause-set : goal.is_of_run-requires-clause-set
 is_of_run-requires-clause-set g c = c.requires.set
 
-pub returns-then-not-is_of_run-clause-plan : goal.returns-then-not-is_of_run-clause-plan
-returns-then-not-is_of_run-clause-plan g c = c.is_of_run.ensures.plan
-
-pub returns-then-not-is_of_run-clause-open : goal.returns-then-not-is_of_run-clause-open
-returns-then-not-is_of_run-clause-open g c = untrue
-
-pub returns-then-not-is_of_run-clause-lane : goal.returns-then-not-is_of_run-clause-lane
-returns-then-not-is_of_run-clause-lane g c = untrue
-
-pub returns-then-not-is_of_run-clause-free : goal.returns-then-not-is_of_run-clause-free
-returns-then-not-is_of_run-clause-free g c = untrue
-
-pub returns-then-not-is_of_run-clause-count : goal.returns-then-not-is_of_run-clause-count
-returns-then-not-is_of_run-clause-count g c = untrue
-
-pub returns-then-not-lane-clause-plan : goal.returns-then-not-lane-clause-plan
-returns-then-not-lane-clause-plan g c = c.is_of_run.ensures.plan
-
-pub returns-else-not-lane-clause-plan : goal.returns-else-not-lane-clause-plan
-returns-else-not-lane-clause-plan g c = c.is_of_run.ensures.plan
-
-pub returns-then-not-lane-clause-open : goal.returns-then-not-lane-clause-open
-returns-then-not-lane-clause-open g c = λ _. c.is_of_run.ensures.open c.if-not-is_of_run.false
-
-pub returns-then-not-lane-clause-lane : goal.returns-then-not-lane-clause-lane
-returns-then-not-lane-clause-lane g c = λ _.
+pub lane-lane-requires : goal.lane-lane-requires
+lane-lane-requires g c =
     let lanes = c.is_of_run.ensures.lanes ∙ ap (λ (p : PlanContents). p.tree.processors) c.is_of_run.ensures.plan in
     let all = c.processors.ensures.value ∙ ap (λ (t : Tree). t.processors) c.tree.ensures.value in
     let own = c.lane.ensures in
+    let again = c.lane-2.ensures in
     let below = c.if-lane-processors.false in
-    omega (arith, lanes, all, own, below)
+    omega (arith, lanes, all, own, again, below)
 
-pub returns-then-not-lane-clause-count : goal.returns-then-not-lane-clause-count
-returns-then-not-lane-clause-count g c = λ same.
-    ap (λ k. posted_at c.args.book.now.state k) (sym c.lane-2.ensures) ∙ ap (λ (l : LaneState). l.posted) (sym c.lane-lane.ensures) ∙ eqb-true _ _ same ∙ c.posted.ensures
+pub returns-then-not-is_of_run : goal.returns-then-not-is_of_run
+returns-then-not-is_of_run g c = untrue
 
-pub returns-then-not-lane-clause-free : goal.returns-then-not-lane-clause-free
-returns-then-not-lane-clause-free g c = λ _.
-    ap (λ k. (lane_at c.args.book.now.state.lanes k).out) (sym c.lane-2.ensures) ∙ ap (λ (l : LaneState). l.out) (sym c.lane-lane.ensures) ∙ is_false c.lane-lane.result.out c.if-not-lane.true
+pub returns-then-not-lane : goal.returns-then-not-lane
+returns-then-not-lane g c same =
+    let here = sym c.lane-lane.ensures in
+    let own = sym c.lane-2.ensures in
+    let lanes = c.is_of_run.ensures.lanes ∙ ap (λ (p : PlanContents). p.tree.processors) c.is_of_run.ensures.plan in
+    let all = c.processors.ensures.value ∙ ap (λ (t : Tree). t.processors) c.tree.ensures.value in
+    let seat = c.lane.ensures in
+    let below = c.if-lane-processors.false in
+    record {
+      plan = c.is_of_run.ensures.plan;
+      undismissed = c.is_of_run.ensures.open c.if-not-is_of_run.false;
+      lane = omega (arith, lanes, all, seat, below);
+      free = ap (λ k. (lane_at c.args.book.now.state.lanes k).out) own ∙ ap (λ (l : LaneState). l.out) here ∙ is_false c.lane-lane.result.out c.if-not-lane.true;
+      count = ap (λ k. posted_at c.args.book.now.state k) own ∙ ap (λ (l : LaneState). l.posted) here ∙ eqb-true _ _ same ∙ c.posted.ensures;
+    }
 
-pub returns-else-not-lane-clause-open : goal.returns-else-not-lane-clause-open
-returns-else-not-lane-clause-open g c = λ e. untrue (sym c.if-not-lane.false ∙ e)
-
-pub returns-else-not-lane-clause-lane : goal.returns-else-not-lane-clause-lane
-returns-else-not-lane-clause-lane g c = λ e. untrue (sym c.if-not-lane.false ∙ e)
-
-pub returns-else-not-lane-clause-free : goal.returns-else-not-lane-clause-free
-returns-else-not-lane-clause-free g c = λ e. untrue (sym c.if-not-lane.false ∙ e)
-
-pub returns-else-not-lane-clause-count : goal.returns-else-not-lane-clause-count
-returns-else-not-lane-clause-count g c = λ e. untrue (sym c.if-not-lane.false ∙ e)
+pub returns-else-not-lane : goal.returns-else-not-lane
+returns-else-not-lane g c e = untrue (sym c.if-not-lane.false ∙ e)

@@ -23,12 +23,15 @@ module _ (g : _) (c : After-loop-p g) where
       let end = c.loop-p-test.false in
       omega (arith, within, all, lanes, end)
 
-pub returns-clause-none_out : goal.returns-clause-none_out
-returns-clause-none_out g c _ = none_out c.args.book.now.state (λ q within. (c.loop-p.invariant q (passed g c q within)).0)
-
-pub returns-clause-counts : goal.returns-clause-counts
-returns-clause-counts g c _ =
-    counts_are c.args.book.now.state.lanes c.args.posted.now (wide g c ∙ sym c.requires.lanes) (λ q within. (c.loop-p.invariant q (passed g c q within)).1)
+pub returns : goal.returns
+returns g c _ =
+    let after = (goal.at.returns g c).After-loop-p in
+    record {
+      plan = c.is_of_run.ensures.plan;
+      undismissed = c.is_of_run.ensures.open c.if-not-is_of_run.false;
+      none_out = none_out c.args.book.now.state (λ q within. (c.loop-p.invariant q (passed g after q within)).0);
+      counts = counts_are c.args.book.now.state.lanes c.args.posted.now (wide g after ∙ sym c.requires.lanes) (λ q within. (c.loop-p.invariant q (passed g after q within)).1);
+    }
 
 pub is_of_run-requires-clause-compiled : goal.is_of_run-requires-clause-compiled
 is_of_run-requires-clause-compiled g c = c.requires.compiled
@@ -36,35 +39,18 @@ is_of_run-requires-clause-compiled g c = c.requires.compiled
 pub is_of_run-requires-clause-set : goal.is_of_run-requires-clause-set
 is_of_run-requires-clause-set g c = c.requires.set
 
-pub returns-then-not-is_of_run-clause-plan : goal.returns-then-not-is_of_run-clause-plan
-returns-then-not-is_of_run-clause-plan g c = c.is_of_run.ensures.plan
-
-pub returns-then-not-is_of_run-clause-open : goal.returns-then-not-is_of_run-clause-open
-returns-then-not-is_of_run-clause-open g c = untrue
-
-pub returns-then-not-is_of_run-clause-none_out : goal.returns-then-not-is_of_run-clause-none_out
-returns-then-not-is_of_run-clause-none_out g c = untrue
-
-pub returns-then-not-is_of_run-clause-counts : goal.returns-then-not-is_of_run-clause-counts
-returns-then-not-is_of_run-clause-counts g c = untrue
+pub returns-then-not-is_of_run : goal.returns-then-not-is_of_run
+returns-then-not-is_of_run g c = untrue
 
 pub loop-p-init : goal.loop-p-init
-loop-p-init g c = λ q below. absurd (omega (arith, below))
+loop-p-init g c q below = absurd (omega (arith, below))
 
-pub returns-then-lane-clause-plan : goal.returns-then-lane-clause-plan
-returns-then-lane-clause-plan g c = c.is_of_run.ensures.plan
+pub lane-lane-requires : goal.lane-lane-requires
+lane-lane-requires g c =
+    let lanes = c.is_of_run.ensures.lanes ∙ ap (λ (p : PlanContents). p.tree.processors) c.is_of_run.ensures.plan in
+    let all = c.processors-p-end.ensures.value ∙ ap (λ (t : Tree). t.processors) c.tree.ensures.value in
+    let below = c.loop-p-test.true in
+    omega (arith, lanes, all, below)
 
-pub returns-then-lane-clause-open : goal.returns-then-lane-clause-open
-returns-then-lane-clause-open g c = untrue
-
-pub returns-then-lane-clause-none_out : goal.returns-then-lane-clause-none_out
-returns-then-lane-clause-none_out g c = untrue
-
-pub returns-then-lane-clause-counts : goal.returns-then-lane-clause-counts
-returns-then-lane-clause-counts g c = untrue
-
-pub returns-clause-plan : goal.returns-clause-plan
-returns-clause-plan g c = c.is_of_run.ensures.plan
-
-pub returns-clause-open : goal.returns-clause-open
-returns-clause-open g c = λ _. c.is_of_run.ensures.open c.if-not-is_of_run.false
+pub returns-then-lane : goal.returns-then-lane
+returns-then-lane g c = untrue

@@ -35,15 +35,14 @@ lay_jobs-requires-clause-there g c = λ t below.
     let same : c.in-Err.field-0.jobs.places ≡ c.lift_jobs.new.out.places = search rules in
     (job.0, ap (λ places. slice_get places t) same ∙ c.lift_jobs.ensures.out t below ∙ job.1)
 
-pub returns-in-Ok-clause-lent : goal.returns-in-Ok-clause-lent
-returns-in-Ok-clause-lent g c = λ t within.
-    let n = tasks g (goal.at.returns-in-Ok-clause-lent g c).After-count-n in
-    c.lift_jobs.ensures.jobs t (omega (arith, within, n))
-
-pub returns-in-Ok-clause-others : goal.returns-in-Ok-clause-others
-returns-in-Ok-clause-others g c = λ t past.
-    let n = tasks g (goal.at.returns-in-Ok-clause-others g c).After-count-n in
-    c.lift_jobs.ensures.other_jobs t (omega (arith, past, n))
+pub returns-in-Ok-clause-opened : goal.returns-in-Ok-clause-opened
+returns-in-Ok-clause-opened g c =
+    let n = tasks g (goal.at.returns-in-Ok-clause-opened g c).After-count-n in
+    record {
+      at_start = c.in_ok-side.ensures.seats ∙ ap seats_at_start (c.processors.ensures.value ∙ ap (λ (t : Tree). t.processors) c.tree.ensures.value);
+      lent = λ t within. c.lift_jobs.ensures.jobs t (omega (arith, within, n));
+      others = λ t past. c.lift_jobs.ensures.other_jobs t (omega (arith, past, n));
+    }
 
 pub returns-in-Err-clause-kept : goal.returns-in-Err-clause-kept
 returns-in-Err-clause-kept g c =
@@ -53,38 +52,20 @@ returns-in-Err-clause-kept g c =
       | inr past ↦ c.lay_jobs.ensures.other_jobs t past ∙ c.lift_jobs.ensures.other_jobs t past
     ])
 
-pub returns-in_err-out-clause-seats : goal.returns-in_err-out-clause-seats
-returns-in_err-out-clause-seats g c = no_answer _ _ c.from_residual.ensures.0
-
-pub returns-in_err-out-clause-lent : goal.returns-in_err-out-clause-lent
-returns-in_err-out-clause-lent g c = no_answer _ _ c.from_residual.ensures.0
-
-pub returns-in_err-out-clause-others : goal.returns-in_err-out-clause-others
-returns-in_err-out-clause-others g c = no_answer _ _ c.from_residual.ensures.0
+pub returns-in_err-out-clause-opened : goal.returns-in_err-out-clause-opened
+returns-in_err-out-clause-opened g c = no_answer _ _ c.from_residual.ensures.0
 
 pub returns-in_err-out-clause-kept : goal.returns-in_err-out-clause-kept
 returns-in_err-out-clause-kept g c = each_error _ _ (λ _. refl)
 
-pub returns-in_err-side-clause-seats : goal.returns-in_err-side-clause-seats
-returns-in_err-side-clause-seats g c = no_answer _ _ c.from_residual-in_err-side.ensures.0
-
-pub returns-in_err-side-clause-lent : goal.returns-in_err-side-clause-lent
-returns-in_err-side-clause-lent g c = no_answer _ _ c.from_residual-in_err-side.ensures.0
-
-pub returns-in_err-side-clause-others : goal.returns-in_err-side-clause-others
-returns-in_err-side-clause-others g c = no_answer _ _ c.from_residual-in_err-side.ensures.0
+pub returns-in_err-side-clause-opened : goal.returns-in_err-side-clause-opened
+returns-in_err-side-clause-opened g c = no_answer _ _ c.from_residual-in_err-side.ensures.0
 
 pub returns-in_err-side-clause-kept : goal.returns-in_err-side-clause-kept
 returns-in_err-side-clause-kept g c = each_error _ _ (λ _. refl)
 
-pub returns-in_err-copy-clause-seats : goal.returns-in_err-copy-clause-seats
-returns-in_err-copy-clause-seats g c = no_answer _ _ c.from_residual-in_err-copy.ensures.0
-
-pub returns-in_err-copy-clause-lent : goal.returns-in_err-copy-clause-lent
-returns-in_err-copy-clause-lent g c = no_answer _ _ c.from_residual-in_err-copy.ensures.0
-
-pub returns-in_err-copy-clause-others : goal.returns-in_err-copy-clause-others
-returns-in_err-copy-clause-others g c = no_answer _ _ c.from_residual-in_err-copy.ensures.0
+pub returns-in_err-copy-clause-opened : goal.returns-in_err-copy-clause-opened
+returns-in_err-copy-clause-opened g c = no_answer _ _ c.from_residual-in_err-copy.ensures.0
 
 pub returns-in_err-copy-clause-kept : goal.returns-in_err-copy-clause-kept
 returns-in_err-copy-clause-kept g c = each_error _ _ (λ _. refl)
@@ -127,6 +108,3 @@ lift_jobs-requires-clause-room g c = let room = c.in_ok-out.ensures.room in omeg
 
 pub new-requires-clause-side : goal.new-requires-clause-side
 new-requires-clause-side g c = c.in_ok-side.ensures.book
-
-pub returns-in-Ok-clause-seats : goal.returns-in-Ok-clause-seats
-returns-in-Ok-clause-seats g c = c.in_ok-side.ensures.seats ∙ ap seats_at_start (c.processors.ensures.value ∙ ap (λ (t : Tree). t.processors) c.tree.ensures.value)

@@ -1,24 +1,29 @@
-use Rattle.exec_book.specs.PlanRows.{plan_rows}
-use Rattle.exec_workers.proofs.LookLemmas.{job_of_out}
+use Rattle.std.proofs.Common.{sym, subst}
+use Rattle.exec_workers.specs.Found.{IsOutWith}
+use Rattle.exec_workers.proofs.LookLemmas.{out_on, seat_of, worked_job}
 use Rattle.exec_workers.proofs.rows.post_row.Goals as goal
+use Rattle.exec_workers.proofs.rows.post_row.Goals.{After-deref_mut-held}
 
-pub post-requires-clause-job : goal.post-requires-clause-job
-post-requires-clause-job g c =
-    let held = c.deref_mut-held.result.now in
-    job_of_out g.J.Job.id g.J.Job.used g.J.Job.made g.Q.PostLedger.made (plan_rows held.plan) held.state c.loop.seat.lane c.lane-p.result c.ticks_of-ticks.result c.args.row.now c.args.job
-    c.lane-p.ensures (c.is_out_at.ensures.row c.if-is_out_at.true) c.ticks_of-ticks.ensures (c.is_job_of.ensures c.if-is_job_of.true)
+found : (g : _) (c : After-deref_mut-held g) → IsOutWith g.J.Job.id g.J.Job.used g.J.Job.made g.Q.PostLedger.made c.args.plan.now c.deref_mut-held.result.now c.args.seat.now c.args.row.now c.args.job c.ticks_of.result
+found g c = subst (λ b. IsOutWith g.J.Job.id g.J.Job.used g.J.Job.made g.Q.PostLedger.made c.args.plan.now b c.args.seat.now c.args.row.now c.args.job c.ticks_of.result) (sym c.deref_mut-held.ensures.value) c.lock_out_at-guard.ensures
 
-pub is_out_at-requires-clause-compiled : goal.is_out_at-requires-clause-compiled
-is_out_at-requires-clause-compiled g c = c.agree.ensures.compiled
+pub lock_out_at-guard-requires-clause-compiled : goal.lock_out_at-guard-requires-clause-compiled
+lock_out_at-guard-requires-clause-compiled g c = c.agree.ensures.compiled
 
-pub is_out_at-requires-clause-set : goal.is_out_at-requires-clause-set
-is_out_at-requires-clause-set g c = c.agree.ensures.set
+pub lock_out_at-guard-requires-clause-set : goal.lock_out_at-guard-requires-clause-set
+lock_out_at-guard-requires-clause-set g c = c.agree.ensures.set
 
-pub is_job_of-requires-clause-out : goal.is_job_of-requires-clause-out
-is_job_of-requires-clause-out g c = rw c.lane-p.ensures (c.is_out_at.ensures.row c.if-is_out_at.true)
+pub lock_out_at-guard-requires-clause-agrees : goal.lock_out_at-guard-requires-clause-agrees
+lock_out_at-guard-requires-clause-agrees g c = c.requires.agrees
 
 pub post-requires-clause-out : goal.post-requires-clause-out
-post-requires-clause-out g c = rw c.lane-p.ensures (c.is_out_at.ensures.row c.if-is_out_at.true).0
+post-requires-clause-out g c = out_on _ _ _ _ _ _ _ _ _ _ _ (found g (goal.at.post-requires-clause-out g c).After-deref_mut-held) c.lane-lane.ensures
 
-pub is_job_of-requires-clause-agrees : goal.is_job_of-requires-clause-agrees
-is_job_of-requires-clause-agrees g c = c.requires.agrees
+pub post-requires-clause-seat : goal.post-requires-clause-seat
+post-requires-clause-seat g c = seat_of _ _ _ _ _ _ _ _ _ _ _ (found g (goal.at.post-requires-clause-seat g c).After-deref_mut-held) c.lane-lane.ensures
+
+pub post-requires-clause-job : goal.post-requires-clause-job
+post-requires-clause-job g c = worked_job _ _ _ _ _ _ _ _ _ _ _ (found g (goal.at.post-requires-clause-job g c).After-deref_mut-held) c.lane-lane.ensures c.ticks_of.ensures
+
+pub returns : goal.returns
+returns g c = c.post.ensures.seat

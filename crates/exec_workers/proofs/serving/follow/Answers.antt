@@ -1,3 +1,5 @@
+use Rattle.std.proofs.Common.{subst}
+use Rattle.exec_workers.specs.Promises.{GivesRow}
 use Rattle.exec_workers.proofs.serving.follow.Goals as goal
 
 pub run_row-requires-clause-compiled : goal.run_row-requires-clause-compiled
@@ -11,3 +13,21 @@ run_row-requires-clause-counts g c = c.requires.counts
 
 pub run_row-requires-clause-fresh : goal.run_row-requires-clause-fresh
 run_row-requires-clause-fresh g c = c.requires.fresh
+
+pub run_row-requires-clause-next : goal.run_row-requires-clause-next
+run_row-requires-clause-next g c = subst (λ l. GivesRow g.J.Job.id g.J.Job.used g.J.Job.made g.Q.PostLedger.made c.args.plan.now c.args.lane.now.seat l) c.in-Ready.is c.requires.look
+
+pub take_next-requires-clause-compiled : goal.take_next-requires-clause-compiled
+take_next-requires-clause-compiled g c = c.requires.compiled
+
+pub take_next-requires-clause-set : goal.take_next-requires-clause-set
+take_next-requires-clause-set g c = c.requires.set
+
+pub returns-in-Ready-clause-served : goal.returns-in-Ready-clause-served
+returns-in-Ready-clause-served g c = c.run_row.ensures.served
+
+pub returns-in-Ready-clause-more : goal.returns-in-Ready-clause-more
+returns-in-Ready-clause-more g c = c.run_row.ensures.more
+
+pub returns-in-Ready-clause-look : goal.returns-in-Ready-clause-look
+returns-in-Ready-clause-look g c = c.run_row.ensures.look

@@ -1,0 +1,38 @@
+-- What is known of a book that was found under the lock and passed a test.
+use Rattle.std.specs.Prelude.{ℕ, ◌≡◌, ◌<◌, ◌+◌, List, Option, false, length}
+use Rattle.sched_base.specs.declared.rows.Row.{Row}
+use Rattle.run_tree.specs.Plans.{PlanContents}
+use Rattle.unit_ledger.specs.Seats.{Seat}
+use Rattle.book_machine.specs.Machine.{IsOut, lane_at, posted_at}
+use Rattle.book_machine.specs.Reached.{OutRow, counts_of}
+use Rattle.exec_book.specs.PlanRows.{plan_rows}
+use Rattle.exec_book.specs.Jobs.{Made, IsJobOf, posted_ticks}
+use Rattle.exec_book.specs.Books.{BookContents, IsDismissed}
+
+-- the book is one of the plan that isn't dismissed, and stands at the seat's count with no row out on the seat's lane
+pub record IsFreeAt {J : Type 0} (p : PlanContents) (b : BookContents J) (seat : Seat) : Type 0 where
+  pub plan : b.plan ≡ p
+  pub undismissed : ¬ (IsDismissed b)
+  pub lane : seat.lane < length b.state.lanes
+  pub free : (lane_at b.state.lanes seat.lane).out ≡ false
+  pub count : posted_at b.state seat.lane ≡ seat.posted
+
+-- the book is one of the plan that isn't dismissed, and this row is out on the seat's lane at the seat's count
+pub record IsOutAt {J : Type 0} (p : PlanContents) (b : BookContents J) (seat : Seat) (row : Row) : Type 0 where
+  pub plan : b.plan ≡ p
+  pub undismissed : ¬ (IsDismissed b)
+  pub count : posted_at b.state seat.lane ≡ seat.posted
+  pub out : OutRow (plan_rows b.plan) b.state seat.lane row
+
+-- the same, and the job is that of the row, having worked that many ticks for it
+pub record IsOutWith {J : Type 0} (id used : J → ℕ) (made : J → Made) (all_made : List Made) (p : PlanContents) (b : BookContents J)
+    (seat : Seat) (row : Row) (job : Option J) (ticks : ℕ) : Type 0 where
+  pub found : IsOutAt p b seat row
+  pub own : IsJobOf id used made all_made (λ t. posted_ticks (plan_rows b.plan) b.state t + ticks) row.leaf job
+
+-- the book is one of the plan that isn't dismissed, no row is out, and these are the posted counts
+pub record IsWholeAt {J : Type 0} (p : PlanContents) (b : BookContents J) (posted : List ℕ) : Type 0 where
+  pub plan : b.plan ≡ p
+  pub undismissed : ¬ (IsDismissed b)
+  pub none_out : (q : ℕ) → ¬ (IsOut b.state q)
+  pub counts : counts_of b.state.lanes ≡ posted
