@@ -149,6 +149,11 @@ wanting_answered (Some (Read reading)) left old new err err' status told =
 wanting_answered (Some Batch) left old new err err' status told = unread_answered (Some Batch) left old new err err' status told
 wanting_answered (Some (Execute e)) left old new err err' status told = wanting_answers e left old new status told.status_is
 
+-- words that are no command line ask for no answer
+pub none_asked : (asked : Option Command) (left : Option (List ℕ)) (old new : Streams) (status : Status) → asked ≡ None
+    → IsCommandAnswered asked left old new status
+none_asked asked left old new status none = subst (λ (a : Option Command). IsCommandAnswered a left old new status) (sym none) tt
+
 -- a command that executes nothing answers as each command does
 still_by : (words : List (List ℕ)) (asked : Option Command) (left : Option (List ℕ)) (old new : Streams) (status : Status) → command_of words ≡ asked
     → asks_to_execute words ≡ false → IsAnswered asked left old new status → IsCommandAnswered asked left old new status

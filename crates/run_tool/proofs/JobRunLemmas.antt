@@ -1,5 +1,5 @@
 -- How `jobs` ends, part by part: reading the text, loading the programs, running the schedule, and writing what was computed.
-use Rattle.std.proofs.Common.{◌≡◌, ◌≢◌, inl, inr, ℕ, ◌+◌, ◌*◌, ◌/◌, ◌≤◌, ◌<◌, true, false, List, length, take, Option, Some, None, Ok, Err, refl, sym, ◌∙◌, ap, subst, arith}
+use Rattle.std.proofs.Common.{◌≡◌, ◌≢◌, inl, inr, ℕ, ◌+◌, ◌*◌, ◌/◌, ◌≤◌, ◌<◌, true, false, List, length, take, Option, Some, Ok, Err, refl, sym, ◌∙◌, ap, subst, arith}
 use Rattle.std.proofs.lemmas.List.{take_all}
 use Rattle.std.specs.Io.KnownBytes.{Appends, Keeps}
 use Rattle.sched_base.specs.Sets.{SetContents}
@@ -29,6 +29,7 @@ use Rattle.event_core.specs.declared.counts.CountFault.TheVariants as count_faul
 use Rattle.event_core.specs.Counts.{IsCountFault}
 use Rattle.still_commands.specs.Faults.{of_take, of_read_set, of_read_jobs, of_count}
 use Rattle.still_commands.specs.Input.{IsSchedulable, IsRefusedSet}
+use Rattle.still_commands.proofs.EndLemmas.{keeps_same}
 use Rattle.run_tool.specs.JobPrograms.{ReadsJobs, IsJobsToRun, set_bytes, result_text}
 use Rattle.still_commands.specs.Ends.{Streams}
 use Rattle.run_tool.specs.Executions.{GateSeen, JobSeen, Crew, crew, IsFreshCrew, RanAll}
@@ -73,10 +74,6 @@ unread_job_set left left' limit faults faults' bytes t (set.BadWork i) all read 
 unread_job_set left left' limit faults faults' bytes t (set.BadOffset i) all read is = (bytes, all, (t, read, is (λ e. cc)))
 
 -- ---- running and writing
-
-keeps_same : (o : Option (List ℕ)) → Keeps o o
-keeps_same None = tt
-keeps_same (Some bytes) = refl
 
 -- a set that is refused leaves gates and jobs as they were
 pub refused_stops : (text : JobTextHeld) (out : Option (List ℕ)) (faults : ℕ) (c : Crew) (s : SetContents) (r : Refusal) → IsRefusedSet s r

@@ -1,7 +1,8 @@
 -- What an execution told, and why it stopped, as the clauses of the top call say it.
 use Rattle.std.proofs.Common.{◌≡◌, inl, inr, ℕ, Bool, true, false, List, Option, Some, Result, refl, sym, ◌∙◌, ap, subst, arith}
-use Rattle.std.proofs.Common.{None, Ok, Err}
+use Rattle.std.proofs.Common.{Ok, Err}
 use Rattle.std.specs.Prelude.{OnOk, IfErr}
+use Rattle.std.proofs.lemmas.Result.{IfErr-weaker}
 use Rattle.std.specs.Io.KnownBytes.{Keeps}
 use Rattle.command_words.specs.declared.command.Command.{Command}
 use Rattle.command_words.specs.declared.command.Command.TheVariants.{Read, Batch, Execute}
@@ -11,12 +12,18 @@ use Rattle.command_words.specs.declared.command.Execution.TheVariants.{Exec, Exe
 use Rattle.still_commands.specs.declared.refusal.Refusal.{Refusal}
 use Rattle.still_commands.specs.declared.refusal.Refusal.TheVariants as why
 use Rattle.still_commands.specs.declared.status.Status.{Status}
-use Rattle.still_commands.specs.declared.status.Status.TheVariants.{Done}
+use Rattle.still_commands.specs.declared.status.Status.TheVariants.{Done, NoMemory}
 use Rattle.command_words.specs.Words.{command_of, reading_of, execution_of, asks_to_execute, asks_for_batch, asks_for_threads}
 use Rattle.run_tool.specs.Drill.{drill_text}
 use Rattle.still_commands.specs.Commands.{schedule_rows, of_batch, output_of, set_limit, WritesSet, RefusesText}
-use Rattle.still_commands.specs.Refusals.{status_of}
+use Rattle.still_commands.specs.Refusals.{status_of, set_status, kind_status, mode_status}
 use Rattle.still_commands.specs.Refuse.{IsRefused}
+use Rattle.still_commands.proofs.EndLemmas.{keeps_same, is_fault}
+use Rattle.task_reader.specs.declared.refusals.ReadSet.{ReadSet}
+use Rattle.task_reader.specs.declared.refusals.ReadSet.TheVariants as set
+use Rattle.mode_join.specs.declared.faults.ModeKind.{ModeKind}
+use Rattle.mode_join.specs.declared.faults.ModeKind.TheVariants as kind
+use Rattle.still_commands.specs.declared.mode_refusal.ModeRefusal.{ModeRefusal}
 use Rattle.still_commands.specs.Ends.{Streams, ErrorStream, streams, IsUnread, IsQuiet, IsTold, StopsAs, Ends}
 use Rattle.command_words.proofs.WordLemmas.{executes, reads, batches, only_read, only_batch, only_execute}
 use Rattle.run_tool.specs.Executions.{Crew, AreBack, NothingRose}
@@ -27,7 +34,7 @@ use Rattle.run_tool.specs.ModeTexts.{WritesModes, RefusesModes}
 use Rattle.run_tool.proofs.LoadedLemmas.{rose_loaded}
 use Rattle.run_tool.proofs.ExecutionAnswerLemmas.{IsToldBy, StopsBy, StopsDrill}
 use Rattle.run_tool.specs.Executed.{WritesJobsRun, RefusesJobsRun}
-use Rattle.run_tool.specs.Executed.{WritesRun, RefusesRun, RanDrill, StopsAtDrill, ToldRun, StopsRun, EndsWith, NoneFailed, may_have_run}
+use Rattle.run_tool.specs.Executed.{WritesRun, RefusesRun, RanDrill, StopsAtDrill, ToldRun, StopsRun, EndsWith, NoneFailed, may_have_called, takes_memory_late, may_have_run}
 
 pub back_same : (c : Crew) → AreBack c c
 back_same c = record { gates = λ p g at. (g, at, omega arith); jobs = λ i j at. (j, at, refl, omega arith) }
@@ -198,6 +205,43 @@ ends_unread words k old new err err' b n status asks is unread keeps same refuse
     let (e, own) = only_execute (execution_of words) k (sym (executes words asks) ∙ is) in
     ends_stopped e k old new err err' b n why.NoMemory status own (unread_stops e old new b n unread keeps same) refused
 
+-- the status of a refusal is none of those that a call without a refusal ends with, but for the words that are no command line
+set_fault : (q : ReadSet) → is_fault (set_status q) ≡ true
+set_fault set.NoMemory = refl
+set_fault _ = refl
+
+kind_fault : (k : ModeKind) → is_fault (kind_status k) ≡ true
+kind_fault kind.Processors = refl
+kind_fault (kind.Offset task) = refl
+kind_fault (kind.Period task) = refl
+kind_fault (kind.Overload total room) = refl
+kind_fault (kind.TooLong rows) = refl
+
+mode_fault : (m : ModeRefusal) → is_fault (mode_status m) ≡ true
+mode_fault (mode.BadSet q) = set_fault q
+mode_fault (mode.NotJoined k) = kind_fault k
+mode_fault (mode.GateFault row name) = refl
+mode_fault (mode.JobFault row name) = refl
+
+no_usage : (e : Execution) (old new : Streams) (b n : Crew) → StopsRun e old new b n why.Usage → ⊥
+no_usage (Exec window) old new b n stops = stops
+no_usage ExecMet old new b n stops = stops
+no_usage Jobs old new b n stops = stops.0
+no_usage Modes old new b n stops = stops.0
+no_usage (Drill number) old new b n stops = stops.1.0
+
+pub stopped_fault : (e : Execution) (old new : Streams) (b n : Crew) (r : Refusal) → StopsRun e old new b n r → is_fault (status_of r) ≡ true
+stopped_fault e old new b n why.Usage stops = absurd (no_usage e old new b n stops)
+stopped_fault e old new b n (why.BadSet q) stops = set_fault q
+stopped_fault e old new b n (why.OfMode j m) stops = mode_fault m
+stopped_fault e old new b n _ stops = refl
+
+-- where nothing was called the gates and the jobs are as they were
+pub untouched : {T K J : Type 0} (result : Result T Refusal) (called : Status → Bool) (kits : K) (jobs : J)
+    → IfErr result (λ r. called (status_of r) ≡ false → (kits ≡ kits) × (jobs ≡ jobs))
+untouched (Ok v) called kits jobs = tt
+untouched (Err r) called kits jobs = λ quiet. (refl, refl)
+
 -- a drill that stopped may have run
 pub drill_ran : (number : ℕ) (out out' : Option (List ℕ)) (faults faults' : ℕ) (b n : Crew) (r : Refusal) → StopsAtDrill number out out' faults faults' b n r
     → may_have_run (Some (Execute (Drill number))) (status_of r) ≡ true
@@ -213,10 +257,6 @@ pub uncalled_by : {P : Type 0} (asked : Option Command) (e : Execution) (r : Ref
 uncalled_by asked e r err err' status is_asked refused by quiet = by ((λ i. may_have_run (is_asked i) (sym refused.status_is i)) ∙ quiet)
 
 -- ---- a drill, which reads nothing
-
-keeps_same : (o : Option (List ℕ)) → Keeps o o
-keeps_same None = tt
-keeps_same (Some bytes) = refl
 
 pub unread_same : (left : Option (List ℕ)) (faults : ℕ) (out out' : Option (List ℕ)) (out_faults out_faults' : ℕ)
     → IsUnread (streams left faults out out_faults) (streams left faults out' out_faults')
@@ -241,3 +281,26 @@ pub drill_stopped : {T : Type 0} (result : Result T Refusal) (e : Execution) (nu
     → IsUnread old new → IfErr result (StopsAtDrill number old.out new.out old.out_faults new.out_faults b n) → IfErr result (StopsRun e old new b n)
 drill_stopped result e number old new b n is unread stops =
     subst (λ (k : Execution). IfErr result (StopsRun k old new b n)) (sym is) (drill_stopped_as result number old new b n unread stops)
+
+-- ---- an execution that is known
+
+module _ {T : Type 0} (result : Result T Refusal) (e k : Execution) (is : e ≡ k) where
+  pub told_as : (old new : Streams) (b n : Crew) → OnOk result (ToldRun k old new b n) → OnOk result (ToldRun e old new b n)
+  told_as old new b n told = subst (λ (x : Execution). OnOk result (ToldRun x old new b n)) (sym is) told
+
+  pub stopped_as : (old new : Streams) (b n : Crew) → IfErr result (StopsRun k old new b n) → IfErr result (StopsRun e old new b n)
+  stopped_as old new b n stops = subst (λ (x : Execution). IfErr result (StopsRun x old new b n)) (sym is) stops
+
+  pub uncalled_as : (P : Type 0) → IfErr result (λ r. may_have_run (Some (Execute k)) (status_of r) ≡ false → P)
+      → IfErr result (λ r. may_have_run (Some (Execute e)) (status_of r) ≡ false → P)
+  uncalled_as P uncalled = subst (λ (x : Execution). IfErr result (λ r. may_have_run (Some (Execute x)) (status_of r) ≡ false → P)) (sym is) uncalled
+
+-- an execution that takes all its memory first may have run where a gate or a job may have been called
+run_or_called : (e : Execution) (status : Status) → takes_memory_late (Some (Execute e)) ≡ false
+    → may_have_run (Some (Execute e)) status ≡ may_have_called status
+run_or_called e NoMemory early = early
+run_or_called e _ early = refl
+
+pub uncalled_early : {T : Type 0} (P : Type 0) (result : Result T Refusal) (e : Execution) → takes_memory_late (Some (Execute e)) ≡ false
+    → IfErr result (λ r. may_have_called (status_of r) ≡ false → P) → IfErr result (λ r. may_have_run (Some (Execute e)) (status_of r) ≡ false → P)
+uncalled_early P result e early uncalled = IfErr-weaker result _ _ (λ r by quiet. by (sym (run_or_called e (status_of r) early) ∙ quiet)) uncalled

@@ -1,11 +1,64 @@
-use Rattle.std.proofs.Common.{refl}
-use Rattle.std.proofs.lemmas.Result.{err_from_is_err_and}
-use Rattle.run_tool.proofs.StopLemmas.{run_stops}
+use Rattle.std.proofs.Common.{refl, sym}
+use Rattle.std.proofs.lemmas.Result.{IfOk-from_err}
+use Rattle.exec_workers.proofs.RefusedLemmas.{untrue}
+use Rattle.mode_switch.proofs.RunLemmas.{told_fault}
+use Rattle.run_tool.specs.Executed.{may_have_called}
+use Rattle.run_tool.proofs.RunLemmas.{back_same, untouched}
+use Rattle.run_tool.proofs.StopLemmas.{uncounted, run_stops, run_written, run_unwritten}
 use Rattle.run_tool.proofs.exec.run_and_write.Goals as goal
+
+pub returns-in_err-rounds-clause-done : goal.returns-in_err-rounds-clause-done
+returns-in_err-rounds-clause-done g c = IfOk-from_err _ _ c.from_residual.ensures.0
+
+pub returns-in_err-rounds-clause-stops : goal.returns-in_err-rounds-clause-stops
+returns-in_err-rounds-clause-stops g c =
+    told_fault _ _ _ c.from_residual.ensures.1
+    (uncounted c.args.plan.now.set c.args.plan.now refl c.requires.tree c.args.met _ _ _ _ c.requires.run c.in_err-rounds.ensures.fault)
+
+pub returns-in_err-rounds-clause-uncalled : goal.returns-in_err-rounds-clause-uncalled
+returns-in_err-rounds-clause-uncalled g c = untouched c.from_residual.result may_have_called c.args.kits.now.items c.args.jobs.now.places
+
+pub returns-in_err-rounds-clause-back : goal.returns-in_err-rounds-clause-back
+returns-in_err-rounds-clause-back g c = back_same _
+
+pub run_plan-requires-clause-ready : goal.run_plan-requires-clause-ready
+run_plan-requires-clause-ready g c κs within = c.requires.ready
+
+pub returns-in_err-executed-clause-done : goal.returns-in_err-executed-clause-done
+returns-in_err-executed-clause-done g c = IfOk-from_err _ _ c.from_residual-in_err-executed.ensures.0
 
 pub returns-in_err-executed-clause-stops : goal.returns-in_err-executed-clause-stops
 returns-in_err-executed-clause-stops g c =
-    let why = err_from_is_err_and c.from_residual-in_err-executed.result c.from_residual-in_err-executed.ensures.1 in
-    rw (why.1, why.2)
+    told_fault _ _ _ c.from_residual-in_err-executed.ensures.1
     (run_stops c.args.plan.now.set c.args.plan.now refl c.requires.tree c.args.met _ _ c.in_ok-rounds.rounds _ _ _
     c.requires.run c.in_ok-rounds.ensures.count.0 c.in_ok-rounds.ensures.count.1 c.in_err-executed.ensures.stops)
+
+pub returns-in_err-executed-clause-uncalled : goal.returns-in_err-executed-clause-uncalled
+returns-in_err-executed-clause-uncalled g c = told_fault _ _ _ c.from_residual-in_err-executed.ensures.1 c.in_err-executed.ensures.uncalled
+
+pub returns-in_err-executed-clause-back : goal.returns-in_err-executed-clause-back
+returns-in_err-executed-clause-back g c = c.run_plan.ensures.back
+
+pub returns-in_err-write_rows-clause-done : goal.returns-in_err-write_rows-clause-done
+returns-in_err-write_rows-clause-done g c = IfOk-from_err _ _ c.from_residual-in_err-write_rows.ensures.0
+
+pub returns-in_err-write_rows-clause-stops : goal.returns-in_err-write_rows-clause-stops
+returns-in_err-write_rows-clause-stops g c =
+    told_fault _ _ _ c.from_residual-in_err-write_rows.ensures.1
+    (run_unwritten c.args.plan.now.set c.args.plan.now refl c.requires.tree c.args.met _ _ _ _ c.in_ok-rounds.rounds _ _
+    c.requires.run c.in_ok-rounds.ensures.count.0 c.in_ok-rounds.ensures.count.1 c.in_ok-executed.ensures.ran
+    c.in_err-write_rows.ensures.wrote.err c.in_err-write_rows.ensures.cause.failed)
+
+pub returns-in_err-write_rows-clause-uncalled : goal.returns-in_err-write_rows-clause-uncalled
+returns-in_err-write_rows-clause-uncalled g c = told_fault _ _ _ c.from_residual-in_err-write_rows.ensures.1 (λ quiet. untrue (sym quiet))
+
+pub returns-in_err-write_rows-clause-back : goal.returns-in_err-write_rows-clause-back
+returns-in_err-write_rows-clause-back g c = c.run_plan.ensures.back
+
+pub returns-clause-done : goal.returns-clause-done
+returns-clause-done g c =
+    run_written c.args.plan.now.set c.args.plan.now refl c.requires.tree c.args.met _ _ c.in_ok-rounds.rounds _ _
+    c.requires.run c.in_ok-rounds.ensures.count.0 c.in_ok-rounds.ensures.count.1 c.in_ok-executed.ensures.ran c.in_ok-write_rows.ensures.wrote.ok
+
+pub returns-clause-back : goal.returns-clause-back
+returns-clause-back g c = c.run_plan.ensures.back

@@ -1,19 +1,53 @@
-use Rattle.std.proofs.Common.{refl, ◌≤◌, ◌<◌, ap, subst, take, length}
-use Rattle.std.proofs.lemmas.Result.{err_from_is_err_and}
+use Rattle.std.proofs.Common.{Some, refl, sym, ◌<◌, ap, subst, take, length}
+use Rattle.std.proofs.lemmas.Result.{IfOk-from_err}
 use Rattle.sched_base.specs.Sets.{SetContents}
 use Rattle.still_commands.specs.declared.refusal.Refusal.{Refusal}
 use Rattle.still_commands.specs.Refusals.{status_of}
-use Rattle.run_tool.specs.Executed.{may_have_called}
+use Rattle.exec_workers.proofs.RefusedLemmas.{untrue}
+use Rattle.mode_switch.proofs.RunLemmas.{told_fault}
+use Rattle.run_tool.specs.Executed.{may_have_called, may_have_run}
+use Rattle.command_words.specs.declared.command.Command.TheVariants.{Execute}
+use Rattle.command_words.specs.declared.command.Execution.TheVariants.{Jobs}
 use Rattle.run_tool.proofs.CrewEndLemmas.{jobs_fresh}
 use Rattle.run_tool.proofs.LoadedLemmas.{ready_at, back_at, back_by_run, crew_left, jobs_there}
-use Rattle.run_tool.proofs.JobRunLemmas.{running_stops, loaded_is, loaded_part, jobs_ran, jobs_unwritten}
+use Rattle.run_tool.proofs.RunLemmas.{back_same, untouched}
+use Rattle.run_tool.proofs.JobRunLemmas.{count_stops, loading_stops, running_stops, loaded_is, loaded_part, jobs_called, jobs_ran, jobs_unwritten}
 use Rattle.run_tool.proofs.jobs.load_and_run.Goals as goal
+
+pub returns-in_err-rounds-clause-done : goal.returns-in_err-rounds-clause-done
+returns-in_err-rounds-clause-done g c = IfOk-from_err _ _ c.from_residual.ensures.0
+
+pub returns-in_err-rounds-clause-stops : goal.returns-in_err-rounds-clause-stops
+returns-in_err-rounds-clause-stops g c =
+    told_fault _ _ _ c.from_residual.ensures.1
+    (count_stops c.args.text.now c.args.plan.now.set c.args.plan.now refl c.requires.tree _ _ _ _ c.requires.run c.in_err-rounds.ensures.fault)
+
+pub returns-in_err-rounds-clause-uncalled : goal.returns-in_err-rounds-clause-uncalled
+returns-in_err-rounds-clause-uncalled g c = untouched c.from_residual.result (may_have_run (Some (Execute Jobs))) c.args.kits.now.items c.args.jobs.now.places
+
+pub returns-in_err-rounds-clause-back : goal.returns-in_err-rounds-clause-back
+returns-in_err-rounds-clause-back g c = back_same _
 
 pub load_programs-requires-clause-jobs : goal.load_programs-requires-clause-jobs
 load_programs-requires-clause-jobs g c = λ i within.
     let inside = subst (λ (s : SetContents). i < length s.tasks) c.set.ensures.value within in
     let fresh = jobs_fresh _ _ _ _ _ _ _ _ c.requires.ready _ c.scale.ensures.lawful.lawful.few_tasks i inside in
     (fresh.0, fresh.1)
+
+pub returns-in_err-load_programs-clause-done : goal.returns-in_err-load_programs-clause-done
+returns-in_err-load_programs-clause-done g c = IfOk-from_err _ _ c.from_residual-in_err-load_programs.ensures.0
+
+pub returns-in_err-load_programs-clause-stops : goal.returns-in_err-load_programs-clause-stops
+returns-in_err-load_programs-clause-stops g c =
+    let begun = c.in_err-load_programs.ensures.begun in
+    told_fault _ _ _ c.from_residual-in_err-load_programs.ensures.1
+    (loading_stops c.args.text.now (g.W.Sink.taken c.args.out.now) (g.W.Sink.faults c.args.out.now) c.args.plan.now.tree.scale begun.0 _ _
+    c.args.plan.now.set c.requires.run
+    (loaded_part c.args.text.now c.args.plan.now.set c.args.plan.now refl c.requires.tree _ _ _ _ begun.0 c.set.result.now
+    c.scale.ensures.value c.set.ensures.value begun.2))
+
+pub returns-in_err-load_programs-clause-uncalled : goal.returns-in_err-load_programs-clause-uncalled
+returns-in_err-load_programs-clause-uncalled g c = told_fault _ _ _ c.from_residual-in_err-load_programs.ensures.1 (λ quiet. untrue (sym quiet))
 
 pub returns-in_err-load_programs-clause-back : goal.returns-in_err-load_programs-clause-back
 returns-in_err-load_programs-clause-back g c =
@@ -28,10 +62,16 @@ run_plan-requires-clause-ready g c κs within =
     (loaded_is c.args.text.now c.args.plan.now.set c.args.plan.now refl c.requires.tree _ _ _ _ c.set.result.now
     c.scale.ensures.value c.set.ensures.value c.in_ok-load_programs.ensures.loaded) c.requires.ready
 
+pub returns-in_err-run_plan-clause-done : goal.returns-in_err-run_plan-clause-done
+returns-in_err-run_plan-clause-done g c = IfOk-from_err _ _ c.from_residual-in_err-run_plan.ensures.0
+
+pub returns-in_err-run_plan-clause-uncalled : goal.returns-in_err-run_plan-clause-uncalled
+returns-in_err-run_plan-clause-uncalled g c =
+    told_fault _ _ _ c.from_residual-in_err-run_plan.ensures.1 (jobs_called c.args.plan.now _ _ _ c.in_err-run_plan.ensures.stops)
+
 pub returns-in_err-run_plan-clause-stops : goal.returns-in_err-run_plan-clause-stops
 returns-in_err-run_plan-clause-stops g c =
-    let why = err_from_is_err_and c.from_residual-in_err-run_plan.result c.from_residual-in_err-run_plan.ensures.1 in
-    rw (why.1, why.2)
+    told_fault _ _ _ c.from_residual-in_err-run_plan.ensures.1
     (running_stops c.args.text.now c.args.plan.now.set c.args.plan.now refl c.requires.tree _ _ c.in_ok-rounds.rounds _ _ _ _
     c.requires.run c.in_ok-rounds.ensures.count.0 c.in_ok-rounds.ensures.count.1
     (loaded_is c.args.text.now c.args.plan.now.set c.args.plan.now refl c.requires.tree _ _ _ _ c.set.result.now
@@ -54,17 +94,23 @@ write_jobs-requires-clause-jobs g c = λ i within.
     c.in_ok-run_plan.ensures.back _ c.scale-2.ensures.lawful.lawful.few_tasks i
     (subst (λ (s : SetContents). i < length s.tasks) c.set-2.ensures.value within)
 
+pub returns-in_err-write_jobs-clause-done : goal.returns-in_err-write_jobs-clause-done
+returns-in_err-write_jobs-clause-done g c = IfOk-from_err _ _ c.from_residual-in_err-write_jobs.ensures.0
+
+pub returns-in_err-write_jobs-clause-uncalled : goal.returns-in_err-write_jobs-clause-uncalled
+returns-in_err-write_jobs-clause-uncalled g c = told_fault _ _ _ c.from_residual-in_err-write_jobs.ensures.1 (λ quiet. untrue (sym quiet))
+
 pub returns-in_err-write_jobs-clause-stops : goal.returns-in_err-write_jobs-clause-stops
 returns-in_err-write_jobs-clause-stops g c =
-    let why = err_from_is_err_and c.from_residual-in_err-write_jobs.result c.from_residual-in_err-write_jobs.ensures.1 in
-    rw (why.1, why.2, c.in_err-write_jobs.ensures.same)
+    rw c.in_err-write_jobs.ensures.same
+    (told_fault _ _ _ c.from_residual-in_err-write_jobs.ensures.1
     (jobs_unwritten c.args.text.now c.args.plan.now.set c.args.plan.now refl c.requires.tree _ _ _ _ c.in_ok-rounds.rounds _ _ _
     c.scale-2.result c.set-2.result.now c.requires.run c.in_ok-rounds.ensures.count.0 c.in_ok-rounds.ensures.count.1
     c.scale-2.ensures.value c.set-2.ensures.value
     c.scale.ensures.lawful.lawful.few_tasks c.requires.ready
     (loaded_is c.args.text.now c.args.plan.now.set c.args.plan.now refl c.requires.tree _ _ _ _ c.set.result.now
     c.scale.ensures.value c.set.ensures.value c.in_ok-load_programs.ensures.loaded)
-    c.in_ok-run_plan.ensures.ran c.in_err-write_jobs.ensures.wrote.err c.in_err-write_jobs.ensures.cause.failed)
+    c.in_ok-run_plan.ensures.ran c.in_err-write_jobs.ensures.wrote.err c.in_err-write_jobs.ensures.cause.failed))
 
 pub returns-in_err-write_jobs-clause-back : goal.returns-in_err-write_jobs-clause-back
 returns-in_err-write_jobs-clause-back g c =
