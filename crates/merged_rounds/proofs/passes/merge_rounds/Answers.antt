@@ -1,6 +1,6 @@
 use Rattle.std.proofs.lemmas.Result.{IfOk-from_err}
 use Rattle.event_core.specs.Rounds.{IsRoundUpTo}
-use Rattle.std.proofs.Common.{[], List, None, Option, Some, get_or, ap, arith, length, map, replicate, subst, sym, ℕ, ◌*◌, ◌+◌, ◌/◌, ◌<◌, ◌∙◌, ◌≡◌}
+use Rattle.std.proofs.Common.{[], List, None, Option, Some, get_or, ap, arith, length, map, replicate, subst, sym, ℕ, ◌*◌, ◌+◌, ◌/◌, ◌<◌, ◌≤◌, ◌∙◌, ◌≡◌}
 use Rattle.sched_base.specs.declared.rows.Leaf.TheVariants.{Empty}
 use Rattle.sched_base.specs.declared.rows.NodeId.{NodeId}
 use Rattle.sched_base.specs.declared.rows.Row.{Row}
@@ -160,3 +160,25 @@ look_each-requires-clause-belongs c = c.go.ensures.belongs
 
 pub look_each-requires-clause-round : goal.look_each-requires-clause-round
 look_each-requires-clause-round c = subst (λ (n : ℕ). IsRoundUpTo c.args.plan.now n c.go.new.self.tick) (sym c.now-start.ensures.value) c.go.ensures.round
+
+pub returns-clause-rows : goal.returns-clause-rows
+returns-clause-rows c =
+    let p = c.args.plan.now in
+    let now = c.now.ensures.value in
+    let end = c.rounds_end-end.ensures.value in
+    let early = c.rounds.invariant.belongs.at.early in
+    let here : c.rounds.core.tick ≡ stop_of p = omega (arith, now, end, early, c.rounds-test.false) in
+    c.rounds.invariant.lanes ∙ ap (λ (n : ℕ). map merged (lanes_of p.tree.processors (rows_before p n))) here
+
+pub returns-clause-few : goal.returns-clause-few
+returns-clause-few c =
+    let p = c.args.plan.now in
+    let now = c.now.ensures.value in
+    let end = c.rounds_end-end.ensures.value in
+    let early = c.rounds.invariant.belongs.at.early in
+    let here : c.rounds.core.tick ≡ stop_of p = omega (arith, now, end, early, c.rounds-test.false) in
+    let count : c.rounds.count ≡ rounds_of p = c.rounds.invariant.count ∙ ap (λ (n : ℕ). rounds_before p n) here in
+    let same : c.from-processors.result ≡ p.tree.processors =
+    c.from-processors.ensures ∙ c.processors.ensures.value ∙ ap (λ (t : Tree). t.processors) c.tree.ensures.value in
+    let all = ap (λ (n : ℕ). n * c.from-processors.result) count ∙ ap (λ (n : ℕ). rounds_of p * n) same in
+    subst (λ (n : ℕ). n ≤ row_limit) all c.rounds.invariant.few
