@@ -1,5 +1,5 @@
 //! One pass over the rounds of a plan.
-ghost use Rattle.std.specs.Prelude.{◌≡◌, ◌≤◌, ◌*◌, [], length, replicate, IfOk, IfErr, None, vec_len};
+ghost use Rattle.std.specs.Prelude.{◌≡◌, ◌≤◌, ◌*◌, length, replicate, IfOk, IfErr, None, vec_len};
 ghost use Rattle.sched_base.specs.Tables.{row_limit};
 ghost use Rattle.run_tree.specs.Plans.{rounds_of};
 ghost use Rattle.event_core.specs.Cores.{IsCoreOf};
@@ -25,9 +25,8 @@ pub fn merged_of(alloc: Global, plan: &Plan) -> Result<MergedRows, CountFault>
 {
     let mut kept = no_nodes(alloc, plan)?;
     let mut told = no_leaves(alloc, plan)?;
-    let none = MergedRows::new(alloc, plan.tree().processors())?;
     let mut core = Core::new(alloc, plan)?;
-    merge_rounds(plan, &mut core, &mut kept, &mut told, none)
+    merge_rounds(alloc, plan, &mut core, &mut kept, &mut told)
 }
 
 // Of no processor a node.
@@ -46,18 +45,16 @@ fn no_leaves(alloc: Global, plan: &Plan) -> Result<Vec<Option<Leaf>>, NoMemory>
 
 // Merges all rounds of the plan. Of each processor a node is kept that shows what it did last; `told` is overwritten.
 fn merge_rounds(
+    alloc: Global,
     plan: &Plan,
     core: &mut Core,
     kept: &mut [Option<NodeId>],
     told: &mut [Option<Leaf>],
-    none: MergedRows,
 ) -> Result<MergedRows, CountFault>
     requires belongs { IsCoreOf plan.now core.old }
     requires first { core.old.tick ≡ 0 }
     requires kept { kept.old ≡ replicate plan.now.tree.processors None }
     requires told { length told.old ≡ plan.now.tree.processors }
-    requires none { none.lanes ≡ replicate plan.now.tree.processors [] }
-    requires start { none.end ≡ 0 }
     ensures rows { IfOk result (λ merged. AreMergedOf plan.now merged.lanes) }
     ensures lawful { IfOk result (λ merged. AreLawful plan.now.set merged.lanes) }
     ensures few { IfOk result (λ _. rounds_of plan.now * plan.now.tree.processors ≤ row_limit) }
@@ -65,6 +62,7 @@ fn merge_rounds(
 {
     let processors = u64::from(plan.tree().processors());
     let end = plan.rounds_end();
+    let none = MergedRows::new(alloc, plan.tree().processors())?;
     let mut merged = none;
     let mut count: u64 = 0;
     'rounds: while core.now() < end {

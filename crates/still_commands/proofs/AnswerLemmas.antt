@@ -1,5 +1,5 @@
 -- Where nothing fails, the answer for the bytes is given.
-use Rattle.std.proofs.Common.{false, ◌≡◌, ◌⊎◌, inl, inr, ℕ, ◌^◌, ◌≤◌, ◌<◌, List, Result, Ok, Err, Option, Some, None, refl}
+use Rattle.std.proofs.Common.{◌≡◌, ◌⊎◌, inl, inr, ℕ, ◌^◌, ◌≤◌, ◌<◌, List, Result, Ok, Err, Option, Some, None, refl}
 use Rattle.std.proofs.Common.{sym, ◌∙◌, ap, subst, arith}
 use Rattle.sched_base.specs.Sets.{SetContents}
 use Rattle.sched_base.specs.Scale.{IsScale, PassesAt, total_of, room_of}
@@ -18,7 +18,7 @@ use Rattle.still_commands.specs.declared.refusal.Refusal.TheVariants as why
 use Rattle.still_commands.specs.declared.status.Status.{Status}
 use Rattle.still_commands.specs.declared.status.Status.TheVariants.{Done, Invalid, NoMemory, BadInput, TooLong, TooWide}
 use Rattle.still_commands.specs.Commands.{SetText, rates, server_tree, schedule_rows, wrapped_rows, c_table, Output, of_set, of_trace, of_picture, of_tree, of_batch}
-use Rattle.still_commands.specs.Commands.{output_of, limit_of, ReadsSet, plan_of, rows_of, wrapped_rows_of, HasRoom, WritesSet, RefusesText}
+use Rattle.still_commands.specs.Commands.{output_of, limit_of, plan_of, rows_of, wrapped_rows_of, HasRoom, WritesSet, RefusesText}
 use Rattle.still_commands.specs.Commands.{Writes, CallsFor, Refuses}
 use Rattle.still_commands.specs.SetTexts.{IsSchedulable, IsUnfit, IsTooLongSet, IsTooWidePlan, IsTooWideSet, LacksText}
 use Rattle.still_commands.specs.Checks.{TellsTrace, Judges, RefusesTrace}

@@ -1,5 +1,5 @@
 -- A command that reads a set and writes a text of it: what was told, and why it stopped, said of the bytes.
-use Rattle.std.proofs.Common.{Result, refl}
+use Rattle.std.proofs.Common.{ℕ, List, Option, Result, refl}
 use Rattle.std.specs.Prelude.{OnOk, IfErr}
 use Rattle.std.specs.Io.KnownBytes.{Keeps}
 use Rattle.std.proofs.lemmas.Result.{IfErr-weaker, on_ok_weaker}
@@ -9,7 +9,8 @@ use Rattle.still_commands.specs.declared.refusal.Refusal.TheVariants as why
 use Rattle.still_commands.specs.declared.status.Status.TheVariants.{Done}
 use Rattle.still_commands.specs.Commands.{SetText, set_limit, text_of, ReadsSet, WritesSet, RefusesText}
 use Rattle.still_commands.specs.Ends.{Streams, IsTold, StopsAs}
-use Rattle.still_commands.specs.Input.{GaveSet, GaveNoSet, StopsAtSet, WroteSet}
+use Rattle.still_commands.specs.Input.{GaveSet, GaveNoSet, IsRefusedSet, StopsAtSet, WroteSet}
+use Rattle.still_commands.proofs.EndLemmas.{keeps_same}
 
 told_is : (what : SetText) (old new : Streams) (s : SetContents) → GaveSet old.left new.left set_limit s → WroteSet what old.out new.out s
     → IsTold set_limit (WritesSet what) Done old new
@@ -52,3 +53,11 @@ set_unread what old new why.NoMemory none keeps = keeps
 set_unread what old new (why.InputTooLong count) none keeps = (none.0, none.1, keeps)
 set_unread what old new (why.BadSet q) none keeps = let (bytes, all, bad) = none in (bytes, all, bad, keeps)
 set_unread what old new _ none keeps = absurd none
+
+-- a set that isn't told of at all
+pub refused_stops : (what : SetText) (s : SetContents) (out : Option (List ℕ)) (faults : ℕ) (r : Refusal) → IsRefusedSet s r
+    → StopsAtSet what out out faults faults s r
+refused_stops what s out faults why.WriteFault is = absurd is
+refused_stops what s out faults (why.TooLong rows) is = absurd is
+refused_stops what s out faults (why.TooWide ticks) is = absurd is
+refused_stops what s out faults _ is = (is, keeps_same out)

@@ -16,7 +16,7 @@ ghost use Rattle.still_commands.specs.declared.status.Status.TheVariants.{Done};
 use crate::input::SET_LIMIT;
 use crate::mode_line::set_start;
 use crate::refusal::Refusal;
-use crate::refusal_line::{refuse, write_refusal, write_set_refusal};
+use crate::refusal_line::{overload_line, refuse, scale_line, write_line, write_set_refusal};
 use crate::status::Status;
 use batch_compile::{Answer, Answers, answers_of};
 use command_words::is_batch;
@@ -137,15 +137,9 @@ fn write_answer_text<W: Sink>(answer: &Answer, out: &mut W) -> Result<(), Failed
 {
     match answer {
         Answer::Refused(refusal) => write_set_refusal(refusal, out),
-        Answer::ScaleTooLarge { at } => write_refusal(&Refusal::ScaleTooLarge { task: *at }, out),
-        Answer::Overload { total, room } => {
-            let refusal = Refusal::Overload {
-                total: *total,
-                room: *room,
-            };
-            write_refusal(&refusal, out)
-        }
-        Answer::Fits { scale, levels } => write_all(out, fits_line(*scale, *levels).as_slice()),
+        Answer::ScaleTooLarge { at } => write_line(scale_line(*at), out),
+        Answer::Overload { total, room } => write_line(overload_line(*total, *room), out),
+        Answer::Fits { scale, levels } => write_line(fits_line(*scale, *levels), out),
     }
 }
 

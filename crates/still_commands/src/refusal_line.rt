@@ -34,9 +34,9 @@ pub fn refuse<E: Sink>(refusal: &Refusal, err: &mut E) -> Status
     refusal.status()
 }
 
-/// Writes the line of a refusal, as one piece but for that of an unknown key, whose text may be long, and for that of a mode.
+// Writes the line of a refusal, as one piece but for that of an unknown key, whose text may be long, and for that of a mode.
 #[tactic(auto, unfolding(crate::specs::Refusals::refusal_line))]
-pub(crate) fn write_refusal<W: Sink>(refusal: &Refusal, out: &mut W) -> Result<(), Failed>
+fn write_refusal<W: Sink>(refusal: &Refusal, out: &mut W) -> Result<(), Failed>
     ensures wrote { Wrote (W.taken out.old) (W.taken out.new) (refusal_line refusal.now) result }
     ensures cause { HasCause (W.faults out.old) (W.faults out.new) result }
 {
@@ -259,9 +259,9 @@ pub(crate) fn overload_line(total: u128, room: u128) -> Line
     line
 }
 
-// The line of a scale past the limit.
+/// The line of a scale past the limit.
 #[tactic(auto, unfolding(crate::specs::Refusals::refusal_line, sched_edges::specs::Lines::line_of))]
-fn scale_line(task: u32) -> Line
+pub(crate) fn scale_line(task: u32) -> Line
     ensures { result ≡ refusal_line (ScaleTooLarge task) }
 {
     let mut line = begin(Status::ScaleTooLarge, b"ScaleTooLarge");

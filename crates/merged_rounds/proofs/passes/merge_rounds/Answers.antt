@@ -1,6 +1,6 @@
 use Rattle.std.proofs.lemmas.Result.{IfOk-from_err}
 use Rattle.event_core.specs.Rounds.{IsRoundUpTo}
-use Rattle.std.proofs.Common.{[], List, None, Option, Some, get_or, ap, arith, length, map, subst, sym, ℕ, ◌*◌, ◌+◌, ◌/◌, ◌<◌, ◌∙◌, ◌≡◌}
+use Rattle.std.proofs.Common.{[], List, None, Option, Some, get_or, ap, arith, length, map, replicate, subst, sym, ℕ, ◌*◌, ◌+◌, ◌/◌, ◌<◌, ◌≤◌, ◌∙◌, ◌≡◌}
 use Rattle.sched_base.specs.declared.rows.Leaf.TheVariants.{Empty}
 use Rattle.sched_base.specs.declared.rows.NodeId.{NodeId}
 use Rattle.sched_base.specs.declared.rows.Row.{Row}
@@ -32,6 +32,8 @@ rounds-init c =
     let h = c.rounds_end-end.ensures.lawful in
     let m = p.tree.processors in
     let start = c.requires.first in
+    let processors : c.processors-2.result ≡ m = c.processors-2.ensures.value ∙ ap (λ (t : Tree). t.processors) c.tree-2.ensures.value in
+    let none = c.in_ok-none.ensures.none ∙ ap (λ (n : ℕ). replicate {A = List Row} n []) processors in
     let no_rows_yet : rows_before p c.args.core.now.tick ≡ [] = ap (rows_before p) start ∙ no_rows p in
     let no_rounds_yet : rounds_before p c.args.core.now.tick ≡ 0 = ap (rounds_before p) start ∙ no_rounds p in
     let lanes : lanes_of m (rows_before p c.args.core.now.tick) ≡ lanes_of m [] = ap (lanes_of m) no_rows_yet in
@@ -39,8 +41,8 @@ rounds-init c =
       belongs = c.requires.belongs;
       count = sym no_rounds_yet;
       few = omega arith;
-      lanes = c.requires.none ∙ sym (merged_none m) ∙ ap (map merged) (sym (lanes_of-none m) ∙ sym lanes);
-      tick = c.requires.start ∙ sym start;
+      lanes = none ∙ sym (merged_none m) ∙ ap (map merged) (sym (lanes_of-none m) ∙ sym lanes);
+      tick = c.in_ok-none.ensures.start ∙ sym start;
       table = subst IsTable (sym (lanes ∙ lanes_of-none m)) (IsTable-none m);
       end = ap end_of lanes ∙ no_end p h ∙ sym start;
       kept = λ q l.
@@ -132,14 +134,23 @@ returns-clause-lawful c =
     (ap (λ n. rounds_in (lanes_of m (rows_before p n))) (sym here) ∙ c.rounds.invariant.rounds)
     (omega (arith, all, few))
 
+pub returns-in_err-none-clause-rows : goal.returns-in_err-none-clause-rows
+returns-in_err-none-clause-rows c = IfOk-from_err c.from_residual.result _ c.from_residual.ensures.0
+
+pub returns-in_err-none-clause-lawful : goal.returns-in_err-none-clause-lawful
+returns-in_err-none-clause-lawful c = IfOk-from_err c.from_residual.result _ c.from_residual.ensures.0
+
+pub returns-in_err-none-clause-few : goal.returns-in_err-none-clause-few
+returns-in_err-none-clause-few c = IfOk-from_err c.from_residual.result _ c.from_residual.ensures.0
+
 pub returns-in_err-merged-clause-rows : goal.returns-in_err-merged-clause-rows
-returns-in_err-merged-clause-rows c = IfOk-from_err c.from_residual.result _ c.from_residual.ensures.0
+returns-in_err-merged-clause-rows c = IfOk-from_err c.from_residual-in_err-merged.result _ c.from_residual-in_err-merged.ensures.0
 
 pub returns-in_err-merged-clause-lawful : goal.returns-in_err-merged-clause-lawful
-returns-in_err-merged-clause-lawful c = IfOk-from_err c.from_residual.result _ c.from_residual.ensures.0
+returns-in_err-merged-clause-lawful c = IfOk-from_err c.from_residual-in_err-merged.result _ c.from_residual-in_err-merged.ensures.0
 
 pub returns-in_err-merged-clause-few : goal.returns-in_err-merged-clause-few
-returns-in_err-merged-clause-few c = IfOk-from_err c.from_residual.result _ c.from_residual.ensures.0
+returns-in_err-merged-clause-few c = IfOk-from_err c.from_residual-in_err-merged.result _ c.from_residual-in_err-merged.ensures.0
 
 pub go-requires-clause-belongs : goal.go-requires-clause-belongs
 go-requires-clause-belongs c = c.rounds.invariant.belongs
@@ -149,3 +160,25 @@ look_each-requires-clause-belongs c = c.go.ensures.belongs
 
 pub look_each-requires-clause-round : goal.look_each-requires-clause-round
 look_each-requires-clause-round c = subst (λ (n : ℕ). IsRoundUpTo c.args.plan.now n c.go.new.self.tick) (sym c.now-start.ensures.value) c.go.ensures.round
+
+pub returns-clause-rows : goal.returns-clause-rows
+returns-clause-rows c =
+    let p = c.args.plan.now in
+    let now = c.now.ensures.value in
+    let end = c.rounds_end-end.ensures.value in
+    let early = c.rounds.invariant.belongs.at.early in
+    let here : c.rounds.core.tick ≡ stop_of p = omega (arith, now, end, early, c.rounds-test.false) in
+    c.rounds.invariant.lanes ∙ ap (λ (n : ℕ). map merged (lanes_of p.tree.processors (rows_before p n))) here
+
+pub returns-clause-few : goal.returns-clause-few
+returns-clause-few c =
+    let p = c.args.plan.now in
+    let now = c.now.ensures.value in
+    let end = c.rounds_end-end.ensures.value in
+    let early = c.rounds.invariant.belongs.at.early in
+    let here : c.rounds.core.tick ≡ stop_of p = omega (arith, now, end, early, c.rounds-test.false) in
+    let count : c.rounds.count ≡ rounds_of p = c.rounds.invariant.count ∙ ap (λ (n : ℕ). rounds_before p n) here in
+    let same : c.from-processors.result ≡ p.tree.processors =
+    c.from-processors.ensures ∙ c.processors.ensures.value ∙ ap (λ (t : Tree). t.processors) c.tree.ensures.value in
+    let all = ap (λ (n : ℕ). n * c.from-processors.result) count ∙ ap (λ (n : ℕ). rounds_of p * n) same in
+    subst (λ (n : ℕ). n ≤ row_limit) all c.rounds.invariant.few

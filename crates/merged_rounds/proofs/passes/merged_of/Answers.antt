@@ -19,15 +19,6 @@ returns-in_err-told-clause-lawful c = IfOk-from_err c.from_residual-in_err-told.
 pub returns-in_err-told-clause-few : goal.returns-in_err-told-clause-few
 returns-in_err-told-clause-few c = IfOk-from_err c.from_residual-in_err-told.result _ c.from_residual-in_err-told.ensures.0
 
-pub returns-in_err-none-clause-rows : goal.returns-in_err-none-clause-rows
-returns-in_err-none-clause-rows c = IfOk-from_err c.from_residual-in_err-none.result _ c.from_residual-in_err-none.ensures.0
-
-pub returns-in_err-none-clause-lawful : goal.returns-in_err-none-clause-lawful
-returns-in_err-none-clause-lawful c = IfOk-from_err c.from_residual-in_err-none.result _ c.from_residual-in_err-none.ensures.0
-
-pub returns-in_err-none-clause-few : goal.returns-in_err-none-clause-few
-returns-in_err-none-clause-few c = IfOk-from_err c.from_residual-in_err-none.result _ c.from_residual-in_err-none.ensures.0
-
 pub returns-in_err-core-clause-rows : goal.returns-in_err-core-clause-rows
 returns-in_err-core-clause-rows c = IfOk-from_err c.from_residual-in_err-core.result _ c.from_residual-in_err-core.ensures.0
 

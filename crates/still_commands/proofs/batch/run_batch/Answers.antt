@@ -1,4 +1,4 @@
-use Rattle.std.proofs.Common.{◌≡◌, ◌∙◌, inl, inr, List, ℕ, Some, None, refl, sym, ap, map, string_bytes, rules}
+use Rattle.std.proofs.Common.{◌≡◌, ◌∙◌, inl, inr, Some, None, refl, sym, ap, map, string_bytes, rules}
 use Rattle.command_words.specs.Words.{command_of}
 use Rattle.command_words.specs.declared.command.Command.TheVariants.{Batch}
 use Rattle.still_commands.specs.declared.refusal.Refusal.TheVariants as why
