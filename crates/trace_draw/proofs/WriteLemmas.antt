@@ -1,5 +1,5 @@
 -- Nothing is written.
-use Rattle.std.proofs.Common.{ℕ, List, [], Option, Result, Ok}
+use Rattle.std.proofs.Common.{ℕ, List, [], Option, Ok}
 use Rattle.sched_edges.specs.Streams.{Wrote}
 use Rattle.sched_edges.proofs.CauseLemmas.{took_none}
 

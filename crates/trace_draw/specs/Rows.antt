@@ -1,6 +1,6 @@
 -- The rows of a picture: each is a box in the lane of its processor and one in the lane of its task, with words where they have room. The words of
 -- all rows lie above all boxes.
-use Rattle.std.specs.Prelude.{ℕ, ◌+◌, ◌*◌, ◌/◌, nat_le, nat_lt, Bool, ◌&&◌, if◌then◌else◌, List, [], ◌∷◌, length, decimal}
+use Rattle.std.specs.Prelude.{ℕ, ◌+◌, ◌*◌, ◌/◌, nat_le, nat_lt, Bool, if◌then◌else◌, List, [], ◌∷◌, length, decimal}
 use Rattle.std.specs.List.{flat_map, concat}
 use Rattle.sched_base.specs.declared.rows.Leaf.{Leaf}
 use Rattle.sched_base.specs.declared.rows.Leaf.TheVariants as leaves

@@ -1,2 +1,4 @@
 pub mod ReadingLemmas
 pub mod WordLemmas
+mod HeadLemmas
+mod NumberLemmas

@@ -1,5 +1,5 @@
 -- The reading of a text, part by part.
-use Rattle.std.proofs.Common.{◌≡◌, ℕ, zero, suc, ◌+◌, ◌-◌, ◌^◌, ◌<◌, ◌≤◌, Bool, true, false, cond, min, List, [], ◌∷◌, ◌++◌, Option, Some, None, Result, Ok, Err, codes, length, get_or, refl, ap, ap₂, arith, inl, inr, sym, subst, ◌∙◌}
+use Rattle.std.proofs.Common.{◌≡◌, ℕ, zero, suc, ◌+◌, ◌-◌, ◌^◌, ◌<◌, ◌≤◌, true, false, cond, List, [], ◌∷◌, ◌++◌, Option, Some, None, Result, Ok, Err, codes, length, get_or, refl, ap, ap₂, arith, inl, inr, sym, subst, ◌∙◌}
 use Rattle.std.specs.Prelude.{is_some, IfOk, IfErr}
 use Rattle.std.specs.List.{AllByRecursion, range_with_len, sum_by}
 use Rattle.std.proofs.lemmas.Bool.{cases_lt, cond-true, cond-false}
@@ -19,7 +19,7 @@ use Rattle.trace_check.specs.TaskLines.{tasks_from, is_scale}
 use Rattle.trace_check.specs.Reading.{set_of}
 use Rattle.trace_check.proofs.ReadingLemmas.{scale_of_head, head_same}
 use Rattle.trace_check.proofs.ScaleTest.{is_scale_to}
-use Rattle.tree_check.specs.Written.{Pack, Written, IsWritten, IsWrittenLevel, level_at, level_line, end_line}
+use Rattle.tree_check.specs.Written.{Pack, Written, IsWritten, IsWrittenLevel, level_at, end_line}
 use Rattle.tree_reader.specs.declared.faults.TreeFault.{TreeFault}
 use Rattle.tree_reader.specs.declared.faults.TreeFault.TheVariants.{BadLine, NoMemory}
 use Rattle.tree_reader.specs.Faults.{NamesBadLine, same_fault}

@@ -1,6 +1,6 @@
 -- The reading of a tree text: what it says, or the least line at fault. Each line's test depends on earlier lines alone, but for the scale's, so the
 -- first that fails is the least.
-use Rattle.std.specs.Prelude.{ℕ, zero, suc, ◌+◌, ◌-◌, ◌^◌, ◌==◌, nat_le, Bool, true, false, ◌&&◌, is_some, if◌then◌else◌}
+use Rattle.std.specs.Prelude.{ℕ, zero, suc, ◌+◌, ◌-◌, ◌^◌, ◌==◌, nat_le, Bool, false, ◌&&◌, is_some, if◌then◌else◌}
 use Rattle.std.specs.Prelude.{List, [], ◌∷◌, ◌++◌}
 use Rattle.std.specs.Prelude.{Option, Some, None, length, codes, Result, Ok, Err}
 use Rattle.std.specs.List.{sum_by}

@@ -8,7 +8,7 @@ use std::alloc::{AllocError, AllocFailed};
 use trace_check::{BadLine, TraceFault};
 
 /// A tree text was refused, or memory was.
-#[derive(Clone, Copy, Debug, PartialEq, Eq)]
+#[derive(Clone, Copy)]
 pub enum TreeFault {
     /// This line is the first at fault, counted from 1. Where the text ends too soon, it is the line after its last one.
     BadLine { line: u64 },

@@ -3,7 +3,7 @@ ghost use Rattle.std.specs.Prelude.{◌≡◌, ◌<◌, ◌≤◌, ◌-◌, ◌^
 ghost use Rattle.trace_text.specs.Words.{lines_of, number_of};
 ghost use Rattle.trace_check.specs.Steps.{next_line, within};
 ghost use Rattle.tree_check.specs.Written.{IsWrittenPack};
-ghost use Rattle.tree_reader.specs.Packs.{pack_of, second_number};
+ghost use Rattle.tree_reader.specs.Packs.{pack_of, number_behind, second_number};
 
 use crate::members::read_members;
 use sched_base::NoMemory;
@@ -12,6 +12,32 @@ use trace_check::BadLine;
 use trace_text::{after_word, cut_space, first_line, read_number};
 use tree_check::Pack;
 
+// The number from `low` to `high` that a word writes.
+fn word_within(low: u128, high: u128, word: &[u8]) -> Option<u128>
+    requires { high < 2 ^ 128 - 1 }
+    ensures value { result ≡ option_and_then (within low high) (number_of word.now) }
+    ensures limits { IfSome result (λ n. (low ≤ n) × (n ≤ high)) }
+{
+    let number = read_number(word)?;
+    if number < low || number > high {
+        return None;
+    }
+    Some(number)
+}
+
+// The second of two numbers, where the first is k.
+fn number_behind(k: u128, low: u128, high: u128, first: &[u8], second: &[u8]) -> Option<u128>
+    requires first { k < 2 ^ 128 - 1 }
+    requires second { high < 2 ^ 128 - 1 }
+    ensures value { result ≡ number_behind k low high (first.now, second.now) }
+    ensures limits { IfSome result (λ n. (low ≤ n) × (n ≤ high)) }
+{
+    if read_number(first)? != k {
+        return None;
+    }
+    word_within(low, high, second)
+}
+
 fn second_number(word: &[u8], k: u128, low: u128, high: u128, line: &[u8]) -> Option<u128>
     requires first { k < 2 ^ 128 - 1 }
     requires second { high < 2 ^ 128 - 1 }
@@ -19,15 +45,7 @@ fn second_number(word: &[u8], k: u128, low: u128, high: u128, line: &[u8]) -> Op
     ensures limits { IfSome result (λ n. (low ≤ n) × (n ≤ high)) }
 {
     let (first, second) = cut_space(after_word(word, line)?)?;
-    let first = read_number(first)?;
-    if first != k {
-        return None;
-    }
-    let number = read_number(second)?;
-    if number < low || number > high {
-        return None;
-    }
-    Some(number)
+    number_behind(k, low, high, first, second)
 }
 
 /// The second number, from `low` to `high`, of the next line, which begins with the word and the number k, and the lines
@@ -65,19 +83,6 @@ pub(crate) fn level_size(level: usize, line: &[u8]) -> Option<u32>
     Some(size as u32)
 }
 
-// A rate of at most the scale.
-fn rate_within(scale: u128, word: &[u8]) -> Option<u128>
-    requires { scale < 2 ^ 128 - 1 }
-    ensures value { result ≡ option_and_then (within 0 scale) (number_of word.now) }
-    ensures limit { IfSome result (λ n. n ≤ scale) }
-{
-    let rate = read_number(word)?;
-    if rate > scale {
-        return None;
-    }
-    Some(rate)
-}
-
 /// The pack that a line of this level writes, or None where the line is no pack.
 pub(crate) fn read_pack(
     alloc: Global,
@@ -97,7 +102,7 @@ pub(crate) fn read_pack(
         Some(parts) => parts,
         None => return Ok(None),
     };
-    let rate = match rate_within(scale, rate) {
+    let rate = match word_within(0, scale, rate) {
         Some(rate) => rate,
         None => return Ok(None),
     };

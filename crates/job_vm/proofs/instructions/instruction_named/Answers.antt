@@ -87,3 +87,36 @@ returns-else-eq-6 c =
     })
     (ap (bytes_eq c.args.name.now) (sym c.as_slice-else-eq-4.ensures) ∙ sym c.if-eq-5.ensures)
     (ap (bytes_eq c.args.name.now) (sym c.as_slice-else-eq-5.ensures) ∙ sym c.if-eq-6.ensures)
+
+pub on_register-requires-clause-operation : goal.on_register-requires-clause-operation
+on_register-requires-clause-operation _ = omega arith
+
+pub on_register-requires-clause-limit : goal.on_register-requires-clause-limit
+on_register-requires-clause-limit _ = omega arith
+
+pub on_register-requires-then-eq-2-clause-operation : goal.on_register-requires-then-eq-2-clause-operation
+on_register-requires-then-eq-2-clause-operation _ = omega arith
+
+pub on_register-requires-then-eq-2-clause-limit : goal.on_register-requires-then-eq-2-clause-limit
+on_register-requires-then-eq-2-clause-limit _ = omega arith
+
+pub on_register-requires-then-eq-3-clause-operation : goal.on_register-requires-then-eq-3-clause-operation
+on_register-requires-then-eq-3-clause-operation _ = omega arith
+
+pub on_register-requires-then-eq-3-clause-limit : goal.on_register-requires-then-eq-3-clause-limit
+on_register-requires-then-eq-3-clause-limit _ = omega arith
+
+pub on_register-requires-then-eq-4-clause-operation : goal.on_register-requires-then-eq-4-clause-operation
+on_register-requires-then-eq-4-clause-operation _ = omega arith
+
+pub on_register-requires-then-eq-4-clause-limit : goal.on_register-requires-then-eq-4-clause-limit
+on_register-requires-then-eq-4-clause-limit _ = omega arith
+
+pub on_register-requires-then-eq-5-clause-operation : goal.on_register-requires-then-eq-5-clause-operation
+on_register-requires-then-eq-5-clause-operation _ = omega arith
+
+pub word_of-requires-clause-operation : goal.word_of-requires-clause-operation
+word_of-requires-clause-operation _ = omega arith
+
+pub word_of-requires-clause-register : goal.word_of-requires-clause-register
+word_of-requires-clause-register _ = omega arith

@@ -1,4 +1,5 @@
-use Rattle.std.proofs.Common.{[], ◌∷◌}
+use Rattle.sched_edges.proofs.CauseLemmas.{cause_cut}
+use Rattle.std.proofs.Common.{[], ◌∷◌, le_refl}
 use Rattle.sched_edges.proofs.Wrote.{wrote_then, wrote_cut}
 use Rattle.job_vm.proofs.ResultsLemmas.{job_line_is}
 use Rattle.job_vm.proofs.results.write_job.Goals as goal
@@ -20,3 +21,9 @@ returns-clause-wrote g c =
     let start = rw (c.as_slice.ensures.bytes, c.start_of_line.ensures) at c.in_ok-write_all.ensures.wrote in
     let end = wrote_then _ _ _ _ (10 ∷ []) _ c.write_all-2.result c.in_ok-write_numbers.ensures.wrote c.write_all-2.ensures.wrote in
     rw job_line_is (wrote_then _ _ _ _ _ _ c.write_all-2.result start end)
+
+pub returns-in_err-write_all-clause-cause : goal.returns-in_err-write_all-clause-cause
+returns-in_err-write_all-clause-cause g c = cause_cut _ _ _ _ _ (le_refl _) c.in_err-write_all.ensures.cause
+
+pub returns-in_err-write_numbers-clause-cause : goal.returns-in_err-write_numbers-clause-cause
+returns-in_err-write_numbers-clause-cause g c = cause_cut _ _ _ _ _ c.in_ok-write_all.ensures.cause.later c.in_err-write_numbers.ensures.cause

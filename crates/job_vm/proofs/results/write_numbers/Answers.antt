@@ -1,3 +1,4 @@
+use Rattle.sched_edges.proofs.CauseLemmas.{cause_cut}
 use Rattle.std.proofs.Common.{◌∷◌, get_or}
 use Rattle.std.specs.Prelude.{decimal}
 use Rattle.std.proofs.lemmas.List.{get_or_default}
@@ -11,3 +12,9 @@ returns-in_err-write_all-clause-wrote g c =
     let line = rw (c.as_slice.ensures.bytes, c.word_of.ensures) at c.in_err-write_all.ensures.wrote in
     wrote_item (λ n. 32 ∷ decimal n) numbers i (get_or numbers i 0) _ _ _ _ c.from_residual.result c.loop-number-test.true
     (get_or_default numbers i 0 (get_or numbers i 0) c.loop-number-test.true) c.loop-number.invariant.0 line c.from_residual.ensures.0
+
+pub returns-in_err-write_all-clause-cause : goal.returns-in_err-write_all-clause-cause
+returns-in_err-write_all-clause-cause g c = cause_cut _ _ _ _ _ c.loop-number.invariant.1 c.in_err-write_all.ensures.cause
+
+pub returns-clause-cause : goal.returns-clause-cause
+returns-clause-cause g c = record { later = c.loop-number.invariant.1; failed = tt }

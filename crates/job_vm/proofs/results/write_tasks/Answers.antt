@@ -1,3 +1,4 @@
+use Rattle.sched_edges.proofs.CauseLemmas.{cause_cut}
 use Rattle.std.proofs.Common.{◌<◌, ◌∙◌, length, ap, arith}
 use Rattle.std.specs.Prelude.{slice_get}
 use Rattle.sched_base.specs.Sets.{task_at}
@@ -49,3 +50,18 @@ loop-i-preserved g c =
       later = omega (arith, before, later);
       same = c.told_at-units.ensures.same ∙ c.loop-i.invariant.same;
     }
+
+pub told_at-units-requires-clause-scale : goal.told_at-units-requires-clause-scale
+told_at-units-requires-clause-scale g c = c.requires.scale
+
+pub returns-in_err-write_job-clause-cause : goal.returns-in_err-write_job-clause-cause
+returns-in_err-write_job-clause-cause g c = cause_cut _ _ _ _ _ c.loop-i.invariant.later c.in_err-write_job.ensures.cause
+
+pub returns-clause-cause : goal.returns-clause-cause
+returns-clause-cause g c = record { later = c.loop-i.invariant.later; failed = tt }
+
+pub returns-clause-same : goal.returns-clause-same
+returns-clause-same g c = c.loop-i.invariant.same
+
+pub returns-in_err-write_job-clause-same : goal.returns-in_err-write_job-clause-same
+returns-in_err-write_job-clause-same g c = c.told_at-units.ensures.same ∙ c.loop-i.invariant.same

@@ -1,20 +1,11 @@
-use Rattle.std.proofs.Common.{◌≡◌, ◌∙◌, ℕ, List, Option, None, Some, option_map, option_and_then, codes, refl, sym}
+use Rattle.std.proofs.Common.{◌≡◌, ◌∙◌, ℕ, List, None, Some, option_map, codes, refl, sym}
 use Rattle.sched_base.specs.declared.rows.Row.{Row}
 use Rattle.sched_base.specs.declared.sets.Task.{Task}
 use Rattle.trace_text.specs.Words.{after_word, number_of, cut_space}
 use Rattle.trace_check.specs.RowLines.{row_of}
-use Rattle.trace_check.proofs.TaskLemmas.{cap}
+use Rattle.trace_check.proofs.TaskLemmas.{cap, none_capped, none_then}
 use Rattle.trace_check.proofs.RowLemmas.{row_of_is}
 use Rattle.trace_check.proofs.row_lines.row_of.Goals as goal
-
--- the code's number is none where the word is no number
-none_capped : (x : Option ℕ) → None ≡ option_map cap x → x ≡ None
-none_capped None e = refl
-none_capped (Some n) e = (let f : ◌≡◌ {A = Option ℕ} None (Some (cap n)) = e in cc)
-
-none_then : (x : Option ℕ) → ◌≡◌ {A = Option Row} (option_and_then (λ n. None) x) None
-none_then None = refl
-none_then (Some n) = refl
 
 -- a line that has too few words is no row's
 no_word : (tasks : List Task) (done : List Row) (line : List ℕ) → None ≡ after_word (codes "row") line → None ≡ row_of tasks done line
@@ -37,12 +28,12 @@ no_processor tasks done line rest processor r start q end name a b c d x = rw (s
 
 no_start : (tasks : List Task) (done : List Row) (line rest processor r start q end name : List ℕ) → Some rest ≡ after_word (codes "row") line → Some (processor, r) ≡ cut_space rest
     → Some (start, q) ≡ cut_space r → Some (end, name) ≡ cut_space q → None ≡ option_map cap (number_of start) → None ≡ row_of tasks done line
-no_start tasks done line rest processor r start q end name a b c d x = rw (sym a, sym b, sym c, sym d, none_capped (number_of start) x) (sym (none_then (number_of processor)))
+no_start tasks done line rest processor r start q end name a b c d x = rw (sym a, sym b, sym c, sym d, none_capped (number_of start) x) (sym (none_then {B = Row} (number_of processor)))
 
 no_end : (tasks : List Task) (done : List Row) (line rest processor r start q end name : List ℕ) → Some rest ≡ after_word (codes "row") line → Some (processor, r) ≡ cut_space rest
     → Some (start, q) ≡ cut_space r → Some (end, name) ≡ cut_space q → None ≡ option_map cap (number_of end) → None ≡ row_of tasks done line
 no_end tasks done line rest processor r start q end name a b c d x =
-    rw (sym a, sym b, sym c, sym d, none_capped (number_of end) x, none_then (number_of start)) (sym (none_then (number_of processor)))
+    rw (sym a, sym b, sym c, sym d, none_capped (number_of end) x, none_then {B = Row} (number_of start)) (sym (none_then {B = Row} (number_of processor)))
 
 pub returns-clause-row : goal.returns-clause-row
 returns-clause-row c =

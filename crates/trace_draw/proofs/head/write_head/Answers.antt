@@ -32,3 +32,9 @@ returns-in_err-write_style-clause-cause g c = cause_cut _ _ _ _ _ c.write_openin
 
 pub returns-clause-cause : goal.returns-clause-cause
 returns-clause-cause g c = cause_then _ _ _ _ (le_trans c.write_opening.ensures.cause.later c.write_style.ensures.cause.later) c.write_caption.ensures.cause
+
+pub write_opening-requires : goal.write_opening-requires
+write_opening-requires g c = c.requires
+
+pub write_caption-requires : goal.write_caption-requires
+write_caption-requires g c = c.requires

@@ -16,3 +16,6 @@ returns-clause-wrote g c =
       c.word_line-11.ensures,
       c.word_line-12.ensures,
     ) at c.write_lines.ensures.wrote
+
+pub returns-clause-cause : goal.returns-clause-cause
+returns-clause-cause g c = c.write_lines.ensures.cause

@@ -59,3 +59,15 @@ returns-in_err-write_period-clause-cause g c = cause_cut _ _ _ _ _ c.loop-i.inva
 
 pub returns-clause-cause : goal.returns-clause-cause
 returns-clause-cause g c = record { later = c.loop-i.invariant.1; failed = tt }
+
+pub first_shown-first-requires-clause-window : goal.first_shown-first-requires-clause-window
+first_shown-first-requires-clause-window g c = c.requires.window
+
+pub count_shown-i-end-requires-clause-window : goal.count_shown-i-end-requires-clause-window
+count_shown-i-end-requires-clause-window g c = c.requires.window
+
+pub write_period-requires-clause-window : goal.write_period-requires-clause-window
+write_period-requires-clause-window g c = c.requires.window
+
+pub write_period-requires-clause-task : goal.write_period-requires-clause-task
+write_period-requires-clause-task g c = c.requires.task

@@ -67,3 +67,6 @@ returns-clause-wrote g c =
     let lines = drawn ∙ lines_capped c.args.window.now (s.horizon * tr.scale) (task_top s.processors c.args.task + 300) (period_start tr.scale t k) (period_start tr.scale t (k + 1))
     (t.work * tr.scale) (served tr.scale s tr.rows c.args.task k) (finish tr.scale s tr.rows c.args.task k) (omega (arith, due)) in
     rw lines at c.write_lines.ensures.wrote
+
+pub period_lines-requires-clause-window : goal.period_lines-requires-clause-window
+period_lines-requires-clause-window g c = c.requires.window

@@ -25,3 +25,12 @@ returns-in_err-write_lines-clause-cause g c = cause_cut _ _ _ _ _ (le_refl _) c.
 
 pub returns-clause-cause : goal.returns-clause-cause
 returns-clause-cause g c = cause_then _ _ _ _ c.write_lines.ensures.cause.later c.write_marks.ensures.cause
+
+pub title_lines-requires-clause-task : goal.title_lines-requires-clause-task
+title_lines-requires-clause-task g c = c.requires.task
+
+pub write_marks-requires-clause-window : goal.write_marks-requires-clause-window
+write_marks-requires-clause-window g c = c.requires.window
+
+pub write_marks-requires-clause-task : goal.write_marks-requires-clause-task
+write_marks-requires-clause-task g c = c.requires.task

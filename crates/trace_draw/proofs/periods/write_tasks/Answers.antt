@@ -32,3 +32,6 @@ returns-in_err-write_task-clause-cause g c = cause_cut _ _ _ _ _ c.loop-task.inv
 
 pub returns-clause-cause : goal.returns-clause-cause
 returns-clause-cause g c = record { later = c.loop-task.invariant.1; failed = tt }
+
+pub write_task-requires-clause-window : goal.write_task-requires-clause-window
+write_task-requires-clause-window g c = c.requires.window

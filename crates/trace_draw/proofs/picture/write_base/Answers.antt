@@ -37,3 +37,9 @@ returns-in_err-write_lanes-clause-cause g c = cause_cut _ _ _ _ _ c.write_head.e
 
 pub returns-clause-cause : goal.returns-clause-cause
 returns-clause-cause g c = cause_then _ _ _ _ (le_trans c.write_head.ensures.cause.later c.write_lanes.ensures.cause.later) c.write_axis.ensures.cause
+
+pub write_head-requires : goal.write_head-requires
+write_head-requires g c = c.requires
+
+pub write_axis-requires : goal.write_axis-requires
+write_axis-requires g c = c.requires

@@ -39,3 +39,9 @@ returns-in_err-write_rows-clause-cause g c = cause_cut _ _ _ _ _ c.write_fault.e
 
 pub returns-clause-cause : goal.returns-clause-cause
 returns-clause-cause g c = cause_then _ _ _ _ (le_trans c.write_fault.ensures.cause.later c.write_rows.ensures.cause.later) c.write_closing.ensures.cause
+
+pub write_fault-requires : goal.write_fault-requires
+write_fault-requires g c = c.requires
+
+pub write_rows-requires-clause-window : goal.write_rows-requires-clause-window
+write_rows-requires-clause-window g c = c.requires

@@ -26,3 +26,6 @@ returns-in-Some-clause-cause g c = c.write_frames.ensures.cause
 
 pub returns-in-None-clause-cause : goal.returns-in-None-clause-cause
 returns-in-None-clause-cause g c = record { later = le_refl _; failed = tt }
+
+pub write_frames-requires : goal.write_frames-requires
+write_frames-requires g c = c.requires

@@ -16,3 +16,12 @@ returns-then-not-reaches-clause-cause g c = record { later = le_refl _; failed =
 
 pub returns-clause-cause : goal.returns-clause-cause
 returns-clause-cause g c = c.write_lines.ensures.cause
+
+pub reaches-requires : goal.reaches-requires
+reaches-requires g c = c.requires
+
+pub place-x-requires : goal.place-x-requires
+place-x-requires g c = c.requires
+
+pub span-width-requires : goal.span-width-requires
+span-width-requires g c = c.requires

@@ -1,4 +1,4 @@
-use Rattle.std.proofs.Common.{arith, le_refl, le_trans}
+use Rattle.std.proofs.Common.{le_refl, le_trans}
 use Rattle.std.proofs.lemmas.List.{take_all, get_or_default}
 use Rattle.sched_base.specs.declared.rows.Leaf.TheVariants as leaves
 use Rattle.sched_edges.proofs.Wrote.{item_written, wrote_item}
@@ -37,3 +37,6 @@ returns-in_err-write_row-clause-cause g c = cause_cut _ _ _ _ _ c.loop-row.invar
 
 pub returns-clause-cause : goal.returns-clause-cause
 returns-clause-cause g c = record { later = c.loop-row.invariant.1; failed = tt }
+
+pub write_row-requires-clause-window : goal.write_row-requires-clause-window
+write_row-requires-clause-window g c = c.requires.window

@@ -14,3 +14,6 @@ returns-in-None c =
     let size : length c.args.places.now ≡ 0 = grind arith in
     let none : c.args.places.now ≡ [] = no_places c.args.places.now size in
     subst (λ places. IsTold c.args.periods.now (map (row_at c.args.rows.now) places) c.none.result) (sym none) (c.none.ensures c.args.periods.now)
+
+pub findings_from-requires-clause-some : goal.findings_from-requires-clause-some
+findings_from-requires-clause-some c = c.requires.some

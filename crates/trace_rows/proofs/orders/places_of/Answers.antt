@@ -1,3 +1,4 @@
+use Rattle.std.proofs.lemmas.Result.{IfOk-from_err}
 use Rattle.std.proofs.Common.{ap, ◌∙◌, arith}
 use Rattle.std.proofs.lemmas.List.{take_all}
 use Rattle.trace_rows.specs.Orders.{places}
@@ -11,3 +12,6 @@ loop-entry-preserved c =
 
 pub returns : goal.returns
 returns c = c.loop-entry.invariant ∙ ap places (take_all c.loop-entry.entry-index c.args.entries.now (omega arith))
+
+pub returns-in_err-push : goal.returns-in_err-push
+returns-in_err-push c = IfOk-from_err _ _ c.from_residual.ensures.0

@@ -37,3 +37,6 @@ returns-clause-last c =
     let base = ap (λ (k : ClockState). k.base) c.seek-first.ensures.stands ∙ c.requires.base in
     let span = ap (λ (k : ClockState). k.span) c.seek-first.ensures.stands ∙ c.requires.span in
     seek_is c.args.periods.now c.seek-first.new.self.base c.seek-first.new.self.span (c.args.row.now.end - 1) c.seek-last.result base span c.seek-last.ensures.number
+
+pub response_of-response-requires-clause-ended : goal.response_of-response-requires-clause-ended
+response_of-response-requires-clause-ended c = c.requires.ended

@@ -8,3 +8,9 @@ pub returns-clause-supplied : goal.returns-clause-supplied
 returns-clause-supplied c =
     went_supplied c.args.periods.now c.args.rows.now c.args.task c.args.places.now c.walk_all.result
     c.requires.lawful c.if-periods.false c.walk_all.ensures
+
+pub walk_all-requires-clause-lawful : goal.walk_all-requires-clause-lawful
+walk_all-requires-clause-lawful c = c.requires.lawful
+
+pub walk_all-requires-clause-begun : goal.walk_all-requires-clause-begun
+walk_all-requires-clause-begun c = c.if-periods.false

@@ -109,3 +109,6 @@ ends-requires-clause-lawful c = c.requires.lawful
 
 pub ends-requires-clause-stands : goal.ends-requires-clause-stands
 ends-requires-clause-stands c = c.loop-left.invariant.0.stands
+
+pub returns-in_err-row : goal.returns-in_err-row
+returns-in_err-row c = rw c.from_residual.ensures tt

@@ -1,5 +1,5 @@
 use Rattle.std.proofs.Common.{◌≡◌, ◌+◌, ◌-◌, ◌∷◌, ◌++◌, ◌≤◌, [], ℕ, List, length, length-append, sym, ap, subst, ◌∙◌, arith}
-use Rattle.std.proofs.lemmas.Result.{err_from_is_err_and}
+use Rattle.std.proofs.lemmas.Result.{err_from_is_err_and, IfOk-from_err}
 use Rattle.std.specs.List.{AllByRecursion}
 use Rattle.trace_text.specs.Words.{lines_of}
 use Rattle.tree_reader.specs.Reading.{idles_from}
@@ -25,3 +25,27 @@ loop-k-preserved c =
       (let e = length-append c.loop-k.idles.items (c.in_ok-rate.rate ∷ []) in let g = ap length pushed in omega (arith, e, g, c.loop-k.invariant.1)),
       (let P : ℕ → Type 0 = λ r. (1 ≤ r) × (r ≤ scale) in subst (λ (xs : List ℕ). AllByRecursion P xs) (sym pushed) (all_push P c.loop-k.idles.items c.in_ok-rate.rate c.loop-k.invariant.2 c.in_ok-rate.ensures.limits)),
     )
+
+pub returns-in_err-rate-clause-read : goal.returns-in_err-rate-clause-read
+returns-in_err-rate-clause-read c = IfOk-from_err _ _ c.from_residual.ensures.0
+
+pub returns-in_err-rate-clause-count : goal.returns-in_err-rate-clause-count
+returns-in_err-rate-clause-count c = IfOk-from_err _ _ c.from_residual.ensures.0
+
+pub returns-in_err-rate-clause-each : goal.returns-in_err-rate-clause-each
+returns-in_err-rate-clause-each c = IfOk-from_err _ _ c.from_residual.ensures.0
+
+pub returns-in_err-push-clause-read : goal.returns-in_err-push-clause-read
+returns-in_err-push-clause-read c = IfOk-from_err _ _ c.from_residual-in_err-push.ensures.0
+
+pub returns-in_err-push-clause-count : goal.returns-in_err-push-clause-count
+returns-in_err-push-clause-count c = IfOk-from_err _ _ c.from_residual-in_err-push.ensures.0
+
+pub returns-in_err-push-clause-each : goal.returns-in_err-push-clause-each
+returns-in_err-push-clause-each c = IfOk-from_err _ _ c.from_residual-in_err-push.ensures.0
+
+pub returns-in_err-push-clause-fault : goal.returns-in_err-push-clause-fault
+returns-in_err-push-clause-fault c = let why = err_from_is_err_and c.from_residual-in_err-push.result c.from_residual-in_err-push.ensures.1 in rw (why.1, why.2) tt
+
+pub returns-clause-each : goal.returns-clause-each
+returns-clause-each c = c.loop-k.invariant.2

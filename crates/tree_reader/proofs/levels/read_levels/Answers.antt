@@ -1,12 +1,11 @@
+use Rattle.std.proofs.lemmas.Result.{IfOk-from_err, err_from_is_err_and}
 use Rattle.std.proofs.Common.{◌≡◌, ◌+◌, ◌∷◌, ◌++◌, ◌<◌, [], ℕ, suc, List, length, get_or, Ok, sym, ap, subst, ◌∙◌, arith}
-use Rattle.std.proofs.lemmas.Bool.{eqb-true}
 use Rattle.std.proofs.lemmas.List.Sums.{sum_by_push}
 use Rattle.trace_text.specs.Words.{lines_of}
-use Rattle.trace_check.proofs.TaskLemmas.{no_lines}
 use Rattle.tree_check.specs.Written.{Pack, IsWrittenLevel}
 use Rattle.tree_reader.specs.Faults.{NamesBadLine}
 use Rattle.tree_reader.specs.Reading.{level_from, levels_from, lines_so_far}
-use Rattle.tree_reader.proofs.ReadingLemmas.{levels_more, levels_stop, levels_done, stops_same, lawful_more}
+use Rattle.tree_reader.proofs.ReadingLemmas.{levels_more, levels_stop, stops_same, lawful_more}
 use Rattle.tree_reader.proofs.levels.read_levels.Goals as goal
 
 pub loop-rest-preserved : goal.loop-rest-preserved
@@ -44,3 +43,21 @@ returns-in-Err-read_level-clause-fault c =
     let level = subst (λ (k : ℕ). NamesBadLine (level_from c.args.scale k c.loop-rest.at c.first_line.result.0.now (lines_of c.first_line.result.1.now)) c.in-Err-read_level.fault) count c.in-Err-read_level.ensures.fault in
     stops_same (levels_from c.args.scale c.args.first 0 [] (lines_of c.args.text.now)) (levels_from c.args.scale c.loop-rest.at 0 items lines) c.in-Err-read_level.fault c.loop-rest.invariant.0
     (levels_stop c.args.scale c.loop-rest.at items lines (lines_of c.first_line.result.1.now) c.first_line.result.0.now c.in-Err-read_level.fault c.first_line.ensures.line (sym c.if-begins_end.ensures) level)
+
+pub returns-in_err-push-clause-read : goal.returns-in_err-push-clause-read
+returns-in_err-push-clause-read c = IfOk-from_err _ _ c.from_residual.ensures.0
+
+pub returns-in_err-push-clause-some : goal.returns-in_err-push-clause-some
+returns-in_err-push-clause-some c = IfOk-from_err _ _ c.from_residual.ensures.0
+
+pub returns-in_err-push-clause-lawful : goal.returns-in_err-push-clause-lawful
+returns-in_err-push-clause-lawful c = IfOk-from_err _ _ c.from_residual.ensures.0
+
+pub returns-in_err-push-clause-lines : goal.returns-in_err-push-clause-lines
+returns-in_err-push-clause-lines c = IfOk-from_err _ _ c.from_residual.ensures.0
+
+pub returns-in_err-push-clause-fault : goal.returns-in_err-push-clause-fault
+returns-in_err-push-clause-fault c = let why = err_from_is_err_and c.from_residual.result c.from_residual.ensures.1 in rw (why.1, why.2) tt
+
+pub read_level-requires-clause-scale : goal.read_level-requires-clause-scale
+read_level-requires-clause-scale c = c.requires.scale

@@ -1,4 +1,5 @@
-use Rattle.std.proofs.Common.{◌≡◌, ◌+◌, ◌-◌, ◌∷◌, ◌++◌, ◌≤◌, [], ℕ, List, Option, length, length-append, Err, sym, ap, subst, ◌∙◌, arith}
+use Rattle.std.proofs.lemmas.Result.{IfOk-from_err, err_from_is_err_and}
+use Rattle.std.proofs.Common.{◌≡◌, ◌+◌, ◌-◌, ◌∷◌, ◌++◌, [], List, Option, length, length-append, Err, sym, ap, subst, ◌∙◌, arith}
 use Rattle.std.specs.Prelude.{IfSome}
 use Rattle.std.specs.List.{AllByRecursion}
 use Rattle.std.proofs.lemmas.Bool.{eqb-true}
@@ -40,3 +41,36 @@ loop-i-preserved c =
       omega (arith, c.loop-i.invariant.2, c.first_line.ensures.less),
       subst (λ (ps : List Pack). AllByRecursion (IsWrittenPack scale level) ps) (sym pushed) (all_push (IsWrittenPack scale level) items pack c.loop-i.invariant.3 (subst (λ (o : Option Pack). IfSome o (IsWrittenPack scale level)) c.in-Some.is c.in_ok-pack.ensures.lawful)),
     )
+
+pub returns-in_err-pack-clause-read : goal.returns-in_err-pack-clause-read
+returns-in_err-pack-clause-read c = IfOk-from_err _ _ c.from_residual.ensures.0
+
+pub returns-in_err-pack-clause-count : goal.returns-in_err-pack-clause-count
+returns-in_err-pack-clause-count c = IfOk-from_err _ _ c.from_residual.ensures.0
+
+pub returns-in_err-pack-clause-less : goal.returns-in_err-pack-clause-less
+returns-in_err-pack-clause-less c = IfOk-from_err _ _ c.from_residual.ensures.0
+
+pub returns-in_err-pack-clause-each : goal.returns-in_err-pack-clause-each
+returns-in_err-pack-clause-each c = IfOk-from_err _ _ c.from_residual.ensures.0
+
+pub returns-in_err-pack-clause-fault : goal.returns-in_err-pack-clause-fault
+returns-in_err-pack-clause-fault c = let why = err_from_is_err_and c.from_residual.result c.from_residual.ensures.1 in rw (why.1, why.2) tt
+
+pub returns-in_err-push-clause-read : goal.returns-in_err-push-clause-read
+returns-in_err-push-clause-read c = IfOk-from_err _ _ c.from_residual-in_err-push.ensures.0
+
+pub returns-in_err-push-clause-count : goal.returns-in_err-push-clause-count
+returns-in_err-push-clause-count c = IfOk-from_err _ _ c.from_residual-in_err-push.ensures.0
+
+pub returns-in_err-push-clause-less : goal.returns-in_err-push-clause-less
+returns-in_err-push-clause-less c = IfOk-from_err _ _ c.from_residual-in_err-push.ensures.0
+
+pub returns-in_err-push-clause-each : goal.returns-in_err-push-clause-each
+returns-in_err-push-clause-each c = IfOk-from_err _ _ c.from_residual-in_err-push.ensures.0
+
+pub returns-in_err-push-clause-fault : goal.returns-in_err-push-clause-fault
+returns-in_err-push-clause-fault c = let why = err_from_is_err_and c.from_residual-in_err-push.result c.from_residual-in_err-push.ensures.1 in rw (why.1, why.2) tt
+
+pub returns-clause-each : goal.returns-clause-each
+returns-clause-each c = c.loop-i.invariant.3

@@ -1,10 +1,9 @@
-use Rattle.std.proofs.Common.{◌≡◌, ◌+◌, Ok, Err, refl, sym, ap, subst, ◌∙◌, arith}
-use Rattle.std.proofs.lemmas.Result.{err_from_is_err_and}
+use Rattle.std.proofs.Common.{Err, arith}
+use Rattle.std.proofs.lemmas.Result.{err_from_is_err_and, IfOk-from_err}
 use Rattle.trace_text.specs.Words.{lines_of}
 use Rattle.trace_check.proofs.ScaleTest.{is_scale_to}
 use Rattle.tree_check.specs.Written.{Written}
-use Rattle.tree_reader.specs.Reading.{body}
-use Rattle.tree_reader.proofs.ReadingLemmas.{body_count, body_idles, body_levels, stops_then, after_idles, written_is}
+use Rattle.tree_reader.proofs.ReadingLemmas.{body_count, written_is}
 use Rattle.tree_reader.proofs.reading.read_body.Goals as goal
 
 pub returns-in_err-count-clause-fault : goal.returns-in_err-count-clause-fault
@@ -23,3 +22,12 @@ new-requires c =
     let w : Written = record { set = c.args.set; scale = c.args.scale; idles = c.in_ok-idles.idles.items; levels = c.in_ok-levels.levels.items } in
     written_is w c.count.ensures.lawful c.requires (omega (arith, c.in_ok-idles.ensures.count, c.in_ok-count.ensures.limits)) c.in_ok-idles.ensures.each c.in_ok-levels.ensures.some c.in_ok-levels.ensures.lawful
     (omega (arith, c.in_ok-levels.ensures.lines, c.from-after_tasks.ensures, c.count.ensures.value, c.len.ensures))
+
+pub returns-in_err-count-clause-tree : goal.returns-in_err-count-clause-tree
+returns-in_err-count-clause-tree c = IfOk-from_err _ _ c.from_residual.ensures.0
+
+pub returns-in_err-idles-clause-tree : goal.returns-in_err-idles-clause-tree
+returns-in_err-idles-clause-tree c = IfOk-from_err _ _ c.from_residual-in_err-idles.ensures.0
+
+pub returns-in_err-levels-clause-tree : goal.returns-in_err-levels-clause-tree
+returns-in_err-levels-clause-tree c = IfOk-from_err _ _ c.from_residual-in_err-levels.ensures.0

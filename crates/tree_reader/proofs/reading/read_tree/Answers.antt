@@ -1,5 +1,5 @@
 use Rattle.std.proofs.Common.{sym}
-use Rattle.std.proofs.lemmas.Result.{err_from_is_err_and}
+use Rattle.std.proofs.lemmas.Result.{err_from_is_err_and, IfOk-from_err}
 use Rattle.trace_text.specs.Words.{lines_of}
 use Rattle.trace_check.proofs.ReadingLemmas.{set_is}
 use Rattle.tree_reader.specs.Reading.{reading, body}
@@ -40,3 +40,24 @@ returns-clause-fault c =
     let same = set_is set head c.in_ok-set.ensures.processors c.in_ok-set.ensures.horizon in
     let whole = reading_body c.args.bytes.now head h.0 (lines_of c.in_ok-head.rest.now) (lines_of c.in_ok-set.rest.now) set h.1 h.2 c.in_ok-head.ensures.version c.in_ok-set.ensures.tasks (sym c.if-not-is_scale.ensures) same in
     err_same c.read_body.result (reading c.args.bytes.now) (body set head.scale (lines_of c.in_ok-set.rest.now)) whole c.read_body.ensures.fault
+
+pub returns-in_err-head-clause-tree : goal.returns-in_err-head-clause-tree
+returns-in_err-head-clause-tree c = IfOk-from_err _ _ c.from_residual.ensures.0
+
+pub returns-in_err-set-clause-tree : goal.returns-in_err-set-clause-tree
+returns-in_err-set-clause-tree c = IfOk-from_err _ _ c.from_residual-in_err-set.ensures.0
+
+pub read_tasks-requires-clause-some_processors : goal.read_tasks-requires-clause-some_processors
+read_tasks-requires-clause-some_processors c = c.in_ok-head.ensures.processors.0
+
+pub read_tasks-requires-clause-few_processors : goal.read_tasks-requires-clause-few_processors
+read_tasks-requires-clause-few_processors c = c.in_ok-head.ensures.processors.1
+
+pub read_tasks-requires-clause-some_horizon : goal.read_tasks-requires-clause-some_horizon
+read_tasks-requires-clause-some_horizon c = c.in_ok-head.ensures.horizon.0
+
+pub read_tasks-requires-clause-horizon_fits : goal.read_tasks-requires-clause-horizon_fits
+read_tasks-requires-clause-horizon_fits c = c.in_ok-head.ensures.horizon.1
+
+pub read_tasks-requires-clause-few_tasks : goal.read_tasks-requires-clause-few_tasks
+read_tasks-requires-clause-few_tasks c = c.in_ok-head.ensures.tasks

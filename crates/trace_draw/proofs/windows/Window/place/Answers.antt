@@ -1,4 +1,4 @@
-use Rattle.std.proofs.Math.Nat.{mul-le-mul_right, div-le_of_le-mul}
+use Rattle.std.proofs.Math.Nat.{div-le_of_le-mul}
 use mir.Syntax.{w128}
 use Rattle.std.proofs.Common.{◌≡◌, ℕ, ◌+◌, ◌-◌, min, max, ap, arith, ◌*◌, ◌/◌, ◌%◌, ◌^◌, ◌<◌, ◌≤◌, Fits, mod-lt}
 use Rattle.trace_draw.specs.Windows.{first_tick, end_tick}

@@ -1,4 +1,4 @@
-use Rattle.std.proofs.Common.{◌≡◌, ◌&&◌, ap, sym, ◌∙◌, arith}
+use Rattle.std.proofs.Common.{◌≡◌, ◌&&◌, ap, sym, ◌∙◌, arith, refl}
 use Rattle.std.proofs.lemmas.Bool.{and_from, false≢true}
 use Rattle.trace_rows.specs.Clock.{ClockState}
 use Rattle.trace_rows.specs.Supply.{ended_by, row_holds}
@@ -81,3 +81,9 @@ gap_holds-requires-clause-lawful c = c.requires.lawful
 
 pub row_holds-requires-clause-lawful : goal.row_holds-requires-clause-lawful
 row_holds-requires-clause-lawful c = c.requires.lawful
+
+pub returns-clause-tick : goal.returns-clause-tick
+returns-clause-tick c = λ _. refl
+
+pub returns-clause-done : goal.returns-clause-done
+returns-clause-done c = λ _. refl

@@ -1,5 +1,5 @@
 use Rattle.std.proofs.lemmas.Bool.{false≢true}
-use Rattle.std.proofs.Common.{◌∷◌, [], get_or, map, subst, sym, ◌∙◌, ap, arith}
+use Rattle.std.proofs.Common.{◌∷◌, [], get_or, map, subst, sym, ◌∙◌, ap, arith, refl}
 use Rattle.std.specs.List.{AllByRecursion}
 use Rattle.std.proofs.lemmas.List.{take_all}
 use Rattle.sched_base.specs.declared.rows.Row.{Row}
@@ -78,3 +78,12 @@ step-requires-clause-stands c = c.loop-i.invariant.1.stands
 
 pub returns-clause-fetched : goal.returns-clause-fetched
 returns-clause-fetched c = λ _. c.fetch.ensures.rows
+
+pub returns-then-not-are_within-clause-room : goal.returns-then-not-are_within-clause-room
+returns-then-not-are_within-clause-room c = refl
+
+pub returns-then-not-step-clause-room : goal.returns-then-not-step-clause-room
+returns-then-not-step-clause-room c = c.fetch.ensures.room
+
+pub returns-clause-room : goal.returns-clause-room
+returns-clause-room c = c.fetch.ensures.room
