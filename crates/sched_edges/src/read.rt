@@ -12,7 +12,7 @@ use std::marker::Model;
 const PIECE: usize = 65_536;
 
 /// Why a source wasn't read to its end.
-#[derive(Clone, Copy, Debug, PartialEq, Eq)]
+#[derive(Clone, Copy, PartialEq, Eq)]
 pub enum TakeFault {
     /// The source failed.
     Read,

@@ -7,7 +7,7 @@ ghost use Rattle.sched_edges.specs.Causes.{HasCause, Rose};
 ghost use Rattle.sched_edges.specs.Memory.{next_call, is_listed};
 
 /// A call to the outside failed. What it was called on has counted the fault.
-#[derive(Clone, Copy, Debug, PartialEq, Eq)]
+#[derive(Clone, Copy, PartialEq, Eq)]
 pub struct Failed;
 
 // Counts a fault.

@@ -57,7 +57,7 @@ impl Source for SureSource {
 }
 
 /// A sink that takes all, keeps nothing and never fails.
-#[derive(Clone, Copy, Debug)]
+#[derive(Clone, Copy)]
 pub struct SureSink;
 
 impl SureSink {

@@ -85,7 +85,7 @@ impl Gate for ListGate {
 }
 
 /// A gate that keeps nothing and never fails.
-#[derive(Clone, Copy, Debug)]
+#[derive(Clone, Copy)]
 pub struct SureGate;
 
 impl SureGate {

@@ -1,5 +1,5 @@
 -- When a period was done: by merged rows as by the rows themselves, and by the ends of the rows.
-use Rattle.std.proofs.Common.{ℕ, ◌+◌, ◌-◌, ◌*◌, ◌^◌, ◌<◌, ◌≤◌, ◌≡◌, inl, inr, min, max, eqb, ltb, Bool, true, false, ◌&&◌, List, [], ◌∷◌, ◌++◌, cond, sym, refl, ap, ◌∙◌, arith}
+use Rattle.std.proofs.Common.{ℕ, ◌+◌, ◌<◌, ◌≤◌, ◌≡◌, inl, inr, min, max, eqb, ltb, Bool, true, false, ◌&&◌, List, [], ◌∷◌, ◌++◌, cond, sym, refl, ap, ◌∙◌, arith}
 use Rattle.std.proofs.lemmas.Bool.{cases_Bool, cases_lt, and_parts, cond-true, cond-false, eqb-true, lt-ltb, le-ltb, ltb-false}
 use Rattle.std.specs.List.{AllByRecursion}
 use Rattle.sched_base.specs.declared.rows.Row.{Row}

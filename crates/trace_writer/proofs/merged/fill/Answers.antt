@@ -32,3 +32,6 @@ loop-i-preserved c =
     let within : i < length lane = omega (arith, many, c.loop-i-test.true) in
     let more = page_more (row_line c.args.set.now.tasks) lane i c.row.result _ c.loop-i.page within (row_there lane i c.row.result c.row.ensures) so_far in
     (rw c.add_row.ensures more, omega (arith, begun))
+
+pub row-requires-clause-processor : goal.row-requires-clause-processor
+row-requires-clause-processor c = c.requires.processor

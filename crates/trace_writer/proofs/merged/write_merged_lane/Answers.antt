@@ -42,3 +42,9 @@ returns-in_err-write_all-clause-cause g c = cause_cut _ _ _ _ _ c.loop-next.inva
 
 pub returns-clause-cause : goal.returns-clause-cause
 returns-clause-cause g c = record { later = c.loop-next.invariant.1; failed = tt }
+
+pub fill-next-requires-clause-processor : goal.fill-next-requires-clause-processor
+fill-next-requires-clause-processor g c = c.requires.processor
+
+pub fill-next-requires-clause-names : goal.fill-next-requires-clause-names
+fill-next-requires-clause-names g c = c.requires.names

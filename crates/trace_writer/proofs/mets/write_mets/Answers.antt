@@ -51,3 +51,6 @@ returns-in_err-write_mets_of_task-clause-cause g c = cause_cut _ _ _ _ _ c.loop-
 
 pub returns-clause-cause : goal.returns-clause-cause
 returns-clause-cause g c = record { later = c.loop-i.invariant.1; failed = tt }
+
+pub write_mets_of_task-requires-clause-scale : goal.write_mets_of_task-requires-clause-scale
+write_mets_of_task-requires-clause-scale g c = c.requires.scale

@@ -52,3 +52,9 @@ returns-in_err-write_all-clause-cause g c = cause_cut _ _ _ _ _ c.loop-k.invaria
 
 pub returns-clause-cause : goal.returns-clause-cause
 returns-clause-cause g c = record { later = c.loop-k.invariant.faults; failed = tt }
+
+pub period_start-begin-requires-clause-scale : goal.period_start-begin-requires-clause-scale
+period_start-begin-requires-clause-scale g c = c.requires.scale
+
+pub period_start-end-requires-clause-scale : goal.period_start-end-requires-clause-scale
+period_start-end-requires-clause-scale g c = c.requires.scale

@@ -22,3 +22,12 @@ returns-in_err-count-clause-cause g c = cause_cut _ _ _ _ _ (le_refl _) c.in_err
 
 pub returns-clause-cause : goal.returns-clause-cause
 returns-clause-cause g c = cause_then _ _ _ _ c.write_merged_body.ensures.cause.later c.write_all.ensures.cause
+
+pub write_merged_body-requires-clause-names : goal.write_merged_body-requires-clause-names
+write_merged_body-requires-clause-names g c = c.requires.names
+
+pub write_merged_body-requires-clause-few : goal.write_merged_body-requires-clause-few
+write_merged_body-requires-clause-few g c = c.requires.few
+
+pub write_merged_body-requires-clause-totals : goal.write_merged_body-requires-clause-totals
+write_merged_body-requires-clause-totals g c = c.requires.totals
