@@ -16,12 +16,6 @@ pack_of-requires-clause-pack c = let n = c.packs-count.ensures in let on = c.loo
 pub bounds-dry-pack_of : goal.bounds-dry-pack_of
 bounds-dry-pack_of c = let b = c.pack_of.ensures.pack.0 in let long = c.requires.dry in omega (arith, b, long)
 
-pub returns-then-dry-pack_of-clause-skipped : goal.returns-then-dry-pack_of-clause-skipped
-returns-then-dry-pack_of-clause-skipped c = c.loop-i.invariant
-
-pub returns-then-dry-pack_of-clause-within : goal.returns-then-dry-pack_of-clause-within
-returns-then-dry-pack_of-clause-within c = let n = c.packs-count.ensures in let on = c.loop-i-test.true in omega (arith, n, on)
-
 pub loop-i-init : goal.loop-i-init
 loop-i-init c = λ k above below. absurd (omega (arith, above, below))
 
