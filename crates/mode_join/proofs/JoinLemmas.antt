@@ -1,5 +1,5 @@
 -- Whether a set can be a mode.
-use Rattle.std.proofs.Common.{◌≡◌, ◌≢◌, ℕ, suc, zero, ◌+◌, ◌*◌, ◌^◌, ◌<◌, ◌≤◌, true, List, [], ◌∷◌, length, refl, sym, subst, arith}
+use Rattle.std.proofs.Common.{◌≡◌, ◌≢◌, ℕ, suc, zero, ◌^◌, ◌<◌, ◌≤◌, true, List, [], ◌∷◌, length, refl, sym, subst, arith}
 use Rattle.std.specs.Int.{◌∣◌}
 use Rattle.std.specs.List.{AllByRecursion}
 use Rattle.sched_base.specs.declared.sets.Task.{Task}
@@ -9,11 +9,11 @@ use Rattle.rate_scale.proofs.ScaleLemmas.{some_scale, same_scale, PassesAt-whole
 use Rattle.run_tree.specs.Rounds.{is_event}
 use Rattle.run_tree.specs.Plans.{PlanContents, IsPlan, stop_of, rounds_of}
 use Rattle.run_tree.specs.Boundaries.{set_boundary}
-use Rattle.run_compile.specs.Answers.{HasScale, IsOverload}
+use Rattle.run_compile.specs.Answers.{IsOverload}
 use Rattle.event_core.proofs.RoundsInOrder.{more_rounds}
 use Rattle.mode_join.specs.declared.faults.ModeKind.{ModeKind}
 use Rattle.mode_join.specs.declared.faults.ModeKind.TheVariants as kind
-use Rattle.mode_join.specs.Joining.{CanJoin, IsFirstTask, Has, IsFirstOf, IsPlanOf, rank}
+use Rattle.mode_join.specs.Joining.{CanJoin, IsFirstTask, Has, IsFirstOf, rank}
 
 -- what holds of each task by its number holds of all, and the other way round
 pub all_by_number : (P : Task → Type 0) (tasks : List Task) → ((k : ℕ) → k < length tasks → P (task_at tasks k)) → AllByRecursion P tasks

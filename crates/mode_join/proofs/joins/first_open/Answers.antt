@@ -1,4 +1,4 @@
-use Rattle.std.proofs.Common.{◌≡◌, ℕ, ◌<◌, ◌%◌, arith, sym, ◌∙◌, subst, ap, below_more}
+use Rattle.std.proofs.Common.{◌≡◌, ◌%◌, arith, ◌∙◌, subst, ap, below_more}
 use Rattle.std.specs.Int.{◌∣◌}
 use Rattle.std.proofs.lemmas.List.{get_or_default}
 use Rattle.std.proofs.lemmas.Nat.Gcd.{dvd_of_mod-eq-zero, mod-eq-zero_of_dvd}

@@ -1,4 +1,4 @@
-use Rattle.std.proofs.Common.{◌≡◌, ℕ, ◌<◌}
+use Rattle.std.proofs.Common.{ℕ, ◌<◌}
 use Rattle.std.specs.Int.{◌∣◌}
 use Rattle.sched_base.specs.Sets.{task_at}
 use Rattle.mode_join.proofs.joins.first_open.Given as goal

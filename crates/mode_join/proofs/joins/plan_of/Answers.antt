@@ -1,4 +1,3 @@
-use Rattle.std.proofs.Common.{rules}
 use Rattle.mode_join.proofs.JoinLemmas.{no_large_scale}
 use Rattle.mode_join.proofs.joins.plan_of.Goals as goal
 

@@ -3,9 +3,8 @@ use Rattle.std.proofs.lemmas.Result.{IfOk-from_err, err_from_is_err_and}
 use Rattle.std.proofs.lemmas.List.Sums.{sum_by_push}
 use Rattle.sched_base.specs.Sets.{SetContents}
 use Rattle.sched_base.specs.Tables.{row_limit}
-use Rattle.run_tree.specs.Plans.{PlanContents, rounds_of}
 use Rattle.mode_join.specs.declared.mode.Mode.{Mode}
-use Rattle.mode_join.specs.Joining.{CanJoin, IsFirstOf, rows_of}
+use Rattle.mode_join.specs.Joining.{rows_of}
 use Rattle.mode_join.specs.Modes.{AreModes, IsMode, sets_of, units_of, all_rows_of}
 use Rattle.mode_join.proofs.ModeLemmas.{few_modes, small_end, mode_made, modes_push, overload_next, too_long_next}
 use Rattle.mode_join.proofs.modes.Modes.add.Goals.{After-len-mode, In_ok-push}
