@@ -36,7 +36,8 @@ returns-in-Exec-clause-stops g c = stopped_as c.exec.result c.args.execution (Ex
 
 pub returns-in-Exec-clause-uncalled : goal.returns-in-Exec-clause-uncalled
 returns-in-Exec-clause-uncalled g c =
-    uncalled_as c.exec.result c.args.execution (Exec c.in-Exec.window) c.in-Exec.is _ (uncalled_early _ c.exec.result (Exec c.in-Exec.window) refl c.exec.ensures.uncalled)
+    uncalled_as c.exec.result c.args.execution (Exec c.in-Exec.window) c.in-Exec.is _
+    (uncalled_early _ c.exec.result (Exec c.in-Exec.window) refl c.exec.ensures.uncalled)
 
 pub returns-in-Exec-clause-back : goal.returns-in-Exec-clause-back
 returns-in-Exec-clause-back g c = c.exec.ensures.back
@@ -49,7 +50,8 @@ returns-in-ExecMet-clause-stops g c = stopped_as c.exec-in-ExecMet.result c.args
 
 pub returns-in-ExecMet-clause-uncalled : goal.returns-in-ExecMet-clause-uncalled
 returns-in-ExecMet-clause-uncalled g c =
-    uncalled_as c.exec-in-ExecMet.result c.args.execution ExecMet c.in-ExecMet.is _ (uncalled_early _ c.exec-in-ExecMet.result ExecMet refl c.exec-in-ExecMet.ensures.uncalled)
+    uncalled_as c.exec-in-ExecMet.result c.args.execution ExecMet c.in-ExecMet.is _
+    (uncalled_early _ c.exec-in-ExecMet.result ExecMet refl c.exec-in-ExecMet.ensures.uncalled)
 
 pub returns-in-ExecMet-clause-back : goal.returns-in-ExecMet-clause-back
 returns-in-ExecMet-clause-back g c = c.exec-in-ExecMet.ensures.back
