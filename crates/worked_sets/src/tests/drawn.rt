@@ -1,7 +1,7 @@
 //! Sets drawn from numbers: values from outside.
 use sched_base::TaskSet;
+use std::alloc::Global;
 use std::process::Abort;
-use std::test::Fail;
 use task_gen::{make, words_of};
 
 /// That the set has exactly these tasks, each told by its name, work and period, for 4 processors over 6000 units.
@@ -17,84 +17,91 @@ fn assert_tasks(rt: &impl Abort, set: &TaskSet, tasks: &[(&str, u64, u64)]) {
     }
 }
 
-/// The words are those of PCG's C code, seeded as Rust's crates say.
+/// A number, and the first and the last of its words. They are those of PCG's C code, seeded as Rust's crates say.
+const WORDS: &[(u64, [u32; 4], [u32; 2])] = &[
+    (
+        0,
+        [298703107, 4236525527, 336081875, 1056616254],
+        [133860192, 3330168541],
+    ),
+    (
+        1,
+        [866585574, 2109535214, 3403630417, 296513984],
+        [272776274, 1137219534],
+    ),
+    (
+        u64::MAX,
+        [2553256318, 1362994822, 3759657484, 3366838333],
+        [3066135070, 2655355098],
+    ),
+];
+
+/// Of words that are all zero the first 16 candidates fill the processors, and the others are left out.
+const OF_ZEROS: &[(&str, u64, u64)] = &[
+    ("t0", 1, 4),
+    ("t1", 1, 4),
+    ("t2", 1, 4),
+    ("t3", 1, 4),
+    ("t4", 1, 4),
+    ("t5", 1, 4),
+    ("t6", 1, 4),
+    ("t7", 1, 4),
+    ("t8", 1, 4),
+    ("t9", 1, 4),
+    ("t10", 1, 4),
+    ("t11", 1, 4),
+    ("t12", 1, 4),
+    ("t13", 1, 4),
+    ("t14", 1, 4),
+    ("t15", 1, 4),
+];
+
+/// A number, and the tasks that it draws. Candidates that no longer fit are left out, and leave no gap in the names.
+const DRAWN: &[(u64, &[(&str, u64, u64)])] = &[
+    (
+        0,
+        &[
+            ("t0", 8, 10),
+            ("t1", 5, 10),
+            ("t2", 10, 10),
+            ("t3", 7, 20),
+            ("t4", 3, 4),
+            ("t5", 1, 5),
+            ("t6", 6, 20),
+            ("t7", 1, 15),
+        ],
+    ),
+    (
+        1,
+        &[
+            ("t0", 15, 20),
+            ("t1", 5, 5),
+            ("t2", 1, 10),
+            ("t3", 1, 4),
+            ("t4", 5, 12),
+            ("t5", 7, 10),
+            ("t6", 11, 30),
+            ("t7", 4, 20),
+            ("t8", 2, 10),
+        ],
+    ),
+];
+
+/// Makes sure of the tasks that these words make.
+fn assert_made(rt: &impl Abort, alloc: Global, words: &[u32; 128], tasks: &[(&str, u64, u64)]) {
+    let set = make(alloc, words).expect(rt, "there is memory");
+    assert_tasks(rt, &set, tasks);
+}
+
 #[test]
-fn words_of_the_reference_generator(rt: HostRuntime) {
-    for (number, first, last) in [
-        (
-            0,
-            [298703107, 4236525527, 336081875, 1056616254],
-            [133860192, 3330168541],
-        ),
-        (
-            1,
-            [866585574, 2109535214, 3403630417, 296513984],
-            [272776274, 1137219534],
-        ),
-        (
-            u64::MAX,
-            [2553256318, 1362994822, 3759657484, 3366838333],
-            [3066135070, 2655355098],
-        ),
-    ] {
-        let words = words_of(number);
+fn words_and_sets_of_numbers(rt: HostRuntime) {
+    for (number, first, last) in WORDS {
+        let words = words_of(*number);
         assert!(rt; &words[..4] == first.as_slice(), "{number}");
         assert!(rt; &words[126..] == last.as_slice(), "{number}");
     }
-}
-
-/// The first 16 candidates fill the processors, and the others are left out.
-#[test]
-fn all_words_zero(rt: HostRuntime) -> Result<(), Fail> {
-    let set = make(rt.alloc(), &[0; 128])?;
-    let tasks: [(&str, u64, u64); 16] = [
-        ("t0", 1, 4),
-        ("t1", 1, 4),
-        ("t2", 1, 4),
-        ("t3", 1, 4),
-        ("t4", 1, 4),
-        ("t5", 1, 4),
-        ("t6", 1, 4),
-        ("t7", 1, 4),
-        ("t8", 1, 4),
-        ("t9", 1, 4),
-        ("t10", 1, 4),
-        ("t11", 1, 4),
-        ("t12", 1, 4),
-        ("t13", 1, 4),
-        ("t14", 1, 4),
-        ("t15", 1, 4),
-    ];
-    assert_tasks(&rt, &set, &tasks);
-    Ok(())
-}
-
-/// Candidates that no longer fit are left out, and leave no gap in the names.
-#[test]
-fn drawn_sets(rt: HostRuntime) -> Result<(), Fail> {
-    let zero: &[(&str, u64, u64)] = &[
-        ("t0", 8, 10),
-        ("t1", 5, 10),
-        ("t2", 10, 10),
-        ("t3", 7, 20),
-        ("t4", 3, 4),
-        ("t5", 1, 5),
-        ("t6", 6, 20),
-        ("t7", 1, 15),
-    ];
-    let one: &[(&str, u64, u64)] = &[
-        ("t0", 15, 20),
-        ("t1", 5, 5),
-        ("t2", 1, 10),
-        ("t3", 1, 4),
-        ("t4", 5, 12),
-        ("t5", 7, 10),
-        ("t6", 11, 30),
-        ("t7", 4, 20),
-        ("t8", 2, 10),
-    ];
-    for (number, tasks) in [(0, zero), (1, one)] {
-        assert_tasks(&rt, &make(rt.alloc(), &words_of(number))?, tasks);
+    assert_made(&rt, rt.alloc(), &[0; 128], OF_ZEROS);
+    for (number, tasks) in DRAWN {
+        assert_made(&rt, rt.alloc(), &words_of(*number), tasks);
     }
-    Ok(())
 }

@@ -1,8 +1,9 @@
 //! Scales, rates and totals of worked sets.
 use named_sets::{NamedTask, set_of};
 use rate_scale::{ScaleTooLarge, fits, rate, scale_of, total};
+use sched_base::TaskSet;
+use std::alloc::Global;
 use std::process::Abort;
-use std::test::Fail;
 
 /// The rate, once it is seen that the numbers meet its conditions.
 fn rate_at(rt: &impl Abort, work: u64, period: u64, scale: u128) -> u128 {
@@ -11,61 +12,103 @@ fn rate_at(rt: &impl Abort, work: u64, period: u64, scale: u128) -> u128 {
     rate(work, period, scale)
 }
 
-#[test]
-fn scales_and_totals(rt: HostRuntime) -> Result<(), Fail> {
-    let three: &[NamedTask] = &[("a", 2, 3, 0), ("b", 2, 3, 0), ("c", 2, 3, 0)];
-    let overload: &[NamedTask] = &[("a", 2, 3, 0), ("b", 1, 2, 0)];
-    let longest: &[NamedTask] = &[("a", 1, 4294967295, 0)];
-    let greatest: &[NamedTask] = &[
-        ("a", 1, 4294967295, 0),
-        ("b", 1, 4294967294, 0),
-        ("c", 1, 1073741822, 0),
-    ];
-    for (processors, tasks, scale, sum, fitting) in [
-        (2, three, 3, 6, true),
-        (1, overload, 6, 7, false),
-        (2, &[], 1, 0, true),
-        (1, longest, 4294967295, 1, true),
-        (
-            1,
-            greatest,
-            9903520288918769111801004030,
-            13835058038639165444,
-            true,
-        ),
-    ] {
-        let set = set_of(rt.alloc(), processors, 1, tasks)?;
-        let found = scale_of(&set)?;
-        assert!(rt; found == scale);
-        assert!(rt; total(&set, found) == sum);
-        assert!(rt; fits(&set, found) == fitting);
+/// The processors, the tasks, the scale or where it passes the limit, the total of the rates, and whether they fit.
+type Scaled = (
+    u32,
+    &'static [NamedTask<'static>],
+    Result<u128, ScaleTooLarge>,
+    u128,
+    bool,
+);
+
+const SCALED: &[Scaled] = &[
+    (
+        2,
+        &[("a", 2, 3, 0), ("b", 2, 3, 0), ("c", 2, 3, 0)],
+        Ok(3),
+        6,
+        true,
+    ),
+    (1, &[("a", 2, 3, 0), ("b", 1, 2, 0)], Ok(6), 7, false),
+    (2, &[], Ok(1), 0, true),
+    (1, &[("a", 1, 4294967295, 0)], Ok(4294967295), 1, true),
+    (
+        1,
+        &[
+            ("a", 1, 4294967295, 0),
+            ("b", 1, 4294967294, 0),
+            ("c", 1, 1073741822, 0),
+        ],
+        Ok(9903520288918769111801004030),
+        13835058038639165444,
+        true,
+    ),
+    // Past the limit.
+    (
+        1,
+        &[
+            ("a", 1, 4294967295, 0),
+            ("b", 1, 4294967294, 0),
+            ("c", 1, 4294967293, 0),
+        ],
+        Err(ScaleTooLarge { at: 2 }),
+        0,
+        false,
+    ),
+];
+
+/// Compares the scale of a set, and where it has one the total of its rates and whether they fit.
+fn compare(
+    rt: &impl Abort,
+    set: &TaskSet,
+    scale: &Result<u128, ScaleTooLarge>,
+    sum: u128,
+    fitting: bool,
+) {
+    let found = scale_of(set);
+    assert!(rt; found == *scale);
+    if let Ok(found) = found {
+        assert!(rt; total(set, found) == sum);
+        assert!(rt; fits(set, found) == fitting);
     }
-    Ok(())
+}
+
+/// A work, a period, a scale, and the rate.
+const RATES: &[(u64, u64, u128, u128)] = &[
+    (2, 3, 3, 2),
+    (2, 3, 6, 4),
+    (1, 2, 6, 3),
+    (
+        1,
+        4294967295,
+        9903520288918769111801004030,
+        2305843003844984834,
+    ),
+    (
+        1,
+        4294967294,
+        9903520288918769111801004030,
+        2305843004381855745,
+    ),
+    (
+        1,
+        1073741822,
+        9903520288918769111801004030,
+        9223372030412324865,
+    ),
+];
+
+fn set_with(rt: &impl Abort, alloc: Global, processors: u32, tasks: &[NamedTask]) -> TaskSet {
+    set_of(alloc, processors, 1, tasks).expect(rt, "a set")
 }
 
 #[test]
-fn past_the_limit(rt: HostRuntime) -> Result<(), Fail> {
-    let tasks: &[NamedTask] = &[
-        ("a", 1, 4294967295, 0),
-        ("b", 1, 4294967294, 0),
-        ("c", 1, 4294967293, 0),
-    ];
-    let set = set_of(rt.alloc(), 1, 1, tasks)?;
-    assert!(rt; scale_of(&set) == Err(ScaleTooLarge { at: 2 }));
-    Ok(())
-}
-
-#[test]
-fn rates(rt: HostRuntime) {
-    let scale = 9903520288918769111801004030;
-    for (work, period, scale, ticks) in [
-        (2, 3, 3, 2),
-        (2, 3, 6, 4),
-        (1, 2, 6, 3),
-        (1, 4294967295, scale, 2305843003844984834),
-        (1, 4294967294, scale, 2305843004381855745),
-        (1, 1073741822, scale, 9223372030412324865),
-    ] {
-        assert!(rt; rate_at(&rt, work, period, scale) == ticks);
+fn scales_totals_and_rates(rt: HostRuntime) {
+    for (processors, tasks, scale, sum, fitting) in SCALED {
+        let set = set_with(&rt, rt.alloc(), *processors, tasks);
+        compare(&rt, &set, scale, *sum, *fitting);
+    }
+    for (work, period, scale, ticks) in RATES {
+        assert!(rt; rate_at(&rt, *work, *period, *scale) == *ticks);
     }
 }
