@@ -176,7 +176,7 @@ compile() {
     program)
         alone "$kit/bin/rattle" build src/main.rt "$@" --backend llvm --toolchain "$kit/toolchain" -o "$made.o" &&
             alone "$kit/bin/rattle-link" --target x86_64-unknown-linux-gnu --toolchain "$kit/toolchain" -o "$made" "$made.o" \
-                "$kit/c/libos_c.a" "$kit/c/liblibc_c.a"
+                "$kit/c/libos_c.a" "$kit/c/liblibc_c.a" && rm "$made.o"
         ;;
     esac
 }
