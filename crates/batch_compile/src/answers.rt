@@ -22,9 +22,14 @@ pub enum Answer {
 }
 
 /// The answers of the pieces, in order.
-#[derive(Drop)]
 pub struct Answers {
     items: Vec<Answer>,
+}
+
+impl Drop for Answers {
+    fn drop(self) {
+        let Self { items: _items } = self;
+    }
 }
 
 impl Model for Answers {

@@ -29,7 +29,6 @@ use unit_ledger::{BookSide, PostLedger};
 /// The book of a run: which rows of a plan's schedule are out and which are posted.
 ///
 /// Rounds are computed on demand: its table holds the first rounds of the schedule, and never one past the window.
-#[derive(Drop)]
 pub struct Book<Q: PostLedger, J: Job> {
     pub(crate) plan: Plan,
     pub(crate) rounds: u64,
@@ -37,6 +36,19 @@ pub struct Book<Q: PostLedger, J: Job> {
     pub(crate) state: MachineState,
     pub(crate) log: Vec<Event>,
     pub(crate) held: Option<Held<Q, J>>,
+}
+
+impl<Q: PostLedger, J: Job> Drop for Book<Q, J> {
+    fn drop(self) {
+        let Self {
+            plan: _plan,
+            rounds: _,
+            window: _,
+            state: _state,
+            log: _log,
+            held: _held,
+        } = self;
+    }
 }
 
 impl<Q: PostLedger, J: Job> Model for Book<Q, J> {

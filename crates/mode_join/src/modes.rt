@@ -16,7 +16,6 @@ use std::marker::Model;
 
 /// Sets that follow each other on the same processors, each with its plan. A mode starts where the one before it ends, and no
 /// period of its tasks is open there.
-#[derive(Drop)]
 pub struct Modes {
     processors: u32,
     modes: Vec<Mode>,
@@ -24,6 +23,17 @@ pub struct Modes {
     rows: u64,
     // The unit at which the last mode ends.
     end: u64,
+}
+
+impl Drop for Modes {
+    fn drop(self) {
+        let Self {
+            processors: _,
+            modes: _modes,
+            rows: _,
+            end: _,
+        } = self;
+    }
 }
 
 impl Model for Modes {

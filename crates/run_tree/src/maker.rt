@@ -30,13 +30,24 @@ impl Model for Packs {
 }
 
 /// A tree that is being made, member by member and level by level.
-#[derive(Drop)]
 pub struct TreeMaker {
     processors: u32,
     scale: u128,
     levels: u32,
     growth: Growth,
     lower: Vec<Packs>,
+}
+
+impl Drop for TreeMaker {
+    fn drop(self) {
+        let Self {
+            processors: _,
+            scale: _,
+            levels: _,
+            growth: _growth,
+            lower: _lower,
+        } = self;
+    }
 }
 
 impl Model for TreeMaker {

@@ -9,10 +9,18 @@ use sched_base::{NoMemory, TaskSet};
 use std::marker::Model;
 
 /// A task set with a reduction tree of it.
-#[derive(Drop)]
 pub struct Plan {
     set: TaskSet,
     tree: Tree,
+}
+
+impl Drop for Plan {
+    fn drop(self) {
+        let Self {
+            set: _set,
+            tree: _tree,
+        } = self;
+    }
 }
 
 impl Model for Plan {

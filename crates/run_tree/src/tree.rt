@@ -13,9 +13,14 @@ use std::marker::Model;
 
 /// A reduction tree: leaves in the packs of level 0, the duals of a level's packs in those of the next, up to packs that
 /// are roots.
-#[derive(Drop)]
 pub struct Tree {
     made: TreeMaker,
+}
+
+impl Drop for Tree {
+    fn drop(self) {
+        let Self { made: _made } = self;
+    }
 }
 
 impl Model for Tree {

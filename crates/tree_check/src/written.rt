@@ -84,12 +84,22 @@ impl Level {
 }
 
 /// What a tree text says: a set with its scale, the rates of the idle leaves, and the packs of each level.
-#[derive(Drop)]
 pub struct ReadTree {
     set: TaskSet,
     scale: u128,
     idles: Vec<u128>,
     levels: Vec<Level>,
+}
+
+impl Drop for ReadTree {
+    fn drop(self) {
+        let Self {
+            set: _set,
+            scale: _,
+            idles: _idles,
+            levels: _levels,
+        } = self;
+    }
 }
 
 impl Model for ReadTree {
