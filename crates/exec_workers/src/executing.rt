@@ -1,25 +1,20 @@
 //! The execution of a plan.
-ghost use Rattle.std.specs.Prelude.{◌≡◌, ◌<◌, ◌≤◌, ◌*◌, ℕ, [], None, length, slice_index_or, IfOk, OnOk};
+ghost use Rattle.std.specs.Prelude.{◌≡◌, ◌<◌, ◌*◌, ℕ, None, length, slice_index_or, IfOk, OnOk};
 ghost use Rattle.sched_edges.specs.Jobs.{JobAt};
-ghost use Rattle.exec_workers.specs.Kits.{AreFilled};
-ghost use Rattle.exec_workers.specs.Rooms.{IsAnswerOf};
+ghost use Rattle.exec_lanes.specs.Kits.{AreFilled};
 ghost use Rattle.exec_workers.specs.Runs.{IsExecutable, OutcomeOf, AreFresh, AreEmpty, GatesGrew, GatesList, GatesListFirst, JobsUsedAll};
 
-use crate::answers::{ExecFault, Executed, FirstFault};
-use crate::kits::Kit;
 use crate::opening::open_book;
-use crate::room::Room;
 use crate::run::{Ended, run_gates};
-use crate::stage::{lay_jobs, push_totals};
+use exec_lanes::{ExecFault, Executed, Kit, Room, answer_of, lay_jobs};
 use run_tree::Plan;
-use sched_base::{RowTable, Totals};
 use sched_edges::{BoxedJob, Gate, Job, JobList, Jobs};
 use std::alloc::Global;
 use std::marker::Brand;
 use std::sync::Wait;
 use std::sync::ledger::Blank;
 use std::thread::Threads;
-use unit_ledger::{PostLedger, Posts};
+use unit_ledger::PostLedger;
 
 /// Executes a plan: runs each row of its schedule on its processor's gate and on its task's job. The gates' lists must be
 /// empty where they are told; else it is as `execute_on`.
@@ -132,33 +127,5 @@ fn execute_in<G: Gate + Send, Q: PostLedger + Send + Sync, J: Job + Send, X: Thr
         &waiters,
     );
     lay_jobs(&mut back, jobs, n);
-    answer(table, fault, posts, jobs, totals, n)
-}
-
-// What a run answers that ended so, with the jobs of the first n tasks back in their places.
-fn answer<J: Job>(
-    table: RowTable,
-    fault: Option<FirstFault>,
-    posts: Posts,
-    jobs: &JobList<J>,
-    totals: Totals,
-    n: u32,
-) -> Result<Executed, ExecFault>
-    requires none { totals.ticks ≡ [] }
-    requires room { n ≤ totals.room }
-    requires there { (t : ℕ) → t < n → (job : J) × JobAt jobs.now.places t job }
-    ensures { IsAnswerOf J.used n jobs.now.places table posts fault result }
-{
-    match fault {
-        Some(fault) => Err(fault.with_posts(posts)),
-        None => {
-            let mut totals = totals;
-            push_totals(jobs, &mut totals, n);
-            Ok(Executed {
-                table,
-                totals,
-                posts,
-            })
-        }
-    }
+    answer_of(table, fault, posts, jobs, totals, n)
 }

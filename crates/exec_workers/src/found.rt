@@ -9,8 +9,8 @@ ghost use Rattle.exec_book.specs.Books.{IsDismissed};
 ghost use Rattle.exec_workers.specs.Found.{IsFreeAt, IsOutAt, IsWholeAt};
 ghost use Rattle.exec_workers.specs.Promises.{Agrees};
 
-use crate::same_plan::is_same_plan;
 use exec_book::Book;
+use exec_lanes::is_same_plan;
 use run_tree::Plan;
 use sched_base::{Leaf, Row};
 use sched_edges::Job;

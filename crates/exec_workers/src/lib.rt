@@ -6,29 +6,17 @@
 //! task set is the one that its ledger names, which never changes.
 #![tactic(auto)]
 
-mod answers;
-mod causes;
 mod close;
-mod ends;
 mod executing;
 mod found;
-mod kits;
-mod lanes;
 mod opening;
 mod passes;
-mod room;
 mod rows;
 mod run;
-mod same_plan;
 mod serving;
-mod stage;
-mod waiters;
 
-pub use answers::{ExecFault, Executed};
-pub use causes::Cause;
 pub use close::close_book;
+pub use exec_lanes::{Cause, ExecFault, Executed, Kit, Lane};
 pub use executing::{execute, execute_on};
-pub use kits::Kit;
-pub use lanes::Lane;
 pub use rows::{halt_row, post_row, take_row};
 pub use serving::serve;

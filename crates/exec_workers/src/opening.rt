@@ -1,11 +1,11 @@
 //! The book of a run, opened with its ledger and with the jobs.
 ghost use Rattle.std.specs.Prelude.{◌≡◌, ◌<◌, ℕ, None, length, slice_index_or, IfOk, IfErr};
 ghost use Rattle.sched_edges.specs.Jobs.{JobAt};
-ghost use Rattle.exec_workers.specs.Rooms.{IsOpened};
+ghost use Rattle.exec_lanes.specs.Rooms.{IsOpened};
 ghost use Rattle.exec_workers.specs.Runs.{IsExecutable, AreFresh};
 
-use crate::stage::{lay_jobs, lift_jobs};
 use exec_book::{Book, JobsBack};
+use exec_lanes::{lay_jobs, lift_jobs};
 use run_tree::Plan;
 use sched_base::NoMemory;
 use sched_edges::{Job, JobList};

@@ -2,12 +2,11 @@
 ghost use Rattle.std.specs.Prelude.{◌≡◌, ◌≢◌, ◌<◌, ℕ, None, length, IsTrue, true, false};
 ghost use Rattle.run_tree.specs.Plans.{rounds_of};
 ghost use Rattle.exec_book.specs.PlanRows.{plan_rows};
-ghost use Rattle.exec_workers.specs.Lanes.{lane_in, AllServed, NoneFailed, AllAt};
+ghost use Rattle.exec_lanes.specs.Lanes.{lane_in, AllServed, NoneFailed, AllAt};
 
-use crate::lanes::Lane;
 use crate::serving::serve_beside;
-use crate::waiters::Waiters;
 use exec_book::Book;
+use exec_lanes::{Lane, Waiters, all_at, any_failed};
 use run_tree::Plan;
 use sched_edges::{Gate, Job};
 use std::sync::{Mutex, Wait};
@@ -72,29 +71,4 @@ fn serve_all<G: Gate + Send, Q: PostLedger + Send + Sync, J: Job + Send, R: Thre
         workers,
         &|_, lane: &mut Lane<G, Q>| serve_beside(rt, book, plan, lane, counts, Some(waiters)),
     );
-}
-
-// Whether some lane has failed.
-fn any_failed<G: Gate, Q: PostLedger>(lanes: &[Lane<G, Q>]) -> bool
-    ensures none { result ≡ false → NoneFailed lanes.now }
-    ensures some { IsTrue result → (p : ℕ) × (p < length lanes.now) × ((lane_in lanes.now p).cause ≢ None) }
-{
-    for lane in lanes {
-        if lane.cause.is_some() {
-            return true;
-        }
-    }
-    false
-}
-
-// Whether each lane has posted that many rows.
-fn all_at<G: Gate, Q: PostLedger>(lanes: &[Lane<G, Q>], rounds: u64) -> bool
-    ensures { IsTrue result → AllAt rounds lanes.now }
-{
-    for lane in lanes {
-        if lane.seat.posted() != rounds {
-            return false;
-        }
-    }
-    true
 }

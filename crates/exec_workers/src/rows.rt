@@ -6,8 +6,8 @@ ghost use Rattle.exec_workers.specs.Found.{IsFreeAt, IsOutWith};
 ghost use Rattle.exec_workers.specs.Promises.{Agrees, Gives, GivesRow};
 
 use crate::found::{is_free_at, is_halted_or_told, is_job_of, is_of_plan, is_out_at, ticks_of};
-use crate::waiters::{Waiters, lock_soon, tell};
 use exec_book::{Book, Look};
+use exec_lanes::{Waiters, lock_soon, tell};
 use run_tree::Plan;
 use sched_base::Row;
 use sched_edges::Job;

@@ -7,21 +7,18 @@ ghost use Rattle.book_machine.specs.Rounds.{AreFirstRounds};
 ghost use Rattle.exec_book.specs.PlanRows.{plan_rows};
 ghost use Rattle.exec_book.specs.Jobs.{AllAtHome};
 ghost use Rattle.unit_ledger.specs.Seats.{seats_at_start};
-ghost use Rattle.exec_workers.specs.Lanes.{LaneContents, AllServed, NoneFailed, AllAt};
-ghost use Rattle.exec_workers.specs.Kits.{AreFilled};
-ghost use Rattle.exec_workers.specs.Ends.{NamesLowest, KeepsCounts, posted_by};
+ghost use Rattle.exec_lanes.specs.Lanes.{LaneContents, AllServed, NoneFailed, AllAt};
+ghost use Rattle.exec_lanes.specs.Kits.{AreFilled};
+ghost use Rattle.exec_lanes.specs.Ends.{NamesLowest, KeepsCounts, posted_by};
 ghost use Rattle.exec_workers.specs.Fronts.{IsFrontAt};
 ghost use Rattle.exec_workers.specs.Runs.{GatesRan, HandedOut, NamesFirst, ClosedAt};
 
-use crate::answers::FirstFault;
 use crate::close::close_book;
-use crate::ends::{first_fault, note_faults, note_posted};
-use crate::kits::Kit;
-use crate::lanes::Lane;
 use crate::passes::serve_passes;
-use crate::stage::{empty_lanes, fill_lanes};
-use crate::waiters::Waiters;
 use exec_book::{Book, Closing};
+use exec_lanes::{
+    FirstFault, Kit, Lane, Waiters, empty_lanes, fill_lanes, first_fault, note_faults, note_posted,
+};
 use run_tree::Plan;
 use sched_base::RowTable;
 use sched_edges::{Gate, Job, JobList};

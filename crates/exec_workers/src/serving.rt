@@ -1,17 +1,15 @@
 //! Serving one lane.
-ghost use Rattle.std.specs.Prelude.{◌≡◌, ◌+◌, ◌<◌, ◌≤◌, ◌^◌, Some, None, length, IfSome, IfErr};
+ghost use Rattle.std.specs.Prelude.{◌≡◌, ◌≤◌, None, length, IfSome};
 ghost use Rattle.exec_book.specs.PlanRows.{IsCompiled, plan_rows};
-ghost use Rattle.exec_workers.specs.Lanes.{HasRisen, JobRose, Served};
+ghost use Rattle.exec_lanes.specs.Lanes.{Served};
 ghost use Rattle.exec_workers.specs.Promises.{IsNextRow, GivesRow};
 
-use crate::causes::Cause;
 use crate::found::ticks_of;
-use crate::lanes::Lane;
 use crate::rows::{agree, halt_row, post_and_take, take_next};
-use crate::waiters::{Waiters, wait, wake};
 use exec_book::{Book, Look};
+use exec_lanes::{Cause, Lane, Waiters, risen, wait, wake, work_on};
 use run_tree::Plan;
-use sched_base::{Leaf, Row};
+use sched_base::Row;
 use sched_edges::{Failed, Gate, Job};
 use std::sync::{Mutex, Wait};
 use unit_ledger::PostLedger;
@@ -164,35 +162,4 @@ fn run_row<G: Gate, Q: PostLedger, J: Job, R: Wait>(
         return None;
     }
     Some(post_and_take(rt, waiters, book, plan, &mut lane.seat, &row, job))
-}
-
-// The count of faults of the job that failed at a row, which is past the given one of its task: of another no cause is kept.
-fn risen<R: Wait>(rt: &R, counts: &[u64], row: &Row, faults: u64) -> u64
-    ensures { JobRose counts.now row.now result }
-{
-    for _ in rt.forever() {
-        if let Leaf::Task(task) = row.leaf {
-            if let Some(count) = counts.get(task.0 as usize) {
-                if faults > *count || faults == u64::MAX {
-                    return faults;
-                }
-            }
-        }
-    }
-    unreachable!()
-}
-
-// Has the job that goes with a row work for that many ticks. Where it fails, this is its count of faults since.
-fn work_on<J: Job>(job: &mut Option<J>, ticks: u128) -> Result<(), u64>
-    requires { (j : J) → job.old ≡ Some j → J.used j + ticks < 2 ^ 127 }
-    ensures made { (k : J) → job.new ≡ Some k → (j : J) × (job.old ≡ Some j) × (J.made k ≡ J.made j) }
-    ensures err { IfErr result (λ faults. (j : J) × (job.old ≡ Some j) × HasRisen (J.faults j) faults) }
-{
-    match job {
-        Some(job) => match job.work(ticks) {
-            Ok(()) => Ok(()),
-            Err(Failed) => Err(job.faults()),
-        },
-        None => Ok(()),
-    }
 }

@@ -1,9 +1,9 @@
 -- Gates and jobs that are made one after the other.
 use Rattle.std.proofs.Common.{◌≡◌, ℕ, ◌+◌, ◌<◌, List, [], ◌∷◌, ◌++◌, Option, Some, length, refl, sym, ap, ◌∙◌, subst, arith, length-append}
 use Rattle.sched_edges.specs.Gates.{GateHeld}
-use Rattle.exec_workers.specs.declared.kits.Kit.{Kit}
-use Rattle.exec_workers.specs.Kits.{AreFilled}
-use Rattle.exec_workers.proofs.PlaceLemmas.{each_push}
+use Rattle.exec_lanes.specs.declared.kits.Kit.{Kit}
+use Rattle.exec_lanes.specs.Kits.{AreFilled}
+use Rattle.exec_lanes.proofs.PlaceLemmas.{each_push}
 use Rattle.mode_switch.specs.Runs.{HaveOwnJobs}
 
 -- one place more

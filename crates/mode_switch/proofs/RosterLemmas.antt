@@ -19,19 +19,19 @@ use Rattle.job_vm.proofs.LoadingLemmas.{loaded_past, seen_at}
 use Rattle.run_tree.specs.Plans.{PlanContents, IsPlan}
 use Rattle.exec_book.specs.PlanRows.{plan_rows}
 use Rattle.exec_book.proofs.RoundLemmas.{below_or, names_task}
-use Rattle.exec_workers.specs.declared.answers.Executed.{Executed}
-use Rattle.exec_workers.specs.declared.answers.ExecFault.{ExecFault}
-use Rattle.exec_workers.specs.declared.answers.ExecFault.TheVariants as exec
-use Rattle.exec_workers.specs.declared.causes.Cause.{Cause}
-use Rattle.exec_workers.specs.declared.causes.Cause.TheVariants as cause
-use Rattle.exec_workers.specs.declared.kits.Kit.{Kit}
-use Rattle.exec_workers.specs.Ends.{GateFailed, JobFailed}
-use Rattle.exec_workers.specs.Kits.{KitAt, AreFilled}
-use Rattle.exec_workers.specs.Lanes.{LaneContents, HasRisen, FailsNext, lane_in}
+use Rattle.exec_lanes.specs.declared.answers.Executed.{Executed}
+use Rattle.exec_lanes.specs.declared.answers.ExecFault.{ExecFault}
+use Rattle.exec_lanes.specs.declared.answers.ExecFault.TheVariants as exec
+use Rattle.exec_lanes.specs.declared.causes.Cause.{Cause}
+use Rattle.exec_lanes.specs.declared.causes.Cause.TheVariants as cause
+use Rattle.exec_lanes.specs.declared.kits.Kit.{Kit}
+use Rattle.exec_lanes.specs.Ends.{GateFailed, JobFailed}
+use Rattle.exec_lanes.specs.Kits.{KitAt, AreFilled}
+use Rattle.exec_lanes.specs.Lanes.{LaneContents, HasRisen, FailsNext, lane_in}
 use Rattle.exec_workers.specs.Runs.{CountsGate, Ran, Outcome, GatesGrew, AreFresh}
 use Rattle.exec_workers.proofs.HeadlineLemmas.{gate_first, gates_grew}
-use Rattle.exec_workers.proofs.ServeLemmas.{grown-nil}
-use Rattle.exec_workers.proofs.StageLemmas.{same_gate, same_job}
+use Rattle.exec_lanes.proofs.ServeLemmas.{grown-nil}
+use Rattle.exec_lanes.proofs.StageLemmas.{same_gate, same_job}
 use Rattle.exec_workers.proofs.WholeLemmas.{ticks_at_end}
 use Rattle.mode_join.specs.declared.mode.Mode.{Mode}
 use Rattle.mode_switch.specs.Runs.{Roster, HaveOwnJobs, HasBegun, RanMode, AreBack, IsRunOf}

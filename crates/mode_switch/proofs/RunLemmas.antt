@@ -13,13 +13,13 @@ use Rattle.sched_edges.specs.Gates.{grown}
 use Rattle.sched_edges.specs.Jobs.{JobAt}
 use Rattle.run_tree.specs.Plans.{PlanContents, rounds_of}
 use Rattle.exec_book.specs.PlanRows.{IsCompiled, plan_rows}
-use Rattle.exec_workers.specs.declared.answers.Executed.{Executed}
-use Rattle.exec_workers.specs.declared.answers.ExecFault.{ExecFault}
-use Rattle.exec_workers.specs.declared.answers.ExecFault.TheVariants as exec
-use Rattle.exec_workers.specs.declared.kits.Kit.{Kit}
-use Rattle.exec_workers.specs.Kits.{KitAt, AreFilled}
-use Rattle.exec_workers.specs.Lanes.{HasRisen}
-use Rattle.exec_workers.proofs.ServeLemmas.{grown-grown, grown-nil}
+use Rattle.exec_lanes.specs.declared.answers.Executed.{Executed}
+use Rattle.exec_lanes.specs.declared.answers.ExecFault.{ExecFault}
+use Rattle.exec_lanes.specs.declared.answers.ExecFault.TheVariants as exec
+use Rattle.exec_lanes.specs.declared.kits.Kit.{Kit}
+use Rattle.exec_lanes.specs.Kits.{KitAt, AreFilled}
+use Rattle.exec_lanes.specs.Lanes.{HasRisen}
+use Rattle.exec_lanes.proofs.ServeLemmas.{grown-grown, grown-nil}
 use Rattle.mode_join.specs.declared.mode.Mode.{Mode}
 use Rattle.mode_switch.specs.declared.answers.ModesFault.{ModesFault}
 use Rattle.mode_switch.specs.declared.answers.ModesFault.TheVariants as fault

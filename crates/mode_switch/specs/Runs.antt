@@ -13,12 +13,12 @@ use Rattle.job_vm.specs.Loading.{loaded}
 use Rattle.run_tree.specs.Plans.{PlanContents, stop_of}
 use Rattle.row_totals.specs.Sums.{totals_of}
 use Rattle.exec_book.specs.PlanRows.{plan_rows}
-use Rattle.exec_workers.specs.declared.answers.Executed.{Executed}
-use Rattle.exec_workers.specs.declared.answers.ExecFault.{ExecFault}
-use Rattle.exec_workers.specs.declared.answers.ExecFault.TheVariants as exec
-use Rattle.exec_workers.specs.declared.kits.Kit.{Kit}
-use Rattle.exec_workers.specs.Kits.{KitAt}
-use Rattle.exec_workers.specs.Lanes.{HasRisen}
+use Rattle.exec_lanes.specs.declared.answers.Executed.{Executed}
+use Rattle.exec_lanes.specs.declared.answers.ExecFault.{ExecFault}
+use Rattle.exec_lanes.specs.declared.answers.ExecFault.TheVariants as exec
+use Rattle.exec_lanes.specs.declared.kits.Kit.{Kit}
+use Rattle.exec_lanes.specs.Kits.{KitAt}
+use Rattle.exec_lanes.specs.Lanes.{HasRisen}
 use Rattle.exec_workers.specs.Runs.{Outcome}
 use Rattle.mode_join.specs.declared.mode.Mode.{Mode}
 use Rattle.mode_switch.specs.declared.answers.ModesFault.{ModesFault}

@@ -23,7 +23,7 @@ impl Drop for ModesRun {
 impl Model for ModesRun {
     ghost use Rattle.std.specs.Prelude.{List, ◌≤◌, length};
     ghost use Rattle.sched_base.specs.Tables.{row_limit};
-    ghost use Rattle.exec_workers.specs.declared.answers.Executed.{Executed};
+    ghost use Rattle.exec_lanes.specs.declared.answers.Executed.{Executed};
 
     ghost Value = { List Executed };
 

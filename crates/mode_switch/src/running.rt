@@ -4,7 +4,7 @@ ghost use Rattle.std.specs.List.{AllByRecursion, AllZip};
 ghost use Rattle.sched_edges.specs.Jobs.{JobAt};
 ghost use Rattle.job_vm.specs.Seen.{job_seen, seen};
 ghost use Rattle.job_vm.specs.Loading.{anew, loaded};
-ghost use Rattle.exec_workers.specs.Kits.{AreFilled};
+ghost use Rattle.exec_lanes.specs.Kits.{AreFilled};
 ghost use Rattle.exec_workers.specs.Runs.{IsExecutable};
 ghost use Rattle.mode_switch.specs.Runs.{ModesOutcome, RanMode, GatesGrewThrough, GatesGrewFirst, IsRunOf, JobsUsedLast};
 ghost use Rattle.mode_switch.specs.Runs.{AreBack, NamesRisen, HaveOwnJobs, roster_of};

@@ -1,9 +1,9 @@
 -- Kits and jobs that are made one after the other.
 use Rattle.std.proofs.Common.{◌≡◌, ℕ, ◌+◌, List, [], ◌∷◌, ◌++◌, Option, Some, length, refl, sym, ap, ◌∙◌, subst, arith, length-append}
-use Rattle.exec_workers.specs.declared.kits.Kit.{Kit}
-use Rattle.exec_workers.specs.Kits.{AreFilled}
+use Rattle.exec_lanes.specs.declared.kits.Kit.{Kit}
+use Rattle.exec_lanes.specs.Kits.{AreFilled}
 use Rattle.exec_workers.specs.Runs.{AreFresh}
-use Rattle.exec_workers.proofs.PlaceLemmas.{each_push}
+use Rattle.exec_lanes.proofs.PlaceLemmas.{each_push}
 
 -- one place more
 pub length_more : {X : Type 0} (n : ℕ) (xs ys : List X) (x : X) → length xs ≡ n → ys ≡ xs ++ x ∷ [] → length ys ≡ n + 1

@@ -5,7 +5,7 @@ mod bounded_job;
 mod busy_gate;
 
 ghost use Rattle.std.specs.Prelude.{◌≡◌, length, IfOk};
-ghost use Rattle.exec_workers.specs.Kits.{AreFilled};
+ghost use Rattle.exec_lanes.specs.Kits.{AreFilled};
 ghost use Rattle.exec_book.specs.PlanRows.{IsCompiled};
 
 use anyhow::anyhow;

@@ -21,17 +21,17 @@ use Rattle.sched_base.specs.Lanes.{NamesOneOf}
 use Rattle.exec_book.specs.PlanRows.{plan_rows}
 use Rattle.exec_book.specs.Jobs.{Made}
 use Rattle.exec_book.proofs.RoundLemmas.{plan_table, plan_count, plan_lanes, in_lane}
-use Rattle.exec_workers.specs.declared.answers.Executed.{Executed}
-use Rattle.exec_workers.specs.declared.answers.ExecFault.{ExecFault}
-use Rattle.exec_workers.specs.declared.answers.ExecFault.TheVariants as fault
-use Rattle.exec_workers.specs.declared.causes.Cause.{Cause}
-use Rattle.exec_workers.specs.declared.causes.Cause.TheVariants as cause
-use Rattle.exec_workers.specs.declared.kits.Kit.{Kit}
-use Rattle.exec_workers.specs.Kits.{KitAt, AreFilled}
-use Rattle.exec_workers.specs.Lanes.{LaneContents, HasRisen, FailsNext, IsOfTask, lane_in, no_lane, unposted}
-use Rattle.exec_workers.specs.Ends.{posted_by, GateFailed, JobFailed, NoGateBefore, NoJobBefore}
+use Rattle.exec_lanes.specs.declared.answers.Executed.{Executed}
+use Rattle.exec_lanes.specs.declared.answers.ExecFault.{ExecFault}
+use Rattle.exec_lanes.specs.declared.answers.ExecFault.TheVariants as fault
+use Rattle.exec_lanes.specs.declared.causes.Cause.{Cause}
+use Rattle.exec_lanes.specs.declared.causes.Cause.TheVariants as cause
+use Rattle.exec_lanes.specs.declared.kits.Kit.{Kit}
+use Rattle.exec_lanes.specs.Kits.{KitAt, AreFilled}
+use Rattle.exec_lanes.specs.Lanes.{LaneContents, HasRisen, FailsNext, IsOfTask, lane_in, no_lane, unposted}
+use Rattle.exec_lanes.specs.Ends.{posted_by, GateFailed, JobFailed, NoGateBefore, NoJobBefore}
 use Rattle.exec_workers.specs.Runs.{CountsGate, Ran, RanWhole, Outcome, AreFresh}
-use Rattle.exec_workers.proofs.StageLemmas.{same_job}
+use Rattle.exec_lanes.proofs.StageLemmas.{same_job}
 use Rattle.exec_workers.proofs.HeadlineLemmas.{take_next}
 use Rattle.exec_workers.proofs.WholeLemmas.{ticks_at_end, posted_at_end}
 use Rattle.run_tool.specs.Executions.{GateSeen, JobSeen, Crew, crew, gates_of, jobs_of, Holds, IsFreshCrew, AreBack, RanAll, RanPart, GateRose, GateKept}

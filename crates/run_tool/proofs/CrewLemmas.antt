@@ -11,11 +11,11 @@ use Rattle.run_tree.specs.Plans.{PlanContents, IsPlan, rounds_of}
 use Rattle.exec_book.specs.PlanRows.{plan_rows}
 use Rattle.exec_book.specs.Jobs.{Made}
 use Rattle.exec_book.proofs.RoundLemmas.{plan_table, plan_count, plan_lanes}
-use Rattle.exec_workers.specs.declared.causes.Cause.{Cause}
-use Rattle.exec_workers.specs.declared.causes.Cause.TheVariants as cause
-use Rattle.exec_workers.specs.declared.kits.Kit.{Kit}
-use Rattle.exec_workers.specs.Kits.{KitAt}
-use Rattle.exec_workers.specs.Lanes.{LaneContents, NoneFailed, AllAt, lane_in, unposted}
+use Rattle.exec_lanes.specs.declared.causes.Cause.{Cause}
+use Rattle.exec_lanes.specs.declared.causes.Cause.TheVariants as cause
+use Rattle.exec_lanes.specs.declared.kits.Kit.{Kit}
+use Rattle.exec_lanes.specs.Kits.{KitAt}
+use Rattle.exec_lanes.specs.Lanes.{LaneContents, NoneFailed, AllAt, lane_in, unposted}
 use Rattle.exec_workers.specs.Runs.{CountsGate, Ran}
 use Rattle.run_tool.specs.Executions.{GateSeen, JobSeen, Crew, crew, gates_of, jobs_of, Holds, AreBack}
 

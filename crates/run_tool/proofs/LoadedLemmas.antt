@@ -4,7 +4,7 @@ use Rattle.std.specs.Prelude.{codes}
 use Rattle.sched_edges.specs.Lines.{word_line}
 use Rattle.std.specs.List.{flat_map, range_with_len}
 use Rattle.sched_base.specs.declared.rows.Row.{Row}
-use Rattle.exec_workers.specs.declared.kits.Kit.{Kit}
+use Rattle.exec_lanes.specs.declared.kits.Kit.{Kit}
 use Rattle.sched_base.specs.declared.sets.Task.{Task}
 use Rattle.sched_base.specs.Sets.{task_at}
 use Rattle.sched_base.specs.Tables.{all_rows, ticks_in}

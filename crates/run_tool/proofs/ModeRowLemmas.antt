@@ -5,7 +5,7 @@ use Rattle.std.specs.List.{AllZip}
 use Rattle.sched_base.specs.Tables.{Table, row_limit}
 use Rattle.run_tree.specs.Plans.{PlanContents, rounds_of}
 use Rattle.exec_book.specs.PlanRows.{plan_rows}
-use Rattle.exec_workers.specs.declared.answers.Executed.{Executed}
+use Rattle.exec_lanes.specs.declared.answers.Executed.{Executed}
 use Rattle.mode_join.specs.declared.mode.Mode.{Mode}
 use Rattle.mode_join.specs.Modes.{ModesContents, AreModes}
 use Rattle.mode_switch.specs.Runs.{IsRunOf}

@@ -18,9 +18,9 @@ use Rattle.job_vm.specs.Loading.{anew, code_of}
 use Rattle.job_vm.proofs.LoadingLemmas.{loaded_past}
 use Rattle.run_tree.specs.Plans.{PlanContents, IsPlan}
 use Rattle.exec_book.specs.PlanRows.{plan_rows}
-use Rattle.exec_workers.specs.declared.answers.Executed.{Executed}
-use Rattle.exec_workers.specs.declared.answers.ExecFault.TheVariants as exec
-use Rattle.exec_workers.specs.Kits.{AreFilled}
+use Rattle.exec_lanes.specs.declared.answers.Executed.{Executed}
+use Rattle.exec_lanes.specs.declared.answers.ExecFault.TheVariants as exec
+use Rattle.exec_lanes.specs.Kits.{AreFilled}
 use Rattle.exec_workers.specs.Runs.{AreFresh}
 use Rattle.mode_join.specs.declared.mode.Mode.{Mode}
 use Rattle.mode_join.specs.Modes.{IsMode}

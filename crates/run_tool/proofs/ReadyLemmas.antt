@@ -5,7 +5,7 @@ use Rattle.std.proofs.Common.{refl, sym, ◌∙◌, ap, subst, arith}
 use Rattle.std.specs.Prelude.{slice_get}
 use Rattle.std.proofs.lemmas.List.{map-append, length-append}
 use Rattle.sched_base.specs.declared.rows.Row.{Row}
-use Rattle.exec_workers.specs.declared.kits.Kit.{Kit}
+use Rattle.exec_lanes.specs.declared.kits.Kit.{Kit}
 use Rattle.run_tool.specs.Executions.{GateSeen, JobSeen, crew, gates_of, jobs_of, IsFreshCrew}
 use Rattle.run_tool.specs.Ready.{AreFirstGates, AreFirstJobs}
 

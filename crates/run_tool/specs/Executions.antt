@@ -19,7 +19,7 @@ pub use Rattle.sched_edges.specs.Jobs.{JobAt as Holds}
 pub use Rattle.job_vm.specs.Seen.{JobSeen, jobs_of}
 use Rattle.run_tree.specs.Plans.{PlanContents, stop_of}
 use Rattle.exec_book.specs.PlanRows.{plan_rows}
-use Rattle.exec_workers.specs.declared.kits.Kit.{Kit}
+use Rattle.exec_lanes.specs.declared.kits.Kit.{Kit}
 use Rattle.exec_workers.specs.Fronts.{IsFrontAt}
 
 -- what contracts see of a gate: the rows that it ran, where it tells them, and how often it has failed

@@ -6,14 +6,14 @@ use Rattle.sched_edges.specs.Gates.{GateHeld}
 use Rattle.sched_edges.specs.Jobs.{JobAt}
 use Rattle.run_tree.specs.Plans.{PlanContents}
 use Rattle.exec_book.specs.Jobs.{Made}
-use Rattle.exec_workers.specs.declared.answers.Executed.{Executed}
-use Rattle.exec_workers.specs.declared.answers.ExecFault.{ExecFault}
-use Rattle.exec_workers.specs.declared.answers.ExecFault.TheVariants as fault
-use Rattle.exec_workers.specs.declared.kits.Kit.{Kit}
-use Rattle.exec_workers.specs.Kits.{KitAt}
-use Rattle.exec_workers.specs.Lanes.{LaneContents}
+use Rattle.exec_lanes.specs.declared.answers.Executed.{Executed}
+use Rattle.exec_lanes.specs.declared.answers.ExecFault.{ExecFault}
+use Rattle.exec_lanes.specs.declared.answers.ExecFault.TheVariants as fault
+use Rattle.exec_lanes.specs.declared.kits.Kit.{Kit}
+use Rattle.exec_lanes.specs.Kits.{KitAt}
+use Rattle.exec_lanes.specs.Lanes.{LaneContents}
 use Rattle.exec_workers.specs.Runs.{AreFresh, Ran, Outcome}
-use Rattle.exec_workers.proofs.PlaceLemmas.{each_push}
+use Rattle.exec_lanes.proofs.PlaceLemmas.{each_push}
 
 -- one place more
 length_more : {X : Type 0} (n : ℕ) (xs ys : List X) (x : X) → length xs ≡ n → ys ≡ xs ++ x ∷ [] → length ys ≡ n + 1

@@ -3,7 +3,7 @@ ghost use Rattle.std.specs.Prelude.{◌≡◌, ◌<◌, ℕ, [], length, IfOk};
 ghost use Rattle.sched_edges.specs.Gates.{GateHeld};
 ghost use Rattle.sched_edges.specs.Jobs.{JobAt};
 ghost use Rattle.exec_book.specs.PlanRows.{IsCompiled};
-ghost use Rattle.exec_workers.specs.Kits.{KitAt};
+ghost use Rattle.exec_lanes.specs.Kits.{KitAt};
 
 mod faults;
 mod gates;

@@ -1,5 +1,5 @@
 use Rattle.std.proofs.Common.{◌≡◌, length}
-use Rattle.exec_workers.specs.Kits.{AreFilled}
+use Rattle.exec_lanes.specs.Kits.{AreFilled}
 use Rattle.own_crew.proofs.kits_of.Given as goal
 
 abbrev pub invariant-loop : goal.invariant-loop

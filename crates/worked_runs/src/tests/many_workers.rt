@@ -2,7 +2,7 @@
 ghost use Rattle.std.specs.Prelude.{◌≡◌, ◌<◌, ℕ, [], length, IfOk};
 ghost use Rattle.sched_edges.specs.Gates.{GateHeld};
 ghost use Rattle.exec_book.specs.PlanRows.{IsCompiled};
-ghost use Rattle.exec_workers.specs.Kits.{KitAt};
+ghost use Rattle.exec_lanes.specs.Kits.{KitAt};
 
 use super::paced_gate::{Pace, PacedGate};
 use event_core::count_rounds;

@@ -4,7 +4,7 @@ use Rattle.book_machine.specs.Machine.{lane_at, posted_at}
 use Rattle.book_machine.specs.declared.machine.LaneState.{LaneState}
 use Rattle.run_tree.specs.Plans.{PlanContents}
 use Rattle.run_tree.specs.Tree.{Tree}
-use Rattle.exec_workers.proofs.RefusedLemmas.{untrue}
+use Rattle.exec_lanes.proofs.ErrorLemmas.{untrue}
 use Rattle.exec_workers.proofs.found.is_free_at.Goals as goal
 
 is_false : (b : Bool) → not b ≡ true → b ≡ false

@@ -1,4 +1,4 @@
-use Rattle.exec_workers.proofs.RefusedLemmas.{untrue}
+use Rattle.exec_lanes.proofs.ErrorLemmas.{untrue}
 use Rattle.std.proofs.Common.{◌≡◌, ◌<◌, ◌∙◌, ℕ, length, ap, sym, arith, below_more}
 use Rattle.run_tree.specs.Tree.{Tree}
 use Rattle.run_tree.specs.Plans.{PlanContents}

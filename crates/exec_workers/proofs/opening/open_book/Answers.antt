@@ -1,6 +1,6 @@
 use Rattle.unit_ledger.specs.Seats.{seats_at_start}
 use Rattle.run_tree.specs.Tree.{Tree}
-use Rattle.exec_workers.proofs.RefusedLemmas.{no_answer, each_error}
+use Rattle.exec_lanes.proofs.ErrorLemmas.{no_answer, each_error}
 use Rattle.std.proofs.Common.{rules, ◌≡◌, ℕ, ◌<◌, inl, inr, length, ap, ◌∙◌, arith, refl, sym}
 use Rattle.std.specs.Prelude.{slice_get}
 use Rattle.sched_base.specs.Sets.{SetContents}

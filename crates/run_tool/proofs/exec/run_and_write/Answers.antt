@@ -1,6 +1,6 @@
 use Rattle.std.proofs.Common.{refl, sym}
 use Rattle.std.proofs.lemmas.Result.{IfOk-from_err}
-use Rattle.exec_workers.proofs.RefusedLemmas.{untrue}
+use Rattle.exec_lanes.proofs.ErrorLemmas.{untrue}
 use Rattle.mode_switch.proofs.RunLemmas.{told_fault}
 use Rattle.run_tool.specs.Executed.{may_have_called}
 use Rattle.run_tool.proofs.RunLemmas.{back_same, untouched}

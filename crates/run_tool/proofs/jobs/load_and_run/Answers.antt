@@ -3,7 +3,7 @@ use Rattle.std.proofs.lemmas.Result.{IfOk-from_err}
 use Rattle.sched_base.specs.Sets.{SetContents}
 use Rattle.still_commands.specs.declared.refusal.Refusal.{Refusal}
 use Rattle.still_commands.specs.Refusals.{status_of}
-use Rattle.exec_workers.proofs.RefusedLemmas.{untrue}
+use Rattle.exec_lanes.proofs.ErrorLemmas.{untrue}
 use Rattle.mode_switch.proofs.RunLemmas.{told_fault}
 use Rattle.run_tool.specs.Executed.{may_have_called, may_have_run}
 use Rattle.command_words.specs.declared.command.Command.TheVariants.{Execute}

@@ -1,6 +1,6 @@
 use Rattle.std.proofs.Common.{Some, refl, sym}
 use Rattle.std.proofs.lemmas.Result.{IfOk-from_err}
-use Rattle.exec_workers.proofs.RefusedLemmas.{untrue}
+use Rattle.exec_lanes.proofs.ErrorLemmas.{untrue}
 use Rattle.mode_switch.proofs.RunLemmas.{told_fault}
 use Rattle.still_commands.specs.Ends.{streams_of}
 use Rattle.still_commands.proofs.EndLemmas.{keeps_same}

@@ -1,5 +1,5 @@
 use Rattle.std.proofs.Common.{◌≡◌, ◌∙◌, ℕ, List, Some, None, inl, inr, true, false, refl, ap, map, option_map, string_bytes, sym, rules}
-use Rattle.exec_workers.proofs.RefusedLemmas.{untrue}
+use Rattle.exec_lanes.proofs.ErrorLemmas.{untrue}
 use Rattle.still_commands.proofs.EndLemmas.{keeps_same, is_fault, not_fault, no_none}
 use Rattle.still_commands.specs.declared.status.Status.TheVariants.{Done, Invalid, Usage}
 use Rattle.command_words.specs.Words.{command_of, asks_to_execute, asks_for_batch, asks_for_threads}

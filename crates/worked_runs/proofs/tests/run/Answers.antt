@@ -3,7 +3,7 @@ use denote.Param.Object.{read_made}
 use Rattle.sched_base.specs.Sets.{SetContents}
 use Rattle.sched_edges.specs.Gates.{GateHeld}
 use Rattle.run_tree.specs.Tree.{Tree}
-use Rattle.exec_workers.proofs.StageLemmas.{same_gate}
+use Rattle.exec_lanes.proofs.StageLemmas.{same_gate}
 use Rattle.worked_runs.proofs.RunLemmas.{no_jobs_made, one_more_made, job_left}
 use Rattle.worked_runs.proofs.tests.run.OwnLists.{own-1, at-1-1}
 use Rattle.worked_runs.proofs.tests.run.Goals as goal

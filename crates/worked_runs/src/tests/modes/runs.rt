@@ -1,7 +1,7 @@
 //! Two modes that run on gates with lists: values from outside, and what a failure leaves.
 ghost use Rattle.std.specs.Prelude.{◌≡◌, ◌<◌, ℕ, length, IfOk};
 ghost use Rattle.sched_edges.specs.Gates.{GateHeld};
-ghost use Rattle.exec_workers.specs.Kits.{KitAt};
+ghost use Rattle.exec_lanes.specs.Kits.{KitAt};
 
 use super::{Row as Set, joined};
 use exec_workers::Kit;

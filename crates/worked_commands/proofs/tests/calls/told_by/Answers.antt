@@ -1,7 +1,7 @@
 use Rattle.std.proofs.Common.{◌≡◌, None, ap, ◌∙◌, arith}
 use Rattle.std.specs.Prelude.{slice_get}
 use Rattle.sched_edges.specs.Jobs.{JobPlaces}
-use Rattle.exec_workers.proofs.PlaceLemmas.{above_set}
+use Rattle.exec_lanes.proofs.PlaceLemmas.{above_set}
 use Rattle.worked_commands.proofs.tests.calls.told_by.Goals as goal
 
 pub lift-job-requires : goal.lift-job-requires

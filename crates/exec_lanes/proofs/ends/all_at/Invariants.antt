@@ -1,0 +1,6 @@
+use Rattle.std.proofs.Common.{◌≡◌, ◌<◌, ℕ}
+use Rattle.exec_lanes.specs.Lanes.{lane_in}
+use Rattle.exec_lanes.proofs.ends.all_at.Given as goal
+
+abbrev pub invariant-loop-lane : goal.invariant-loop-lane
+invariant-loop-lane g l = (p : ℕ) → p < l.lane-index → (lane_in l.lanes p).seat.posted ≡ l.rounds

@@ -1,0 +1,4 @@
+pub mod Lanes
+pub mod Kits
+pub mod Ends
+pub mod Rooms
