@@ -112,6 +112,7 @@ impl<Q: PostLedger, J: Job> Book<Q, J> {
         }) }
         ensures back { IfErr result (λ e. e.jobs ≡ jobs) }
     {
+        plan.know_lawful();
         let Ok(parts) = Parts::new(alloc, &plan, rounds) else {
             return Err(JobsBack { jobs });
         };
