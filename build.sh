@@ -38,10 +38,10 @@ sed -n 's/^\([a-z][a-z_]*\).*:.*/\1/p' "$top/crates.txt" | while read -r name; d
     echo "$name $(size_of "$name")"
 done >"$work/sizes"
 
-# Each crate of the repository that the wanted one needs, with the processor seconds that it takes, those of the longest chain from it
-# up to the wanted one, and the crates that it stands on: first the one with the longest chain, which decides how long the whole takes.
-# The guess of the time that is left goes by these seconds too. They were measured (build.seconds). A crate that isn't there takes 3.3
-# seconds for each 1,000 bytes of its code, and 0.13 for each 1,000 bytes of the crates below it, whose statements are read.
+# Each crate of the repository that the wanted one needs, with the processor seconds that it takes and those of them that it stands
+# on: first the one with the longest chain of crates above it, since that chain decides how long the whole takes. The guess of the
+# time that is left goes by these seconds too. They were measured (build.seconds). A crate that isn't there takes 3.3 seconds for
+# each 1,000 bytes of its code, and 0.13 for each 1,000 bytes of the crates below it, whose statements are read.
 awk -v wanted="$wanted" '
     FILENAME ~ /sizes$/ { size[$1] = $2; next }
     FILENAME ~ /seconds$/ { if ($1 != "#") takes[$1] = $2; next }
@@ -62,8 +62,8 @@ awk -v wanted="$wanted" '
         n = split(below[crate], names, " ")
         for (i = 1; i <= n; i++) if (names[i] in below) { own[crate] = own[crate] " " names[i]; visit(names[i], chain) }
     }
-    END { visit(wanted, 0); for (crate in above) printf "%s %d %d%s\n", crate, takes[crate] + 1, above[crate], own[crate] }' \
-    "$work/sizes" "$top/build.seconds" "$top/crates.txt" | sort -k 3,3nr -k 1,1 >"$work/crates"
+    END { visit(wanted, 0); for (crate in above) printf "%d %s %d%s\n", above[crate], crate, takes[crate] + 1, own[crate] }' \
+    "$work/sizes" "$top/build.seconds" "$top/crates.txt" | sort -k 1,1nr -k 2,2 | cut -d ' ' -f 2- >"$work/crates"
 
 # The sum of all that a crate is made from: the kit, its line, its files, and the sums of the crates of the repository that it stands on.
 version=$(rt version)
@@ -96,7 +96,7 @@ made_of() {
 }
 
 # The crates that are built from what they are now need nothing. (In this order each stands behind those that it stands on.)
-while read -r name _ _ below; do
+while read -r name _ below; do
     sum_of "$name" $below >"$work/$name.sum"
     [ -e "$(made_of "$name")" ] && cmp -s "$work/$name.sum" "$libraries/$name.sum" || echo "$name" >>"$work/wanting"
 done <"$work/crates"
@@ -200,7 +200,7 @@ build() {
 
 # Takes note of the builds that have ended; the first that failed ends this one. What was edited meanwhile is built again by the next.
 take_ended() {
-    while read -r name size _ below; do
+    while read -r name size below; do
         [ -e "$work/$name.ended" ] && [ ! -e "$work/$name.done" ] || continue
         if [ "$(cat "$work/$name.ended")" != 0 ]; then
             [ -t 2 ] && echo >&2
@@ -218,26 +218,23 @@ take_ended() {
     done <"$work/crates"
 }
 
-# The crates that may begin, each with its chain, the longest first.
+# The crates that may begin, the longest chain first.
 ready() {
-    while read -r name _ chain below; do
-        [ ! -e "$work/$name.begun" ] && may_begin $below && echo "$name $chain"
+    while read -r name _ below; do
+        [ ! -e "$work/$name.begun" ] && may_begin $below && echo "$name"
     done <"$work/crates"
 }
 
 # Each crate has one job, since several take more work for the same proofs; a processor that no crate waits for is one job more.
-# A crate has two, even where one processor is free, if its chain takes twice the time that all that is left takes on all processors:
-# the last crates wait for each other, and by then it is time that is short and not processors.
 free=$jobs
 while [ "$done_count" -lt "$count" ]; do
     take_ended
     ready >"$work/ready"
     left=$(wc -l <"$work/ready")
-    while [ "$free" -gt 0 ] && read -r name chain; do
+    while [ "$free" -gt 0 ] && read -r name; do
         share=$((free / left))
         [ "$share" -lt 1 ] && share=1
         [ "$share" -gt 4 ] && share=4
-        [ "$share" -lt 2 ] && [ "$jobs" -gt 1 ] && [ $((chain * jobs)) -gt $((2 * (whole - done_size))) ] && share=2
         : >"$work/$name.begun"
         build "$name" "$share"
         free=$((free - share))
