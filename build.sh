@@ -116,9 +116,10 @@ fi
 # A check takes up to 2 GB of memory and a processor.
 processors=$(getconf _NPROCESSORS_ONLN 2>/dev/null || echo 1)
 memory=$(awk '/^MemAvailable/ { print int($2 / 2097152) }' /proc/meminfo 2>/dev/null)
-jobs=$processors
-[ -n "$memory" ] && [ "$memory" -lt "$jobs" ] && jobs=$memory
+memory=${memory:-$processors}
+jobs=$((memory < processors ? memory : processors))
 [ "$jobs" -lt 1 ] && jobs=1
+most=$((jobs < 4 ? jobs : 4))
 
 say "proving and building $wanted first: $count crates, $jobs at once; it takes 2 GB of memory for each of them and 2 GB of disk"
 
@@ -183,13 +184,14 @@ compile() {
     esac
 }
 
-# Proves and builds one crate with so many jobs, and notes how that ended and how many processor seconds it took.
+# Proves and builds one crate, to which so many processors are given, with so many jobs, and notes how that ended and how many
+# processor seconds it took.
 build() {
-    echo "$2" >"$work/$1.jobs"
+    echo "$2" >"$work/$1.processors"
     made=$(made_of "$1")
     rm -rf "$made" "$libraries/$1.sum"
     (
-        compile "$1" "$made" "$2" </dev/null >"$work/$1.log" 2>&1
+        compile "$1" "$made" "$3" </dev/null >"$work/$1.log" 2>&1
         echo $? >"$work/$1.status"
         times >"$work/$1.times"
         awk -v crate="$1" 'NR == 2 { split($1 "m" $2, took, "[ms]+"); printf "%s %d\n", crate, 60 * (took[1] + took[3]) + took[2] + took[4] }' \
@@ -211,32 +213,38 @@ take_ended() {
         fi
         [ "$(sum_of "$name" $below)" = "$(cat "$work/$name.sum")" ] && cp "$work/$name.sum" "$libraries/"
         : >"$work/$name.done"
-        free=$((free + $(cat "$work/$name.jobs")))
+        free=$((free + $(cat "$work/$name.processors")))
         done_count=$((done_count + 1))
         done_size=$((done_size + size))
         tell "$name"
     done <"$work/crates"
 }
 
-# The crates that may begin, the longest chain first.
+# The crates that may begin with what they take, the longest chain first.
 ready() {
-    while read -r name _ below; do
-        [ ! -e "$work/$name.begun" ] && may_begin $below && echo "$name"
+    while read -r name size below; do
+        [ ! -e "$work/$name.begun" ] && may_begin $below && echo "$name $size"
     done <"$work/crates"
 }
 
-# Each crate has one job, since several take more work for the same proofs; a processor that no crate waits for is one job more.
+# Whether what a crate takes is more than half of what all that is left takes on all processors: then the others would wait for it.
+is_long() { [ "$((2 * $1 * jobs))" -gt "$((whole - done_size))" ]; }
+
+# Each crate has a processor and one job, since several jobs take more work for the same proofs; a processor that no crate waits for is
+# one more. A long crate has as many jobs as there are processors, where there is memory, and the system shares the processors out.
 free=$jobs
 while [ "$done_count" -lt "$count" ]; do
     take_ended
     ready >"$work/ready"
     left=$(wc -l <"$work/ready")
-    while [ "$free" -gt 0 ] && read -r name; do
+    while [ "$free" -gt 0 ] && read -r name size; do
         share=$((free / left))
         [ "$share" -lt 1 ] && share=1
         [ "$share" -gt 4 ] && share=4
+        at_once=$share
+        [ "$memory" -ge "$((2 * jobs))" ] && is_long "$size" && at_once=$most
         : >"$work/$name.begun"
-        build "$name" "$share"
+        build "$name" "$share" "$at_once"
         free=$((free - share))
         left=$((left - 1))
     done <"$work/ready"
