@@ -13,10 +13,15 @@ use std::marker::Model;
 /// The rows of each processor up to a tick, merged: those that follow one another under one name are one row.
 ///
 /// Seen as these rows, lane by lane, and the tick. They take 24 bytes for each merged row.
-#[derive(Drop)]
 pub struct MergedRows {
     lanes: Vec<MergedLane>,
     end: u128,
+}
+
+impl Drop for MergedRows {
+    fn drop(self) {
+        let Self { lanes: _lanes, end: _end } = self;
+    }
 }
 
 impl Model for MergedRows {

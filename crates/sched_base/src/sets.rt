@@ -25,11 +25,20 @@ pub struct Task {
 
 /// A set of at most 256 tasks with different names, with the number of processors (1 to 32) and the horizon of its
 /// schedule (1 to 4,294,967,295 units).
-#[derive(Drop)]
 pub struct TaskSet {
     processors: u32,
     horizon: u64,
     tasks: Vec<Task>,
+}
+
+impl Drop for TaskSet {
+    fn drop(self) {
+        let Self {
+            processors: _processors,
+            horizon: _horizon,
+            tasks: _tasks,
+        } = self;
+    }
 }
 
 impl Model for TaskSet {

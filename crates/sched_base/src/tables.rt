@@ -26,10 +26,18 @@ pub fn blank_rows(alloc: Global, processors: u32) -> Result<Vec<Row>, NoMemory>
 /// Whole rounds of rows, each processor's rows together, with room for a stated number of further rounds.
 ///
 /// Row p of each round is that of processor p. Rounds follow one another from tick 0, and no task stands twice in one.
-#[derive(Drop)]
 pub struct RowTable {
     lanes: Vec<LaneRows>,
     room: u64,
+}
+
+impl Drop for RowTable {
+    fn drop(self) {
+        let Self {
+            lanes: _lanes,
+            room: _room,
+        } = self;
+    }
 }
 
 impl Model for RowTable {

@@ -6,9 +6,14 @@ use std::alloc::Global;
 use std::marker::Model;
 
 /// The ticks of each task, in order, with room for a stated number of tasks.
-#[derive(Drop)]
 pub struct Totals {
     ticks: Vec<u128>,
+}
+
+impl Drop for Totals {
+    fn drop(self) {
+        let Self { ticks: _ticks } = self;
+    }
 }
 
 impl Model for Totals {

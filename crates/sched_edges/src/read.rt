@@ -34,9 +34,14 @@ impl From<AllocError> for TakeFault {
 }
 
 /// Bytes that were read.
-#[derive(Drop)]
 pub struct Bytes {
     items: Vec<u8>,
+}
+
+impl Drop for Bytes {
+    fn drop(self) {
+        let Self { items: _items } = self;
+    }
 }
 
 impl Model for Bytes {

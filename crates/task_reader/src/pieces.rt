@@ -9,9 +9,14 @@ use std::alloc::Global;
 use std::marker::Model;
 
 /// The pieces of a text, in order, each by its start and its end.
-#[derive(Drop)]
 pub struct Pieces {
     spans: Vec<(usize, usize)>,
+}
+
+impl Drop for Pieces {
+    fn drop(self) {
+        let Self { spans: _spans } = self;
+    }
 }
 
 impl Model for Pieces {

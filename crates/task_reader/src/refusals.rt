@@ -27,9 +27,15 @@ pub enum Place {
 }
 
 /// The text of a key that the format doesn't have.
-#[derive(Debug, Drop)]
+#[derive(Debug)]
 pub struct KeyText {
     bytes: Vec<u8>,
+}
+
+impl Drop for KeyText {
+    fn drop(self) {
+        let Self { bytes: _bytes } = self;
+    }
 }
 
 impl Model for KeyText {
