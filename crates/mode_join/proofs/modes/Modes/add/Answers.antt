@@ -46,7 +46,7 @@ module _ (c : In_ok-push) where
   mode = record { plan = c.in_ok-plan.plan; rounds = c.in_ok-rounds.rounds; start = c.self.inside.end }
 
   is_mode : IsMode c.self.inside.processors mode
-  is_mode = mode_made c.self.inside.processors c.args.set c.in_ok-plan.plan c.in_ok-rounds.rounds c.self.inside.end c.in_default.ensures.none c.set-2.ensures.lawful c.in_ok-plan.ensures.plan
+  is_mode = mode_made c.self.inside.processors c.args.set c.in_ok-plan.plan c.in_ok-rounds.rounds c.self.inside.end c.in_default.ensures.none c.set.ensures.lawful c.in_ok-plan.ensures.plan
       c.in_ok-plan.ensures.fits c.in_ok-rounds.ensures.count.0 c.in_ok-rounds.ensures.some
 
   items : c.push.new.self.items ≡ c.self.inside.modes.items ++ mode ∷ []
@@ -69,7 +69,7 @@ module _ (c : In_ok-push) where
   are = rw items (modes_push c.self.inside.processors c.self.inside.modes.items mode c.self.invariant.0 is_mode c.self.invariant.2 few)
 
   horizon : c.horizon-horizon.result ≡ c.in_ok-plan.plan.set.horizon
-  horizon = c.horizon-horizon.ensures.value ∙ ap (λ (s : SetContents). s.horizon) c.set-2.ensures.value
+  horizon = c.horizon-horizon.ensures.value ∙ ap (λ (s : SetContents). s.horizon) c.set.ensures.value
 
 pub overflow_add-self-2 : goal.overflow_add-self-2
 overflow_add-self-2 c =
