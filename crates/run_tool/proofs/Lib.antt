@@ -1,5 +1,6 @@
 pub mod ModeTextLemmas
 pub mod JobTextLemmas
+pub mod JobInputLemmas
 pub mod ExecutionAnswerLemmas
 pub mod LoadedLemmas
 pub mod JobRunLemmas

@@ -30,6 +30,14 @@ GaveNoJobs left left' faults faults' limit (why.BadSet refusal) =
     × (set_read_from (set_bytes text bytes) ≡ Err refusal))
 GaveNoJobs left left' faults faults' limit _ = ⊥
 
+-- why bytes are no job text with its set; want of memory is free
+abbrev pub RefusesJobText : List ℕ → Refusal → Type 0
+RefusesJobText bytes (why.BadProgram line) = HasBadProgram bytes line
+RefusesJobText bytes (why.BadSet refusal) =
+    (text : JobTextHeld) × (reading bytes ≡ Ok text) × (set_read_from (set_bytes text bytes) ≡ Err refusal)
+RefusesJobText bytes why.NoMemory = Unit {0}
+RefusesJobText bytes _ = ⊥
+
 -- the schedule of a set was run with the programs of a job text, and what they computed was written
 abbrev pub RanJobs : JobTextHeld → Option (List ℕ) → Option (List ℕ) → Crew → Crew → SetContents → Type 0
 RanJobs text out out' old new s =

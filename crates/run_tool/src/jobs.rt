@@ -1,12 +1,15 @@
 //! The command `jobs`.
-ghost use Rattle.std.specs.Prelude.{◌≡◌, false, OnOk, IfErr, IfOk};
+ghost use Rattle.std.specs.Prelude.{◌≡◌, ◌≤◌, false, length, OnOk, IfErr, IfOk, Ok};
+ghost use Rattle.job_vm.specs.Programs.{reading};
+ghost use Rattle.still_commands.specs.Commands.{set_limit};
 ghost use Rattle.still_commands.specs.Refusals.{status_of};
 ghost use Rattle.run_tree.specs.Compiled.{tree_of};
 ghost use Rattle.still_commands.specs.Ends.{streams_of};
 ghost use Rattle.still_commands.specs.Input.{IsSchedulable};
 ghost use Rattle.run_tool.specs.Executions.{crew_of, IsFreshCrew, AreBack};
 ghost use Rattle.run_tool.specs.Executed.{ToldRun, StopsRun, may_have_run};
-ghost use Rattle.run_tool.specs.JobInput.{GaveJobs, GaveNoJobs, RanJobs, StopsAtJobs};
+ghost use Rattle.run_tool.specs.JobPrograms.{ReadsJobs};
+ghost use Rattle.run_tool.specs.JobInput.{GaveJobs, GaveNoJobs, RefusesJobText, RanJobs, StopsAtJobs};
 ghost use Rattle.command_words.specs.declared.command.Command.TheVariants.{Execute};
 ghost use Rattle.command_words.specs.declared.command.Execution.TheVariants.{Jobs};
 
@@ -57,11 +60,32 @@ fn read_job_input<R: Source>(alloc: Global, source: &mut R) -> Result<(JobText, 
         (R.faults source.old) (R.faults source.new) SET_LIMIT) }
 {
     let bytes = read_all(alloc, source, SET_LIMIT)?;
-    let text = read_jobs(alloc, bytes.as_slice())?;
-    let set = read_set(alloc, &bytes.as_slice()[text.set_start()..])?;
-    match first_stray(&text, &set) {
+    read_job_text(alloc, bytes.as_slice())
+}
+
+// A job text with its set.
+fn read_job_text(alloc: Global, bytes: &[u8]) -> Result<(JobText, TaskSet), Refusal>
+    requires { length bytes.now ≤ set_limit }
+    ensures read { IfOk result (λ read. ReadsJobs bytes.now read.0 read.1) }
+    ensures refused { IfErr result (RefusesJobText bytes.now) }
+{
+    let text = read_jobs(alloc, bytes)?;
+    let set = read_job_set(alloc, bytes, &text)?;
+    Ok((text, set))
+}
+
+// The set behind the programs of a job text, where each of them is of a task of it.
+fn read_job_set(alloc: Global, bytes: &[u8], text: &JobText) -> Result<TaskSet, Refusal>
+    requires few { length bytes.now ≤ set_limit }
+    requires text { reading bytes.now ≡ Ok text.now }
+    requires within { text.now.set_start ≤ length bytes.now }
+    ensures read { IfOk result (ReadsJobs bytes.now text.now) }
+    ensures refused { IfErr result (RefusesJobText bytes.now) }
+{
+    let set = read_set(alloc, &bytes[text.set_start()..])?;
+    match first_stray(text, &set) {
         Some(line) => Err(Refusal::BadProgram { line }),
-        None => Ok((text, set)),
+        None => Ok(set),
     }
 }
 
