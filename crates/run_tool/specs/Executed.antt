@@ -94,6 +94,16 @@ StopsAtDrill number out out' faults faults' old new why.WriteFault =
     (scale : ℕ) × IsDrill number scale × TookPart out out' (drill_text number scale) × Rose faults faults' × RanAll (drill_plan number scale) old new
 StopsAtDrill number out out' faults faults' old new refusal = FailsDrill number old new refusal × Keeps out out'
 
+-- the text of a drill that was run was written
+abbrev pub WroteDrill : ℕ → ℕ → Option (List ℕ) → Option (List ℕ) → Type 0
+WroteDrill number scale out out' = IsDrill number scale × Appends out out' (drill_text number scale)
+
+-- why it wasn't, or not all of it
+abbrev pub StopsAtText : ℕ → ℕ → Option (List ℕ) → Option (List ℕ) → ℕ → ℕ → Refusal → Type 0
+StopsAtText number scale out out' faults faults' why.WriteFault = IsDrill number scale × TookPart out out' (drill_text number scale) × Rose faults faults'
+StopsAtText number scale out out' faults faults' why.NoMemory = Keeps out out'
+StopsAtText number scale out out' faults faults' _ = ⊥
+
 -- ---- `jobs`
 
 -- the gates and the jobs, once the programs of these tasks are loaded

@@ -11,7 +11,7 @@ ghost use Rattle.trace_check.specs.RoundTrip.{trace_again};
 ghost use Rattle.stat_report.specs.Report.{IsValidTrace};
 ghost use Rattle.run_tool.specs.Drill.{drilled, drill_plan, summary_by};
 ghost use Rattle.run_tool.specs.Executions.{crew_of, IsFreshCrew, AreBack};
-ghost use Rattle.run_tool.specs.Executed.{RanDrill, StopsAtDrill};
+ghost use Rattle.run_tool.specs.Executed.{RanDrill, StopsAtDrill, WroteDrill, StopsAtText};
 
 use crate::exec::run_plan;
 use crate::summary::{Summary, summary_of, write_summary};
@@ -79,7 +79,29 @@ fn run_drawn<W: Sink, G: Gate + Send, X: Threads + Wait + Sync>(
 {
     let rounds = few_rounds(alloc, plan)?;
     let executed = run_plan(rt, alloc, plan, rounds, USUAL_WINDOW, kits, jobs)?;
-    let told = judged(alloc, number, plan, rounds, &executed.table)?;
+    write_judged(alloc, number, plan, rounds, &executed.table, out)
+}
+
+// Judges the trace of a drawn set's rows, which were run, and writes what is counted of it.
+fn write_judged<W: Sink>(
+    alloc: Global,
+    number: u64,
+    plan: &Plan,
+    rounds: u64,
+    table: &RowTable,
+    out: &mut W,
+) -> Result<(), Refusal>
+    requires plan { plan.now ≡ drill_plan number plan.now.tree.scale }
+    requires scale { IsScale (drilled number).tasks plan.now.tree.scale }
+    requires rounds { rounds ≡ rounds_of plan.now }
+    requires lanes { table.now.lanes ≡ plan_rows plan.now }
+    requires few { length table.now.lanes * rounds_in table.now.lanes ≤ row_limit }
+    requires valid { IsValid plan.now.set plan.now.tree.scale (stop_of plan.now) (stop_of plan.now) (all_rows (plan_rows plan.now)) }
+    ensures done { OnOk result (WroteDrill number plan.now.tree.scale (W.taken out.old) (W.taken out.new)) }
+    ensures stops { IfErr result (StopsAtText number plan.now.tree.scale (W.taken out.old) (W.taken out.new)
+        (W.faults out.old) (W.faults out.new)) }
+{
+    let told = judged(alloc, number, plan, rounds, table)?;
     Ok(write_summary(&told, out)?)
 }
 
