@@ -8,5 +8,6 @@ pub mod Executions
 pub mod ModeRuns
 pub mod Ready
 pub mod Executed
+pub mod Asked
 pub mod JobInput
 pub mod ModeInput

@@ -1,9 +1,10 @@
 //! The top call, with the runtime, the gates and the jobs.
-ghost use Rattle.std.specs.Prelude.{◌≡◌, ◌≢◌, ◌↔◌, false, map, string_bytes, None, Some, OnOk, IfErr};
+ghost use Rattle.std.specs.Prelude.{◌≡◌, ◌≢◌, ◌↔◌, true, false, map, string_bytes, None, Some, OnOk, IfErr};
 ghost use Rattle.command_words.specs.Words.{command_of, asks_to_execute, HasWindow};
 ghost use Rattle.still_commands.specs.Commands.{of_trace};
 ghost use Rattle.still_commands.specs.Refusals.{status_of};
 ghost use Rattle.still_commands.specs.Ends.{streams_of, error_of, IsDone, IsUsage};
+ghost use Rattle.run_tool.specs.Asked.{EndsAsked};
 ghost use Rattle.run_tool.specs.Ends.{IsCommandDone, IsCommandAnswered};
 ghost use Rattle.run_tool.specs.Executions.{crew_of, IsFreshCrew, AreBack};
 ghost use Rattle.run_tool.specs.Executed.{ToldRun, StopsRun, EndsWith, NoneFailed, may_have_run};
@@ -90,14 +91,36 @@ pub fn run<R: Source, W: Sink, E: Sink, G: Gate + Send, X: Threads + Wait + Sync
         → IsCommandAnswered (command_of (map string_bytes words.now)) (R.left source.old)
         (streams_of R.Source W.Sink source.old out.old) (streams_of R.Source W.Sink source.new out.new) result }
 {
-    sound_law();
-    follow_law();
     if asks_for_batch(words) {
         return run_batch(rt, alloc, words, source, out, err);
     }
     if !asks_to_execute(words) {
         return run_still(alloc, words, source, out, err);
     }
+    run_execution(rt, alloc, words, source, out, err, kits, jobs)
+}
+
+// Does what the words ask for, where they ask for an execution.
+fn run_execution<R: Source, W: Sink, E: Sink, G: Gate + Send, X: Threads + Wait + Sync>(
+    rt: &X,
+    alloc: Global,
+    words: &[String],
+    source: &mut R,
+    out: &mut W,
+    err: &mut E,
+    kits: &mut Vec<Kit<G>>,
+    jobs: &mut Jobs,
+) -> Status
+    requires asks { asks_to_execute (map string_bytes words.now) ≡ true }
+    requires ready { IsFreshCrew (crew_of G.Gate ⟦<BoxedJob as Job>⟧ kits.old jobs.old) }
+    ensures { EndsAsked (map string_bytes words.now)
+        (streams_of R.Source W.Sink source.old out.old) (streams_of R.Source W.Sink source.new out.new)
+        (error_of E.Sink err.old) (error_of E.Sink err.new)
+        (crew_of G.Gate ⟦<BoxedJob as Job>⟧ kits.old jobs.old) (crew_of G.Gate ⟦<BoxedJob as Job>⟧ kits.new jobs.new)
+        ((kits.new.items ≡ kits.old.items) × (jobs.new.places ≡ jobs.old.places)) result }
+{
+    sound_law();
+    follow_law();
     match execution_of(alloc, words) {
         Err(_) => refuse(&Refusal::NoMemory, err),
         Ok(None) => refuse(&Refusal::Usage, err),
