@@ -4,6 +4,7 @@ pub mod OneAnswerLemmas
 pub mod AnswerLemmas
 pub mod LineLemmas
 pub mod TraceLemmas
+pub mod CountedLemmas
 pub mod EndLemmas
 pub mod SetLemmas
 pub mod CheckLemmas

@@ -69,10 +69,46 @@ fn write_plan<W: Sink>(alloc: Global, plan: &Plan, met: bool, out: &mut W) -> Re
         (W.faults out.old) (W.faults out.new) plan.now.set) }
 {
     if wants_met(plan.set(), met) {
-        let rounds = count_rounds(alloc, plan)?;
-        let (table, totals) = rows_of(alloc, plan, rounds)?;
-        return Ok(write_rows(plan, &table, totals.as_slice(), met, out)?);
+        write_second_version(alloc, plan, met, out)
+    } else {
+        write_first_version(alloc, plan, met, out)
     }
+}
+
+// Writes the schedule of a set that fits, by its plan, in version 2.
+fn write_second_version<W: Sink>(
+    alloc: Global,
+    plan: &Plan,
+    met: bool,
+    out: &mut W,
+) -> Result<(), Refusal>
+    requires run { IsSchedulable plan.now.set plan.now.tree.scale }
+    requires tree { plan.now.tree ≡ tree_of plan.now.tree.scale plan.now.set }
+    ensures done { OnOk result (WroteSet (schedule_rows met) (W.taken out.old) (W.taken out.new)
+        plan.now.set) }
+    ensures stops { IfErr result (StopsAtSet (schedule_rows met) (W.taken out.old) (W.taken out.new)
+        (W.faults out.old) (W.faults out.new) plan.now.set) }
+{
+    let rounds = count_rounds(alloc, plan)?;
+    let (table, totals) = rows_of(alloc, plan, rounds)?;
+    Ok(write_rows(plan, &table, totals.as_slice(), met, out)?)
+}
+
+// Writes the schedule of a set that fits, by its plan, in version 1.
+fn write_first_version<W: Sink>(
+    alloc: Global,
+    plan: &Plan,
+    met: bool,
+    out: &mut W,
+) -> Result<(), Refusal>
+    requires run { IsSchedulable plan.now.set plan.now.tree.scale }
+    requires tree { plan.now.tree ≡ tree_of plan.now.tree.scale plan.now.set }
+    requires first_version { (met || some_late plan.now.set.tasks) ≡ false }
+    ensures done { OnOk result (WroteSet (schedule_rows met) (W.taken out.old) (W.taken out.new)
+        plan.now.set) }
+    ensures stops { IfErr result (StopsAtSet (schedule_rows met) (W.taken out.old) (W.taken out.new)
+        (W.faults out.old) (W.faults out.new) plan.now.set) }
+{
     let (rows, totals) = merged_rows_of(alloc, plan)?;
     Ok(write_merged_rows(plan, &rows, &totals, met, out)?)
 }

@@ -50,9 +50,45 @@ fn write_set<W: Sink>(alloc: Global, set: &TaskSet, out: &mut W) -> Result<(), R
     let scale = scale_to_run(set)?;
     let rounds = wrap_rounds(alloc, set, scale)?;
     if wants_met(set, false) {
-        let (table, totals) = rows_of(alloc, set, scale, rounds)?;
-        return Ok(write_table(set, scale, &table, totals.as_slice(), false, out)?);
+        write_second_version(alloc, set, scale, rounds, out)
+    } else {
+        write_first_version(alloc, set, scale, out)
     }
+}
+
+// Writes the wrapped schedule of a set that fits, in version 2.
+fn write_second_version<W: Sink>(
+    alloc: Global,
+    set: &TaskSet,
+    scale: u128,
+    rounds: u64,
+    out: &mut W,
+) -> Result<(), Refusal>
+    requires run { IsSchedulable set.now scale }
+    requires rounds { rounds ≡ wrapped_rounds scale set.now }
+    requires few { rounds * set.now.processors ≤ row_limit }
+    ensures done { OnOk result (WroteSet wrapped_rows (W.taken out.old) (W.taken out.new) set.now) }
+    ensures stops { IfErr result (StopsAtSet wrapped_rows (W.taken out.old) (W.taken out.new)
+        (W.faults out.old) (W.faults out.new) set.now) }
+{
+    let (table, totals) = rows_of(alloc, set, scale, rounds)?;
+    Ok(write_table(set, scale, &table, totals.as_slice(), false, out)?)
+}
+
+// Writes the wrapped schedule of a set that fits, in version 1.
+fn write_first_version<W: Sink>(
+    alloc: Global,
+    set: &TaskSet,
+    scale: u128,
+    out: &mut W,
+) -> Result<(), Refusal>
+    requires run { IsSchedulable set.now scale }
+    requires few { wrapped_rounds scale set.now * set.now.processors ≤ row_limit }
+    requires first_version { some_late set.now.tasks ≡ false }
+    ensures done { OnOk result (WroteSet wrapped_rows (W.taken out.old) (W.taken out.new) set.now) }
+    ensures stops { IfErr result (StopsAtSet wrapped_rows (W.taken out.old) (W.taken out.new)
+        (W.faults out.old) (W.faults out.new) set.now) }
+{
     let (rows, totals) = merged_rows_of(alloc, set, scale)?;
     Ok(write_merged_rows(set, scale, &rows, &totals, out)?)
 }
