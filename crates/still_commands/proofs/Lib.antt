@@ -10,3 +10,4 @@ pub mod SetLemmas
 pub mod CheckLemmas
 pub mod SoundLemmas
 pub mod NumberedLemmas
+pub mod BatchLemmas

@@ -1,0 +1,63 @@
+use Rattle.std.proofs.Common.{◌≡◌, ◌*◌, ◌∙◌, ap, arith}
+use Rattle.std.proofs.lemmas.Result.{IfOk-from_err, err_from_is_err_and}
+use Rattle.sched_base.specs.Scale.{Fits, room_of}
+use Rattle.still_commands.proofs.EndLemmas.{keeps_same}
+use Rattle.still_commands.proofs.rate.write_set.Goals as goal
+
+pub returns-in_err-scale-clause-done : goal.returns-in_err-scale-clause-done
+returns-in_err-scale-clause-done g c = IfOk-from_err _ _ c.from_residual.ensures.0
+
+pub returns-in_err-scale-clause-stops : goal.returns-in_err-scale-clause-stops
+returns-in_err-scale-clause-stops g c =
+    let why = err_from_is_err_and c.from_residual.result c.from_residual.ensures.1 in
+    rw (why.1, why.2) (c.in_err-scale.ensures.first, keeps_same _)
+
+pub total-total-requires-clause-scale : goal.total-total-requires-clause-scale
+total-total-requires-clause-scale g c = c.in_ok-scale.ensures.scale
+
+pub total-total-requires-clause-scale_fits : goal.total-total-requires-clause-scale_fits
+total-total-requires-clause-scale_fits g c = c.in_ok-scale.ensures.within
+
+pub write_rate-requires-clause-scale : goal.write_rate-requires-clause-scale
+write_rate-requires-clause-scale g c = c.in_ok-scale.ensures.scale
+
+pub write_rate-requires-clause-scale_fits : goal.write_rate-requires-clause-scale_fits
+write_rate-requires-clause-scale_fits g c = c.in_ok-scale.ensures.within
+
+pub write_rate-requires-clause-total : goal.write_rate-requires-clause-total
+write_rate-requires-clause-total g c = c.total-total.ensures.value
+
+pub write_rate-requires-clause-room : goal.write_rate-requires-clause-room
+write_rate-requires-clause-room g c = ap (λ n. n * c.in_ok-scale.scale) (c.from.ensures ∙ c.processors.ensures.value)
+
+pub returns-in_err-write_rate-clause-done : goal.returns-in_err-write_rate-clause-done
+returns-in_err-write_rate-clause-done g c = IfOk-from_err _ _ c.from_residual-in_err-write_rate.ensures.0
+
+pub returns-in_err-write_rate-clause-stops : goal.returns-in_err-write_rate-clause-stops
+returns-in_err-write_rate-clause-stops g c =
+    let s = c.args.set.now in
+    let scale = c.in_ok-scale.scale in
+    let room : c.from.result * scale ≡ room_of scale s = ap (λ n. n * scale) (c.from.ensures ∙ c.processors.ensures.value) in
+    let total = c.total-total.ensures.value in
+    let fits : Fits scale s = omega (arith, room, total, c.if-total-room.false) in
+    let why = err_from_is_err_and c.from_residual-in_err-write_rate.result c.from_residual-in_err-write_rate.ensures.1 in
+    rw (why.1, why.2) (
+      scale,
+      record { is_scale = c.in_ok-scale.ensures.scale; within = c.in_ok-scale.ensures.within; fits = fits },
+      tt,
+      c.in_err-write_rate.ensures.wrote.err,
+      c.in_err-write_rate.ensures.cause.failed,
+    )
+
+pub returns-clause-done : goal.returns-clause-done
+returns-clause-done g c =
+    let s = c.args.set.now in
+    let scale = c.in_ok-scale.scale in
+    let room : c.from.result * scale ≡ room_of scale s = ap (λ n. n * scale) (c.from.ensures ∙ c.processors.ensures.value) in
+    let total = c.total-total.ensures.value in
+    let fits : Fits scale s = omega (arith, room, total, c.if-total-room.false) in (
+      scale,
+      record { is_scale = c.in_ok-scale.ensures.scale; within = c.in_ok-scale.ensures.within; fits = fits },
+      tt,
+      c.in_ok-write_rate.ensures.wrote.ok,
+    )
