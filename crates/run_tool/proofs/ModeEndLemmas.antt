@@ -1,16 +1,17 @@
 -- How `modes` ends, part by part: reading the sets, running them, and writing their text.
 use Rattle.std.proofs.Common.{◌≡◌, inl, inr, ℕ, zero, suc, ◌+◌, ◌<◌, ◌≤◌, List, [], ◌∷◌, ◌++◌, Option, Some, None, Ok, Err, option_map, map, length, take}
-use Rattle.std.proofs.Common.{true, false, refl, sym, ◌∙◌, ap, subst, arith, add-one}
+use Rattle.std.proofs.Common.{true, false, get_or, refl, sym, ◌∙◌, ap, subst, arith, add-one}
 use Rattle.std.specs.Prelude.{slice_get}
 use Rattle.std.specs.Io.KnownBytes.{Appends, Keeps}
-use Rattle.std.specs.List.{AllByRecursion, AllZip}
+use Rattle.std.specs.List.{All, AllByRecursion, AllZip}
 use Rattle.std.proofs.lemmas.List.{take_all, length-map}
+use Rattle.std.proofs.lemmas.List.Elements.{All-get_or}
 use Rattle.sched_base.specs.Sets.{SetContents}
 use Rattle.sched_edges.specs.Causes.{Rose}
 use Rattle.sched_edges.specs.Streams.{GaveAll, GaveAtMost, GaveCount, TookPart}
 use Rattle.sched_edges.specs.declared.read.TakeFault.{TakeFault}
 use Rattle.sched_edges.specs.declared.read.TakeFault.TheVariants as take_fault
-use Rattle.task_reader.specs.Pieces.{pieces_of, bytes_in}
+use Rattle.task_reader.specs.Pieces.{pieces_of, bytes_in, IsWithin}
 use Rattle.task_reader.specs.Reading.{set_read_from}
 use Rattle.mode_join.specs.declared.mode.Mode.{Mode}
 use Rattle.mode_join.specs.declared.faults.ModeFault.{ModeFault}
@@ -52,6 +53,18 @@ get-take [] (suc j) i below = refl
 get-take (x ∷ xs) zero i below = absurd (omega (arith, below))
 get-take (x ∷ xs) (suc j) zero below = refl
 get-take (x ∷ xs) (suc j) (suc i) below = get-take xs j i (omega (arith, below))
+
+get_at : {A : Type 0} (xs : List A) (j : ℕ) (x : A) → slice_get xs j ≡ Some x → (j < length xs) × (get_or xs j x ≡ x)
+get_at [] j x at = absurd (let bad : ◌≡◌ {A = Option _} None (Some x) = at in cc)
+get_at (y ∷ xs) zero x at = let is : Some y ≡ Some x = at in let same : y ≡ x = cc in (omega arith, same)
+get_at (y ∷ xs) (suc j) x at = let (below, is) = get_at xs j x at in (omega (arith, below), is)
+
+-- each piece lies within the bytes
+pub piece_within : (bytes : List ℕ) (spans : List (ℕ × ℕ)) (j : ℕ) (span : ℕ × ℕ) → All (IsWithin bytes) spans → slice_get spans j ≡ Some span
+    → IsWithin bytes span
+piece_within bytes spans j span within at =
+    let (below, is) = get_at spans j span at in
+    subst (IsWithin bytes) is (All-get_or (IsWithin bytes) spans j span below within)
 
 -- the first j pieces of the bytes are these sets
 pub record AreRead (bytes : List ℕ) (j : ℕ) (sets : List SetContents) : Type 0 where

@@ -1,6 +1,6 @@
 //! The command `modes`.
 ghost use Rattle.std.specs.Prelude.{◌≡◌, ◌≤◌, [], false, length, map, IfOk, IfErr, OnOk, Ok};
-ghost use Rattle.std.specs.List.{All, AllZip};
+ghost use Rattle.std.specs.List.{All, AllZip, slice_range};
 ghost use Rattle.mode_switch.specs.Runs.{IsRunOf};
 ghost use Rattle.task_reader.specs.Pieces.{pieces_of, bytes_in, IsWithin};
 ghost use Rattle.task_reader.specs.Reading.{set_read_from};
@@ -98,10 +98,19 @@ fn read_pieces(
     pieces_law();
     for j in 0..pieces.count() {
         let (start, end) = pieces.piece(j);
-        let set = read_piece(alloc, j, &bytes[start..end])?;
+        let set = read_piece(alloc, j, bytes_in(bytes, start, end))?;
         sets.push(set)?;
     }
     Ok(())
+}
+
+// The bytes from `start` to `end`.
+fn bytes_in(bytes: &[u8], start: usize, end: usize) -> &[u8]
+    requires order { start ≤ end }
+    requires within { end ≤ length bytes.now }
+    ensures { result.now ≡ slice_range bytes.now start end }
+{
+    &bytes[start..end]
 }
 
 // The set of piece j.
