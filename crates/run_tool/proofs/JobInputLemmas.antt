@@ -1,5 +1,6 @@
 -- How reading a job text with its set ends.
-use Rattle.std.proofs.Common.{◌≡◌, ◌≢◌, inl, inr, ℕ, ◌+◌, ◌-◌, List, Option, Some, None, Result, Ok, Err, length, take, drop, length-drop, refl, sym, ◌∙◌, ap, arith}
+use Rattle.std.proofs.Common.{◌≡◌, ◌≢◌, inl, inr, ℕ, ◌+◌, ◌-◌, List, Option, Some, None}
+use Rattle.std.proofs.Common.{Result, Ok, Err, length, take, drop, length-drop, refl, sym, ◌∙◌, ap, arith}
 use Rattle.std.proofs.lemmas.List.{take_all}
 use Rattle.sched_base.specs.Sets.{SetContents}
 use Rattle.sched_edges.specs.Causes.{Rose}

@@ -10,7 +10,8 @@ use Rattle.run_tool.specs.Executed.{EndsWith, NoneFailed, may_have_run}
 use Rattle.run_tool.specs.Executions.{Crew, AreBack}
 
 -- the call ended with this status; `Uncalled` is what is so where no gate and no job was called
-pub record EndsAsked (words : List (List ℕ)) (old new : Streams) (err err' : ErrorStream) (before now : Crew) (Uncalled : Type 0) (status : Status) : Type 0 where
+pub record EndsAsked (words : List (List ℕ)) (old new : Streams) (err err' : ErrorStream) (before now : Crew) (Uncalled : Type 0) (status : Status)
+    : Type 0 where
   pub usage : status ≢ NoMemory → ((status ≡ Usage) ↔ (command_of words ≡ None))
   pub unread : command_of words ≡ None → IsUsage old new err err' status
   pub done : status ≡ Done → (c : Command) × (command_of words ≡ Some c) × IsCommandDone c Done old new

@@ -53,7 +53,8 @@ pub write_judged-requires-clause-valid : goal.write_judged-requires-clause-valid
 write_judged-requires-clause-valid g c = c.in_ok-executed.ensures.ran.valid
 
 pub returns-clause-done : goal.returns-clause-done
-returns-clause-done g c = run_told c.args.number c.args.plan.now c.requires.plan c.write_judged.result _ _ _ _ c.in_ok-executed.ensures.ran c.write_judged.ensures.done
+returns-clause-done g c =
+    run_told c.args.number c.args.plan.now c.requires.plan c.write_judged.result _ _ _ _ c.in_ok-executed.ensures.ran c.write_judged.ensures.done
 
 pub returns-clause-stops : goal.returns-clause-stops
 returns-clause-stops g c =

@@ -30,7 +30,8 @@ returns-in_err-write_summary-clause-stops g c =
     let p = c.args.plan.now in
     let told = c.in_ok-told.ensures in
     told_fault _ _ _ c.from_residual-in_err-write_summary.ensures.1
-    (drill_unwritten c.args.number p.tree.scale _ _ _ _ (concat (summary_lines c.in_ok-told.told)) (drill_is c.args.number p c.requires.plan c.requires.scale told.judged)
+    (drill_unwritten c.args.number p.tree.scale _ _ _ _ (concat (summary_lines c.in_ok-told.told))
+    (drill_is c.args.number p c.requires.plan c.requires.scale told.judged)
     (text_is c.args.number c.args.rounds p c.in_ok-told.told c.requires.plan c.requires.rounds told.told)
     c.in_err-write_summary.ensures.wrote.err c.in_err-write_summary.ensures.cause.failed)
 
@@ -38,6 +39,7 @@ pub returns-clause-done : goal.returns-clause-done
 returns-clause-done g c =
     let p = c.args.plan.now in
     let told = c.in_ok-told.ensures in
-    drill_written c.args.number p.tree.scale _ _ (concat (summary_lines c.in_ok-told.told)) (drill_is c.args.number p c.requires.plan c.requires.scale told.judged)
+    drill_written c.args.number p.tree.scale _ _ (concat (summary_lines c.in_ok-told.told))
+    (drill_is c.args.number p c.requires.plan c.requires.scale told.judged)
     (text_is c.args.number c.args.rounds p c.in_ok-told.told c.requires.plan c.requires.rounds told.told)
     c.in_ok-write_summary.ensures.wrote.ok

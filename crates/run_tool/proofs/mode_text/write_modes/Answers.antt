@@ -1,5 +1,16 @@
-use Rattle.sched_edges.proofs.Wrote.{wrote_then}
+use Rattle.std.proofs.Common.{le_refl}
+use Rattle.sched_edges.proofs.CauseLemmas.{cause_cut, cause_then}
+use Rattle.sched_edges.proofs.Wrote.{wrote_then, wrote_cut}
 use Rattle.run_tool.proofs.mode_text.write_modes.Goals as goal
+
+pub returns-in_err-write_head-clause-wrote : goal.returns-in_err-write_head-clause-wrote
+returns-in_err-write_head-clause-wrote g c = rw (← c.count.ensures.value) (wrote_cut _ _ _ _ _ _ c.in_err-write_head.ensures.wrote c.from_residual.ensures.0)
+
+pub returns-in_err-write_head-clause-cause : goal.returns-in_err-write_head-clause-cause
+returns-in_err-write_head-clause-cause g c = cause_cut _ _ _ _ _ (le_refl _) c.in_err-write_head.ensures.cause
 
 pub returns-clause-wrote : goal.returns-clause-wrote
 returns-clause-wrote g c = rw (← c.count.ensures.value) (wrote_then _ _ _ _ _ _ _ c.in_ok-write_head.ensures.wrote c.write_each.ensures.wrote)
+
+pub returns-clause-cause : goal.returns-clause-cause
+returns-clause-cause g c = cause_then _ _ _ _ c.write_head.ensures.cause.later c.write_each.ensures.cause
