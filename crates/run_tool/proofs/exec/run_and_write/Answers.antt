@@ -21,6 +21,15 @@ returns-in_err-rounds-clause-uncalled g c = untouched c.from_residual.result may
 pub returns-in_err-rounds-clause-back : goal.returns-in_err-rounds-clause-back
 returns-in_err-rounds-clause-back g c = back_same _
 
+pub run_plan-requires-clause-executable : goal.run_plan-requires-clause-executable
+run_plan-requires-clause-executable g c κs within = record {
+  compiled = c.requires.tree;
+  rounds = c.in_ok-rounds.ensures.count.0;
+  few = c.in_ok-rounds.ensures.count.1;
+  some_window = c.requires.some_window;
+  small_window = c.requires.small_window;
+}
+
 pub run_plan-requires-clause-ready : goal.run_plan-requires-clause-ready
 run_plan-requires-clause-ready g c κs within = c.requires.ready
 
@@ -38,6 +47,12 @@ returns-in_err-executed-clause-uncalled g c = told_fault _ _ _ c.from_residual-i
 
 pub returns-in_err-executed-clause-back : goal.returns-in_err-executed-clause-back
 returns-in_err-executed-clause-back g c = c.run_plan.ensures.back
+
+pub write_rows-requires-clause-lanes : goal.write_rows-requires-clause-lanes
+write_rows-requires-clause-lanes g c = c.in_ok-executed.ensures.lanes
+
+pub write_rows-requires-clause-few : goal.write_rows-requires-clause-few
+write_rows-requires-clause-few g c = c.in_ok-executed.ensures.few
 
 pub returns-in_err-write_rows-clause-done : goal.returns-in_err-write_rows-clause-done
 returns-in_err-write_rows-clause-done g c = IfOk-from_err _ _ c.from_residual-in_err-write_rows.ensures.0

@@ -1,4 +1,4 @@
-use Rattle.std.proofs.Common.{Some, refl, sym, ◌<◌, ap, subst, take, length}
+use Rattle.std.proofs.Common.{Some, refl, sym, ◌<◌, ap, subst, take, length, arith}
 use Rattle.std.proofs.lemmas.Result.{IfOk-from_err}
 use Rattle.sched_base.specs.Sets.{SetContents}
 use Rattle.still_commands.specs.declared.refusal.Refusal.{Refusal}
@@ -55,6 +55,15 @@ returns-in_err-load_programs-clause-back g c =
     back_at c.args.text.now c.args.plan.now.tree.scale (take begun.0 c.args.plan.now.set.tasks) _ _
     (loaded_part c.args.text.now c.args.plan.now.set c.args.plan.now refl c.requires.tree _ _ _ _ begun.0 c.set.result.now
     c.scale.ensures.value c.set.ensures.value begun.2)
+
+pub run_plan-requires-clause-executable : goal.run_plan-requires-clause-executable
+run_plan-requires-clause-executable g c κs within = record {
+  compiled = c.requires.tree;
+  rounds = c.in_ok-rounds.ensures.count.0;
+  few = c.in_ok-rounds.ensures.count.1;
+  some_window = omega arith;
+  small_window = omega arith;
+}
 
 pub run_plan-requires-clause-ready : goal.run_plan-requires-clause-ready
 run_plan-requires-clause-ready g c κs within =

@@ -43,6 +43,9 @@ returns-in_err-run-clause-uncalled g c =
 pub returns-in_err-run-clause-back : goal.returns-in_err-run-clause-back
 returns-in_err-run-clause-back g c = c.run_all.ensures.back
 
+pub write_modes-requires : goal.write_modes-requires
+write_modes-requires g c = c.in_ok-run.ensures.runs
+
 pub returns-in_err-write_modes-clause-done : goal.returns-in_err-write_modes-clause-done
 returns-in_err-write_modes-clause-done g c = IfOk-from_err _ _ c.from_residual-in_err-write_modes.ensures.0
 

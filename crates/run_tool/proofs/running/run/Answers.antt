@@ -79,6 +79,13 @@ returns-then-not-asks_to_execute-clause-uncalled g c = λ _. (refl, refl)
 pub returns-then-not-asks_to_execute-clause-back : goal.returns-then-not-asks_to_execute-clause-back
 returns-then-not-asks_to_execute-clause-back g c = back_same _
 
+pub run_still-requires : goal.run_still-requires
+run_still-requires g c =
+    let words : List (List ℕ) = map string_bytes c.args.words.now in
+    let executes : asks_to_execute words ≡ false = sym c.asks_to_execute.ensures ∙ c.if-not-asks_to_execute.true in
+    let batch : asks_for_batch words ≡ false = sym c.asks_for_batch.ensures ∙ c.if-asks_for_batch.false in
+    record { still = λ i. executes i || batch i }
+
 -- ---- an execution
 
 pub run_execution-requires-clause-asks : goal.run_execution-requires-clause-asks
