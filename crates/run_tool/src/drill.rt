@@ -15,6 +15,7 @@ ghost use Rattle.run_tool.specs.Executed.{RanDrill, StopsAtDrill, WroteDrill, St
 
 use crate::exec::run_plan;
 use crate::summary::{Summary, summary_of, write_summary};
+use crate::written::written;
 use command_words::USUAL_WINDOW;
 use event_core::{CountFault, count_rounds};
 use exec_workers::Kit;
@@ -102,7 +103,7 @@ fn write_judged<W: Sink>(
         (W.faults out.old) (W.faults out.new)) }
 {
     let told = judged(alloc, number, plan, rounds, table)?;
-    Ok(write_summary(&told, out)?)
+    written(write_summary(&told, out))
 }
 
 // The plan of the set that a number draws: each such set fits, and its scale is small.

@@ -15,6 +15,7 @@ ghost use Rattle.run_tool.specs.Executions.{crew_of, IsFreshCrew, AreBack, RanAl
 ghost use Rattle.run_tool.specs.Executed.{WritesRun, RefusesRun, RanSet, StopsAtRun, StopsInRun, may_have_called};
 ghost use Rattle.still_commands.specs.declared.status.Status.TheVariants.{Done};
 
+use crate::written::written;
 use event_core::count_rounds;
 use exec_workers::{ExecFault, Executed, Kit, execute};
 use round_table::table_law;
@@ -116,7 +117,7 @@ fn run_and_write<W: Sink, G: Gate + Send, X: Threads + Wait + Sync>(
 {
     let rounds = count_rounds(alloc, plan)?;
     let executed = run_plan(rt, alloc, plan, rounds, window, kits, jobs)?;
-    Ok(write_rows(plan, &executed.table, executed.totals.as_slice(), met, out)?)
+    written(write_rows(plan, &executed.table, executed.totals.as_slice(), met, out))
 }
 
 /// Has the gates and the jobs run the schedule of a plan.

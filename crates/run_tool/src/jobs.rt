@@ -14,6 +14,7 @@ ghost use Rattle.command_words.specs.declared.command.Command.TheVariants.{Execu
 ghost use Rattle.command_words.specs.declared.command.Execution.TheVariants.{Jobs};
 
 use crate::exec::run_plan;
+use crate::written::written;
 use command_words::USUAL_WINDOW;
 use event_core::count_rounds;
 use exec_workers::Kit;
@@ -142,5 +143,5 @@ fn load_and_run<W: Sink, G: Gate + Send, X: Threads + Wait + Sync>(
     let rounds = count_rounds(alloc, plan)?;
     load_programs(text, plan.set(), plan.scale(), jobs)?;
     run_plan(rt, alloc, plan, rounds, USUAL_WINDOW, kits, jobs)?;
-    Ok(write_jobs(out, plan.set(), plan.scale(), jobs)?)
+    written(write_jobs(out, plan.set(), plan.scale(), jobs))
 }

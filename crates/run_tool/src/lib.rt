@@ -9,6 +9,7 @@ mod mode_text;
 mod modes;
 mod running;
 mod summary;
+mod written;
 
 pub use closing::{close_flushed, close_run};
 pub use command_words::{Command, Execution, Reading};

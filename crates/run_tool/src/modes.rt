@@ -17,6 +17,7 @@ ghost use Rattle.command_words.specs.declared.command.Execution.TheVariants.{Mod
 
 use crate::exec::name_at;
 use crate::mode_text::write_modes;
+use crate::written::written;
 use command_words::USUAL_WINDOW;
 use exec_workers::Kit;
 use mode_switch::{Modes, ModesFault, ModesRun, run_modes};
@@ -53,7 +54,7 @@ pub(crate) fn modes<R: Source, W: Sink, G: Gate + Send, X: Threads + Wait + Sync
 {
     let modes = read_modes(alloc, source)?;
     let run = run_all(rt, alloc, &modes, kits, jobs)?;
-    Ok(write_modes(&modes, &run, out)?)
+    written(write_modes(&modes, &run, out))
 }
 
 // Reads the source to its end, as sets that can be modes.

@@ -4,6 +4,7 @@ use Rattle.exec_lanes.proofs.ErrorLemmas.{untrue}
 use Rattle.mode_switch.proofs.RunLemmas.{told_fault}
 use Rattle.run_tool.specs.Executed.{may_have_called}
 use Rattle.run_tool.proofs.RunLemmas.{back_same, untouched}
+use Rattle.run_tool.proofs.WrittenLemmas.{on_written, if_unwritten}
 use Rattle.run_tool.proofs.StopLemmas.{uncounted, run_stops, run_written, run_unwritten}
 use Rattle.run_tool.proofs.exec.run_and_write.Goals as goal
 
@@ -54,26 +55,22 @@ write_rows-requires-clause-lanes g c = c.in_ok-executed.ensures.lanes
 pub write_rows-requires-clause-few : goal.write_rows-requires-clause-few
 write_rows-requires-clause-few g c = c.in_ok-executed.ensures.few
 
-pub returns-in_err-write_rows-clause-done : goal.returns-in_err-write_rows-clause-done
-returns-in_err-write_rows-clause-done g c = IfOk-from_err _ _ c.from_residual-in_err-write_rows.ensures.0
-
-pub returns-in_err-write_rows-clause-stops : goal.returns-in_err-write_rows-clause-stops
-returns-in_err-write_rows-clause-stops g c =
-    told_fault _ _ _ c.from_residual-in_err-write_rows.ensures.1
-    (run_unwritten c.args.plan.now.set c.args.plan.now refl c.requires.tree c.args.met _ _ _ _ c.in_ok-rounds.rounds _ _
-    c.requires.run c.in_ok-rounds.ensures.count.0 c.in_ok-rounds.ensures.count.1 c.in_ok-executed.ensures.ran
-    c.in_err-write_rows.ensures.wrote.err c.in_err-write_rows.ensures.cause.failed)
-
-pub returns-in_err-write_rows-clause-uncalled : goal.returns-in_err-write_rows-clause-uncalled
-returns-in_err-write_rows-clause-uncalled g c = told_fault _ _ _ c.from_residual-in_err-write_rows.ensures.1 (λ quiet. untrue (sym quiet))
-
-pub returns-in_err-write_rows-clause-back : goal.returns-in_err-write_rows-clause-back
-returns-in_err-write_rows-clause-back g c = c.run_plan.ensures.back
-
 pub returns-clause-done : goal.returns-clause-done
 returns-clause-done g c =
-    run_written c.args.plan.now.set c.args.plan.now refl c.requires.tree c.args.met _ _ c.in_ok-rounds.rounds _ _
-    c.requires.run c.in_ok-rounds.ensures.count.0 c.in_ok-rounds.ensures.count.1 c.in_ok-executed.ensures.ran c.in_ok-write_rows.ensures.wrote.ok
+    on_written c.write_rows.result c.written.result c.written.ensures _ _ c.write_rows.ensures.wrote.ok
+    (run_written c.args.plan.now.set c.args.plan.now refl c.requires.tree c.args.met _ _ c.in_ok-rounds.rounds _ _
+    c.requires.run c.in_ok-rounds.ensures.count.0 c.in_ok-rounds.ensures.count.1 c.in_ok-executed.ensures.ran)
+
+pub returns-clause-stops : goal.returns-clause-stops
+returns-clause-stops g c =
+    if_unwritten c.write_rows.result c.written.result c.written.ensures _ _ _ c.write_rows.ensures.wrote.err c.write_rows.ensures.cause.failed
+    (run_unwritten c.args.plan.now.set c.args.plan.now refl c.requires.tree c.args.met _ _ _ _ c.in_ok-rounds.rounds _ _
+    c.requires.run c.in_ok-rounds.ensures.count.0 c.in_ok-rounds.ensures.count.1 c.in_ok-executed.ensures.ran)
+
+pub returns-clause-uncalled : goal.returns-clause-uncalled
+returns-clause-uncalled g c =
+    if_unwritten c.write_rows.result c.written.result c.written.ensures _ _ _ c.write_rows.ensures.wrote.err c.write_rows.ensures.cause.failed
+    (λ took rose quiet. untrue (sym quiet))
 
 pub returns-clause-back : goal.returns-clause-back
 returns-clause-back g c = c.run_plan.ensures.back

@@ -12,6 +12,7 @@ use Rattle.run_tool.proofs.CrewEndLemmas.{jobs_fresh}
 use Rattle.run_tool.proofs.LoadedLemmas.{ready_at, back_at, back_by_run, crew_left, jobs_there}
 use Rattle.run_tool.proofs.RunLemmas.{back_same, untouched}
 use Rattle.run_tool.proofs.JobRunLemmas.{count_stops, loading_stops, running_stops, loaded_is, loaded_part, jobs_called, jobs_ran, jobs_unwritten}
+use Rattle.run_tool.proofs.WrittenLemmas.{on_written, if_unwritten}
 use Rattle.run_tool.proofs.jobs.load_and_run.Goals as goal
 
 pub returns-in_err-rounds-clause-done : goal.returns-in_err-rounds-clause-done
@@ -103,45 +104,38 @@ write_jobs-requires-clause-jobs g c = λ i within.
     c.in_ok-run_plan.ensures.back _ c.scale-2.ensures.lawful.lawful.few_tasks i
     (subst (λ (s : SetContents). i < length s.tasks) c.set-2.ensures.value within)
 
-pub returns-in_err-write_jobs-clause-done : goal.returns-in_err-write_jobs-clause-done
-returns-in_err-write_jobs-clause-done g c = IfOk-from_err _ _ c.from_residual-in_err-write_jobs.ensures.0
-
-pub returns-in_err-write_jobs-clause-uncalled : goal.returns-in_err-write_jobs-clause-uncalled
-returns-in_err-write_jobs-clause-uncalled g c = told_fault _ _ _ c.from_residual-in_err-write_jobs.ensures.1 (λ quiet. untrue (sym quiet))
-
-pub returns-in_err-write_jobs-clause-stops : goal.returns-in_err-write_jobs-clause-stops
-returns-in_err-write_jobs-clause-stops g c =
-    rw c.in_err-write_jobs.ensures.same
-    (told_fault _ _ _ c.from_residual-in_err-write_jobs.ensures.1
-    (jobs_unwritten c.args.text.now c.args.plan.now.set c.args.plan.now refl c.requires.tree _ _ _ _ c.in_ok-rounds.rounds _ _ _
-    c.scale-2.result c.set-2.result.now c.requires.run c.in_ok-rounds.ensures.count.0 c.in_ok-rounds.ensures.count.1
-    c.scale-2.ensures.value c.set-2.ensures.value
-    c.scale.ensures.lawful.lawful.few_tasks c.requires.ready
-    (loaded_is c.args.text.now c.args.plan.now.set c.args.plan.now refl c.requires.tree _ _ _ _ c.set.result.now
-    c.scale.ensures.value c.set.ensures.value c.in_ok-load_programs.ensures.loaded)
-    c.in_ok-run_plan.ensures.ran c.in_err-write_jobs.ensures.wrote.err c.in_err-write_jobs.ensures.cause.failed))
-
-pub returns-in_err-write_jobs-clause-back : goal.returns-in_err-write_jobs-clause-back
-returns-in_err-write_jobs-clause-back g c =
-    rw c.in_err-write_jobs.ensures.same
-    (back_by_run c.args.text.now c.args.plan.now.tree.scale c.args.plan.now.set.tasks _ _ _
-    (loaded_is c.args.text.now c.args.plan.now.set c.args.plan.now refl c.requires.tree _ _ _ _ c.set.result.now
-    c.scale.ensures.value c.set.ensures.value c.in_ok-load_programs.ensures.loaded) c.in_ok-run_plan.ensures.back)
-
 pub returns-clause-done : goal.returns-clause-done
 returns-clause-done g c =
-    rw c.in_ok-write_jobs.ensures.same
+    rw c.write_jobs.ensures.same
+    (on_written c.write_jobs.result c.written.result c.written.ensures _ _ c.write_jobs.ensures.wrote.ok
     (jobs_ran c.args.text.now c.args.plan.now.set c.args.plan.now refl c.requires.tree _ _ c.in_ok-rounds.rounds _ _ _
     c.scale-2.result c.set-2.result.now c.requires.run c.in_ok-rounds.ensures.count.0 c.in_ok-rounds.ensures.count.1
     c.scale-2.ensures.value c.set-2.ensures.value
     c.scale.ensures.lawful.lawful.few_tasks c.requires.ready
     (loaded_is c.args.text.now c.args.plan.now.set c.args.plan.now refl c.requires.tree _ _ _ _ c.set.result.now
     c.scale.ensures.value c.set.ensures.value c.in_ok-load_programs.ensures.loaded)
-    c.in_ok-run_plan.ensures.ran c.in_ok-write_jobs.ensures.wrote.ok)
+    c.in_ok-run_plan.ensures.ran))
+
+pub returns-clause-stops : goal.returns-clause-stops
+returns-clause-stops g c =
+    rw c.write_jobs.ensures.same
+    (if_unwritten c.write_jobs.result c.written.result c.written.ensures _ _ _ c.write_jobs.ensures.wrote.err c.write_jobs.ensures.cause.failed
+    (jobs_unwritten c.args.text.now c.args.plan.now.set c.args.plan.now refl c.requires.tree _ _ _ _ c.in_ok-rounds.rounds _ _ _
+    c.scale-2.result c.set-2.result.now c.requires.run c.in_ok-rounds.ensures.count.0 c.in_ok-rounds.ensures.count.1
+    c.scale-2.ensures.value c.set-2.ensures.value
+    c.scale.ensures.lawful.lawful.few_tasks c.requires.ready
+    (loaded_is c.args.text.now c.args.plan.now.set c.args.plan.now refl c.requires.tree _ _ _ _ c.set.result.now
+    c.scale.ensures.value c.set.ensures.value c.in_ok-load_programs.ensures.loaded)
+    c.in_ok-run_plan.ensures.ran))
+
+pub returns-clause-uncalled : goal.returns-clause-uncalled
+returns-clause-uncalled g c =
+    if_unwritten c.write_jobs.result c.written.result c.written.ensures _ _ _ c.write_jobs.ensures.wrote.err c.write_jobs.ensures.cause.failed
+    (λ took rose quiet. untrue (sym quiet))
 
 pub returns-clause-back : goal.returns-clause-back
 returns-clause-back g c =
-    rw c.in_ok-write_jobs.ensures.same
+    rw c.write_jobs.ensures.same
     (back_by_run c.args.text.now c.args.plan.now.tree.scale c.args.plan.now.set.tasks _ _ _
     (loaded_is c.args.text.now c.args.plan.now.set c.args.plan.now refl c.requires.tree _ _ _ _ c.set.result.now
     c.scale.ensures.value c.set.ensures.value c.in_ok-load_programs.ensures.loaded) c.in_ok-run_plan.ensures.back)

@@ -9,6 +9,7 @@ use Rattle.command_words.specs.declared.command.Command.TheVariants.{Execute}
 use Rattle.command_words.specs.declared.command.Execution.TheVariants.{Modes}
 use Rattle.run_tool.proofs.RunLemmas.{back_same, untouched}
 use Rattle.run_tool.proofs.ModeEndLemmas.{modes_done, modes_unwritten, modes_unread, modes_stopped, modes_called}
+use Rattle.run_tool.proofs.WrittenLemmas.{on_written, if_unwritten}
 use Rattle.run_tool.proofs.modes.modes.Goals as goal
 
 pub returns-in_err-modes-clause-done : goal.returns-in_err-modes-clause-done
@@ -46,28 +47,24 @@ returns-in_err-run-clause-back g c = c.run_all.ensures.back
 pub write_modes-requires : goal.write_modes-requires
 write_modes-requires g c = c.in_ok-run.ensures.runs
 
-pub returns-in_err-write_modes-clause-done : goal.returns-in_err-write_modes-clause-done
-returns-in_err-write_modes-clause-done g c = IfOk-from_err _ _ c.from_residual-in_err-write_modes.ensures.0
-
-pub returns-in_err-write_modes-clause-stops : goal.returns-in_err-write_modes-clause-stops
-returns-in_err-write_modes-clause-stops g c =
-    let old = streams_of g.R.Source g.W.Sink c.args.source.now c.args.out.now in
-    let new = streams_of g.R.Source g.W.Sink c.read_modes.new.source c.write_modes.new.out in
-    told_fault _ _ _ c.from_residual-in_err-write_modes.ensures.1
-    (modes_unwritten old new _ _ c.in_ok-modes.modes c.in_ok-modes.ensures.read c.in_ok-run.ensures.ran
-    c.in_err-write_modes.ensures.wrote.err c.in_err-write_modes.ensures.cause.failed)
-
-pub returns-in_err-write_modes-clause-uncalled : goal.returns-in_err-write_modes-clause-uncalled
-returns-in_err-write_modes-clause-uncalled g c = told_fault _ _ _ c.from_residual-in_err-write_modes.ensures.1 (λ quiet. untrue (sym quiet))
-
-pub returns-in_err-write_modes-clause-back : goal.returns-in_err-write_modes-clause-back
-returns-in_err-write_modes-clause-back g c = c.run_all.ensures.back
-
 pub returns-clause-done : goal.returns-clause-done
 returns-clause-done g c =
     let old = streams_of g.R.Source g.W.Sink c.args.source.now c.args.out.now in
     let new = streams_of g.R.Source g.W.Sink c.read_modes.new.source c.write_modes.new.out in
-    modes_done old new _ _ c.in_ok-modes.modes c.in_ok-modes.ensures.read c.in_ok-run.ensures.ran c.in_ok-write_modes.ensures.wrote.ok
+    on_written c.write_modes.result c.written.result c.written.ensures _ _ c.write_modes.ensures.wrote.ok
+    (modes_done old new _ _ c.in_ok-modes.modes c.in_ok-modes.ensures.read c.in_ok-run.ensures.ran)
+
+pub returns-clause-stops : goal.returns-clause-stops
+returns-clause-stops g c =
+    let old = streams_of g.R.Source g.W.Sink c.args.source.now c.args.out.now in
+    let new = streams_of g.R.Source g.W.Sink c.read_modes.new.source c.write_modes.new.out in
+    if_unwritten c.write_modes.result c.written.result c.written.ensures _ _ _ c.write_modes.ensures.wrote.err c.write_modes.ensures.cause.failed
+    (modes_unwritten old new _ _ c.in_ok-modes.modes c.in_ok-modes.ensures.read c.in_ok-run.ensures.ran)
+
+pub returns-clause-uncalled : goal.returns-clause-uncalled
+returns-clause-uncalled g c =
+    if_unwritten c.write_modes.result c.written.result c.written.ensures _ _ _ c.write_modes.ensures.wrote.err c.write_modes.ensures.cause.failed
+    (λ took rose quiet. untrue (sym quiet))
 
 pub returns-clause-back : goal.returns-clause-back
 returns-clause-back g c = c.run_all.ensures.back
