@@ -60,9 +60,9 @@ fn no_ends(alloc: Global, plan: &Plan) -> Result<Vec<Knockout>, NoMemory>
     ensures packs { IfOk result (λ v. (p : ℕ) → IsPack plan.now.tree p →
         slice_index_or v.items p [] ≡ replicate (length (members plan.now.tree p)) never) }
 {
-    let mut ready = Vec::new(alloc);
+    let mut ready = Vec::with_capacity(alloc, node_count(plan) as usize)?;
     for x in 0..node_count(plan) {
-        ready.push(Knockout::new(alloc, room_of(plan, NodeId(x)))?)?;
+        ready.push_reserved(Knockout::new(alloc, room_of(plan, NodeId(x)))?);
     }
     Ok(ready)
 }

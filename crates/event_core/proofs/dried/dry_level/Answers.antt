@@ -83,3 +83,9 @@ next_dry-i-requires-in-dried-clause-dry c = c.requires.dry
 
 pub dried-smaller : goal.dried-smaller
 dried-smaller c = let after = c.next_dry-i-in-dried.ensures.after in let on = c.dried-test.true in omega (arith, after, on)
+
+pub next_dry-i-requires-clause-from : goal.next_dry-i-requires-clause-from
+next_dry-i-requires-clause-from c = omega arith
+
+pub overflow_add-i : goal.overflow_add-i
+overflow_add-i c = let fits = c.packs-count.type_inv in let below = c.dried-test.true in omega (arith, fits, below)

@@ -1,0 +1,20 @@
+use Rattle.std.proofs.Common.{ap, min, subst, ◌*◌, ◌≤◌, ◌∙◌}
+use Rattle.run_tree.specs.Tree.{level}
+use Rattle.run_tree.specs.Plans.{stop_of}
+use Rattle.event_core.specs.Serving.{IsSoonest}
+use Rattle.event_core.proofs.rounds.round_end.Goals as goal
+
+pub last_tick-most-requires : goal.last_tick-most-requires
+last_tick-most-requires c = c.next.ensures.within
+
+pub first_dry-requires : goal.first_dry-requires
+first_dry-requires c = c.requires.core.long.dry
+
+pub returns-clause-soonest : goal.returns-clause-soonest
+returns-clause-soonest c = c.first_dry.ensures.soonest
+
+pub returns-clause-end : goal.returns-clause-end
+returns-clause-end c =
+    let p = c.args.plan.now in
+    subst (λ n. IsSoonest p.tree c.args.state.now.serving.dry (λ q. 0 ≤ level p.tree q) n c.first_dry.result)
+    (c.last_tick-most.ensures ∙ ap (λ n. min (stop_of p) (n * p.tree.scale)) c.next.ensures.value) c.first_dry.ensures.first
