@@ -1,6 +1,7 @@
 -- What is known of a book that was found under the lock and passed a test.
 use Rattle.std.specs.Prelude.{ℕ, ◌≡◌, ◌<◌, ◌+◌, List, Option, false, length}
 use Rattle.sched_base.specs.declared.rows.Row.{Row}
+use Rattle.sched_edges.specs.Jobs.{FaultsAre}
 use Rattle.run_tree.specs.Plans.{PlanContents}
 use Rattle.unit_ledger.specs.Seats.{Seat}
 use Rattle.book_machine.specs.Machine.{IsOut, lane_at, posted_at}
@@ -16,6 +17,11 @@ pub record IsFreeAt {J : Type 0} (p : PlanContents) (b : BookContents J) (seat :
   pub lane : seat.lane < length b.state.lanes
   pub free : (lane_at b.state.lanes seat.lane).out ≡ false
   pub count : posted_at b.state seat.lane ≡ seat.posted
+
+-- the same, and the book is halted or its jobs have failed as often as is given
+pub record IsToldAt {J : Type 0} (faults : J → ℕ) (p : PlanContents) (b : BookContents J) (seat : Seat) (counts : List ℕ) : Type 0 where
+  pub free : IsFreeAt p b seat
+  pub told : b.state.halted ≡ false → FaultsAre faults b.jobs.places counts
 
 -- the book is one of the plan that isn't dismissed, and this row is out on the seat's lane at the seat's count
 pub record IsOutAt {J : Type 0} (p : PlanContents) (b : BookContents J) (seat : Seat) (row : Row) : Type 0 where
@@ -36,3 +42,8 @@ pub record IsWholeAt {J : Type 0} (p : PlanContents) (b : BookContents J) (poste
   pub undismissed : ¬ (IsDismissed b)
   pub none_out : (q : ℕ) → ¬ (IsOut b.state q)
   pub counts : counts_of b.state.lanes ≡ posted
+
+-- the same, and its jobs have failed as often as is given
+pub record IsClosable {J : Type 0} (faults : J → ℕ) (p : PlanContents) (b : BookContents J) (posted counts : List ℕ) : Type 0 where
+  pub whole : IsWholeAt p b posted
+  pub told : FaultsAre faults b.jobs.places counts

@@ -2,7 +2,7 @@
 ghost use Rattle.std.specs.Prelude.{◌≡◌, ◌+◌, length};
 ghost use Rattle.std.specs.Sync.Mutex.{mutex_guard_value};
 ghost use Rattle.exec_book.specs.PlanRows.{IsCompiled};
-ghost use Rattle.exec_workers.specs.Found.{IsFreeAt, IsOutWith};
+ghost use Rattle.exec_workers.specs.Found.{IsFreeAt, IsOutWith, IsToldAt};
 ghost use Rattle.exec_workers.specs.Promises.{Agrees, Gives, GivesRow};
 
 use crate::found::{is_free_at, is_halted_or_told, is_job_of, is_of_plan, is_out_at, ticks_of};
@@ -30,11 +30,30 @@ pub fn take_row<Q: PostLedger, J: Job, R: Wait>(
 {
     plan.know_lawful();
     agree(rt, book, plan);
+    let mut guard = lock_told_at(rt, book, plan, seat, counts);
+    let held = &mut *guard;
+    held.take(seat.lane())
+}
+
+// Takes the lock of a book that isn't dismissed, stands at the seat's count with no row out on the seat's lane, and is halted or has
+// jobs that have failed as often as is given.
+fn lock_told_at<'a, Q: PostLedger, J: Job, R: Wait>(
+    rt: &R,
+    book: &'a Mutex<Book<Q, J>>,
+    plan: &Plan,
+    seat: &LaneSeat<Q>,
+    counts: &[u64],
+) -> MutexGuard<'a, Book<Q, J>>
+    requires compiled { IsCompiled plan.now }
+    requires set { plan.now.set ≡ Q.set }
+    requires counts { length counts.now ≡ length plan.now.set.tasks }
+    ensures { IsToldAt J.faults plan.now (mutex_guard_value result) seat.now counts.now }
+{
     for _ in rt.forever() {
-        let mut guard = book.lock(rt);
-        let held = &mut *guard;
+        let guard = book.lock(rt);
+        let held = &*guard;
         if is_free_at(held, plan, seat) && is_halted_or_told(held, counts) {
-            return held.take(seat.lane());
+            return guard;
         }
     }
     unreachable!()

@@ -76,13 +76,12 @@ fn serve_rows<G: Gate, Q: PostLedger, J: Job, R: Wait>(
 {
     let mut waits = 0;
     let mut look = take_next(rt, book, plan, &lane.seat);
-    wake(waiters);
     for _ in rt.forever() {
+        wake(waiters);
         match follow(rt, waiters, book, plan, lane, counts, &mut waits, look) {
             Some(next) => look = next,
             None => return,
         }
-        wake(waiters);
     }
     unreachable!()
 }

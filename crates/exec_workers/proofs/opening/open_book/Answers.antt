@@ -1,7 +1,7 @@
 use Rattle.unit_ledger.specs.Seats.{seats_at_start}
 use Rattle.run_tree.specs.Tree.{Tree}
 use Rattle.exec_lanes.proofs.ErrorLemmas.{no_answer, each_error}
-use Rattle.std.proofs.Common.{rules, ◌≡◌, ℕ, ◌<◌, inl, inr, length, ap, ◌∙◌, arith, refl, sym}
+use Rattle.std.proofs.Common.{rules, ◌≡◌, ℕ, ◌<◌, ◌≤◌, inl, inr, length, ap, ◌∙◌, arith, refl, subst, sym}
 use Rattle.std.specs.Prelude.{slice_get}
 use Rattle.sched_base.specs.Sets.{SetContents}
 use Rattle.sched_edges.specs.Jobs.{JobAt}
@@ -16,7 +16,7 @@ module _ (g : _) (c : After-count-n g) where
   tasks = c.count-n.ensures.value ∙ ap (λ (s : SetContents). length s.tasks) c.set.ensures.value
 
   job_of : (t : ℕ) → t < c.count-n.result → (job : g.row.J.Denot) × JobAt c.args.jobs.now.places t job
-  job_of t below = let job = c.requires.jobs t (let n = tasks in omega (arith, n, below)) in (job.0, job.1)
+  job_of t below = let job = c.requires.jobs t (subst (λ k. t < k) tasks below) in (job.0, job.1)
 
 pub lift_jobs-requires-clause-there : goal.lift_jobs-requires-clause-there
 lift_jobs-requires-clause-there g c = job_of g (goal.at.lift_jobs-requires-clause-there g c).After-count-n
@@ -25,9 +25,9 @@ pub new-requires-clause-jobs : goal.new-requires-clause-jobs
 new-requires-clause-jobs g c = λ t within.
     let n = tasks g (goal.at.new-requires-clause-jobs g c).After-count-n in
     let same = ap (λ (p : PlanContents). length p.set.tasks) c.in_ok-copy.ensures in
-    let inside : t < length c.args.plan.now.set.tasks = omega (arith, within, same) in
+    let inside : t < length c.args.plan.now.set.tasks = subst (λ k. t < k) same within in
     let job = c.requires.jobs t inside in
-    (job.0, c.lift_jobs.ensures.out t (omega (arith, inside, n)) ∙ job.1, record { own = job.2; worked = job.3; agrees = c.requires.made t job.0 inside job.1 })
+    (job.0, c.lift_jobs.ensures.out t (subst (λ k. t < k) (sym n) inside) ∙ job.1, record { own = job.2; worked = job.3; agrees = c.requires.made t job.0 inside job.1 })
 
 pub lay_jobs-requires-clause-there : goal.lay_jobs-requires-clause-there
 lay_jobs-requires-clause-there g c = λ t below.
@@ -40,8 +40,8 @@ returns-in-Ok-clause-opened g c =
     let n = tasks g (goal.at.returns-in-Ok-clause-opened g c).After-count-n in
     record {
       at_start = c.in_ok-side.ensures.seats ∙ ap seats_at_start (c.processors.ensures.value ∙ ap (λ (t : Tree). t.processors) c.tree.ensures.value);
-      lent = λ t within. c.lift_jobs.ensures.jobs t (omega (arith, within, n));
-      others = λ t past. c.lift_jobs.ensures.other_jobs t (omega (arith, past, n));
+      lent = λ t within. c.lift_jobs.ensures.jobs t (subst (λ k. t < k) (sym n) within);
+      others = λ t past. c.lift_jobs.ensures.other_jobs t (subst (λ k. k ≤ t) (sym n) past);
     }
 
 pub returns-in-Err-clause-kept : goal.returns-in-Err-clause-kept
