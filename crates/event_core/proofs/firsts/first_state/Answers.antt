@@ -1,4 +1,5 @@
 use Rattle.std.proofs.Common.{ap₂, arith, get_or, ◌∙◌}
+use Rattle.std.proofs.lemmas.Result.{IfOk-from_err}
 use Rattle.sched_base.specs.Places.{unplaced}
 use Rattle.run_tree.specs.Schedule.{packs_at}
 use Rattle.run_tree.proofs.TreeLemmas.{first_is_pack}
@@ -17,3 +18,21 @@ returns c = (
     shown = λ start r. absurd (let up = r.above in let zero = c.in_ok-dues.ensures.tick in omega (arith, up, zero));
   },
 )
+
+pub first_serving-requires-clause-plan : goal.first_serving-requires-clause-plan
+first_serving-requires-clause-plan c = c.requires.plan
+
+pub first_serving-requires-clause-calendar : goal.first_serving-requires-clause-calendar
+first_serving-requires-clause-calendar c = c.in_ok-calendar.ensures.1
+
+pub first_serving-requires-clause-unit : goal.first_serving-requires-clause-unit
+first_serving-requires-clause-unit c = c.in_ok-calendar.ensures.0
+
+pub returns-in_err-places : goal.returns-in_err-places
+returns-in_err-places c = IfOk-from_err c.from_residual.result _ c.from_residual.ensures.0
+
+pub returns-in_err-calendar : goal.returns-in_err-calendar
+returns-in_err-calendar c = IfOk-from_err c.from_residual-in_err-calendar.result _ c.from_residual-in_err-calendar.ensures.0
+
+pub returns-in_err-dues : goal.returns-in_err-dues
+returns-in_err-dues c = IfOk-from_err c.from_residual-in_err-dues.result _ c.from_residual-in_err-dues.ensures.0

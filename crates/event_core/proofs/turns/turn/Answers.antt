@@ -1,4 +1,4 @@
-use Rattle.std.proofs.Common.{arith}
+use Rattle.std.proofs.Common.{arith, refl}
 use Rattle.event_core.proofs.KeptLemmas.{listed_members, has_turned, still_serving, places_stand}
 use Rattle.event_core.proofs.turns.turn.Goals as goal
 
@@ -24,3 +24,42 @@ returns-clause-serving c =
     let kept = c.pop_due.auto.due in
     still_serving c.args.plan.now c.requires.plan c.args.state.now.calendar c.pop_due.new.self c.requires.calendar c.pop_due.ensures.belongs c.pop_due.ensures.unit c.requires.late c.pop_due.new.due (omega (arith, long, kept)) c.pop_due.ensures.due c.pop_due.ensures.begun
     c.args.state.now.dues c.begin.new.dues c.args.state.now.serving c.begin.new.self c.requires.serving c.begin.ensures.begun c.begin.ensures.tick c.begin.ensures.dues c.begin.ensures.serves c.begin.ensures.dry c.begin.ensures.runs
+
+pub pop_due-requires-clause-belongs : goal.pop_due-requires-clause-belongs
+pop_due-requires-clause-belongs c = c.requires.calendar
+
+pub pop_due-requires-clause-early : goal.pop_due-requires-clause-early
+pop_due-requires-clause-early c = c.requires.early
+
+pub pop_due-requires-clause-due : goal.pop_due-requires-clause-due
+pop_due-requires-clause-due c = c.requires.due
+
+pub begin-requires-clause-plan : goal.begin-requires-clause-plan
+begin-requires-clause-plan c = c.requires.plan
+
+pub begin-requires-clause-calendar : goal.begin-requires-clause-calendar
+begin-requires-clause-calendar c = c.pop_due.ensures.belongs
+
+pub begin-requires-clause-early : goal.begin-requires-clause-early
+begin-requires-clause-early c = c.requires.tick
+
+pub begin-requires-clause-remains : goal.begin-requires-clause-remains
+begin-requires-clause-remains c = c.requires.remains
+
+pub begin-requires-clause-long : goal.begin-requires-clause-long
+begin-requires-clause-long c = c.requires.long
+
+pub returns-clause-tick : goal.returns-clause-tick
+returns-clause-tick c = c.begin.ensures.tick
+
+pub returns-clause-long : goal.returns-clause-long
+returns-clause-long c = c.begin.ensures.long
+
+pub returns-clause-serves : goal.returns-clause-serves
+returns-clause-serves c = c.begin.ensures.serves
+
+pub returns-clause-runs : goal.returns-clause-runs
+returns-clause-runs c = c.begin.ensures.runs
+
+pub returns-clause-places : goal.returns-clause-places
+returns-clause-places c = refl
