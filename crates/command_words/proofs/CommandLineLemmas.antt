@@ -1,5 +1,5 @@
 -- What `clap` makes of each command line.
-use Rattle.std.proofs.Common.{◌≡◌, ◌⊎◌, inl, inr, ℕ, List, [], ◌∷◌, ◌++◌, codes}
+use Rattle.std.proofs.Common.{◌≡◌, ◌≢◌, ◌⊎◌, inl, inr, ℕ, List, [], ◌∷◌, ◌++◌, codes}
 use Rattle.std.proofs.Common.{Option, Some, None, Bool, true, false, option_map, option_and_then, refl, sym, ap, ap₂}
 use Rattle.std.proofs.Common.{subst, ◌∙◌}
 use Rattle.std.specs.Str.{bytes_eq}
@@ -15,7 +15,7 @@ use Rattle.command_words.specs.declared.command.Reading.TheVariants.{Rate, Tree,
 use Rattle.command_words.specs.declared.command.Execution.{Execution}
 use Rattle.command_words.specs.declared.command.Execution.TheVariants.{Exec, ExecMet, Drill, Jobs, Modes}
 use Rattle.command_words.specs.Words.{window_of, exec_with, drill_of, drill_with}
-use Rattle.command_words.specs.Words.{drawn}
+use Rattle.command_words.specs.Words.{drawn, reading_named}
 use Rattle.command_words.specs.CommandLine.{parser, Spells, SpellsWrap, SpellsExec}
 use Rattle.command_words.specs.Words.{as_window, as_drill}
 use Rattle.command_words.proofs.ValueLemmas.{IsBare, in_range_is_bare}
@@ -160,6 +160,25 @@ called (Execute Modes) = refl
 
 pub called_as : (c : Command) (name : Text) → name ≡ name_of c → IsCalled name c
 called_as c name e = subst (λ (n : Text). IsCalled n c) (sym e) (called c)
+
+-- a word that names a command, and none of those with options or threads, is its whole line
+pub plainly_named : (c : Command) (name : Text) → name ≡ name_of c → name ≢ codes "trace" → name ≢ codes "draw" → name ≢ codes "batch" → name ≢ codes "exec" → name ≢ codes "drill" → name ≢ codes "jobs" → name ≢ codes "modes"
+    → option_map Read (reading_named name) ≡ Some c
+plainly_named (Read Rate) name e trace draw batch exec drill jobs modes = ap (λ n. option_map Read (reading_named n)) e
+plainly_named (Read Tree) name e trace draw batch exec drill jobs modes = ap (λ n. option_map Read (reading_named n)) e
+plainly_named (Read Trace) name e trace draw batch exec drill jobs modes = absurd (trace e)
+plainly_named (Read TraceMet) name e trace draw batch exec drill jobs modes = absurd (trace e)
+plainly_named (Read TraceWrap) name e trace draw batch exec drill jobs modes = absurd (trace e)
+plainly_named (Read Table) name e trace draw batch exec drill jobs modes = ap (λ n. option_map Read (reading_named n)) e
+plainly_named (Read Check) name e trace draw batch exec drill jobs modes = ap (λ n. option_map Read (reading_named n)) e
+plainly_named (Read Follow) name e trace draw batch exec drill jobs modes = ap (λ n. option_map Read (reading_named n)) e
+plainly_named (Read (Draw asked)) name e trace draw batch exec drill jobs modes = absurd (draw e)
+plainly_named Batch name e trace draw batch exec drill jobs modes = absurd (batch e)
+plainly_named (Execute (Exec window)) name e trace draw batch exec drill jobs modes = absurd (exec e)
+plainly_named (Execute ExecMet) name e trace draw batch exec drill jobs modes = absurd (exec e)
+plainly_named (Execute (Drill number)) name e trace draw batch exec drill jobs modes = absurd (drill e)
+plainly_named (Execute Jobs) name e trace draw batch exec drill jobs modes = absurd (jobs e)
+plainly_named (Execute Modes) name e trace draw batch exec drill jobs modes = absurd (modes e)
 
 -- the name of the subcommand that the words name
 abbrev named_by : List Text → Option Text

@@ -1,12 +1,12 @@
 -- Which command the words are, by what the first of them asks for.
-use Rattle.std.proofs.Common.{◌≡◌, ℕ, if◌then◌else◌, Bool, true, false, ◌||◌, ◌⊎◌, inl, inr, List, [], ◌∷◌, codes, Option, Some, None, refl, sym, ◌∙◌, ap, rules, tests}
+use Rattle.std.proofs.Common.{◌≡◌, ◌≢◌, ℕ, if◌then◌else◌, Bool, true, false, ◌||◌, ◌⊎◌, inl, inr, List, [], ◌∷◌, codes, Option, Some, None, refl, sym, ◌∙◌, ap, rules, tests}
 use Rattle.std.specs.Prelude.{option_map, option_and_then}
 use Rattle.std.specs.Str.{bytes_eq}
 use Rattle.command_words.specs.declared.command.Command.{Command}
 use Rattle.command_words.specs.declared.command.Command.TheVariants.{Read, Batch, Execute}
 use Rattle.command_words.specs.declared.command.Reading.{Reading}
 use Rattle.command_words.specs.declared.command.Execution.{Execution}
-use Rattle.command_words.specs.Words.{command_of, reading_of, execution_of, batch_of, asks_to_execute, asks_for_batch, asks_for_threads}
+use Rattle.command_words.specs.Words.{command_of, reading_of, reading_named, execution_of, batch_of, asks_to_execute, asks_for_batch, asks_for_threads}
 
 pub some_is : {A : Type 0} (a b : A) → Some a ≡ Some b → a ≡ b
 some_is a b e = cc
@@ -32,6 +32,20 @@ if_is false x y z e = inr (refl, e)
 
 pub same_text : (a b : List ℕ) → bytes_eq a b ≡ true → a ≡ b
 same_text a b e = search (rules, tests)
+
+other_text : (a b : List ℕ) (same : Bool) → bytes_eq a b ≡ same → a ≢ b → same ≡ false
+other_text a b true e other = absurd (other (same_text a b e))
+other_text a b false e other = refl
+
+if_other : {A : Type 0} (a b : List ℕ) (x y z : A) → a ≢ b → z ≡ y → z ≡ (if bytes_eq a b then x else y)
+if_other a b x y z other e = e ∙ ap (λ (c : Bool). if c then x else y) (sym (other_text a b (bytes_eq a b) refl other))
+
+-- a word that names no command that reads
+pub none_named : (w : List ℕ) → w ≢ codes "rate" → w ≢ codes "tree" → w ≢ codes "trace" → w ≢ codes "table" → w ≢ codes "check" → w ≢ codes "follow"
+    → None ≡ reading_named w
+none_named w rate tree trace table check follow =
+    if_other w (codes "rate") _ _ _ rate (if_other w (codes "tree") _ _ _ tree (if_other w (codes "trace") _ _ _ trace
+    (if_other w (codes "table") _ _ _ table (if_other w (codes "check") _ _ _ check (if_other w (codes "follow") _ _ _ follow refl)))))
 
 -- the command that words are which ask for no execution
 abbrev pub unexecuted : Bool → List (List ℕ) → Option Command

@@ -12,7 +12,7 @@ ghost use Rattle.command_words.specs.declared.command.Execution.TheVariants.{Exe
 
 use crate::command::{Command, Execution, Reading};
 use crate::parser::parser;
-use crate::words::{USUAL_WINDOW, drawn, drill_with, exec_with};
+use crate::words::{USUAL_WINDOW, drawn, drill_with, exec_with, reading_named};
 use clap::ArgMatches;
 use clap::error::ErrorKind;
 use sched_base::NoMemory;
@@ -47,19 +47,14 @@ fn command_in(matches: &ArgMatches<'_>) -> Option<Command>
 {
     let (name, options) = matches.subcommand()?;
     match name {
-        "rate" => Some(Command::Read(Reading::Rate)),
-        "tree" => Some(Command::Read(Reading::Tree)),
         "trace" => read(trace_in(options)),
-        "table" => Some(Command::Read(Reading::Table)),
-        "check" => Some(Command::Read(Reading::Check)),
-        "follow" => Some(Command::Read(Reading::Follow)),
         "draw" => read(draw_in(options)),
         "batch" => Some(Command::Batch),
         "exec" => executed(exec_in(options)),
         "drill" => executed(drill_in(options)),
         "jobs" => Some(Command::Execute(Execution::Jobs)),
         "modes" => Some(Command::Execute(Execution::Modes)),
-        _ => None,
+        _ => read(reading_named(name)),
     }
 }
 

@@ -116,14 +116,24 @@ fn is_reading_by(reading: Reading, word: &str, options: &[String]) -> bool
 fn is_reading_named(reading: Reading, word: &str) -> bool
     ensures { IsTrue result ↔ (reading_named word.now ≡ Some reading) }
 {
-    match reading {
-        Reading::Rate => word == "rate",
-        Reading::Tree => word == "tree",
-        Reading::Trace => word == "trace",
-        Reading::Table => word == "table",
-        Reading::Check => word == "check",
-        Reading::Follow => word == "follow",
-        Reading::TraceMet | Reading::TraceWrap | Reading::Draw(_) => false,
+    match reading_named(word) {
+        Some(named) => named == reading,
+        None => false,
+    }
+}
+
+/// The command that reads whose line this word alone is.
+pub(crate) fn reading_named(word: &str) -> Option<Reading>
+    ensures { result ≡ reading_named word.now }
+{
+    match word {
+        "rate" => Some(Reading::Rate),
+        "tree" => Some(Reading::Tree),
+        "trace" => Some(Reading::Trace),
+        "table" => Some(Reading::Table),
+        "check" => Some(Reading::Check),
+        "follow" => Some(Reading::Follow),
+        _ => None,
     }
 }
 

@@ -1,25 +1,13 @@
 use Rattle.std.proofs.Common.{◌≡◌, Option, Some, None, List, ℕ, codes, sym, ap, option_map, ◌∙◌}
 use Rattle.clap.specs.Words.{found_of, rows_of}
 use Rattle.command_words.specs.declared.command.Command.TheVariants.{Read, Execute}
-use Rattle.command_words.proofs.CommandLineLemmas.{names, name_of, called_as, trace_used, trace_told, draw_used, exec_used, exec_told, drill_used}
+use Rattle.command_words.proofs.CommandLineLemmas.{names, name_of, called_as, plainly_named, trace_used, trace_told, draw_used, exec_used, exec_told, drill_used}
 use Rattle.command_words.proofs.command_line.command_in.Goals as goal
 
 pub returns-in_err-name : goal.returns-in_err-name
 returns-in_err-name c = λ used words spells e.
     let h : ◌≡◌ {A = Option (List ℕ)} None (Some (name_of used)) = c.in_err-name.ensures.name ∙ names c.args.matches.now used words spells e in
     absurd cc
-
-pub returns-in-rate : goal.returns-in-rate
-returns-in-rate c = λ used words spells e.
-    let h : ◌≡◌ {A = Option (List ℕ)} (Some c.in_ok-name.name.now) (Some (name_of used)) =
-    c.in_ok-name.ensures.name ∙ names c.args.matches.now used words spells e in
-    ap Some (sym (called_as used (codes "rate") (sym c.in-rate.is ∙ cc)))
-
-pub returns-in-tree : goal.returns-in-tree
-returns-in-tree c = λ used words spells e.
-    let h : ◌≡◌ {A = Option (List ℕ)} (Some c.in_ok-name.name.now) (Some (name_of used)) =
-    c.in_ok-name.ensures.name ∙ names c.args.matches.now used words spells e in
-    ap Some (sym (called_as used (codes "tree") (sym c.in-tree.is ∙ cc)))
 
 pub returns-in-trace : goal.returns-in-trace
 returns-in-trace c = λ used words spells e.
@@ -30,24 +18,6 @@ returns-in-trace c = λ used words spells e.
     let (x, is, tells) = trace_used used words rows spells name (c.in_ok-name.ensures.rows ∙ ap (option_map (λ p. p.1)) e) in
     let read = trace_told x rows c.trace_in.result tells c.trace_in.ensures.met c.trace_in.ensures.plain c.trace_in.ensures.wrap in
     c.read.ensures ∙ ap (option_map Read) read ∙ ap Some (sym is)
-
-pub returns-in-table : goal.returns-in-table
-returns-in-table c = λ used words spells e.
-    let h : ◌≡◌ {A = Option (List ℕ)} (Some c.in_ok-name.name.now) (Some (name_of used)) =
-    c.in_ok-name.ensures.name ∙ names c.args.matches.now used words spells e in
-    ap Some (sym (called_as used (codes "table") (sym c.in-table.is ∙ cc)))
-
-pub returns-in-check : goal.returns-in-check
-returns-in-check c = λ used words spells e.
-    let h : ◌≡◌ {A = Option (List ℕ)} (Some c.in_ok-name.name.now) (Some (name_of used)) =
-    c.in_ok-name.ensures.name ∙ names c.args.matches.now used words spells e in
-    ap Some (sym (called_as used (codes "check") (sym c.in-check.is ∙ cc)))
-
-pub returns-in-follow : goal.returns-in-follow
-returns-in-follow c = λ used words spells e.
-    let h : ◌≡◌ {A = Option (List ℕ)} (Some c.in_ok-name.name.now) (Some (name_of used)) =
-    c.in_ok-name.ensures.name ∙ names c.args.matches.now used words spells e in
-    ap Some (sym (called_as used (codes "follow") (sym c.in-follow.is ∙ cc)))
 
 pub returns-in-draw : goal.returns-in-draw
 returns-in-draw c = λ used words spells e.
@@ -94,3 +64,12 @@ returns-in-modes c = λ used words spells e.
     let h : ◌≡◌ {A = Option (List ℕ)} (Some c.in_ok-name.name.now) (Some (name_of used)) =
     c.in_ok-name.ensures.name ∙ names c.args.matches.now used words spells e in
     ap Some (sym (called_as used (codes "modes") (sym c.in-modes.is ∙ cc)))
+
+pub returns-in_default : goal.returns-in_default
+returns-in_default c = λ used words spells e.
+    let h : ◌≡◌ {A = Option (List ℕ)} (Some c.in_ok-name.name.now) (Some (name_of used)) =
+    c.in_ok-name.ensures.name ∙ names c.args.matches.now used words spells e in
+    let called : c.in_ok-name.name.now ≡ name_of used = cc in
+    let other = c.in_default in
+    c.read-in_default.ensures ∙ ap (option_map Read) c.reading_named.ensures
+    ∙ plainly_named used c.in_ok-name.name.now called other.not-trace other.not-draw other.not-batch other.not-exec other.not-drill other.not-jobs other.not-modes
