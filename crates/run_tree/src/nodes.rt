@@ -11,7 +11,6 @@ use std::alloc::Global;
 use std::marker::Model;
 
 /// A leaf, a pack or a dual. What its kind doesn't use is 0, empty or None.
-#[derive(Drop)]
 pub(crate) struct Node {
     kind: Kind,
     rate: u128,
@@ -19,6 +18,19 @@ pub(crate) struct Node {
     place: u32,
     members: SmallVec<NodeId, 4>,
     dual: Option<NodeId>,
+}
+
+impl Drop for Node {
+    fn drop(self) {
+        let Self {
+            kind: _,
+            rate: _,
+            home: _,
+            place: _,
+            members: _members,
+            dual: _,
+        } = self;
+    }
 }
 
 impl Model for Node {
