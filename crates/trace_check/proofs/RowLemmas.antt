@@ -1,6 +1,7 @@
 -- Row lines: numbers past every limit, and one line after the other.
-use Rattle.std.proofs.Common.{ℕ, ◌+◌, ◌-◌, ◌^◌, ◌<◌, ◌≤◌, ◌≡◌, ◌&&◌, inl, inr, eqb, ltb, leb, Bool, true, false, List, [], ◌∷◌, ◌++◌, length, length-append, Option, Some, None, option_map, option_and_then, Ok, Err, codes, sym, refl, ap, ◌∙◌, subst, arith}
+use Rattle.std.proofs.Common.{Fits, w64, get_or, replicate, ℕ, ◌+◌, ◌-◌, ◌^◌, ◌<◌, ◌≤◌, ◌≡◌, ◌&&◌, inl, inr, eqb, ltb, leb, Bool, true, false, List, [], ◌∷◌, ◌++◌, length, length-append, Option, Some, None, option_map, option_and_then, Ok, Err, codes, sym, refl, ap, ◌∙◌, subst, arith}
 use Rattle.std.proofs.lemmas.Bool.{cases_Bool, both_ways, and_parts, eqb-true, eqb-false, ltb-true, leb-true, false_from_ne_true, cond-false}
+use Rattle.std.proofs.lemmas.List.{length-replicate, get_or-replicate}
 use Rattle.sched_base.specs.declared.rows.Row.{Row}
 use Rattle.sched_base.specs.declared.sets.Task.{Task}
 use Rattle.sched_base.specs.Tables.{row_limit}
@@ -90,6 +91,25 @@ pub record ReadSoFar (tasks : List Task) (text : List ℕ) (done : List Row) (su
   pub count : length sums ≡ length tasks
   pub each : AreRead tasks done
   pub few : length done ≤ 2097152
+
+-- before the first row
+pub read_none : (tasks : List Task) (text : List ℕ) (done : List Row) (sums : List ℕ) (n : ℕ) → done ≡ [] → sums ≡ replicate n 0 → n ≡ length tasks → ReadSoFar tasks text done sums text
+read_none tasks text done sums n none zeros many =
+    let long : length sums ≡ n = ap length zeros ∙ length-replicate n 0 in
+    let zero_at : (j : ℕ) → j < length sums → get_or sums j 0 ≡ 0 = λ j low. ap (λ xs. get_or xs j 0) zeros ∙ get_or-replicate n j 0 0 (subst (λ m. j < m) long low) in
+    subst (λ rows. ReadSoFar tasks text rows sums text) (sym none) (record {
+      lines = refl;
+      totals = λ j low. (zero_at j low, subst (λ m. m < 2 ^ 127) (sym (zero_at j low)) (omega arith));
+      count = long ∙ many;
+      each = tt;
+      few = omega arith;
+    })
+
+pub tasks_line_fits : (count tasks : ℕ) → count ≡ tasks → tasks ≤ 256 → Fits w64 (6 + count)
+tasks_line_fits count tasks e few = omega arith
+
+pub row_line_fits : (count tasks len rows : ℕ) → count ≡ tasks → tasks ≤ 256 → len ≡ rows → rows ≤ 2097152 → Fits w64 (6 + count + len)
+row_line_fits count tasks len rows e few f most = omega arith
 
 pub some_left : (n : ℕ) → eqb n 0 ≡ false → 0 < n
 some_left n h = (let ne = eqb-false n 0 h in omega (arith, ne))

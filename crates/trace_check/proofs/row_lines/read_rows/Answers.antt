@@ -1,7 +1,7 @@
 use Rattle.std.proofs.lemmas.Result.{IfOk-from_err, err_from_is_err_and}
 use Rattle.std.proofs.Common.{◌+◌, drop, length, subst, sym, ap, ◌∙◌}
 use Rattle.std.proofs.lemmas.List.{take_at}
-use Rattle.trace_check.proofs.RowLemmas.{ReadSoFar, some_left, none_left, read_more, read_ends, read_stops}
+use Rattle.trace_check.proofs.RowLemmas.{ReadSoFar, read_none, tasks_line_fits, row_line_fits, some_left, none_left, read_more, read_ends, read_stops}
 use Rattle.trace_check.specs.declared.row_lines.RowsRead.{RowsRead}
 use Rattle.trace_check.proofs.row_lines.read_rows.Goals as goal
 use Rattle.trace_check.proofs.row_lines.read_rows.Goals.{else-loop-table-test, then-loop-table-test+in-Ends}
@@ -80,3 +80,20 @@ returns-in-Fault-clause-read c = tt
 
 pub returns-clause-fault : goal.returns-clause-fault
 returns-clause-fault c = tt
+
+pub loop-table-init : goal.loop-table-init
+loop-table-init c =
+    read_none c.args.set.now.tasks c.args.text.now c.new-rows.result.items c.in_ok-totals.totals.items (length c.tasks.result.now) c.new-rows.ensures.items
+    (c.in_ok-totals.ensures.items_if_clones_equal (λ x same. same)) (ap length c.tasks.ensures.value)
+
+pub loop-table-smaller : goal.loop-table-smaller
+loop-table-smaller c = c.in-Row.ensures.1
+
+pub overflow_add-result : goal.overflow_add-result
+overflow_add-result c =
+    tasks_line_fits c.from.result (length c.args.set.now.tasks) (c.from.ensures ∙ c.count.ensures.value) c.count.ensures.lawful.few_tasks
+
+pub overflow_add-result-in-Fault : goal.overflow_add-result-in-Fault
+overflow_add-result-in-Fault c =
+    row_line_fits c.from.result (length c.args.set.now.tasks) c.len.result (length c.loop-table.rows.items) (c.from.ensures ∙ c.count.ensures.value)
+    c.count.ensures.lawful.few_tasks (c.len.ensures ∙ c.loop-table.rows.ok.0) c.loop-table.invariant.few
