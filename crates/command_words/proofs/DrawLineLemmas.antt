@@ -2,7 +2,7 @@
 use Rattle.std.proofs.Common.{◌≡◌, inl, inr, ℕ, List, [], ◌∷◌, ◌++◌, codes}
 use Rattle.std.proofs.Common.{Option, Some, None, true, option_map, option_and_then, refl, ap, ap₂}
 use Rattle.std.proofs.Common.{◌∙◌}
-use Rattle.clap.specs.Words.{Text, first_of, subcommand_of, takes}
+use Rattle.clap.specs.Words.{Row, Text, first_of, subcommand_of, takes}
 use Rattle.clap.proofs.OnLiterals.{clap_on_literals}
 use Rattle.trace_lines.specs.declared.asking.Asked.{Asked}
 use Rattle.command_words.specs.declared.command.Reading.{Reading}
@@ -114,12 +114,36 @@ pub record IsDrawn (from units : Option Text) (words : List Text) : Type 0 where
   pub from_is : option_and_then (first_of (codes "from")) (option_map (λ p. p.1) (subcommand_of parser words)) ≡ from
   pub units_is : option_and_then (first_of (codes "units")) (option_map (λ p. p.1) (subcommand_of parser words)) ≡ units
 
-drawn_of : (from units : Option Text) → IsDrawn from units (drawing_of from units)
+-- the name of the subcommand that was met, and the values of its options
+abbrev parts_of : Option (Text × List Row) → Option Text × (Option Text × Option Text)
+parts_of o = (
+  option_map (λ p. p.0) o,
+  (option_and_then (first_of (codes "from")) (option_map (λ p. p.1) o), option_and_then (first_of (codes "units")) (option_map (λ p. p.1) o)),
+)
+
+drawn_parts : (from units : Option Text) → parts_of (subcommand_of parser (drawing_of from units)) ≡ (Some (codes "draw"), (from, units))
 unfolding clap_on_literals
-drawn_of None None = record { taken = refl; named = refl; from_is = refl; units_is = refl }
-drawn_of None (Some w) = record { taken = refl; named = refl; from_is = refl; units_is = refl }
-drawn_of (Some v) None = record { taken = refl; named = refl; from_is = refl; units_is = refl }
-drawn_of (Some v) (Some w) = record { taken = refl; named = refl; from_is = refl; units_is = refl }
+drawn_parts None None = refl
+drawn_parts None (Some w) = refl
+drawn_parts (Some v) None = refl
+drawn_parts (Some v) (Some w) = refl
+
+drawing_taken : (from units : Option Text) → takes parser (drawing_of from units) ≡ true
+unfolding clap_on_literals
+drawing_taken None None = refl
+drawing_taken None (Some w) = refl
+drawing_taken (Some v) None = refl
+drawing_taken (Some v) (Some w) = refl
+
+drawn_of : (from units : Option Text) → IsDrawn from units (drawing_of from units)
+drawn_of from units =
+    let parts = drawn_parts from units in
+    record {
+      taken = drawing_taken from units;
+      named = ap (λ p. p.0) parts;
+      from_is = ap (λ p. p.1.0) parts;
+      units_is = ap (λ p. p.1.1) parts;
+    }
 
 drawn_as : (from units : Option Text) (a b : List Text) → IsSame a b → IsDrawn from units b → IsDrawn from units a
 drawn_as from units a b same is = record {
