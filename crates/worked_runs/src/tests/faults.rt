@@ -1,16 +1,16 @@
 //! Runs that end at a failure, and what they leave.
+ghost use Rattle.exec_book.specs.PlanRows.{IsCompiled};
 
-use super::{A, B, C, Left, lanes, run};
+use super::{A, B, C, Left, assert_first, kits_of, ran, row, run, three_tasks};
 use exec_workers::ExecFault;
+use run_tree::Plan;
 use sched_base::{Leaf, Row, TaskId};
 use std::alloc::Global;
 use std::process::Abort;
 use std::sync::Wait;
-use std::test::Fail;
 use std::thread::Threads;
 
 /// A failure, and where it ends the run.
-#[derive(Clone, Copy)]
 struct Stop {
     /// The calls that fail, of each gate and of each job.
     gates: [&'static [u64]; 2],
@@ -22,109 +22,149 @@ struct Stop {
     round: usize,
 }
 
-/// Gate p fails at its call c.
-fn gate_stops() -> [Stop; 6] {
-    [
-        gate_stop([&[1], &[]], 0, 0),
-        gate_stop([&[2], &[]], 0, 1),
-        gate_stop([&[3], &[]], 0, 2),
-        gate_stop([&[], &[1]], 1, 0),
-        gate_stop([&[], &[2]], 1, 1),
-        gate_stop([&[], &[3]], 1, 2),
-    ]
-}
+const NO_GATE: [&[u64]; 2] = [&[], &[]];
 
-/// The job of each task fails at its first call, and at its second.
-fn job_stops() -> [Stop; 6] {
-    [
-        job_stop([&[1], &[], &[]], A, 0, 1),
-        job_stop([&[2], &[], &[]], A, 0, 2),
-        job_stop([&[], &[1], &[]], B, 0, 0),
-        job_stop([&[], &[2], &[]], B, 1, 2),
-        job_stop([&[], &[], &[1]], C, 1, 0),
-        job_stop([&[], &[], &[2]], C, 1, 1),
-    ]
-}
+const NO_JOB: [&[u64]; 3] = [&[], &[], &[]];
 
-fn gate_stop(gates: [&'static [u64]; 2], processor: u32, round: usize) -> Stop {
+/// Gate p fails at its call c; then the job of each task fails at its first call, and at its second.
+const STOPS: &[Stop] = &[
     Stop {
-        gates,
-        jobs: [&[], &[], &[]],
+        gates: [&[1], &[]],
+        jobs: NO_JOB,
         task: None,
-        processor,
-        round,
-    }
-}
-
-fn job_stop(jobs: [&'static [u64]; 3], task: u32, processor: u32, round: usize) -> Stop {
+        processor: 0,
+        round: 0,
+    },
     Stop {
-        gates: [&[], &[]],
-        jobs,
-        task: Some(task),
-        processor,
-        round,
+        gates: [&[2], &[]],
+        jobs: NO_JOB,
+        task: None,
+        processor: 0,
+        round: 1,
+    },
+    Stop {
+        gates: [&[3], &[]],
+        jobs: NO_JOB,
+        task: None,
+        processor: 0,
+        round: 2,
+    },
+    Stop {
+        gates: [&[], &[1]],
+        jobs: NO_JOB,
+        task: None,
+        processor: 1,
+        round: 0,
+    },
+    Stop {
+        gates: [&[], &[2]],
+        jobs: NO_JOB,
+        task: None,
+        processor: 1,
+        round: 1,
+    },
+    Stop {
+        gates: [&[], &[3]],
+        jobs: NO_JOB,
+        task: None,
+        processor: 1,
+        round: 2,
+    },
+    Stop {
+        gates: NO_GATE,
+        jobs: [&[1], &[], &[]],
+        task: Some(A),
+        processor: 0,
+        round: 1,
+    },
+    Stop {
+        gates: NO_GATE,
+        jobs: [&[2], &[], &[]],
+        task: Some(A),
+        processor: 0,
+        round: 2,
+    },
+    Stop {
+        gates: NO_GATE,
+        jobs: [&[], &[1], &[]],
+        task: Some(B),
+        processor: 0,
+        round: 0,
+    },
+    Stop {
+        gates: NO_GATE,
+        jobs: [&[], &[2], &[]],
+        task: Some(B),
+        processor: 1,
+        round: 2,
+    },
+    Stop {
+        gates: NO_GATE,
+        jobs: [&[], &[], &[1]],
+        task: Some(C),
+        processor: 1,
+        round: 0,
+    },
+    Stop {
+        gates: NO_GATE,
+        jobs: [&[], &[], &[2]],
+        task: Some(C),
+        processor: 1,
+        round: 1,
+    },
+];
+
+/// What a run tells of its failure: the processor and the row, the task whose job failed, where one did, and how many rows were
+/// posted.
+fn told_of(rt: &impl Abort, left: &Left) -> (u32, Row, Option<u32>, u64) {
+    match &left.answer {
+        Ok(_) => panic!(rt; "a run that didn't fail"),
+        Err(
+            ExecFault::Gate {
+                processor,
+                row,
+                posts,
+            },
+        ) => (*processor, *row, None, posts.number()),
+        Err(
+            ExecFault::Job {
+                task,
+                processor,
+                row,
+                posts,
+            },
+        ) => (*processor, *row, Some(*task), posts.number()),
+        Err(ExecFault::NoMemory) => panic!(rt; "memory was refused"),
     }
 }
 
-/// The rows that a gate of the two ran.
-fn of_processor<T>(of_each: &[T; 2], processor: u32) -> &T {
-    let [first, second] = of_each;
-    if processor == 0 { first } else { second }
+/// How often jobs failed.
+fn faults_of(jobs: &[(u128, u64); 3]) -> u64 {
+    let [(_, a), (_, b), (_, c)] = jobs;
+    a.saturating_add(*b).saturating_add(*c)
 }
 
-/// How many rows were posted: those that the gates ran, but for one whose job failed.
-fn posts_of(left: &Left) -> u64 {
-    let [first, second] = &left.ran;
-    let mut missed: u64 = 0;
-    for job in &left.jobs {
-        missed = missed.saturating_add(job.1);
-    }
-    (first.len() as u64)
-        .saturating_add(second.len() as u64)
-        .saturating_sub(missed)
-}
-
-/// Makes sure that the run ended at the failure, and that the gate which came to it ran just the rows up to there: the failed
-/// row too, where it is the job that failed.
-fn assert_stopped(rt: &impl Abort, left: &Left, stop: &Stop) {
-    assert!(rt; stop.round < 3);
-    let all = lanes();
-    let lane = of_processor(&all, stop.processor);
-    let row = lane[stop.round];
-    let processor = stop.processor;
-    let Err(found) = left.answer else {
-        panic!(rt; "a run that didn't fail");
-    };
-    let (at, task, posts) = match found {
-        ExecFault::Gate {
-            processor,
-            row,
-            posts,
-        } => ((processor, row), None, posts),
-        ExecFault::Job {
-            task,
-            processor,
-            row,
-            posts,
-        } => ((processor, row), Some(task), posts),
-        ExecFault::NoMemory => panic!(rt; "memory was refused"),
-    };
-    assert!(rt; at == (processor, row));
+/// Makes sure that the run ended at the failure: its row, its task, and as many posted rows as the gates ran, but for one whose
+/// job failed.
+fn assert_told(rt: &impl Abort, left: &Left, stop: &Stop, ran: usize) {
+    let (processor, found, task, posts) = told_of(rt, left);
+    assert!(rt; processor == stop.processor && found == row(rt, stop.processor, stop.round));
     assert!(rt; task == stop.task);
-    assert!(rt; posts.number() == posts_of(left));
-    let ran = match stop.task {
-        None => stop.round,
-        Some(_) => stop.round + 1,
-    };
-    assert!(rt; of_processor(&left.ran, processor).len() == ran);
+    assert!(rt; posts == (ran as u64).saturating_sub(faults_of(&left.jobs)));
+}
+
+/// Makes sure that the gate which came to the failure ran just the rows up to there: the failed row too, where it is the job that
+/// failed.
+fn assert_stopped(rt: &impl Abort, rows: &[Row], stop: &Stop) {
+    let job = if stop.task.is_some() { 1 } else { 0 };
+    assert!(rt; rows.len() == stop.round.saturating_add(job));
 }
 
 /// Makes sure that the gates ran first rows, neither of them more than the window ahead of the other, and the second row of b
 /// after the first.
-fn assert_front(rt: &impl Abort, left: &Left, window: u32) {
-    let [all_first, all_second] = lanes();
-    let [first, second] = &left.ran;
-    assert!(rt; all_first.starts_with(first) && all_second.starts_with(second));
+fn assert_front(rt: &impl Abort, first: &[Row], second: &[Row], window: u32) {
+    assert_first(rt, first, 0);
+    assert_first(rt, second, 1);
     assert!(rt; first.len().abs_diff(second.len()) <= window as usize);
     assert!(rt; second.len() < 3 || !first.is_empty());
 }
@@ -135,46 +175,75 @@ fn rows_of(rows: &[Row], task: u32) -> u128 {
     rows.iter().filter(|row| row.leaf == leaf).count() as u128
 }
 
-/// Makes sure that each job has worked three ticks for each row of its task that the gates ran, but for the row at which it
-/// failed.
-fn assert_worked(rt: &impl Abort, left: &Left, failed: Option<u32>) {
-    let [first, second] = &left.ran;
-    for ((used, faults), task) in left.jobs.into_iter().zip([A, B, C]) {
-        let rows = rows_of(first, task).saturating_add(rows_of(second, task));
-        let missed = if failed == Some(task) { 1 } else { 0 };
-        assert!(rt; used == rows.saturating_sub(missed).saturating_mul(3));
-        assert!(rt; u128::from(faults) == missed);
-    }
+/// Makes sure that the job of a task has worked three ticks for each row of its task that the gates ran, but for the row at which
+/// it failed.
+fn assert_worked(
+    rt: &impl Abort,
+    first: &[Row],
+    second: &[Row],
+    task: u32,
+    (used, faults): (u128, u64),
+    failed: Option<u32>,
+) {
+    let rows = rows_of(first, task).saturating_add(rows_of(second, task));
+    let missed = if failed == Some(task) { 1 } else { 0 };
+    assert!(rt; used == rows.saturating_sub(missed).saturating_mul(3));
+    assert!(rt; u128::from(faults) == missed);
 }
 
-/// Runs the three tasks to each of these failures.
-fn stop_at_each<X: Threads + Wait + Abort + Sync>(
+/// Makes sure of what a run left that was to end at a failure: its answer, the rows that the two gates ran, and the jobs.
+fn assert_left(
+    rt: &impl Abort,
+    left: &Left,
+    first: &[Row],
+    second: &[Row],
+    window: u32,
+    stop: &Stop,
+) {
+    assert_told(rt, left, stop, first.len().saturating_add(second.len()));
+    assert_stopped(rt, if stop.processor == 0 { first } else { second }, stop);
+    assert_front(rt, first, second, window);
+    let [a, b, c] = left.jobs;
+    assert_worked(rt, first, second, A, a, stop.task);
+    assert_worked(rt, first, second, B, b, stop.task);
+    assert_worked(rt, first, second, C, c, stop.task);
+}
+
+/// Runs the three tasks to a failure.
+fn run_to<X: Threads + Wait + Abort + Sync>(
     rt: &X,
     alloc: Global,
+    plan: &Plan,
     window: u32,
-    stops: &[Stop],
-) -> Result<(), Fail> {
-    for stop in stops {
-        let left = run(rt, alloc, window, stop.gates, stop.jobs)?;
-        assert_stopped(rt, &left, stop);
-        assert_front(rt, &left, window);
-        assert_worked(rt, &left, stop.task);
+    stop: &Stop,
+)
+    requires { IsCompiled plan.now }
+{
+    let mut kits = kits_of(rt, alloc, 3, &stop.gates);
+    let left = run(rt, alloc, plan, window, &mut kits, &stop.jobs);
+    assert_left(
+        rt,
+        &left,
+        ran(rt, &kits, 0),
+        ran(rt, &kits, 1),
+        window,
+        stop,
+    );
+}
+
+/// Runs the three tasks to each failure.
+fn run_to_each<X: Threads + Wait + Abort + Sync>(rt: &X, alloc: Global, plan: &Plan, window: u32)
+    requires { IsCompiled plan.now }
+{
+    for stop in STOPS {
+        run_to(rt, alloc, plan, window, stop);
     }
-    Ok(())
 }
 
 #[test]
-fn stops_at_a_gate(rt: HostRuntime) -> Result<(), Fail> {
+fn stops_at_a_gate_or_at_a_job(rt: HostRuntime) {
+    let plan = three_tasks(&rt, rt.alloc());
     for window in [1, 2, 32] {
-        stop_at_each(&rt, rt.alloc(), window, &gate_stops())?;
+        run_to_each(&rt, rt.alloc(), &plan, window);
     }
-    Ok(())
-}
-
-#[test]
-fn stops_at_a_job(rt: HostRuntime) -> Result<(), Fail> {
-    for window in [1, 2, 32] {
-        stop_at_each(&rt, rt.alloc(), window, &job_stops())?;
-    }
-    Ok(())
 }

@@ -1,25 +1,50 @@
 //! Runs that come to their end.
+ghost use Rattle.exec_book.specs.PlanRows.{IsCompiled};
 
-use super::{lanes, run};
-use std::test::Fail;
+use super::{assert_first, kits_of, ran, run, three_tasks};
+use exec_workers::Executed;
+use run_tree::Plan;
+use sched_base::Row;
+use std::alloc::Global;
+use std::process::Abort;
+use std::sync::Wait;
+use std::thread::Threads;
+
+/// Makes sure that these are the rows of a processor.
+fn assert_lane(rt: &impl Abort, rows: &[Row], processor: u32) {
+    assert!(rt; rows.len() == 3);
+    assert_first(rt, rows, processor);
+}
+
+/// Makes sure that a run told all rows.
+fn assert_executed(rt: &impl Abort, done: &Executed) {
+    assert!(rt; done.table.processors() == 2 && done.table.rounds() == 3);
+    assert_lane(rt, done.table.lane(0), 0);
+    assert_lane(rt, done.table.lane(1), 1);
+    assert!(rt; done.totals.as_slice() == [6, 6, 6].as_slice());
+    assert!(rt; done.posts.number() == 6);
+}
+
+/// Makes sure that a run with no failure came to its end.
+fn assert_whole<X: Threads + Wait + Abort + Sync>(rt: &X, alloc: Global, plan: &Plan, window: u32)
+    requires { IsCompiled plan.now }
+{
+    let mut kits = kits_of(rt, alloc, 3, &[&[], &[]]);
+    let left = run(rt, alloc, plan, window, &mut kits, &[&[], &[], &[]]);
+    match &left.answer {
+        Ok(done) => assert_executed(rt, done),
+        Err(_) => panic!(rt; "a run that failed"),
+    }
+    assert_lane(rt, ran(rt, &kits, 0), 0);
+    assert_lane(rt, ran(rt, &kits, 1), 1);
+    assert!(rt; left.jobs == [(6, 0), (6, 0), (6, 0)]);
+}
 
 /// The same rows at each window.
 #[test]
-fn runs_three_tasks(rt: HostRuntime) -> Result<(), Fail> {
-    let [first, second] = lanes();
+fn runs_three_tasks(rt: HostRuntime) {
+    let plan = three_tasks(&rt, rt.alloc());
     for window in [1, 2, 32, 1024] {
-        let left = run(&rt, rt.alloc(), window, [&[], &[]], [&[], &[], &[]])?;
-        let Ok(done) = &left.answer else {
-            panic!(rt; "a run that failed");
-        };
-        assert!(rt; (done.table.processors(), done.table.rounds()) == (2, 3));
-        assert!(rt; done.table.lane(0) == first.as_slice());
-        assert!(rt; done.table.lane(1) == second.as_slice());
-        assert!(rt; done.totals.as_slice() == [6, 6, 6].as_slice());
-        assert!(rt; done.posts.number() == 6);
-        assert!(rt; left.ran[0].as_slice() == first.as_slice());
-        assert!(rt; left.ran[1].as_slice() == second.as_slice());
-        assert!(rt; left.jobs == [(6, 0), (6, 0), (6, 0)]);
+        assert_whole(&rt, rt.alloc(), &plan, window);
     }
-    Ok(())
 }

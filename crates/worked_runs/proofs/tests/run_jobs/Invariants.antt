@@ -1,6 +1,6 @@
 use Rattle.worked_runs.proofs.RunLemmas.{AreMade}
-use Rattle.worked_runs.proofs.tests.run.OwnLists.{own-1}
-use Rattle.worked_runs.proofs.tests.run.Given as goal
+use Rattle.worked_runs.proofs.tests.run_jobs.OwnLists.{own-1}
+use Rattle.worked_runs.proofs.tests.run_jobs.Given as goal
 
 abbrev pub invariant-loop-t : goal.invariant-loop-t
 invariant-loop-t g l =
