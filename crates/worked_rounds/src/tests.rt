@@ -15,8 +15,11 @@ mod trees;
 mod valid;
 mod windows;
 
-use run_plain::NamedTask;
+use run_plain::{NamedTask, plan_of};
+use run_tree::Plan;
 use sched_base::{Leaf, Row, TaskId};
+use std::alloc::Global;
+use std::process::Abort;
 
 /// Three tasks of rate 2/3, for two processors.
 const THREE_TASKS: &[NamedTask] = &[("a", 2, 3, 0), ("b", 2, 3, 0), ("c", 2, 3, 0)];
@@ -32,6 +35,17 @@ const TWO_REDUCTIONS: &[NamedTask] = &[
 
 /// Two tasks of rate 1/2, for one processor, of which the first is late.
 const OFFSET_OF_ONE: &[NamedTask] = &[("a", 1, 2, 1), ("b", 1, 2, 0)];
+
+/// The plan of a set with these tasks.
+fn plan_with(
+    rt: &impl Abort,
+    alloc: Global,
+    processors: u32,
+    horizon: u64,
+    tasks: &[NamedTask],
+) -> Plan {
+    plan_of(alloc, processors, horizon, tasks).expect(rt, "a plan")
+}
 
 /// A round's start and end, and what each processor runs, a letter each.
 type Round<'a> = (u128, u128, &'a str);
@@ -57,5 +71,13 @@ fn is_row(row: &Row, processor: u32, round: &Round) -> bool {
                 && row.end == *end
                 && row.leaf == leaf_of(*letter)
         }
+    }
+}
+
+/// Whether this is the row of a processor in round k of these.
+fn is_row_of(row: &Row, processor: u32, rounds: &[Round], k: usize) -> bool {
+    match rounds.get(k) {
+        None => false,
+        Some(round) => is_row(row, processor, round),
     }
 }

@@ -1,13 +1,12 @@
 //! Sets of tasks drawn in a fixed order, so that each run of the tests has the same ones.
 ghost use Rattle.std.specs.Prelude.{◌≤◌, ◌<◌};
 
-use named_sets::{NoSet, add_task, set_of};
+use named_sets::{add_task, set_of};
 use run_compile::compile;
 use run_tree::Plan;
 use sched_base::TaskSet;
 use std::alloc::Global;
 use std::process::Abort;
-use std::test::Fail;
 
 /// The periods that are drawn. Each divides `PARTS`, so a unit has at most so many ticks.
 const PERIODS: [u64; 6] = [1, 2, 4, 3, 6, 12];
@@ -73,30 +72,30 @@ fn add_drawn(
     number: u8,
     shape: Shape,
     room: u64,
-) -> Result<u64, NoSet> {
+) -> u64 {
     let (work, period) = draw_rate(draws, shape.heavy);
     assert!(rt; 1 <= work && work <= period && period <= 12 && shape.last_offset <= 100);
     let offset = draws.below(1 + shape.last_offset);
     let load = PARTS / period * work;
     if room < load {
-        return Ok(room);
+        return room;
     }
     let name = [b't', b'0' + number / 10 % 10, b'0' + number % 10];
-    add_task(set, &name, work, period, offset)?;
-    Ok(room - load)
+    add_task(set, &name, work, period, offset).expect(rt, "a task");
+    room - load
+}
+
+/// Adds drawn tasks to a set.
+fn add_all(rt: &impl Abort, draws: &mut Draws, set: &mut TaskSet, shape: Shape) {
+    let mut room = u64::from(shape.processors) * PARTS;
+    for number in 0..shape.tasks {
+        room = add_drawn(rt, draws, set, number, shape, room);
+    }
 }
 
 /// The plan of a set of this shape.
-pub(super) fn draw_plan(
-    rt: &impl Abort,
-    alloc: Global,
-    draws: &mut Draws,
-    shape: Shape,
-) -> Result<Plan, Fail> {
-    let mut set = set_of(alloc, shape.processors, shape.horizon, &[])?;
-    let mut room = u64::from(shape.processors) * PARTS;
-    for number in 0..shape.tasks {
-        room = add_drawn(rt, draws, &mut set, number, shape, room)?;
-    }
-    Ok(compile(alloc, set)?)
+pub(super) fn draw_plan(rt: &impl Abort, alloc: Global, draws: &mut Draws, shape: Shape) -> Plan {
+    let mut set = set_of(alloc, shape.processors, shape.horizon, &[]).expect(rt, "a set");
+    add_all(rt, draws, &mut set, shape);
+    compile(alloc, set).expect(rt, "a plan")
 }

@@ -1,11 +1,11 @@
 //! Rounds at the limit of rows, and past it.
+use super::plan_with;
 use event_core::{CountFault, count_rounds};
 use merged_rounds::merged_of;
-use run_plain::plan_of;
+use run_plain::NamedTask;
 use run_tree::Plan;
 use std::alloc::Global;
 use std::process::Abort;
-use std::test::Fail;
 
 /// Compares the number of rounds, and the number of processors whose rows are merged.
 fn assert_counts(
@@ -23,17 +23,23 @@ fn assert_counts(
     assert!(rt; count == lanes);
 }
 
-// With 32 processors as many as 65536 rounds are within the limit of rows. One task runs all the time, so each processor shows
-// one thing from tick 0 up to the end.
+const ALL_THE_TIME: &[NamedTask] = &[("a", 1, 1, 0)];
+
+/// A horizon, and what counting and merging answer of one task that runs all the time on 32 processors. As many as 65536 rounds
+/// are within the limit of rows. Each processor shows one thing from tick 0 up to the end.
+const HORIZONS: &[(u64, Result<u64, CountFault>, Result<u32, CountFault>)] = &[
+    (65_536, Ok(65_536), Ok(32)),
+    (
+        65_537,
+        Err(CountFault::TooLong { rows: 2_097_184 }),
+        Err(CountFault::TooLong { rows: 2_097_184 }),
+    ),
+];
+
 #[test]
-fn counts_and_merges_up_to_the_limit(rt: HostRuntime) -> Result<(), Fail> {
-    let too_long = CountFault::TooLong { rows: 2_097_184 };
-    for (horizon, rounds, lanes) in [
-        (65_536, Ok(65_536), Ok(32)),
-        (65_537, Err(too_long), Err(too_long)),
-    ] {
-        let plan = plan_of(rt.alloc(), 32, horizon, &[("a", 1, 1, 0)])?;
-        assert_counts(&rt, rt.alloc(), &plan, rounds, lanes);
+fn counts_and_merges_up_to_the_limit(rt: HostRuntime) {
+    for (horizon, rounds, lanes) in HORIZONS {
+        let plan = plan_with(&rt, rt.alloc(), 32, *horizon, ALL_THE_TIME);
+        assert_counts(&rt, rt.alloc(), &plan, *rounds, *lanes);
     }
-    Ok(())
 }

@@ -2,7 +2,6 @@
 use round_steps::{NO_TASK, Steps};
 use std::alloc::Global;
 use std::process::Abort;
-use std::test::Fail;
 
 /// Three tasks, each of two thirds of a processor, on two processors.
 const THREE_TASKS: &[u8] = b"processors = 2\nhorizon = 3\ntask = [
@@ -12,8 +11,38 @@ const THREE_TASKS: &[u8] = b"processors = 2\nhorizon = 3\ntask = [
 const ONE_LATE: &[u8] =
     b"processors = 1\nhorizon = 5\ntask = [{name = \"a\", work = 1, period = 4, offset = 1}]\n";
 
+/// The product of the periods, which are primes, passes 2^94.
+const LARGE_SCALE: &[u8] = b"processors = 1\nhorizon = 1\ntask = [
+  {name = \"a\", work = 1, period = 4294967291}, {name = \"b\", work = 1, period = 4294967279},
+  {name = \"c\", work = 1, period = 4294967231}]\n";
+
+const OVERLOAD: &[u8] = b"processors = 1\nhorizon = 1\ntask = [
+  {name = \"a\", work = 1, period = 1}, {name = \"b\", work = 1, period = 2}]\n";
+
 /// A round: its start and its end in ticks, and what is told of each processor.
 type Told = (u128, u128, &'static [u32]);
+
+/// A set, its rounds, and the status with which it is refused.
+const SETS: &[(&[u8], &[Told], u8)] = &[
+    (
+        THREE_TASKS,
+        &[(0, 3, &[1, 2]), (3, 6, &[0, 2]), (6, 9, &[0, 1])],
+        0,
+    ),
+    (
+        ONE_LATE,
+        &[
+            (0, 1, &[NO_TASK]),
+            (1, 4, &[NO_TASK]),
+            (4, 8, &[0]),
+            (8, 20, &[NO_TASK]),
+        ],
+        0,
+    ),
+    (b"processors\n", &[], 6),
+    (OVERLOAD, &[], 7),
+    (LARGE_SCALE, &[], 8),
+];
 
 /// Whether the round just gone runs these tasks, one for each processor.
 fn runs_tasks(steps: &Steps, tasks: &[u32]) -> bool {
@@ -52,32 +81,15 @@ fn status_of(rt: &impl Abort, alloc: Global, set: &[u8], rounds: &[Told]) -> u8 
 }
 
 #[test]
-fn tells_rounds_or_the_status_of_the_program(rt: HostRuntime) -> Result<(), Fail> {
-    let too_long = vec![in rt.alloc(); b'\n'; 1_048_577]?;
-    let overload: &[u8] = b"processors = 1\nhorizon = 1\ntask = [
-      {name = \"a\", work = 1, period = 1}, {name = \"b\", work = 1, period = 2}]\n";
-    // the product of these primes passes 2^94
-    let large_scale: &[u8] = b"processors = 1\nhorizon = 1\ntask = [
-      {name = \"a\", work = 1, period = 4294967291}, {name = \"b\", work = 1, period = 4294967279},
-      {name = \"c\", work = 1, period = 4294967231}]\n";
-    let no_set: &[u8] = b"processors\n";
-    let three_tasks: &[Told] = &[(0, 3, &[1, 2]), (3, 6, &[0, 2]), (6, 9, &[0, 1])];
-    let one_late: &[Told] = &[
-        (0, 1, &[NO_TASK]),
-        (1, 4, &[NO_TASK]),
-        (4, 8, &[0]),
-        (8, 20, &[NO_TASK]),
-    ];
-    for (set, rounds, status) in [
-        (THREE_TASKS, three_tasks, 0),
-        (ONE_LATE, one_late, 0),
-        (no_set, &[], 6),
-        (overload, &[], 7),
-        (large_scale, &[], 8),
-        (too_long.as_slice(), &[], 12),
-    ] {
+fn tells_rounds_or_the_status_of_the_program(rt: HostRuntime) {
+    for (set, rounds, status) in SETS {
         let found = status_of(&rt, rt.alloc(), set, rounds);
-        assert!(rt; found == status, "{status}");
+        assert!(rt; found == *status, "{status}");
     }
-    Ok(())
+}
+
+#[test]
+fn refuses_a_set_that_is_too_long(rt: HostRuntime) {
+    let long = vec![in rt.alloc(); b'\n'; 1_048_577].expect(&rt, "there is memory");
+    assert!(rt; status_of(&rt, rt.alloc(), &long, &[]) == 12);
 }

@@ -1,43 +1,49 @@
 //! Steps of a round by worked tables: which member is picked, and where packs are placed.
 use cpu_assign::Places;
 use edf_pick::{Candidate, earliest};
-use sched_base::NoMemory;
 
-#[test]
-fn picks(rt: HostRuntime) {
-    let tie: &[(u128, u128)] = &[(9, 2), (6, 1), (6, 3)];
-    let first_is_done: &[(u128, u128)] = &[(9, 2), (6, 0), (6, 3)];
-    let none_left: &[(u128, u128)] = &[(9, 0), (6, 0)];
-    for (members, picked) in [
-        (tie, Some(1)),
-        (first_is_done, Some(2)),
-        (none_left, None),
-        (&[], None),
-    ] {
-        let mut candidates = [Candidate { end: 0, remain: 0 }; 3];
-        for (candidate, (end, remain)) in candidates.iter_mut().zip(members) {
-            *candidate = Candidate {
-                end: *end,
-                remain: *remain,
-            };
-        }
-        assert!(rt; earliest(&candidates) == picked);
-    }
+/// A member: the end of its window, and what is left of its due.
+type Member = (u128, u128);
+
+/// Three members, and which of them is picked.
+const MEMBERS: &[(Member, Member, Member, Option<usize>)] = &[
+    // a tie
+    ((9, 2), (6, 1), (6, 3), Some(1)),
+    // the first of the tie is done
+    ((9, 2), (6, 0), (6, 3), Some(2)),
+    // nothing is left
+    ((9, 0), (6, 0), (0, 0), None),
+    ((0, 0), (0, 0), (0, 0), None),
+];
+
+fn candidate((end, remain): Member) -> Candidate {
+    Candidate { end, remain }
 }
 
 #[test]
-fn places_tick_by_tick(rt: HostRuntime) -> Result<(), NoMemory> {
-    let mut places = Places::new(rt.alloc(), 3, 2)?;
-    for (runs, placed) in [
-        ([false, true, true], [Some(1), Some(2)]),
-        ([true, false, true], [Some(0), Some(2)]),
-        ([true, true, false], [Some(0), Some(1)]),
-        ([false, false, false], [None, None]),
-        ([false, true, false], [None, Some(1)]),
-    ] {
-        let mut onto = [None; 2];
-        places.place(&runs, &mut onto);
-        assert!(rt; onto == placed);
+fn picks(rt: HostRuntime) {
+    for (a, b, c, picked) in MEMBERS {
+        let candidates = [candidate(*a), candidate(*b), candidate(*c)];
+        assert!(rt; earliest(&candidates) == *picked);
     }
-    Ok(())
+}
+
+/// Which of three packs run in a tick, and which pack each of two processors gets.
+const TICKS: &[(&[bool], &[Option<u32>])] = &[
+    (&[false, true, true], &[Some(1), Some(2)]),
+    (&[true, false, true], &[Some(0), Some(2)]),
+    (&[true, true, false], &[Some(0), Some(1)]),
+    (&[false, false, false], &[None, None]),
+    (&[false, true, false], &[None, Some(1)]),
+];
+
+#[test]
+fn places_tick_by_tick(rt: HostRuntime) {
+    let mut places = Places::new(rt.alloc(), 3, 2).expect(&rt, "there is memory");
+    for (runs, placed) in TICKS {
+        assert!(rt; runs.len() == 3);
+        let mut onto = [None; 2];
+        places.place(runs, &mut onto);
+        assert!(rt; onto.as_slice() == *placed);
+    }
 }

@@ -1,8 +1,8 @@
 //! Tables of whole rounds.
 ghost use Rattle.std.specs.Prelude.{◌≡◌};
 
-use super::{Round, is_row};
-use sched_base::{Leaf, NoMemory, Row, RowTable, TaskId};
+use super::{Round, is_row_of};
+use sched_base::{Leaf, Row, RowTable, TaskId};
 
 const A: Leaf = Leaf::Task(TaskId(0));
 
@@ -10,17 +10,21 @@ const B: Leaf = Leaf::Task(TaskId(1));
 
 const C: Leaf = Leaf::Task(TaskId(2));
 
+/// Whether these are the rows of a processor in these rounds.
+fn is_lane(lane: &[Row], processor: u32, rounds: &[Round]) -> bool {
+    for (k, row) in lane.iter().enumerate() {
+        if !is_row_of(row, processor, rounds, k) {
+            return false;
+        }
+    }
+    lane.len() == rounds.len()
+}
+
 /// Whether the table has these rounds of so many processors.
 pub(super) fn is_table(table: &RowTable, processors: u32, rounds: &[Round]) -> bool {
     for p in 0..table.processors() {
-        let lane = table.lane(p);
-        if lane.len() != rounds.len() {
+        if !is_lane(table.lane(p), p, rounds) {
             return false;
-        }
-        for (row, round) in lane.iter().zip(rounds) {
-            if !is_row(row, p, round) {
-                return false;
-            }
         }
     }
     table.processors() == processors && table.rounds() == rounds.len() as u64
@@ -38,14 +42,14 @@ fn row(processor: u32, start: u128, end: u128, leaf: Leaf) -> Row
 }
 
 /// Three tasks of rate 2/3 on two processors, over one period.
+const ROUNDS: &[Round] = &[(0, 3, "bc"), (3, 6, "ac"), (6, 9, "ab")];
+
 #[test]
-fn holds_three_rounds(rt: HostRuntime) -> Result<(), NoMemory> {
-    let mut table = RowTable::new(rt.alloc(), 2, 3)?;
+fn holds_three_rounds(rt: HostRuntime) {
+    let mut table = RowTable::new(rt.alloc(), 2, 3).expect(&rt, "there is memory");
     assert!(rt; table.rounds() == 0);
     table.push_round(&[row(0, 0, 3, B), row(1, 0, 3, C)]);
     table.push_round(&[row(0, 3, 6, A), row(1, 3, 6, C)]);
     table.push_round(&[row(0, 6, 9, A), row(1, 6, 9, B)]);
-    let rounds = [(0, 3, "bc"), (3, 6, "ac"), (6, 9, "ab")];
-    assert!(rt; is_table(&table, 2, &rounds));
-    Ok(())
+    assert!(rt; is_table(&table, 2, ROUNDS));
 }

@@ -1,10 +1,8 @@
 //! The tree of a worked set, node by node.
-use super::THREE_TASKS;
-use run_plain::plan_of;
+use super::{THREE_TASKS, plan_with};
 use run_tree::{Kind, Tree};
 use sched_base::{Leaf, NodeId, TaskId};
 use std::process::Abort;
-use std::test::Fail;
 
 /// Compares node n with its kind, its rate, its members and its dual.
 fn assert_node(
@@ -24,24 +22,33 @@ fn assert_node(
     assert!(rt; tree.dual(node) == dual, "{n}");
 }
 
+/// The pack of a task stands just before its only member, the task, and has a dual. Each member has its kind and its rate; a pack its
+/// members and its dual.
+fn assert_pack(rt: &impl Abort, tree: &Tree, j: u32) {
+    assert!(rt; j < 3);
+    let pack = NodeId(2 * j);
+    let leaf = NodeId(2 * j + 1);
+    let dual = NodeId(7 + j);
+    let task = Kind::Leaf(Leaf::Task(TaskId(j)));
+    assert_node(rt, tree, 2 * j, Kind::Pack(0), 2, &[leaf], Some(dual));
+    assert_node(rt, tree, 2 * j + 1, task, 2, &[], None);
+    assert_node(rt, tree, 7 + j, Kind::Dual(pack), 1, &[], None);
+}
+
+/// The duals of the three packs are in one pack.
+fn assert_tree(rt: &impl Abort, tree: &Tree) {
+    assert!(rt; tree.processors() == 2 && tree.scale() == 3);
+    assert!(rt; tree.levels() == 2 && tree.nodes() == 10);
+    let duals = [NodeId(7), NodeId(8), NodeId(9)];
+    assert_node(rt, tree, 6, Kind::Pack(1), 3, &duals, None);
+}
+
 /// Three tasks of rate 2/3 on two processors: each in a pack of its own, and the three duals in one pack.
 #[test]
-fn makes_the_tree_of_three_tasks(rt: HostRuntime) -> Result<(), Fail> {
-    let plan = plan_of(rt.alloc(), 2, 3, THREE_TASKS)?;
-    let tree = plan.tree();
-    assert!(rt; (tree.processors(), tree.scale(), tree.levels()) == (2, 3, 2));
-    assert!(rt; tree.nodes() == 10);
-    // A pack stands just before its first member. Each member has its kind and its rate; a pack its members and its dual.
+fn makes_the_tree_of_three_tasks(rt: HostRuntime) {
+    let plan = plan_with(&rt, rt.alloc(), 2, 3, THREE_TASKS);
+    assert_tree(&rt, plan.tree());
     for j in 0..3 {
-        let pack = NodeId(2 * j);
-        let leaf = NodeId(2 * j + 1);
-        let dual = NodeId(7 + j);
-        let task = Kind::Leaf(Leaf::Task(TaskId(j)));
-        assert_node(&rt, tree, 2 * j, Kind::Pack(0), 2, &[leaf], Some(dual));
-        assert_node(&rt, tree, 2 * j + 1, task, 2, &[], None);
-        assert_node(&rt, tree, 7 + j, Kind::Dual(pack), 1, &[], None);
+        assert_pack(&rt, plan.tree(), j);
     }
-    let duals = [NodeId(7), NodeId(8), NodeId(9)];
-    assert_node(&rt, tree, 6, Kind::Pack(1), 3, &duals, None);
-    Ok(())
 }

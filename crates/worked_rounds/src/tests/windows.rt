@@ -2,15 +2,14 @@
 ghost use Rattle.std.specs.Prelude.{◌≡◌, ◌<◌, ◌≤◌, ◌^◌, length};
 ghost use Rattle.release_calendar.specs.Calendars.{BelongsTo};
 
-use super::{OFFSET_OF_ONE, THREE_TASKS};
+use super::{OFFSET_OF_ONE, THREE_TASKS, plan_with};
 use release_calendar::Calendar;
-use run_plain::{NamedTask, plan_of};
+use run_plain::NamedTask;
 use run_tree::{Kind, Plan};
 use sched_base::NodeId;
 use server_budget::Budgets;
 use std::alloc::Global;
 use std::process::Abort;
-use std::test::Fail;
 
 /// How long the window of a leaf or dual is, in units.
 fn length_of_window(rt: &impl Abort, calendar: &Calendar, n: NodeId) -> u64
@@ -67,101 +66,110 @@ fn pop(rt: &impl Abort, plan: &Plan, calendar: &mut Calendar, due: &mut [bool], 
     assert!(rt; *due == *marks);
 }
 
-/// Turns a new calendar so often, with all nodes marked before or none. After the last turn who is due isn't looked at.
-fn check_turns(
-    rt: &impl Abort,
-    alloc: Global,
-    plan: &Plan,
-    marked: bool,
-    turns: &[Turn],
-) -> Result<(), Fail> {
-    let mut due = vec![in alloc; marked; plan.tree().nodes() as usize]?;
-    let mut calendar = Calendar::new(alloc, plan)?;
+/// Turns a calendar so often. After the last turn who is due isn't looked at.
+fn turn(rt: &impl Abort, plan: &Plan, calendar: &mut Calendar, due: &mut [bool], turns: &[Turn])
+    requires { BelongsTo plan.now calendar.old }
+{
     for turn in turns {
-        assert_windows(rt, plan, &calendar, turn);
+        assert_windows(rt, plan, calendar, turn);
         if !turn.1.is_empty() {
-            pop(rt, plan, &mut calendar, &mut due, turn.1);
+            pop(rt, plan, calendar, due, turn.1);
         }
     }
-    Ok(())
 }
 
-/// Turns the windows of a set with these tasks.
-fn check(
-    rt: &impl Abort,
-    alloc: Global,
-    (processors, horizon, tasks): (u32, u64, &[NamedTask]),
-    marked: bool,
-    turns: &[Turn],
-) -> Result<(), Fail> {
-    let plan = plan_of(alloc, processors, horizon, tasks)?;
-    check_turns(rt, alloc, &plan, marked, turns)
+/// Turns a new calendar, with all nodes marked before or none.
+fn check_turns(rt: &impl Abort, alloc: Global, plan: &Plan, marked: bool, turns: &[Turn]) {
+    let nodes = plan.tree().nodes() as usize;
+    let mut due = vec![in alloc; marked; nodes].expect(rt, "there is memory");
+    let mut calendar = Calendar::new(alloc, plan).expect(rt, "there is memory");
+    turn(rt, plan, &mut calendar, &mut due, turns);
 }
+
+/// A set, whether all nodes are marked before, and the turns of its calendar.
+struct Case {
+    processors: u32,
+    horizon: u64,
+    tasks: &'static [NamedTask<'static>],
+    marked: bool,
+    turns: &'static [Turn<'static>],
+}
+
+const CASES: &[Case] = &[
+    // node 0 is the pack of a, which is node 1, and b, which is node 2
+    Case {
+        processors: 1,
+        horizon: 5,
+        tasks: OFFSET_OF_ONE,
+        marked: true,
+        turns: &[
+            (1, &[false, true, false], &[(1, 0, 1), (2, 0, 2)]),
+            (2, &[false, false, true], &[(1, 1, 3), (2, 0, 2)]),
+            (3, &[false, true, false], &[(1, 1, 3), (2, 2, 4)]),
+            (4, &[false, false, true], &[(1, 3, 5), (2, 2, 4)]),
+            (5, &[false, true, false], &[(1, 3, 5), (2, 4, 6)]),
+            (6, &[], &[(1, 5, 7), (2, 4, 6)]),
+        ],
+    },
+    // nodes 0, 2, 4 and 6 are packs
+    Case {
+        processors: 2,
+        horizon: 3,
+        tasks: THREE_TASKS,
+        marked: false,
+        turns: &[
+            (
+                3,
+                &[
+                    false, true, false, true, false, true, false, true, true, true,
+                ],
+                &[
+                    (1, 0, 3),
+                    (3, 0, 3),
+                    (5, 0, 3),
+                    (7, 0, 3),
+                    (8, 0, 3),
+                    (9, 0, 3),
+                ],
+            ),
+            (
+                6,
+                &[],
+                &[
+                    (1, 3, 6),
+                    (3, 3, 6),
+                    (5, 3, 6),
+                    (7, 3, 6),
+                    (8, 3, 6),
+                    (9, 3, 6),
+                ],
+            ),
+        ],
+    },
+];
 
 #[test]
-fn turns_windows(rt: HostRuntime) -> Result<(), Fail> {
-    // node 0 is the pack of a, which is node 1, and b, which is node 2
-    let late: &[Turn] = &[
-        (1, &[false, true, false], &[(1, 0, 1), (2, 0, 2)]),
-        (2, &[false, false, true], &[(1, 1, 3), (2, 0, 2)]),
-        (3, &[false, true, false], &[(1, 1, 3), (2, 2, 4)]),
-        (4, &[false, false, true], &[(1, 3, 5), (2, 2, 4)]),
-        (5, &[false, true, false], &[(1, 3, 5), (2, 4, 6)]),
-        (6, &[], &[(1, 5, 7), (2, 4, 6)]),
-    ];
-    // nodes 0, 2, 4 and 6 are packs
-    let duals: &[Turn] = &[
-        (
-            3,
-            &[
-                false, true, false, true, false, true, false, true, true, true,
-            ],
-            &[
-                (1, 0, 3),
-                (3, 0, 3),
-                (5, 0, 3),
-                (7, 0, 3),
-                (8, 0, 3),
-                (9, 0, 3),
-            ],
-        ),
-        (
-            6,
-            &[],
-            &[
-                (1, 3, 6),
-                (3, 3, 6),
-                (5, 3, 6),
-                (7, 3, 6),
-                (8, 3, 6),
-                (9, 3, 6),
-            ],
-        ),
-    ];
-    for (set, marked, turns) in [
-        ((1, 5, OFFSET_OF_ONE), true, late),
-        ((2, 3, THREE_TASKS), false, duals),
-    ] {
-        check(&rt, rt.alloc(), set, marked, turns)?;
+fn turns_windows(rt: HostRuntime) {
+    for case in CASES {
+        let plan = plan_with(&rt, rt.alloc(), case.processors, case.horizon, case.tasks);
+        check_turns(&rt, rt.alloc(), &plan, case.marked, case.turns);
     }
-    Ok(())
 }
 
 /// Gives the leaf of a its due, and compares what is left of each node.
-fn check_refilled(rt: &impl Abort, alloc: Global, plan: &Plan, due: &[u128]) -> Result<(), Fail> {
-    let mut budgets = Budgets::new(alloc, plan.tree())?;
-    let calendar = Calendar::new(alloc, plan)?;
+fn check_refilled(rt: &impl Abort, alloc: Global, plan: &Plan, due: &[u128]) {
+    let mut budgets = Budgets::new(alloc, plan.tree()).expect(rt, "there is memory");
+    let calendar = Calendar::new(alloc, plan).expect(rt, "there is memory");
     assert!(rt; plan.tree().nodes() == 10);
     assert!(rt; budgets.remain(NodeId(1)) == 0);
     refill(rt, plan, &calendar, &mut budgets, 1);
     assert!(rt; *budgets.remains() == *due);
     assert!(rt; Budgets::budget_of(plan.tree(), NodeId(7), 3) == 3);
-    Ok(())
 }
 
 #[test]
-fn refills_the_due_of_a_window(rt: HostRuntime) -> Result<(), Fail> {
+fn refills_the_due_of_a_window(rt: HostRuntime) {
     // node 1 is the leaf of a
-    let plan = plan_of(rt.alloc(), 2, 3, THREE_TASKS)?;
-    check_refilled(&rt, rt.alloc(), &plan, &[0, 6, 0, 0, 0, 0, 0, 0, 0, 0])
+    let plan = plan_with(&rt, rt.alloc(), 2, 3, THREE_TASKS);
+    check_refilled(&rt, rt.alloc(), &plan, &[0, 6, 0, 0, 0, 0, 0, 0, 0, 0]);
 }
