@@ -1,4 +1,4 @@
-use Rattle.std.proofs.Common.{◌≡◌, ℕ, Bool, true, false, nat_lt, Vec, Global, ap, subst, ◌∙◌, lt-ltb, le-ltb, refl, filter}
+use Rattle.std.proofs.Common.{◌≡◌, ℕ, Bool, true, false, nat_lt, Vec, Global, ap, subst, ◌∙◌, lt-ltb, le-ltb, filter}
 use Rattle.run_tree.specs.Tree.{Node}
 use Rattle.run_tree.specs.Growth.{node_in}
 use Rattle.run_tree.proofs.MappedLists.{passed_more, failed_more}
