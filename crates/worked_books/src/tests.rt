@@ -1,7 +1,5 @@
 //! Scripts over books, and what the tests of books share.
-ghost use Rattle.std.specs.Prelude.{◌≡◌, ◌≤◌, ◌<◌, ◌*◌, ℕ, [], length, false, IfOk};
-ghost use Rattle.run_tree.specs.Plans.{rounds_of};
-ghost use Rattle.sched_base.specs.Tables.{row_limit};
+ghost use Rattle.std.specs.Prelude.{◌≡◌, ◌≤◌, ◌<◌, ℕ, [], length, false};
 ghost use Rattle.book_machine.specs.Machine.{lane_at};
 ghost use Rattle.unit_ledger.specs.Seats.{seats_at_start};
 ghost use Rattle.exec_book.specs.Books.{IsDismissed};
@@ -15,94 +13,181 @@ mod worker_calls;
 
 use event_core::count_rounds;
 use exec_book::{Book, Look};
-use named_sets::{add_task, set_of};
+use halts::{assert_halted, dismiss, fail};
+use named_sets::{NamedTask, set_of};
 use run_compile::compile;
 use run_tree::Plan;
-use sched_base::{Leaf, NoMemory, Row, TaskId};
+use sched_base::{Leaf, Row, TaskId};
 use sched_edges::{CountJob, Job, JobList};
 use std::alloc::Global;
 use std::marker::Brand;
 use std::process::Abort;
 use std::sync::ledger::Blank;
-use std::test::Fail;
 use unit_ledger::{BookSide, LaneSeat, PostLedger, Seats, open};
 
-/// The plan of tasks with these names, of one work and one period.
-fn plan_of(
-    alloc: Global,
-    processors: u32,
-    names: &[&str],
-    work: u64,
-    period: u64,
-) -> Result<Plan, Fail>
-    ensures { IfOk result (λ p. IsCompiled p) }
+/// A set: its processors, its horizon and its tasks.
+type Set = (u32, u64, &'static [NamedTask<'static>]);
+
+/// Three tasks of rate 2/3, over one period.
+const THREE_TASKS: Set = (2, 3, &[("a", 2, 3, 0), ("b", 2, 3, 0), ("c", 2, 3, 0)]);
+
+/// Five tasks of rate 3/5, over one period.
+const FIVE_TASKS: Set = (
+    3,
+    5,
+    &[
+        ("a", 3, 5, 0),
+        ("b", 3, 5, 0),
+        ("c", 3, 5, 0),
+        ("d", 3, 5, 0),
+        ("e", 3, 5, 0),
+    ],
+);
+
+/// Tasks by their places.
+const A: u32 = 0;
+
+const B: u32 = 1;
+
+const C: u32 = 2;
+
+const D: u32 = 3;
+
+/// The plan of a set.
+fn plan_of(rt: &impl Abort, alloc: Global, set: Set) -> Plan
+    ensures { IsCompiled result }
 {
-    let mut set = set_of(alloc, processors, period, &[])?;
-    for name in names {
-        add_task(&mut set, name.as_bytes(), work, period, 0)?;
-    }
-    Ok(compile(alloc, set)?)
+    let (processors, horizon, tasks) = set;
+    let set = set_of(alloc, processors, horizon, tasks).expect(rt, "a set");
+    compile(alloc, set).expect(rt, "a plan")
 }
 
 /// A job for each task, which has worked no tick.
-fn jobs_of(alloc: Global, count: u32) -> Result<JobList<CountJob>, NoMemory>
-    ensures { IfOk result (λ s. (t : ℕ) → t < count → JobAt s.places t (record { id = t; used = 0 })) }
+fn jobs_of(rt: &impl Abort, alloc: Global, count: u32) -> JobList<CountJob>
+    ensures { (t : ℕ) → t < count → JobAt result.places t (record { id = t; used = 0 }) }
 {
-    let mut jobs = JobList::with_room(alloc, count)?;
+    let mut jobs = JobList::with_room(alloc, count).expect(rt, "there is memory");
     for t in 0..count {
         jobs.add(CountJob::new(t));
     }
-    Ok(jobs)
+    jobs
 }
 
 /// A book of a plan before its first event.
 fn book_of<Q: PostLedger>(
+    rt: &impl Abort,
     alloc: Global,
-    plan: Plan,
-    rounds: u64,
+    plan: &Plan,
     window: u32,
     side: BookSide<Q>,
-) -> Result<Book<Q, CountJob>, NoMemory>
+) -> Book<Q, CountJob>
     requires made { Q.made ≡ [] }
-    requires set { plan.set ≡ Q.set }
-    requires compiled { IsCompiled plan }
-    requires rounds { rounds ≡ rounds_of plan }
-    requires few { rounds * plan.tree.processors ≤ row_limit }
+    requires set { plan.now.set ≡ Q.set }
+    requires compiled { IsCompiled plan.now }
     requires some_window { 1 ≤ window }
     requires small_window { window ≤ 1024 }
     requires side { side ≡ 0 }
 {
-    let jobs = jobs_of(alloc, plan.set().count())?;
-    match Book::new(alloc, plan, rounds, window, side, jobs) {
-        Ok(book) => Ok(book),
-        Err(_) => Err(NoMemory),
-    }
+    let rounds = count_rounds(alloc, plan).expect(rt, "few rounds");
+    let jobs = jobs_of(rt, alloc, plan.set().count());
+    let plan = plan.copy().expect(rt, "there is memory");
+    let Ok(book) = Book::new(alloc, plan, rounds, window, side, jobs) else {
+        panic!(rt; "no memory");
+    };
+    book
 }
 
 /// The seats of that many lanes, one after the other.
 fn all_seats<Q: PostLedger>(
+    rt: &impl Abort,
     alloc: Global,
     seats: &mut Seats<Q>,
     processors: u32,
-) -> Result<Vec<LaneSeat<Q>>, NoMemory>
+) -> Vec<LaneSeat<Q>>
     requires { seats.old ≡ seats_at_start processors }
 {
     let mut lanes = Vec::new(alloc);
     for p in 0..processors {
-        lanes.push(seats.lift(p))?;
+        lanes.push(seats.lift(p)).expect(rt, "there is memory");
     }
-    Ok(lanes)
+    lanes
 }
 
 /// A step of a script.
 #[derive(Clone, Copy)]
 enum Step {
-    /// This row is taken, worked and posted.
-    Turn(Row),
+    /// The row of this processor from a start up to an end, for this task, is taken, worked and posted.
+    Turn(u32, u128, u128, u32),
     /// A take on the first lane is told that the second one has posted only so many rows.
     Wait(u32, u32, u64),
     /// A take on the lane is told that all its rows are posted.
     Done(u32),
+    /// Lane 0 fails at its third row.
+    Fail,
+    /// The book is halted.
+    Halted,
+    /// The book is dismissed.
+    Dismiss,
+}
+
+/// A set, a window and a script.
+type Script = (Set, u32, &'static [Step]);
+
+use Step::{Dismiss, Done, Fail, Halted, Turn, Wait};
+
+const SCRIPTS: &[Script] = &[
+    (
+        THREE_TASKS,
+        32,
+        &[
+            Turn(0, 0, 3, B),
+            Turn(0, 3, 6, A),
+            Turn(0, 6, 9, A),
+            Turn(1, 0, 3, C),
+            Turn(1, 3, 6, C),
+            Turn(1, 6, 9, B),
+        ],
+    ),
+    (
+        THREE_TASKS,
+        32,
+        &[
+            Turn(0, 0, 3, B),
+            Turn(0, 3, 6, A),
+            Turn(0, 6, 9, A),
+            Done(0),
+        ],
+    ),
+    (THREE_TASKS, 1, &[Turn(0, 0, 3, B), Wait(0, 1, 0)]),
+    (
+        FIVE_TASKS,
+        32,
+        &[
+            Turn(1, 0, 5, B),
+            Turn(1, 5, 10, B),
+            Turn(1, 10, 15, B),
+            Turn(2, 0, 5, D),
+            Turn(2, 5, 10, D),
+            Turn(2, 10, 15, D),
+            Wait(1, 0, 0),
+        ],
+    ),
+    // Lane 0 posts its first two rows and fails at its third. Then no lane gets a row.
+    (
+        THREE_TASKS,
+        32,
+        &[Turn(0, 0, 3, B), Turn(0, 3, 6, A), Fail, Halted, Dismiss],
+    ),
+];
+
+/// A row for a task.
+fn row(processor: u32, start: u128, end: u128, task: u32) -> Row {
+    Row {
+        processor,
+        start,
+        end,
+        leaf: Leaf::Task(TaskId(task)),
+    }
 }
 
 /// Makes sure that lane p may ask for a row.
@@ -144,6 +229,50 @@ fn turn<Q: PostLedger>(
     book.post(p, seat, Some(job));
 }
 
+/// Makes sure that lane p waits for another one, which has posted only so many rows.
+fn assert_waits<Q: PostLedger>(
+    rt: &impl Abort,
+    book: &mut Book<Q, CountJob>,
+    p: u32,
+    for_lane: u32,
+    count: u64,
+) {
+    assert_free(rt, book, p);
+    let Look::NotYet { lane, posted } = book.take(p) else {
+        panic!(rt; "a lane that needn't wait");
+    };
+    assert!(rt; lane == for_lane);
+    assert!(rt; posted == count);
+}
+
+/// Makes sure that all rows of lane p are posted.
+fn assert_done<Q: PostLedger>(rt: &impl Abort, book: &mut Book<Q, CountJob>, p: u32) {
+    assert_free(rt, book, p);
+    let Look::Done = book.take(p) else {
+        panic!(rt; "a lane with rows left");
+    };
+}
+
+/// Plays a step.
+fn play_step<Q: PostLedger>(
+    rt: &impl Abort,
+    book: &mut Book<Q, CountJob>,
+    seats: &mut [LaneSeat<Q>],
+    step: Step,
+) {
+    match step {
+        Turn(p, start, end, task) => {
+            assert!(rt; (p as usize) < seats.len());
+            turn(rt, book, &mut seats[p as usize], row(p, start, end, task));
+        }
+        Wait(p, lane, posted) => assert_waits(rt, book, p, lane, posted),
+        Done(p) => assert_done(rt, book, p),
+        Fail => fail(rt, book),
+        Halted => assert_halted(rt, book),
+        Dismiss => dismiss(rt, book),
+    }
+}
+
 /// Plays a script.
 fn play<Q: PostLedger>(
     rt: &impl Abort,
@@ -152,25 +281,7 @@ fn play<Q: PostLedger>(
     steps: &[Step],
 ) {
     for step in steps {
-        match *step {
-            Step::Turn(row) => {
-                assert!(rt; (row.processor as usize) < seats.len());
-                turn(rt, book, &mut seats[row.processor as usize], row);
-            }
-            Step::Wait(p, for_lane, count) => {
-                assert_free(rt, book, p);
-                let Look::NotYet { lane, posted } = book.take(p) else {
-                    panic!(rt; "a lane that needn't wait");
-                };
-                assert!(rt; (lane, posted) == (for_lane, count));
-            }
-            Step::Done(p) => {
-                assert_free(rt, book, p);
-                let Look::Done = book.take(p) else {
-                    panic!(rt; "a lane with rows left");
-                };
-            }
-        }
+        play_step(rt, book, seats, *step);
     }
 }
 
@@ -179,95 +290,41 @@ fn run<Q: PostLedger>(
     rt: &impl Abort,
     alloc: Global,
     blank: Blank,
-    plan: Plan,
+    plan: &Plan,
     window: u32,
     steps: &[Step],
-) -> Result<(), Fail>
+)
     requires name { blank.name ≡ Q.name }
     requires parts { blank.parts ≡ Q.parts }
     requires made { Q.made ≡ [] }
-    requires set { plan.set ≡ Q.set }
-    requires compiled { IsCompiled plan }
+    requires set { plan.now.set ≡ Q.set }
+    requires compiled { IsCompiled plan.now }
     requires some_window { 1 ≤ window }
     requires small_window { window ≤ 1024 }
-    requires lanes { blank.parts ≡ plan.tree.processors }
+    requires lanes { blank.parts ≡ plan.now.tree.processors }
 {
     let processors = plan.tree().processors();
-    let (side, mut seats) = open::<Q>(blank, alloc, processors)?;
-    let mut lanes = all_seats(alloc, &mut seats, processors)?;
-    let rounds = count_rounds(alloc, &plan)?;
-    let mut book = book_of(alloc, plan, rounds, window, side)?;
+    let (side, mut seats) = open::<Q>(blank, alloc, processors).expect(rt, "there is memory");
+    let mut lanes = all_seats(rt, alloc, &mut seats, processors);
+    let mut book = book_of(rt, alloc, plan, window, side);
     play(rt, &mut book, &mut lanes, steps);
-    Ok(())
 }
 
-fn row(processor: u32, start: u128, end: u128, task: u32) -> Step {
-    Step::Turn(Row {
-        processor,
-        start,
-        end,
-        leaf: Leaf::Task(TaskId(task)),
-    })
+/// Plays a script over a new book of its set.
+fn run_script(rt: &impl Abort, alloc: Global, script: Script) {
+    let (set, window, steps) = script;
+    let plan = plan_of(rt, alloc, set);
+    let processors = plan.tree().processors();
+    assert!(rt; processors == set.0);
+    assert!(rt; 1 <= window);
+    assert!(rt; window <= 1024);
+    let blank = Blank::new(u64::from(processors));
+    run::<Brand>(rt, alloc, blank, &plan, window, steps);
 }
 
-/// Tasks by their places.
-const A: u32 = 0;
-
-const B: u32 = 1;
-
-const C: u32 = 2;
-
-const D: u32 = 3;
-
-/// Three tasks of rate 2/3 on two processors, over one period.
 #[test]
-fn plays_three_tasks(rt: HostRuntime) -> Result<(), Fail> {
-    let scripts: [(u32, &[Step]); 3] = [
-        (
-            32,
-            &[
-                row(0, 0, 3, B),
-                row(0, 3, 6, A),
-                row(0, 6, 9, A),
-                row(1, 0, 3, C),
-                row(1, 3, 6, C),
-                row(1, 6, 9, B),
-            ],
-        ),
-        (
-            32,
-            &[
-                row(0, 0, 3, B),
-                row(0, 3, 6, A),
-                row(0, 6, 9, A),
-                Step::Done(0),
-            ],
-        ),
-        (1, &[row(0, 0, 3, B), Step::Wait(0, 1, 0)]),
-    ];
-    for (window, steps) in scripts {
-        let plan = plan_of(rt.alloc(), 2, &["a", "b", "c"], 2, 3)?;
-        assert!(rt; plan.tree().processors() == 2);
-        assert!(rt; 1 <= window && window <= 1024);
-        run::<Brand>(&rt, rt.alloc(), Blank::new(2), plan, window, steps)?;
+fn plays_scripts(rt: HostRuntime) {
+    for script in SCRIPTS {
+        run_script(&rt, rt.alloc(), *script);
     }
-    Ok(())
-}
-
-/// Five tasks of rate 3/5 on three processors, over one period.
-#[test]
-fn plays_two_reductions(rt: HostRuntime) -> Result<(), Fail> {
-    let plan = plan_of(rt.alloc(), 3, &["a", "b", "c", "d", "e"], 3, 5)?;
-    assert!(rt; plan.tree().processors() == 3);
-    let steps = [
-        row(1, 0, 5, B),
-        row(1, 5, 10, B),
-        row(1, 10, 15, B),
-        row(2, 0, 5, D),
-        row(2, 5, 10, D),
-        row(2, 10, 15, D),
-        Step::Wait(1, 0, 0),
-    ];
-    run::<Brand>(&rt, rt.alloc(), Blank::new(3), plan, 32, &steps)?;
-    Ok(())
 }

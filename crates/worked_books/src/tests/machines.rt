@@ -1,9 +1,10 @@
 //! Scripts of events over two small schedules.
-ghost use Rattle.std.specs.Prelude.{◌≡◌, ◌≤◌, length, IfOk};
+ghost use Rattle.std.specs.Prelude.{◌≡◌, ◌≤◌, length};
 
+use self::Step::{Halted, Horizon, Lane, Make, May, NotStuck};
 use book_machine::Event::{self, Halt, Post, Take};
 use book_machine::MachineState;
-use sched_base::{Leaf, NoMemory, ProcId, Row, RowTable, TaskId};
+use sched_base::{Leaf, ProcId, Row, RowTable, TaskId};
 use std::alloc::Global;
 use std::process::Abort;
 
@@ -35,115 +36,219 @@ fn row(processor: u32, start: u128, end: u128, leaf: Leaf) -> Row
 }
 
 /// Three tasks of rate 2/3 on two processors, over one period.
-fn three_tasks(alloc: Global) -> Result<RowTable, NoMemory>
-    ensures { IfOk result (λ t. length t.lanes ≡ 2) }
-{
-    let mut table = RowTable::new(alloc, 2, 3)?;
+fn three_tasks(rt: &impl Abort, alloc: Global) -> RowTable {
+    let mut table = RowTable::new(alloc, 2, 3).expect(rt, "there is memory");
     table.push_round(&[row(0, 0, 3, B), row(1, 0, 3, C)]);
     table.push_round(&[row(0, 3, 6, A), row(1, 3, 6, C)]);
     table.push_round(&[row(0, 6, 9, A), row(1, 6, 9, B)]);
-    Ok(table)
+    table
 }
 
 /// Five tasks of rate 3/5 on three processors, over one period.
-fn two_reductions(alloc: Global) -> Result<RowTable, NoMemory>
-    ensures { IfOk result (λ t. length t.lanes ≡ 3) }
-{
-    let mut table = RowTable::new(alloc, 3, 4)?;
+fn two_reductions(rt: &impl Abort, alloc: Global) -> RowTable {
+    let mut table = RowTable::new(alloc, 3, 4).expect(rt, "there is memory");
     table.push_round(&[row(0, 0, 5, A), row(1, 0, 5, B), row(2, 0, 5, D)]);
     table.push_round(&[row(0, 5, 10, C), row(1, 5, 10, B), row(2, 5, 10, D)]);
     table.push_round(&[row(0, 10, 15, E), row(1, 10, 15, B), row(2, 10, 15, D)]);
     table.push_round(&[row(0, 15, 25, E), row(1, 15, 25, A), row(2, 15, 25, C)]);
-    Ok(table)
+    table
 }
 
-/// Makes these events, each of which must be legal where it comes.
-fn play(rt: &impl Abort, state: &mut MachineState, table: &RowTable, window: u32, events: &[Event])
-    requires lanes { length state.old.lanes ≡ length table.now.lanes }
-    requires some_window { 1 ≤ window }
-    requires small_window { window ≤ 1024 }
+/// A step of a script.
+#[derive(Clone, Copy)]
+enum Step {
+    /// With this window these events are made, each of which is legal where it comes.
+    Make(u32, &'static [Event]),
+    /// With this window the event may come, or may not.
+    May(u32, Event, bool),
+    /// Up to the first of these ticks all rows are posted, where the schedule ends at the second.
+    Horizon(u128, u128),
+    /// The lane has posted that many rows, and has its next one out or not.
+    Lane(u32, u64, bool),
+    /// The machine is halted.
+    Halted,
+    /// With this window the machine isn't stuck.
+    NotStuck(u32),
+}
+
+const OF_THREE_TASKS: &[&[Step]] = &[
+    // A lane takes before it posts.
+    &[
+        May(1, Take(P0), true),
+        May(1, Post(P0), false),
+        May(1, Take(P2), false),
+    ],
+    // A lane waits for the window.
+    &[
+        Make(1, &[Take(P0), Post(P0)]),
+        May(1, Take(P0), false),
+        May(2, Take(P0), true),
+        Horizon(0, 9),
+        Make(1, &[Take(P1), Post(P1), Take(P0)]),
+        Horizon(3, 9),
+        Lane(0, 1, true),
+        Lane(1, 1, false),
+    ],
+    // A lane runs ahead, but not past the next row of a task whose row on the other lane isn't posted.
+    &[
+        Make(32, &[Take(P1), Post(P1), Take(P1), Post(P1)]),
+        May(32, Take(P1), false),
+        Make(32, &[Take(P0)]),
+        May(32, Take(P1), false),
+        Make(32, &[Post(P0), Take(P1), Post(P1)]),
+        Horizon(3, 9),
+        Make(32, &[Take(P0), Post(P0), Take(P0), Post(P0)]),
+        Lane(0, 3, false),
+        Lane(1, 3, false),
+        Horizon(9, 9),
+        May(32, Take(P0), false),
+        NotStuck(32),
+    ],
+    // Nothing is handed out once a row has failed.
+    &[
+        Make(1, &[Take(P0), Take(P1), Halt(P0)]),
+        Halted,
+        May(1, Take(P0), false),
+        Make(1, &[Post(P1)]),
+        Lane(0, 0, false),
+        Lane(1, 1, false),
+        Horizon(0, 9),
+        NotStuck(1),
+    ],
+];
+
+const TURN: &[Event] = &[Take(P1), Take(P2), Post(P1), Post(P2)];
+
+const OF_TWO_REDUCTIONS: &[&[Step]] = &[
+    // The lanes wait for the earlier rows of a task.
+    &[
+        Make(32, TURN),
+        Make(32, TURN),
+        Make(32, TURN),
+        Horizon(0, 25),
+        May(32, Take(P1), false),
+        May(32, Take(P2), false),
+        Make(32, &[Take(P0), Post(P0)]),
+        Horizon(5, 25),
+        May(32, Take(P1), true),
+        May(32, Take(P2), false),
+    ],
+];
+
+/// Makes sure of a window's bounds.
+fn assert_window(rt: &impl Abort, window: u32)
+    ensures some { 1 ≤ window }
+    ensures small { window ≤ 1024 }
+{
+    assert!(rt; 1 <= window);
+    assert!(rt; window <= 1024);
+}
+
+/// Makes an event, which must be legal.
+fn make(rt: &impl Abort, table: &RowTable, state: &mut MachineState, window: u32, event: Event)
+    requires { length state.old.lanes ≡ length table.now.lanes }
+    ensures { length state.new.lanes ≡ length state.old.lanes }
+{
+    assert_window(rt, window);
+    assert!(rt; state.is_legal(table, window, event));
+    assert!(rt; !state.stuck(table, window));
+    state.step(table, window, event);
+}
+
+/// Makes these events.
+fn make_all(
+    rt: &impl Abort,
+    table: &RowTable,
+    state: &mut MachineState,
+    window: u32,
+    events: &[Event],
+)
+    requires { length state.old.lanes ≡ length table.now.lanes }
     ensures { length state.new.lanes ≡ length state.old.lanes }
 {
     for event in events {
-        assert!(rt; state.is_legal(table, window, *event));
-        assert!(rt; !state.stuck(table, window));
-        state.step(table, window, *event);
+        make(rt, table, state, window, *event);
+    }
+}
+
+/// Makes sure of how many rows a lane has posted, and of whether its next one is out.
+fn assert_lane(
+    rt: &impl Abort,
+    table: &RowTable,
+    state: &MachineState,
+    p: u32,
+    posted: u64,
+    out: bool,
+)
+    requires { length state.now.lanes ≡ length table.now.lanes }
+{
+    assert!(rt; p < table.processors());
+    assert!(rt; state.posted(p) == posted);
+    assert!(rt; state.is_out(p) == out);
+}
+
+/// Makes sure of a step that changes nothing.
+fn look(rt: &impl Abort, table: &RowTable, state: &MachineState, step: Step)
+    requires { length state.now.lanes ≡ length table.now.lanes }
+{
+    match step {
+        Make(_, _) => (),
+        May(window, event, may) => {
+            assert_window(rt, window);
+            assert!(rt; state.is_legal(table, window, event) == may);
+        }
+        Horizon(tick, end) => assert!(rt; state.horizon(table, end) == tick),
+        Lane(p, posted, out) => assert_lane(rt, table, state, p, posted, out),
+        Halted => assert!(rt; state.is_halted()),
+        NotStuck(window) => {
+            assert_window(rt, window);
+            assert!(rt; !state.stuck(table, window));
+        }
+    }
+}
+
+/// Plays a step.
+fn play_step(rt: &impl Abort, table: &RowTable, state: &mut MachineState, step: Step)
+    requires { length state.old.lanes ≡ length table.now.lanes }
+    ensures { length state.new.lanes ≡ length state.old.lanes }
+{
+    if let Make(window, events) = step {
+        make_all(rt, table, state, window, events);
+    } else {
+        look(rt, table, state, step);
+    }
+}
+
+/// Plays the steps of a script.
+fn play_steps(rt: &impl Abort, table: &RowTable, state: &mut MachineState, steps: &[Step])
+    requires { length state.old.lanes ≡ length table.now.lanes }
+{
+    for step in steps {
+        play_step(rt, table, state, *step);
+    }
+}
+
+/// Plays a script from the start.
+fn play(rt: &impl Abort, alloc: Global, table: &RowTable, steps: &[Step]) {
+    let lanes = table.processors();
+    assert!(rt; 1 <= lanes);
+    assert!(rt; lanes <= 32);
+    let mut state = MachineState::new(alloc, lanes).expect(rt, "there is memory");
+    play_steps(rt, table, &mut state, steps);
+}
+
+#[test]
+fn plays_over_three_tasks(rt: HostRuntime) {
+    let table = three_tasks(&rt, rt.alloc());
+    for steps in OF_THREE_TASKS {
+        play(&rt, rt.alloc(), &table, steps);
     }
 }
 
 #[test]
-fn takes_before_it_posts(rt: HostRuntime) -> Result<(), NoMemory> {
-    let table = three_tasks(rt.alloc())?;
-    let state = MachineState::new(rt.alloc(), 2)?;
-    assert!(rt; state.is_legal(&table, 1, Take(P0)));
-    assert!(rt; !state.is_legal(&table, 1, Post(P0)));
-    assert!(rt; !state.is_legal(&table, 1, Take(P2)));
-    Ok(())
-}
-
-#[test]
-fn waits_for_the_window(rt: HostRuntime) -> Result<(), NoMemory> {
-    let table = three_tasks(rt.alloc())?;
-    let mut state = MachineState::new(rt.alloc(), 2)?;
-    play(&rt, &mut state, &table, 1, &[Take(P0), Post(P0)]);
-    assert!(rt; !state.is_legal(&table, 1, Take(P0)));
-    assert!(rt; state.is_legal(&table, 2, Take(P0)));
-    assert!(rt; state.horizon(&table, 9) == 0);
-    play(&rt, &mut state, &table, 1, &[Take(P1), Post(P1), Take(P0)]);
-    assert!(rt; state.horizon(&table, 9) == 3);
-    assert!(rt; state.is_out(0) && !state.is_out(1));
-    Ok(())
-}
-
-#[test]
-fn runs_a_lane_ahead(rt: HostRuntime) -> Result<(), NoMemory> {
-    let table = three_tasks(rt.alloc())?;
-    let mut state = MachineState::new(rt.alloc(), 2)?;
-    let twice = [Take(P1), Post(P1), Take(P1), Post(P1)];
-    play(&rt, &mut state, &table, 32, &twice);
-    // the next row of lane 1 is of the task whose row on lane 0 isn't posted
-    assert!(rt; !state.is_legal(&table, 32, Take(P1)));
-    play(&rt, &mut state, &table, 32, &[Take(P0)]);
-    assert!(rt; !state.is_legal(&table, 32, Take(P1)));
-    play(&rt, &mut state, &table, 32, &[Post(P0), Take(P1), Post(P1)]);
-    assert!(rt; state.horizon(&table, 9) == 3);
-    let rest = [Take(P0), Post(P0), Take(P0), Post(P0)];
-    play(&rt, &mut state, &table, 32, &rest);
-    assert!(rt; (state.posted(0), state.posted(1)) == (3, 3));
-    assert!(rt; state.horizon(&table, 9) == 9);
-    assert!(rt; !state.is_legal(&table, 32, Take(P0)));
-    assert!(rt; !state.stuck(&table, 32));
-    Ok(())
-}
-
-#[test]
-fn waits_for_the_earlier_rows_of_a_leaf(rt: HostRuntime) -> Result<(), NoMemory> {
-    let table = two_reductions(rt.alloc())?;
-    let mut state = MachineState::new(rt.alloc(), 3)?;
-    let turn = [Take(P1), Take(P2), Post(P1), Post(P2)];
-    play(&rt, &mut state, &table, 32, &turn);
-    play(&rt, &mut state, &table, 32, &turn);
-    play(&rt, &mut state, &table, 32, &turn);
-    assert!(rt; state.horizon(&table, 25) == 0);
-    assert!(rt; !state.is_legal(&table, 32, Take(P1)));
-    assert!(rt; !state.is_legal(&table, 32, Take(P2)));
-    play(&rt, &mut state, &table, 32, &[Take(P0), Post(P0)]);
-    assert!(rt; state.horizon(&table, 25) == 5);
-    assert!(rt; state.is_legal(&table, 32, Take(P1)));
-    assert!(rt; !state.is_legal(&table, 32, Take(P2)));
-    Ok(())
-}
-
-#[test]
-fn hands_out_nothing_once_halted(rt: HostRuntime) -> Result<(), NoMemory> {
-    let table = three_tasks(rt.alloc())?;
-    let mut state = MachineState::new(rt.alloc(), 2)?;
-    play(&rt, &mut state, &table, 1, &[Take(P0), Take(P1), Halt(P0)]);
-    assert!(rt; state.is_halted());
-    assert!(rt; !state.is_legal(&table, 1, Take(P0)));
-    play(&rt, &mut state, &table, 1, &[Post(P1)]);
-    assert!(rt; (state.posted(0), state.posted(1)) == (0, 1));
-    assert!(rt; state.horizon(&table, 9) == 0);
-    assert!(rt; !state.stuck(&table, 1));
-    Ok(())
+fn plays_over_two_reductions(rt: HostRuntime) {
+    let table = two_reductions(&rt, rt.alloc());
+    for steps in OF_TWO_REDUCTIONS {
+        play(&rt, rt.alloc(), &table, steps);
+    }
 }
