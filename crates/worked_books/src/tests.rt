@@ -3,7 +3,7 @@ ghost use Rattle.std.specs.Prelude.{◌≡◌, ◌≤◌, ◌<◌, ℕ, [], leng
 ghost use Rattle.book_machine.specs.Machine.{lane_at};
 ghost use Rattle.unit_ledger.specs.Seats.{seats_at_start};
 ghost use Rattle.exec_book.specs.Books.{IsDismissed};
-ghost use Rattle.sched_edges.specs.Jobs.{JobAt};
+ghost use Rattle.sched_edges.specs.Jobs.{JobAt, CountHeld};
 ghost use Rattle.exec_book.specs.PlanRows.{IsCompiled};
 
 mod halts;
@@ -12,7 +12,7 @@ mod machines;
 mod worker_calls;
 
 use event_core::count_rounds;
-use exec_book::{Book, Look};
+use exec_book::{Book, Closing, Look};
 use halts::{assert_halted, dismiss, fail};
 use named_sets::{NamedTask, set_of};
 use run_compile::compile;
@@ -241,8 +241,7 @@ fn assert_waits<Q: PostLedger>(
     let Look::NotYet { lane, posted } = book.take(p) else {
         panic!(rt; "a lane that needn't wait");
     };
-    assert!(rt; lane == for_lane);
-    assert!(rt; posted == count);
+    assert!(rt; (lane, posted) == (for_lane, count));
 }
 
 /// Makes sure that all rows of lane p are posted.
@@ -251,6 +250,20 @@ fn assert_done<Q: PostLedger>(rt: &impl Abort, book: &mut Book<Q, CountJob>, p: 
     let Look::Done = book.take(p) else {
         panic!(rt; "a lane with rows left");
     };
+}
+
+/// Makes sure of the ticks that the jobs of three tasks have used, of the two rows that were posted, and of the rounds.
+fn assert_closing<Q: PostLedger>(
+    rt: &impl Abort,
+    closing: &Closing<Q, CountJob>,
+    used: (u128, u128, u128),
+    rounds: u64,
+)
+    requires { (t : ℕ) → t < 3 → (job : CountHeld) × JobAt closing.now.jobs.places t job }
+{
+    let jobs = &closing.jobs;
+    assert!(rt; (jobs.used(A), jobs.used(B), jobs.used(C)) == used);
+    assert!(rt; (closing.side.posted(), closing.table.rounds()) == (2, rounds));
 }
 
 /// Plays a step.
@@ -316,8 +329,7 @@ fn run_script(rt: &impl Abort, alloc: Global, script: Script) {
     let plan = plan_of(rt, alloc, set);
     let processors = plan.tree().processors();
     assert!(rt; processors == set.0);
-    assert!(rt; 1 <= window);
-    assert!(rt; window <= 1024);
+    assert!(rt; 1 <= window && window <= 1024);
     let blank = Blank::new(u64::from(processors));
     run::<Brand>(rt, alloc, blank, &plan, window, steps);
 }

@@ -140,8 +140,7 @@ fn assert_window(rt: &impl Abort, window: u32)
     ensures some { 1 ≤ window }
     ensures small { window ≤ 1024 }
 {
-    assert!(rt; 1 <= window);
-    assert!(rt; window <= 1024);
+    assert!(rt; 1 <= window && window <= 1024);
 }
 
 /// Makes an event, which must be legal.
@@ -183,8 +182,7 @@ fn assert_lane(
     requires { length state.now.lanes ≡ length table.now.lanes }
 {
     assert!(rt; p < table.processors());
-    assert!(rt; state.posted(p) == posted);
-    assert!(rt; state.is_out(p) == out);
+    assert!(rt; (state.posted(p), state.is_out(p)) == (posted, out));
 }
 
 /// Makes sure of a step that changes nothing.
@@ -231,8 +229,7 @@ fn play_steps(rt: &impl Abort, table: &RowTable, state: &mut MachineState, steps
 /// Plays a script from the start.
 fn play(rt: &impl Abort, alloc: Global, table: &RowTable, steps: &[Step]) {
     let lanes = table.processors();
-    assert!(rt; 1 <= lanes);
-    assert!(rt; lanes <= 32);
+    assert!(rt; 1 <= lanes && lanes <= 32);
     let mut state = MachineState::new(alloc, lanes).expect(rt, "there is memory");
     play_steps(rt, table, &mut state, steps);
 }
