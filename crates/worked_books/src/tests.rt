@@ -11,6 +11,7 @@ mod ledgers;
 mod machines;
 mod worker_calls;
 
+use self::Step::{Dismiss, Done, Fail, Halted, Turn, Wait};
 use event_core::count_rounds;
 use exec_book::{Book, Closing, Look};
 use halts::{assert_halted, dismiss, fail};
@@ -132,8 +133,6 @@ enum Step {
 
 /// A set, a window and a script.
 type Script = (Set, u32, &'static [Step]);
-
-use Step::{Dismiss, Done, Fail, Halted, Turn, Wait};
 
 const SCRIPTS: &[Script] = &[
     (
