@@ -1,14 +1,16 @@
 //! Many sets at once, and the line `batch`.
 
 use super::calls::{Outside, SURE};
-use super::cases::{DoneCase, FaultCase, assert_call, assert_done, assert_faults};
+use super::cases::{Cases, DoneCase, FaultCase, Table, assert_call, assert_tables};
 use super::lanes::Did;
 use super::texts::{OVERLOAD, THREE_TASKS};
 use run_tool::Status;
-use std::alloc::{AllocError, Global};
-use std::test::Fail;
+use std::alloc::Global;
+use std::process::Abort;
+use std::sync::Wait;
+use std::thread::Threads;
 
-const BATCHES: [DoneCase; 4] = [
+const BATCHES: &[DoneCase] = &[
     (
         &[
             THREE_TASKS,
@@ -46,7 +48,7 @@ const BATCHES: [DoneCase; 4] = [
     ),
 ];
 
-const FAULTS: [FaultCase; 5] = [
+const FAULTS: &[FaultCase] = &[
     (
         Outside {
             source: &[1],
@@ -90,45 +92,60 @@ const FAULTS: [FaultCase; 5] = [
     ),
 ];
 
+const TABLES: &[Table] = &[
+    (&["batch"], Cases::Done(BATCHES)),
+    (&["batch"], Cases::Faults(&[THREE_TASKS], FAULTS)),
+];
+
 #[test]
-fn sets_in_one_text(rt: HostRuntime) -> Result<(), Fail> {
-    let alloc = rt.alloc();
-    assert_done(&rt, alloc, &["batch"], &BATCHES)?;
-    assert_faults(&rt, alloc, &["batch"], &[THREE_TASKS], &FAULTS)
+fn sets_in_one_text(rt: HostRuntime) {
+    assert_tables(&rt, rt.alloc(), TABLES);
 }
 
 // The text of so many small sets.
-fn small_sets(alloc: Global, count: u32) -> Result<String, AllocError> {
-    let mut text = String::from_str(alloc, "processors=1\nhorizon=1\n")?;
+fn small_sets(rt: &impl Abort, alloc: Global, count: u32) -> String {
+    let mut text = String::from_str(alloc, "processors=1\nhorizon=1\n").expect(
+        rt,
+        "there is memory",
+    );
     for _ in 1..count {
-        text.push_str("%%\nprocessors=1\nhorizon=1\n")?;
+        text.push_str("%%\nprocessors=1\nhorizon=1\n")
+            .expect(rt, "there is memory");
     }
-    Ok(text)
+    text
 }
 
 // What is told of so many small sets.
-fn small_lines(alloc: Global, count: u32) -> Result<String, AllocError> {
+fn small_lines(rt: &impl Abort, alloc: Global, count: u32) -> String {
     let mut text = String::new(alloc);
     for j in 0..count {
-        text.push_str(format!(in alloc; "set {j} fits scale 1 levels 1\n")?.as_str())?;
+        let line = format!(in alloc; "set {j} fits scale 1 levels 1\n").expect(
+            rt,
+            "there is memory",
+        );
+        text.push_str(&line).expect(rt, "there is memory");
     }
-    Ok(text)
+    text
 }
 
-#[test]
-fn many_small_sets(rt: HostRuntime) -> Result<(), Fail> {
-    let alloc = rt.alloc();
-    let text = small_sets(alloc, 4096)?;
-    let lines = small_lines(alloc, 4096)?;
+// Makes sure of what is told of many small sets.
+fn assert_small_sets<X: Abort + Threads + Wait + Sync>(rt: &X, alloc: Global) {
+    let text = small_sets(rt, alloc, 4096);
+    let lines = small_lines(rt, alloc, 4096);
     let out = ["run-batch 1\nsets 4096\n", lines.as_str()];
     let end = (Status::Done, out.as_slice(), "");
     assert_call(
-        &rt,
+        rt,
         alloc,
         &["batch"],
         &[text.as_str()],
         &SURE,
         end,
         Did::Unseen,
-    )
+    );
+}
+
+#[test]
+fn many_small_sets(rt: HostRuntime) {
+    assert_small_sets(&rt, rt.alloc());
 }

@@ -1,5 +1,5 @@
 //! One call of the commands: what is outside, and what it leaves.
-ghost use Rattle.std.specs.Prelude.{◌≡◌, ◌≤◌, ◌<◌, ◌+◌, ℕ, [], OnOk, IfOk};
+ghost use Rattle.std.specs.Prelude.{◌≡◌, ◌≤◌, ◌<◌, ◌+◌, ℕ, []};
 ghost use Rattle.sched_edges.specs.Jobs.{JobAt};
 ghost use Rattle.run_tool.specs.Executions.{AreBack, IsFreshCrew, crew_of, gates_of};
 ghost use Rattle.run_tool.specs.Ready.{AreFirstGates};
@@ -7,13 +7,12 @@ ghost use Rattle.run_tool.specs.Ready.{AreFirstGates};
 use exec_workers::Kit;
 use job_vm::VmJob;
 use run_tool::{Status, run};
-use sched_base::NoMemory;
 use sched_edges::{
     BoxedJob, FailJob, Gate, Job, JobList, Jobs, ListGate, MemSink, MemSource, read_all,
 };
-use std::alloc::{AllocError, Global};
+use std::alloc::Global;
+use std::process::Abort;
 use std::sync::Wait;
-use std::test::Fail;
 use std::thread::Threads;
 
 /// The most processors, each of which has a gate.
@@ -83,7 +82,7 @@ pub(super) struct Left {
 }
 
 /// Has the gates and the jobs do what the words ask for.
-pub(super) fn perform<G: Gate + Send, X: Threads + Wait + Sync>(
+pub(super) fn perform<G: Gate + Send, X: Abort + Threads + Wait + Sync>(
     rt: &X,
     alloc: Global,
     words: &[&str],
@@ -91,15 +90,15 @@ pub(super) fn perform<G: Gate + Send, X: Threads + Wait + Sync>(
     outside: &Outside,
     kits: &mut Vec<Kit<G>>,
     jobs: &mut Jobs,
-) -> Result<Told, Fail>
+) -> Told
     requires ready { IsFreshCrew (crew_of G.Gate ⟦<BoxedJob as Job>⟧ kits.old jobs.old) }
-    ensures { IfOk result (λ _. AreBack (crew_of G.Gate ⟦<BoxedJob as Job>⟧ kits.old jobs.old)
-        (crew_of G.Gate ⟦<BoxedJob as Job>⟧ kits.new jobs.new)) }
+    ensures { AreBack (crew_of G.Gate ⟦<BoxedJob as Job>⟧ kits.old jobs.old)
+        (crew_of G.Gate ⟦<BoxedJob as Job>⟧ kits.new jobs.new) }
 {
-    let words = owned(alloc, words)?;
-    let mut source = MemSource::new(alloc, input, outside.source)?;
-    let mut out = MemSink::new(alloc, outside.out_room, outside.out)?;
-    let mut err = MemSink::new(alloc, outside.err_room, outside.err)?;
+    let words = owned(rt, alloc, words);
+    let mut source = MemSource::new(alloc, input, outside.source).expect(rt, "there is memory");
+    let mut out = MemSink::new(alloc, outside.out_room, outside.out).expect(rt, "there is memory");
+    let mut err = MemSink::new(alloc, outside.err_room, outside.err).expect(rt, "there is memory");
     let status = run(
         rt,
         alloc,
@@ -111,61 +110,85 @@ pub(super) fn perform<G: Gate + Send, X: Threads + Wait + Sync>(
         jobs,
     );
     let unread = unread(alloc, &mut source);
-    Ok(Told {
+    Told {
         status,
         out,
         err,
         unread,
-    })
+    }
 }
 
-/// Calls the commands with these words, with a gate for each processor and a job for each task.
-pub(super) fn call<X: Threads + Wait + Sync>(
+/// Calls the commands with these words, with these gates and a job for each task. What each job tells is told too.
+pub(super) fn call_with<G: Gate + Send, X: Abort + Threads + Wait + Sync>(
     rt: &X,
     alloc: Global,
     words: &[&str],
     input: &[u8],
     outside: &Outside,
-) -> Result<Left, Fail> {
-    let mut jobs = Jobs::with_room(alloc, JOBS)?;
+    kits: &mut Vec<Kit<G>>,
+) -> (Told, Vec<Worked>)
+    requires { AreFirstGates 32 (gates_of G.ran G.faults kits.old.items) }
+{
+    let mut jobs = Jobs::with_room(alloc, JOBS).expect(rt, "there is memory");
     for id in 0..JOBS {
         match failing(outside, id) {
-            Some(call) => jobs.add(Box::new(alloc, FailJob::new(alloc, id, &[call])?)?),
-            None => jobs.add(Box::new(alloc, VmJob::new(alloc, id))?),
+            Some(call) => {
+                let job = FailJob::new(alloc, id, &[call]).expect(rt, "there is memory");
+                jobs.add(Box::new(alloc, job).expect(rt, "there is memory"));
+            }
+            None => {
+                let job = VmJob::new(alloc, id);
+                jobs.add(Box::new(alloc, job).expect(rt, "there is memory"));
+            }
         }
     }
-    let mut kits = kits_of(alloc, outside)?;
-    let told = perform(rt, alloc, words, input, outside, &mut kits, &mut jobs)?;
-    let jobs = told_by(alloc, &mut jobs)?;
-    Ok(Left { told, kits, jobs })
+    let told = perform(rt, alloc, words, input, outside, kits, &mut jobs);
+    (told, told_by(rt, alloc, &mut jobs))
 }
 
-fn owned(alloc: Global, words: &[&str]) -> Result<Vec<String>, AllocError> {
+/// Calls the commands with these words, with a gate for each processor and a job for each task.
+pub(super) fn call<X: Abort + Threads + Wait + Sync>(
+    rt: &X,
+    alloc: Global,
+    words: &[&str],
+    input: &[u8],
+    outside: &Outside,
+) -> Left {
+    let mut kits = kits_of(rt, alloc, outside);
+    let (told, jobs) = call_with(rt, alloc, words, input, outside, &mut kits);
+    Left { told, kits, jobs }
+}
+
+fn owned(rt: &impl Abort, alloc: Global, words: &[&str]) -> Vec<String> {
     let mut owned = Vec::new(alloc);
     for word in words {
-        owned.push(String::from_str(alloc, word)?)?;
+        let word = String::from_str(alloc, word).expect(rt, "there is memory");
+        owned.push(word).expect(rt, "there is memory");
     }
-    Ok(owned)
+    owned
 }
 
-// A kit for each processor.
-fn kits_of(alloc: Global, outside: &Outside) -> Result<Vec<Kit<ListGate>>, NoMemory>
-    ensures { IfOk result (λ kits. AreFirstGates 32 (gates_of (λ g. Some g.ran) (λ g. g.faults) kits.items)) }
+/// A kit for each processor.
+pub(super) fn kits_of(rt: &impl Abort, alloc: Global, outside: &Outside) -> Vec<Kit<ListGate>>
+    ensures { AreFirstGates 32 (gates_of (λ g. Some g.ran) (λ g. g.faults) result.items) }
 {
     let mut kits = Vec::new(alloc);
     for p in 0..GATES {
-        kits.push(Kit::new(gate_of(alloc, outside, p)?))?;
+        let gate = gate_of(rt, alloc, outside, p);
+        kits.push(Kit::new(gate)).expect(rt, "there is memory");
     }
-    Ok(kits)
+    kits
 }
 
 // The gate of processor p, which lists its rows.
-fn gate_of(alloc: Global, outside: &Outside, p: u32) -> Result<ListGate, NoMemory>
-    ensures { IfOk result (λ gate. gate.ran ≡ []) }
+fn gate_of(rt: &impl Abort, alloc: Global, outside: &Outside, p: u32) -> ListGate
+    ensures { result.ran ≡ [] }
 {
     match outside.gate {
-        Some((failing, call)) if failing == p => ListGate::new(alloc, outside.gate_room, &[call]),
-        _ => ListGate::new(alloc, outside.gate_room, &[]),
+        Some((failing, call)) if failing == p => {
+            ListGate::new(alloc, outside.gate_room, &[call]).expect(rt, "there is memory")
+        }
+        _ => ListGate::new(alloc, outside.gate_room, &[]).expect(rt, "there is memory"),
     }
 }
 
@@ -186,17 +209,18 @@ fn unread(alloc: Global, source: &mut MemSource) -> usize {
 }
 
 // What the jobs tell, each lifted out of its place.
-fn told_by<J: Job>(alloc: Global, jobs: &mut JobList<J>) -> Result<Vec<Worked>, AllocError>
+fn told_by<J: Job>(rt: &impl Abort, alloc: Global, jobs: &mut JobList<J>) -> Vec<Worked>
     requires { (i : ℕ) → i < 256 → (job : J) × JobAt jobs.old.places i job }
 {
     let mut told = Vec::new(alloc);
     for i in 0..JOBS {
         let job = jobs.lift(i);
-        told.push(Worked {
+        let worked = Worked {
             id: job.id(),
             ticks: job.used(),
             faults: job.faults(),
-        })?;
+        };
+        told.push(worked).expect(rt, "there is memory");
     }
-    Ok(told)
+    told
 }

@@ -3,10 +3,9 @@
 use super::calls::{Outside, SURE, Told, call};
 use super::lanes::{Did, assert_did};
 use run_tool::Status;
-use std::alloc::{AllocError, Global};
+use std::alloc::Global;
 use std::process::Abort;
 use std::sync::Wait;
-use std::test::Fail;
 use std::thread::Threads;
 
 /// Parts of a text, one behind the other.
@@ -21,47 +20,197 @@ pub(super) type RefusedCase = (Parts, Status, &'static str);
 /// What is outside, the status, what `out` and `err` take, and what the gates and the jobs did.
 pub(super) type FaultCase = (Outside, Status, &'static str, &'static str, Did);
 
-/// The parts as one text.
-pub(super) fn joined(alloc: Global, parts: &[&str]) -> Result<String, AllocError> {
-    let mut text = String::new(alloc);
-    for part in parts {
-        text.push_str(part)?;
-    }
-    Ok(text)
+/// Parts of a text, each with what stands in its place, the status, and what `out` and `err` take.
+pub(super) type ReplacedCase = (
+    &'static [(&'static str, &'static str)],
+    Status,
+    &'static str,
+    &'static str,
+);
+
+/// A text that a command does all for: its parts, how what `out` takes begins, what stands in it, and how it ends.
+pub(super) type ShownCase = (Parts, &'static str, Parts, &'static str);
+
+/// A text that a command makes a trace of: its parts, and how the report of `check` on the trace begins.
+pub(super) type ReportCase = (Parts, &'static str);
+
+/// What a line leaves of some texts.
+pub(super) enum Cases {
+    /// It does all for each of them.
+    Done(&'static [DoneCase]),
+    /// It refuses each of them: nothing is written to `out`, and no gate and no job is called.
+    Refused(&'static [RefusedCase]),
+    /// Of one text, which is told in parts, each of these faults leaves something.
+    Faults(Parts, &'static [FaultCase]),
+    /// The same of a text with other parts in place of some. No gate and no job is called.
+    Replaced(&'static str, &'static [ReplacedCase]),
+    /// It does all for each of them, and calls no gate and no job.
+    Shown(&'static [ShownCase]),
+    /// It makes a trace of each of them, which `check` reads.
+    Reports(&'static [ReportCase]),
 }
 
-/// What follows these texts, one behind the other, in the bytes. None where the bytes begin otherwise.
-pub(super) fn rest_behind<'a>(bytes: &'a [u8], texts: &[&str]) -> Option<&'a [u8]> {
-    let mut left = bytes;
-    for text in texts {
-        match left.strip_prefix(text.as_bytes()) {
-            Some(rest) => left = rest,
-            None => return None,
-        }
-    }
-    Some(left)
-}
+/// The words of a line, and what it leaves of some texts.
+pub(super) type Table = (&'static [&'static str], Cases);
 
-/// The bytes are a text, in which this one stands somewhere.
-pub(super) fn holds(bytes: &[u8], part: &str) -> bool {
-    match std::str::from_utf8(bytes) {
-        Ok(text) => text.contains(part),
-        Err(_) => false,
+/// Makes sure of what is left by each line of these tables.
+pub(super) fn assert_tables<X: Abort + Threads + Wait + Sync>(
+    rt: &X,
+    alloc: Global,
+    tables: &[Table],
+) {
+    for (line, cases) in tables {
+        assert_cases(rt, alloc, line, cases);
     }
 }
 
-/// Makes sure that the call ended with this status, and what `out` and `err` took.
-pub(super) fn assert_told(rt: &impl Abort, told: &Told, end: (Status, &[&str], &str)) {
-    let (status, out, err) = end;
-    let rest = rest_behind(told.out.taken(), out);
-    let is_same = told.status == status && told.err.taken() == err.as_bytes();
+fn assert_cases<X: Abort + Threads + Wait + Sync>(
+    rt: &X,
+    alloc: Global,
+    line: &[&str],
+    cases: &Cases,
+) {
+    match cases {
+        Cases::Done(rows) => assert_done(rt, alloc, line, rows),
+        Cases::Refused(rows) => assert_refused(rt, alloc, line, rows),
+        Cases::Faults(input, rows) => assert_faults(rt, alloc, line, input, rows),
+        Cases::Replaced(text, rows) => assert_replaced(rt, alloc, line, text, rows),
+        Cases::Shown(rows) => assert_shown(rt, alloc, line, rows),
+        Cases::Reports(rows) => assert_reports(rt, alloc, line, rows),
+    }
+}
+
+fn assert_done<X: Abort + Threads + Wait + Sync>(
+    rt: &X,
+    alloc: Global,
+    line: &[&str],
+    rows: &[DoneCase],
+) {
+    for (input, out, did) in rows {
+        assert_call(rt, alloc, line, input, &SURE, (Status::Done, out, ""), *did);
+    }
+}
+
+fn assert_refused<X: Abort + Threads + Wait + Sync>(
+    rt: &X,
+    alloc: Global,
+    line: &[&str],
+    rows: &[RefusedCase],
+) {
+    for (input, status, err) in rows {
+        let end = (*status, [].as_slice(), *err);
+        assert_call(rt, alloc, line, input, &SURE, end, Did::Nothing);
+    }
+}
+
+fn assert_faults<X: Abort + Threads + Wait + Sync>(
+    rt: &X,
+    alloc: Global,
+    line: &[&str],
+    input: &[&str],
+    rows: &[FaultCase],
+) {
+    for (outside, status, out, err, did) in rows {
+        let out = [*out];
+        assert_call(rt, alloc, line, input, outside, (*status, &out, *err), *did);
+    }
+}
+
+fn assert_replaced<X: Abort + Threads + Wait + Sync>(
+    rt: &X,
+    alloc: Global,
+    line: &[&str],
+    text: &str,
+    rows: &[ReplacedCase],
+) {
+    for row in rows {
+        assert_replacement(rt, alloc, line, text, row);
+    }
+}
+
+fn assert_replacement<X: Abort + Threads + Wait + Sync>(
+    rt: &X,
+    alloc: Global,
+    line: &[&str],
+    text: &str,
+    (others, status, out, err): &ReplacedCase,
+) {
+    let text = replaced(rt, alloc, text, others);
+    let out = [*out];
+    let end = (*status, out.as_slice(), *err);
+    assert_call(rt, alloc, line, &[text.as_str()], &SURE, end, Did::Nothing);
+}
+
+// The text with other parts in place of these.
+fn replaced(rt: &impl Abort, alloc: Global, text: &str, others: &[(&str, &str)]) -> String {
+    let mut text = String::from_str(alloc, text).expect(rt, "there is memory");
+    for (part, other) in others {
+        text = text
+            .replace(alloc, part, other)
+            .expect(rt, "there is memory");
+    }
+    text
+}
+
+fn assert_shown<X: Abort + Threads + Wait + Sync>(
+    rt: &X,
+    alloc: Global,
+    line: &[&str],
+    rows: &[ShownCase],
+) {
+    for row in rows {
+        assert_text(rt, alloc, line, row);
+    }
+}
+
+fn assert_text<X: Abort + Threads + Wait + Sync>(
+    rt: &X,
+    alloc: Global,
+    line: &[&str],
+    (input, first, parts, last): &ShownCase,
+) {
+    let text = text_of(rt, alloc, line, input);
+    assert_ends(rt, &text, (*first, *last));
+    assert_holds(rt, &text, parts);
+}
+
+fn assert_ends(rt: &impl Abort, text: &str, (first, last): (&str, &str)) {
+    let text = text.as_bytes();
     assert!(rt;
-        is_same && rest.is_some_and(|rest| rest.is_empty()),
-        "{err}"
+        text.starts_with(first.as_bytes()) && text.ends_with(last.as_bytes()),
+        "{first}"
     );
 }
 
-/// Makes sure of what the commands leave of a text, which is told in parts.
+fn assert_holds(rt: &impl Abort, text: &str, parts: &[&str]) {
+    for part in parts {
+        assert!(rt; text.contains(*part), "{part}");
+    }
+}
+
+fn assert_reports<X: Abort + Threads + Wait + Sync>(
+    rt: &X,
+    alloc: Global,
+    line: &[&str],
+    rows: &[ReportCase],
+) {
+    for row in rows {
+        assert_report(rt, alloc, line, row);
+    }
+}
+
+fn assert_report<X: Abort + Threads + Wait + Sync>(
+    rt: &X,
+    alloc: Global,
+    line: &[&str],
+    (input, first): &ReportCase,
+) {
+    let trace = text_of(rt, alloc, line, input);
+    let report = text_of(rt, alloc, &["check"], &[trace.as_str()]);
+    assert_ends(rt, &report, (*first, ""));
+}
+
+/// Makes sure of what a line leaves of a text, which is told in parts.
 pub(super) fn assert_call<X: Abort + Threads + Wait + Sync>(
     rt: &X,
     alloc: Global,
@@ -70,94 +219,50 @@ pub(super) fn assert_call<X: Abort + Threads + Wait + Sync>(
     outside: &Outside,
     end: (Status, &[&str], &str),
     did: Did,
-) -> Result<(), Fail> {
-    let text = joined(alloc, input)?;
-    let left = call(rt, alloc, line, text.as_bytes(), outside)?;
-    assert_told(rt, &left.told, end);
+) {
+    let text = joined(rt, alloc, input);
+    let left = call(rt, alloc, line, text.as_bytes(), outside);
+    assert_told(rt, alloc, &left.told, end);
     assert_did(rt, &left, did);
-    Ok(())
 }
 
-/// Makes sure that a line does all for each of these texts.
-pub(super) fn assert_done<X: Abort + Threads + Wait + Sync>(
-    rt: &X,
+/// Makes sure that the call ended with this status, and what `out` and `err` took.
+pub(super) fn assert_told(
+    rt: &impl Abort,
     alloc: Global,
-    line: &[&str],
-    cases: &[DoneCase],
-) -> Result<(), Fail> {
-    for (input, out, did) in cases {
-        assert_call(rt, alloc, line, input, &SURE, (Status::Done, out, ""), *did)?;
-    }
-    Ok(())
+    told: &Told,
+    (status, out, err): (Status, &[&str], &str),
+) {
+    let out = joined(rt, alloc, out);
+    assert_same(rt, told, (status, out.as_bytes(), err));
 }
 
-/// Makes sure that a line refuses each of these texts: nothing is written to `out`, and no gate and no job is called.
-pub(super) fn assert_refused<X: Abort + Threads + Wait + Sync>(
-    rt: &X,
-    alloc: Global,
-    line: &[&str],
-    cases: &[RefusedCase],
-) -> Result<(), Fail> {
-    for (input, status, err) in cases {
-        let end = (*status, [].as_slice(), *err);
-        assert_call(rt, alloc, line, input, &SURE, end, Did::Nothing)?;
-    }
-    Ok(())
+fn assert_same(rt: &impl Abort, told: &Told, (status, out, err): (Status, &[u8], &str)) {
+    let is_same = told.status == status && told.err.taken() == err.as_bytes();
+    assert!(rt; is_same && told.out.taken() == out, "{err}");
 }
 
-/// Makes sure of what each of these faults leaves of a text.
-pub(super) fn assert_faults<X: Abort + Threads + Wait + Sync>(
-    rt: &X,
-    alloc: Global,
-    line: &[&str],
-    input: &[&str],
-    cases: &[FaultCase],
-) -> Result<(), Fail> {
-    for (outside, status, out, err, did) in cases {
-        let out = [*out];
-        assert_call(rt, alloc, line, input, outside, (*status, &out, *err), *did)?;
-    }
-    Ok(())
+/// The parts as one text.
+pub(super) fn joined(rt: &impl Abort, alloc: Global, parts: &[&str]) -> String {
+    parts.join(alloc, "").expect(rt, "there is memory")
 }
 
-/// Makes sure that a line refuses a text with another part in place of one.
-pub(super) fn assert_replaced<X: Abort + Threads + Wait + Sync>(
-    rt: &X,
-    alloc: Global,
-    line: &[&str],
-    text: &str,
-    cases: &[(&str, &str, Status, &str)],
-) -> Result<(), Fail> {
-    for (part, other, status, err) in cases {
-        let other = text.replace(alloc, part, other)?;
-        let end = (*status, [].as_slice(), *err);
-        assert_call(rt, alloc, line, &[other.as_str()], &SURE, end, Did::Nothing)?;
-    }
-    Ok(())
-}
-
-/// What a command that calls no gate writes of these bytes, for which it does all.
+/// What a line that calls no gate writes of a text, which is told in parts, and for which it does all.
 pub(super) fn text_of<X: Abort + Threads + Wait + Sync>(
     rt: &X,
     alloc: Global,
     line: &[&str],
-    input: &[u8],
-) -> Result<Vec<u8>, Fail> {
-    let left = call(rt, alloc, line, input, &SURE)?;
-    assert!(rt; left.told.status == Status::Done);
-    assert!(rt; left.told.err.taken().is_empty());
+    input: &[&str],
+) -> String {
+    let text = joined(rt, alloc, input);
+    let left = call(rt, alloc, line, text.as_bytes(), &SURE);
     assert_did(rt, &left, Did::Nothing);
-    Ok(Vec::from_slice(alloc, left.told.out.taken())?)
+    text_in(rt, alloc, &left.told)
 }
 
-/// Makes sure that a trace is valid, and that its report goes on as told.
-pub(super) fn assert_valid<X: Abort + Threads + Wait + Sync>(
-    rt: &X,
-    alloc: Global,
-    trace: &[u8],
-    report: &str,
-) -> Result<(), Fail> {
-    let text = text_of(rt, alloc, &["check"], trace)?;
-    assert!(rt; rest_behind(text.as_slice(), &["valid\n", report]).is_some());
-    Ok(())
+// The text that `out` took, where all was done.
+fn text_in(rt: &impl Abort, alloc: Global, told: &Told) -> String {
+    assert!(rt; told.status == Status::Done && told.err.taken().is_empty());
+    let text = std::str::from_utf8(told.out.taken()).expect(rt, "a text");
+    String::from_str(alloc, text).expect(rt, "there is memory")
 }

@@ -1,106 +1,90 @@
 //! Checks of traces: the worked ones, hostile ones, and faults in mid-stream.
 
-use super::calls::{Outside, SURE, call};
-use super::cases::assert_told;
+use super::calls::{Outside, SURE};
+use super::cases::{
+    Cases, DoneCase, FaultCase, RefusedCase, ReplacedCase, Table, assert_call, assert_tables,
+    joined,
+};
+use super::lanes::Did;
 use super::texts::LATE_ROWS;
 use run_tool::Status;
-use std::alloc::{AllocError, Global};
+use std::alloc::Global;
 use std::process::Abort;
 use std::sync::Wait;
-use std::test::Fail;
 use std::thread::Threads;
 
 /// The trace of three tasks of rate 2/3, line by line.
-const LINES: [&str; 16] = [
-    "run-trace 1",
-    "processors 2",
-    "horizon 3",
-    "scale 3",
-    "tasks 3",
-    "task a 2 3",
-    "task b 2 3",
-    "task c 2 3",
-    "row 0 0 3 b",
-    "row 0 3 9 a",
-    "row 1 0 6 c",
-    "row 1 6 9 b",
-    "total a 6",
-    "total b 6",
-    "total c 6",
-    "rows 4",
+const LINES: &[&str] = &[
+    "run-trace 1\n",
+    "processors 2\n",
+    "horizon 3\n",
+    "scale 3\n",
+    "tasks 3\n",
+    "task a 2 3\n",
+    "task b 2 3\n",
+    "task c 2 3\n",
+    "row 0 0 3 b\n",
+    "row 0 3 9 a\n",
+    "row 1 0 6 c\n",
+    "row 1 6 9 b\n",
+    "total a 6\n",
+    "total b 6\n",
+    "total c 6\n",
+    "rows 4\n",
 ];
+
+/// The same as one text.
+const ROWS: &str =
+    "run-trace 1\nprocessors 2\nhorizon 3\nscale 3\ntasks 3\ntask a 2 3\ntask b 2 3\ntask c 2 3\nrow 0 0 3 b\n\
+        row 0 3 9 a\nrow 1 0 6 c\nrow 1 6 9 b\ntotal a 6\ntotal b 6\ntotal c 6\nrows 4\n";
+
+/// The same with another row.
+const INVALID_ROWS: &str =
+    "run-trace 1\nprocessors 2\nhorizon 3\nscale 3\ntasks 3\ntask a 2 3\ntask b 2 3\ntask c 2 3\nrow 0 0 3 b\n\
+        row 0 3 9 a\nrow 1 0 6 c\nrow 1 5 8 b\ntotal a 6\ntotal b 6\ntotal c 6\nrows 4\n";
 
 const REPORT: &str =
     "valid\nrows 4\npreemptions 1\nmigrations 1\nresponse a 9\nresponse b 9\nresponse c 6\nchart 0 baa\nchart 1 ccb\n";
 
-// The trace of three tasks, with other lines at these numbers.
-fn changed(alloc: Global, changes: &[(usize, &str)]) -> Result<Vec<u8>, AllocError> {
-    let mut text = Vec::new(alloc);
-    for (i, line) in LINES.iter().enumerate() {
-        add_lines(&mut text, &[line_at(changes, i.saturating_add(1), line)])?;
-    }
-    Ok(text)
-}
-
-// The line of this number, which may be changed.
-fn line_at<'a>(changes: &[(usize, &'a str)], wanted: usize, line: &'a str) -> &'a str {
-    for (number, other) in changes {
-        if *number == wanted {
-            return other;
-        }
-    }
-    line
-}
-
-/// The lines that are changed in the trace of three tasks, what is outside, the status, and what `out` and `err` take.
-type Change = (
-    &'static [(usize, &'static str)],
-    Outside,
-    Status,
-    &'static str,
-    &'static str,
-);
-
-const CHANGES: [Change; 22] = [
-    (&[], SURE, Status::Done, REPORT, ""),
+/// Of the trace of three tasks with other lines in place of some.
+const CHANGES: &[ReplacedCase] = &[
+    (&[], Status::Done, REPORT, ""),
     (
-        &[(12, "row 1 5 8 b")],
-        SURE,
+        &[("row 1 6 9 b", "row 1 5 8 b")],
         Status::Invalid,
         "invalid line 12 processor-overlap\n",
         "",
     ),
     (
-        &[(12, "row 1 6 8 b"), (14, "total b 5")],
-        SURE,
+        &[("row 1 6 9 b", "row 1 6 8 b"), ("total b 6", "total b 5")],
         Status::Invalid,
         "invalid line 14 supply\n",
         "",
     ),
     (
-        &[(12, "row 1 6 8 b")],
-        SURE,
+        &[("row 1 6 9 b", "row 1 6 8 b")],
         Status::BadInput,
         "",
         "refused 6 BadLine 14\n",
     ),
     (
-        &[(12, "row 1 6 9 a"), (13, "total a 9"), (14, "total b 3")],
-        SURE,
+        &[
+            ("row 1 6 9 b", "row 1 6 9 a"),
+            ("total a 6", "total a 9"),
+            ("total b 6", "total b 3"),
+        ],
         Status::Invalid,
         "invalid line 12 task-overlap\n",
         "",
     ),
     (
-        &[(12, "row 1 6 10 b"), (14, "total b 7")],
-        SURE,
+        &[("row 1 6 9 b", "row 1 6 10 b"), ("total b 6", "total b 7")],
         Status::Invalid,
         "invalid line 12 end\n",
         "",
     ),
     (
-        &[(12, "row 2 6 9 b")],
-        SURE,
+        &[("row 1 6 9 b", "row 2 6 9 b")],
         Status::Invalid,
         "invalid line 12 processor\n",
         "",
@@ -108,68 +92,61 @@ const CHANGES: [Change; 22] = [
     // A row stands twice, and the numbers are mended.
     (
         &[
-            (9, "row 0 0 3 b\nrow 0 0 3 b"),
-            (14, "total b 9"),
-            (16, "rows 5"),
+            ("row 0 0 3 b", "row 0 0 3 b\nrow 0 0 3 b"),
+            ("total b 6", "total b 9"),
+            ("rows 4", "rows 5"),
         ],
-        SURE,
         Status::Invalid,
         "invalid line 10 processor-overlap\n",
         "",
     ),
     // In any order.
     (
-        &[
-            (9, "row 1 6 9 b"),
-            (10, "row 1 0 6 c"),
-            (11, "row 0 0 3 b"),
-            (12, "row 0 3 9 a"),
-        ],
-        SURE,
+        &[(
+            "row 0 0 3 b\nrow 0 3 9 a\nrow 1 0 6 c\nrow 1 6 9 b\n",
+            "row 1 6 9 b\nrow 1 0 6 c\nrow 0 0 3 b\nrow 0 3 9 a\n",
+        )],
         Status::Done,
         REPORT,
         "",
     ),
     // In two rows that make one piece.
     (
-        &[(10, "row 0 3 5 a\nrow 0 5 9 a"), (16, "rows 5")],
-        SURE,
+        &[
+            ("row 0 3 9 a", "row 0 3 5 a\nrow 0 5 9 a"),
+            ("rows 4", "rows 5"),
+        ],
         Status::Done,
         "valid\nrows 5\npreemptions 1\nmigrations 1\nresponse a 9\nresponse b 9\nresponse c 6\nchart 0 baa\nchart 1 ccb\n",
         "",
     ),
     // Nothing is owed in the period that is still open, and no row holds the unit's first tick.
     (
-        &[(3, "horizon 4")],
-        SURE,
+        &[("horizon 3", "horizon 4")],
         Status::Done,
         "valid\nrows 4\npreemptions 1\nmigrations 1\nresponse a 9\nresponse b 9\nresponse c 6\nchart 0 baa.\nchart 1 ccb.\n",
         "",
     ),
     (
-        &[(4, "scale 4")],
-        SURE,
+        &[("scale 3", "scale 4")],
         Status::BadInput,
         "",
         "refused 6 BadLine 4\n",
     ),
     (
-        &[(5, "tasks 4")],
-        SURE,
+        &[("tasks 3", "tasks 4")],
         Status::BadInput,
         "",
         "refused 6 BadLine 9\n",
     ),
     (
-        &[(16, "rows 5")],
-        SURE,
+        &[("rows 4", "rows 5")],
         Status::BadInput,
         "",
         "refused 6 BadLine 16\n",
     ),
     (
-        &[(16, "rows 4\n")],
-        SURE,
+        &[("rows 4", "rows 4\n")],
         Status::BadInput,
         "",
         "refused 6 BadLine 17\n",
@@ -177,17 +154,18 @@ const CHANGES: [Change; 22] = [
     // A wrong scale, however long, is judged once the lines of the tasks are right.
     (
         &[
-            (4, "scale 3333333333333333333333333333333333333333"),
-            (8, "task c 4 3"),
+            ("scale 3", "scale 3333333333333333333333333333333333333333"),
+            ("task c 2 3", "task c 4 3"),
         ],
-        SURE,
         Status::BadInput,
         "",
         "refused 6 BadLine 8\n",
     ),
-    // A fault leaves the lines before.
+];
+
+/// A fault leaves the lines before.
+const FAULTS: &[FaultCase] = &[
     (
-        &[],
         Outside {
             source: &[2],
             ..SURE
@@ -195,77 +173,53 @@ const CHANGES: [Change; 22] = [
         Status::ReadFault,
         "",
         "refused 3 ReadFault\n",
+        Did::Nothing,
     ),
     (
-        &[],
         Outside { out: &[1], ..SURE },
         Status::WriteFault,
         "",
         "refused 4 WriteFault\n",
+        Did::Nothing,
     ),
     (
-        &[],
         Outside { out: &[3], ..SURE },
         Status::WriteFault,
         "valid\nrows 4\n",
         "refused 4 WriteFault\n",
+        Did::Nothing,
     ),
     // The last line of the report.
     (
-        &[],
         Outside { out: &[9], ..SURE },
         Status::WriteFault,
         "valid\nrows 4\npreemptions 1\nmigrations 1\nresponse a 9\nresponse b 9\nresponse c 6\nchart 0 baa\n",
         "refused 4 WriteFault\n",
+        Did::Nothing,
     ),
+];
+
+/// Of a trace with another line.
+const INVALID_FAULTS: &[FaultCase] = &[
     (
-        &[(12, "row 1 5 8 b")],
         Outside { out: &[1], ..SURE },
         Status::WriteFault,
         "",
         "refused 4 WriteFault\n",
+        Did::Nothing,
     ),
     // Nothing goes to `err`, so it isn't called.
     (
-        &[(12, "row 1 5 8 b")],
         Outside { err: &[1], ..SURE },
         Status::Invalid,
         "invalid line 12 processor-overlap\n",
         "",
+        Did::Nothing,
     ),
 ];
 
-// Makes sure of what `check` leaves of a text.
-fn assert_check<X: Abort + Threads + Wait + Sync>(
-    rt: &X,
-    alloc: Global,
-    text: &[u8],
-    outside: &Outside,
-    end: (Status, &str, &str),
-) -> Result<(), Fail> {
-    let left = call(rt, alloc, &["check"], text, outside)?;
-    let (status, out, err) = end;
-    assert_told(rt, &left.told, (status, &[out], err));
-    Ok(())
-}
-
-#[test]
-fn verdicts_of_three_tasks(rt: HostRuntime) -> Result<(), Fail> {
-    for (changes, outside, status, out, err) in &CHANGES {
-        let text = changed(rt.alloc(), changes)?;
-        assert_check(
-            &rt,
-            rt.alloc(),
-            text.as_slice(),
-            outside,
-            (*status, *out, *err),
-        )?;
-    }
-    Ok(())
-}
-
 /// The line at fault where the text ends after a line, and where that line stands twice.
-const CUT: [(&str, &str); 16] = [
+const CUT: &[(&str, &str)] = &[
     ("refused 6 BadLine 2\n", "refused 6 BadLine 2\n"),
     ("refused 6 BadLine 3\n", "refused 6 BadLine 3\n"),
     ("refused 6 BadLine 4\n", "refused 6 BadLine 4\n"),
@@ -286,104 +240,131 @@ const CUT: [(&str, &str); 16] = [
     ("", "refused 6 BadLine 17\n"),
 ];
 
-// These lines behind the text, each with its line feed.
-fn add_lines(text: &mut Vec<u8>, lines: &[&str]) -> Result<(), AllocError> {
-    for line in lines {
-        text.extend_from_slice(line.as_bytes())?;
-        text.push(b'\n')?;
+// How a check ends with this line on `err`; it finds the trace valid where there is none.
+fn end_with(err: &str) -> (Status, &str, &str) {
+    if err.is_empty() {
+        (Status::Done, REPORT, "")
+    } else {
+        (Status::BadInput, "", err)
     }
-    Ok(())
 }
 
-// Makes sure of what `check` leaves of these lines and those, the last one with its line feed or without it.
-fn assert_lines<X: Abort + Threads + Wait + Sync>(
+// Makes sure of what `check` leaves of a text, which is told in parts.
+fn assert_check<X: Abort + Threads + Wait + Sync>(
     rt: &X,
     alloc: Global,
-    lines: (&[&str], &[&str]),
-    is_ended: bool,
-    end: (Status, &str, &str),
-) -> Result<(), Fail> {
-    let mut text = Vec::new(alloc);
-    add_lines(&mut text, lines.0)?;
-    add_lines(&mut text, lines.1)?;
-    if !is_ended {
-        text.pop();
+    input: &[&str],
+    err: &str,
+) {
+    let (status, out, err) = end_with(err);
+    let out = [out];
+    let end = (status, out.as_slice(), err);
+    assert_call(rt, alloc, &["check"], input, &SURE, end, Did::Nothing);
+}
+
+// Makes sure of what is told where the text ends after this line, and where this line and all behind it stand once more.
+fn assert_cut<X: Abort + Threads + Wait + Sync>(
+    rt: &X,
+    alloc: Global,
+    (lines, last): (&[&str], usize),
+    (at_cut, at_double): (&str, &str),
+) {
+    assert!(rt; last < lines.len());
+    let (first, rest) = (
+        joined(rt, alloc, &lines[..=last]),
+        joined(rt, alloc, &lines[last..]),
+    );
+    let first = first.as_str();
+    // The last line feed may be missing.
+    let unended = first.strip_suffix("\n").expect(rt, "a line feed");
+    assert_check(rt, alloc, &[first], at_cut);
+    assert_check(rt, alloc, &[unended], at_cut);
+    assert_check(rt, alloc, &[first, rest.as_str()], at_double);
+}
+
+// The same of each line.
+fn assert_cuts<X: Abort + Threads + Wait + Sync>(
+    rt: &X,
+    alloc: Global,
+    lines: &[&str],
+    cuts: &[(&str, &str)],
+) {
+    assert!(rt; lines.len() == cuts.len());
+    for (i, cut) in cuts.iter().enumerate() {
+        assert_cut(rt, alloc, (lines, i), *cut);
     }
-    assert_check(rt, alloc, text.as_slice(), &SURE, end)
 }
 
 #[test]
-fn texts_cut_and_doubled(rt: HostRuntime) -> Result<(), Fail> {
-    let alloc = rt.alloc();
-    let end = (Status::BadInput, "", "refused 6 BadLine 1\n");
-    assert_lines(&rt, alloc, (&[], &[]), true, end)?;
-    for (i, (at_cut, at_double)) in CUT.iter().enumerate() {
-        let end = if at_cut.is_empty() {
-            (Status::Done, REPORT, "")
-        } else {
-            (Status::BadInput, "", *at_cut)
-        };
-        let first = &LINES[..=i];
-        assert_lines(&rt, alloc, (first, &[]), true, end)?;
-        // The last line feed may be missing.
-        assert_lines(&rt, alloc, (first, &[]), false, end)?;
-        let end = (Status::BadInput, "", *at_double);
-        assert_lines(&rt, alloc, (first, &LINES[i..]), true, end)?;
-    }
-    Ok(())
+fn texts_cut_and_doubled(rt: HostRuntime) {
+    assert_cuts(&rt, rt.alloc(), LINES, CUT);
 }
 
-/// Other traces, the status, and what `out` and `err` take.
-const OTHER: [(&str, Status, &str, &str); 6] = [
+/// Other traces.
+const VALID: &[DoneCase] = &[
     // A period for each tick there is, which the check doesn't count.
     (
-        "run-trace 1\nprocessors 1\nhorizon 4294967295\nscale 1\ntasks 1\ntask a 1 1\nrow 0 0 4294967295 a\ntotal a 4294967295\nrows 1\n",
-        Status::Done,
-        "valid\nrows 1\npreemptions 0\nmigrations 0\nresponse a 1\nchart 0 aaaaaaaaaaaaaaaaaaaaaaaaaaaaaaaaaaaaaaaaaaaaaaaaaaaaaaaaaaaaaaaa\n",
-        "",
+        &[
+            "run-trace 1\nprocessors 1\nhorizon 4294967295\nscale 1\ntasks 1\ntask a 1 1\nrow 0 0 4294967295 a\ntotal a 4294967295\nrows 1\n",
+        ],
+        &[
+            "valid\nrows 1\npreemptions 0\nmigrations 0\nresponse a 1\nchart 0 aaaaaaaaaaaaaaaaaaaaaaaaaaaaaaaaaaaaaaaaaaaaaaaaaaaaaaaaaaaaaaaa\n",
+        ],
+        Did::Nothing,
     ),
     (
-        LATE_ROWS,
-        Status::Done,
-        "valid\nrows 6\npreemptions 0\nmigrations 0\nresponse a 3\nresponse b 3\nchart 0 -baba\n",
-        "",
-    ),
-    // The finish of a period is wrong.
-    (
-        "run-trace 2\nprocessors 1\nhorizon 5\nscale 2\ntasks 2\ntask a 1 2 1\ntask b 1 2 0\nrow 0 0 1 -\nrow 0 1 3 b\nrow 0 3 5 a\n\
-                row 0 5 7 b\nrow 0 7 9 a\nrow 0 9 10 b\ntotal a 4\ntotal b 5\nmet a 0 4\nmet a 1 9\nmet b 0 3\nmet b 1 7\nrows 6\n",
-        Status::BadInput,
-        "",
-        "refused 6 BadLine 16\n",
-    ),
-    // A row before the first release.
-    (
-        "run-trace 2\nprocessors 1\nhorizon 5\nscale 2\ntasks 2\ntask a 1 2 1\ntask b 1 2 0\nrow 0 0 1 a\nrow 0 1 3 b\nrow 0 3 5 a\n\
-                row 0 5 7 b\nrow 0 7 9 a\nrow 0 9 10 b\ntotal a 5\ntotal b 5\nmet a 0 5\nmet a 1 9\nmet b 0 3\nmet b 1 7\nrows 6\n",
-        Status::Invalid,
-        "invalid line 8 early\n",
-        "",
+        &[LATE_ROWS],
+        &[
+            "valid\nrows 6\npreemptions 0\nmigrations 0\nresponse a 3\nresponse b 3\nchart 0 -baba\n",
+        ],
+        Did::Nothing,
     ),
     // No tasks, and no rows.
     (
-        "run-trace 1\nprocessors 1\nhorizon 2\nscale 1\ntasks 0\nrows 0\n",
-        Status::Done,
-        "valid\nrows 0\npreemptions 0\nmigrations 0\nchart 0 ..\n",
-        "",
+        &["run-trace 1\nprocessors 1\nhorizon 2\nscale 1\ntasks 0\nrows 0\n"],
+        &["valid\nrows 0\npreemptions 0\nmigrations 0\nchart 0 ..\n"],
+        Did::Nothing,
     ),
-    ("\n", Status::BadInput, "", "refused 6 BadLine 1\n"),
+];
+
+const REFUSED: &[RefusedCase] = &[
+    // The finish of a period is wrong.
+    (
+        &[
+            "run-trace 2\nprocessors 1\nhorizon 5\nscale 2\ntasks 2\ntask a 1 2 1\ntask b 1 2 0\nrow 0 0 1 -\nrow 0 1 3 b\nrow 0 3 5 a\n\
+                row 0 5 7 b\nrow 0 7 9 a\nrow 0 9 10 b\ntotal a 4\ntotal b 5\nmet a 0 4\nmet a 1 9\nmet b 0 3\nmet b 1 7\nrows 6\n",
+        ],
+        Status::BadInput,
+        "refused 6 BadLine 16\n",
+    ),
+    (&["\n"], Status::BadInput, "refused 6 BadLine 1\n"),
+    // No line.
+    (&[""], Status::BadInput, "refused 6 BadLine 1\n"),
+];
+
+/// A row before the first release.
+const EARLY_ROWS: &str =
+    "run-trace 2\nprocessors 1\nhorizon 5\nscale 2\ntasks 2\ntask a 1 2 1\ntask b 1 2 0\nrow 0 0 1 a\nrow 0 1 3 b\nrow 0 3 5 a\n\
+                row 0 5 7 b\nrow 0 7 9 a\nrow 0 9 10 b\ntotal a 5\ntotal b 5\nmet a 0 5\nmet a 1 9\nmet b 0 3\nmet b 1 7\nrows 6\n";
+
+const EARLY: &[FaultCase] = &[(
+    SURE,
+    Status::Invalid,
+    "invalid line 8 early\n",
+    "",
+    Did::Nothing,
+)];
+
+const TABLES: &[Table] = &[
+    (&["check"], Cases::Replaced(ROWS, CHANGES)),
+    (&["check"], Cases::Faults(&[ROWS], FAULTS)),
+    (&["check"], Cases::Faults(&[INVALID_ROWS], INVALID_FAULTS)),
+    (&["check"], Cases::Done(VALID)),
+    (&["check"], Cases::Refused(REFUSED)),
+    (&["check"], Cases::Faults(&[EARLY_ROWS], EARLY)),
 ];
 
 #[test]
-fn checks_of_other_traces(rt: HostRuntime) -> Result<(), Fail> {
-    for (input, status, out, err) in &OTHER {
-        assert_check(
-            &rt,
-            rt.alloc(),
-            input.as_bytes(),
-            &SURE,
-            (*status, *out, *err),
-        )?;
-    }
-    Ok(())
+fn verdicts_of_traces(rt: HostRuntime) {
+    assert_tables(&rt, rt.alloc(), TABLES);
 }

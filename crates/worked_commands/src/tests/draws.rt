@@ -2,16 +2,20 @@
 //! were made by a plain program of its own, and looked at. The tests of pictures have some byte for byte, with the style sheet.
 
 use super::calls::{Outside, SURE};
-use super::cases::{FaultCase, assert_faults, assert_replaced, holds, text_of};
+use super::cases::{Cases, FaultCase, ReplacedCase, ShownCase, Table, assert_tables};
 use super::lanes::Did;
 use super::texts::LATE_ROWS;
 use run_tool::Status;
-use std::test::Fail;
 
 /// The trace of three tasks of rate 2/3.
 const ROWS: &str =
     "run-trace 1\nprocessors 2\nhorizon 3\nscale 3\ntasks 3\ntask a 2 3\ntask b 2 3\ntask c 2 3\nrow 0 0 3 b\n\
         row 0 3 9 a\nrow 1 0 6 c\nrow 1 6 9 b\ntotal a 6\ntotal b 6\ntotal c 6\nrows 4\n";
+
+/// The same, where the last row begins before the one before it ends.
+const OVERLAP_ROWS: &str =
+    "run-trace 1\nprocessors 2\nhorizon 3\nscale 3\ntasks 3\ntask a 2 3\ntask b 2 3\ntask c 2 3\nrow 0 0 3 b\n\
+        row 0 3 9 a\nrow 1 0 6 c\nrow 1 5 8 b\ntotal a 6\ntotal b 6\ntotal c 6\nrows 4\n";
 
 // How the picture of its unit 1 begins, and what stands below the style sheet.
 const UNIT_ABOVE: &str = "<svg xmlns='http://www.w3.org/2000/svg' role='img' aria-labelledby='t d'
@@ -105,93 +109,78 @@ const OVERLAP_BELOW: &str = "<rect class='c1 v0' x='1900' y='1000' width='3233' 
 </svg>
 ";
 
-#[test]
-fn worked_pictures(rt: HostRuntime) -> Result<(), Fail> {
-    let line = ["draw", "--from", "1", "--units=1"];
-    let picture = text_of(&rt, rt.alloc(), &line, ROWS.as_bytes())?;
-    assert!(rt; picture.as_slice().starts_with(UNIT_ABOVE.as_bytes()));
-    assert!(rt; picture.as_slice().ends_with(UNIT_BELOW.as_bytes()));
-    Ok(())
-}
+const UNIT: &[ShownCase] = &[(&[ROWS], UNIT_ABOVE, &[], UNIT_BELOW)];
 
 /// An invalid trace is drawn too, and the command is done.
-#[test]
-fn a_picture_of_an_invalid_trace(rt: HostRuntime) -> Result<(), Fail> {
-    let invalid = ROWS.replace(rt.alloc(), "row 1 6 9 b", "row 1 5 8 b")?;
-    let picture = text_of(&rt, rt.alloc(), &["draw"], invalid.as_bytes())?;
-    assert!(rt; picture.as_slice().starts_with(OVERLAP_ABOVE.as_bytes()));
-    assert!(rt; picture.as_slice().ends_with(OVERLAP_BELOW.as_bytes()));
-    Ok(())
-}
+const OVERLAP: &[ShownCase] = &[(&[OVERLAP_ROWS], OVERLAP_ABOVE, &[], OVERLAP_BELOW)];
 
 /// The words, and the units that the picture says it shows.
-const WINDOWS: [(&[&str], &str); 15] = [
-    (&["draw"], "units 0 to 5 of 5"),
-    (&["draw", "--from", "2"], "units 2 to 5 of 5"),
-    (&["draw", "--from=2"], "units 2 to 5 of 5"),
-    (&["draw", "--units", "2"], "units 0 to 2 of 5"),
-    (&["draw", "--units=2"], "units 0 to 2 of 5"),
-    (
-        &["draw", "--from", "1", "--units", "2"],
-        "units 1 to 3 of 5",
-    ),
-    (&["draw", "--from", "1", "--units=2"], "units 1 to 3 of 5"),
-    (&["draw", "--from=1", "--units", "2"], "units 1 to 3 of 5"),
-    (&["draw", "--from=1", "--units=2"], "units 1 to 3 of 5"),
-    (&["draw", "--from", "0"], "units 0 to 5 of 5"),
-    (&["draw", "--units", "4294967295"], "units 0 to 5 of 5"),
+macro_rules! window {
+    ([$($word:expr),*], $units:expr) => {
+        (&[$($word),*], Cases::Shown(&[(&[LATE_ROWS], "", &[$units], "")]))
+    };
+}
+
+const WINDOWS: &[Table] = &[
+    window!(["draw"], "units 0 to 5 of 5"),
+    window!(["draw", "--from", "2"], "units 2 to 5 of 5"),
+    window!(["draw", "--from=2"], "units 2 to 5 of 5"),
+    window!(["draw", "--units", "2"], "units 0 to 2 of 5"),
+    window!(["draw", "--units=2"], "units 0 to 2 of 5"),
+    window!(["draw", "--from", "1", "--units", "2"], "units 1 to 3 of 5"),
+    window!(["draw", "--from", "1", "--units=2"], "units 1 to 3 of 5"),
+    window!(["draw", "--from=1", "--units", "2"], "units 1 to 3 of 5"),
+    window!(["draw", "--from=1", "--units=2"], "units 1 to 3 of 5"),
+    window!(["draw", "--from", "0"], "units 0 to 5 of 5"),
+    window!(["draw", "--units", "4294967295"], "units 0 to 5 of 5"),
     // At the horizon and past it the last unit is shown.
-    (&["draw", "--from", "4"], "units 4 to 5 of 5"),
-    (&["draw", "--from", "5"], "units 4 to 5 of 5"),
-    (&["draw", "--from=4294967295"], "units 4 to 5 of 5"),
-    (&["draw", "--from=9", "--units=9"], "units 4 to 5 of 5"),
+    window!(["draw", "--from", "4"], "units 4 to 5 of 5"),
+    window!(["draw", "--from", "5"], "units 4 to 5 of 5"),
+    window!(["draw", "--from=4294967295"], "units 4 to 5 of 5"),
+    window!(["draw", "--from=9", "--units=9"], "units 4 to 5 of 5"),
 ];
 
 #[test]
-fn lines_and_their_windows(rt: HostRuntime) -> Result<(), Fail> {
-    for (line, units) in &WINDOWS {
-        let picture = text_of(&rt, rt.alloc(), line, LATE_ROWS.as_bytes())?;
-        assert!(rt; holds(picture.as_slice(), units), "{units}");
-    }
-    Ok(())
+fn lines_and_their_windows(rt: HostRuntime) {
+    assert_tables(&rt, rt.alloc(), WINDOWS);
 }
 
-/// What stands in place of a part of the text.
-const REPLACED: [(&str, &str, Status, &str); 5] = [
+/// What stands in place of parts of the text.
+const REPLACED: &[ReplacedCase] = &[
     (
-        "row 1 6 9 b",
-        "row 1 6 8 b",
+        &[("row 1 6 9 b", "row 1 6 8 b")],
         Status::BadInput,
+        "",
         "refused 6 BadLine 14\n",
     ),
     (
-        "scale 3",
-        "scale 4",
+        &[("scale 3", "scale 4")],
         Status::BadInput,
+        "",
         "refused 6 BadLine 4\n",
     ),
     (
-        "tasks 3",
-        "tasks 4",
+        &[("tasks 3", "tasks 4")],
         Status::BadInput,
+        "",
         "refused 6 BadLine 9\n",
     ),
     (
-        "rows 4",
-        "rows 5",
+        &[("rows 4", "rows 5")],
         Status::BadInput,
+        "",
         "refused 6 BadLine 16\n",
     ),
     (
-        "run-trace 1",
-        "run-trace 3",
+        &[("run-trace 1", "run-trace 3")],
         Status::BadInput,
+        "",
         "refused 6 BadLine 1\n",
     ),
 ];
 
 /// A fault leaves a first part.
-const FAULTS: [FaultCase; 3] = [
+const FAULTS: &[FaultCase] = &[
     (
         Outside {
             source: &[2],
@@ -218,9 +207,14 @@ const FAULTS: [FaultCase; 3] = [
     ),
 ];
 
+const TABLES: &[Table] = &[
+    (&["draw", "--from", "1", "--units=1"], Cases::Shown(UNIT)),
+    (&["draw"], Cases::Shown(OVERLAP)),
+    (&["draw"], Cases::Replaced(ROWS, REPLACED)),
+    (&["draw"], Cases::Faults(&[ROWS], FAULTS)),
+];
+
 #[test]
-fn texts_and_streams_that_fail(rt: HostRuntime) -> Result<(), Fail> {
-    let alloc = rt.alloc();
-    assert_replaced(&rt, alloc, &["draw"], ROWS, &REPLACED)?;
-    assert_faults(&rt, alloc, &["draw"], &[ROWS], &FAULTS)
+fn pictures_and_texts_and_streams_that_fail(rt: HostRuntime) {
+    assert_tables(&rt, rt.alloc(), TABLES);
 }

@@ -1,14 +1,9 @@
 //! Drills: task sets that are drawn from a number, executed and judged.
 
-use super::calls::{Outside, SURE, call};
-use super::cases::{assert_told, assert_valid, joined, rest_behind, text_of};
-use super::lanes::{assert_worked, list_of};
+use super::calls::{Outside, SURE};
+use super::cases::{Cases, FaultCase, ReportCase, ShownCase, Table, assert_tables};
+use super::lanes::Did;
 use run_tool::Status;
-use std::alloc::Global;
-use std::process::Abort;
-use std::sync::Wait;
-use std::test::Fail;
-use std::thread::Threads;
 
 /// Nothing fails, and each gate has room for its rows.
 const ROOMY: Outside = Outside {
@@ -16,122 +11,110 @@ const ROOMY: Outside = Outside {
     ..SURE
 };
 
-/// A drill, and the set that its number draws.
-#[derive(Clone, Copy)]
-struct Drill {
-    number: &'static str,
-    set: &'static str,
-    /// The lines of its head that `rate` tells of the set too.
-    head: &'static str,
-    /// Its rounds, and the line that tells them.
-    rounds: usize,
-    line: &'static str,
-    /// The lines that `check` tells of the set's trace too.
-    counts: &'static str,
-    /// The ticks that the tasks work.
-    ticks: &'static [u128],
-}
-
-const FIRST: Drill = Drill {
-    number: "1",
-    set: "processors = 4\nhorizon = 6000\ntask = [{name = \"t0\", work = 15, period = 20}, {name = \"t1\", work = 5, period = 5}, \
+/// The set that is drawn from 1.
+const FIRST: &str =
+    "processors = 4\nhorizon = 6000\ntask = [{name = \"t0\", work = 15, period = 20}, {name = \"t1\", work = 5, period = 5}, \
         {name = \"t2\", work = 1, period = 10}, {name = \"t3\", work = 1, period = 4}, {name = \"t4\", work = 5, period = 12}, \
         {name = \"t5\", work = 7, period = 10}, {name = \"t6\", work = 11, period = 30}, {name = \"t7\", work = 4, period = 20}, \
-        {name = \"t8\", work = 2, period = 10}]\n",
-    head: "tasks 9\nscale 60\n",
-    rounds: 8600,
-    line: "rounds 8600\n",
-    counts: "rows 9101\npreemptions 4300\nmigrations 2700\n",
-    ticks: &[
-        270000, 360000, 36000, 90000, 150000, 252000, 132000, 72000, 72000,
-    ],
-};
+        {name = \"t8\", work = 2, period = 10}]\n";
 
-const SECOND: Drill = Drill {
-    number: "2",
-    set: "processors = 4\nhorizon = 6000\ntask = [{name = \"t0\", work = 2, period = 4}, {name = \"t1\", work = 4, period = 5}, \
+/// The set that is drawn from 2.
+const SECOND: &str =
+    "processors = 4\nhorizon = 6000\ntask = [{name = \"t0\", work = 2, period = 4}, {name = \"t1\", work = 4, period = 5}, \
         {name = \"t2\", work = 12, period = 12}, {name = \"t3\", work = 1, period = 5}, {name = \"t4\", work = 9, period = 12}, \
-        {name = \"t5\", work = 19, period = 30}]\n",
-    head: "tasks 6\nscale 60\n",
-    rounds: 9300,
-    line: "rounds 9300\n",
-    counts: "rows 9303\npreemptions 5000\nmigrations 3900\n",
-    ticks: &[180000, 288000, 360000, 72000, 270000, 228000],
-};
+        {name = \"t5\", work = 19, period = 30}]\n";
 
-const LAST: Drill = Drill {
-    number: "18446744073709551615",
-    set: "processors = 4\nhorizon = 6000\ntask = [{name = \"t0\", work = 3, period = 20}, {name = \"t1\", work = 2, period = 12}, \
+/// The set that is drawn from 18446744073709551615.
+const LAST: &str =
+    "processors = 4\nhorizon = 6000\ntask = [{name = \"t0\", work = 3, period = 20}, {name = \"t1\", work = 2, period = 12}, \
         {name = \"t2\", work = 3, period = 6}, {name = \"t3\", work = 2, period = 15}, {name = \"t4\", work = 1, period = 6}, \
         {name = \"t5\", work = 18, period = 30}, {name = \"t6\", work = 6, period = 12}, {name = \"t7\", work = 2, period = 20}, \
         {name = \"t8\", work = 5, period = 5}, {name = \"t9\", work = 1, period = 20}, {name = \"t10\", work = 6, period = 30}, \
-        {name = \"t11\", work = 11, period = 30}, {name = \"t12\", work = 1, period = 15}]\n",
-    head: "tasks 13\nscale 60\n",
-    rounds: 7500,
-    line: "rounds 7500\n",
-    counts: "rows 9101\npreemptions 3800\nmigrations 1900\n",
-    ticks: &[
+        {name = \"t11\", work = 11, period = 30}, {name = \"t12\", work = 1, period = 15}]\n";
+
+/// What a drill tells and what its gates and jobs did. It reads nothing. The counts were worked out by a program outside, which goes
+/// tick by tick.
+macro_rules! drilled {
+    ($text:expr, $rounds:expr, $ticks:expr) => {
+        &[(
+            ROOMY,
+            Status::Done,
+            $text,
+            "",
+            Did::Drilled($rounds, 6, $ticks),
+        )]
+    };
+}
+
+const FIRST_DRILL: &[FaultCase] = drilled!(
+    "drill 1\ntasks 9\nscale 60\nrounds 8600\nrows 9101\npreemptions 4300\nmigrations 2700\nverdict valid\n",
+    8600,
+    &[
+        270000, 360000, 36000, 90000, 150000, 252000, 132000, 72000, 72000
+    ]
+);
+
+const SECOND_DRILL: &[FaultCase] = drilled!(
+    "drill 2\ntasks 6\nscale 60\nrounds 9300\nrows 9303\npreemptions 5000\nmigrations 3900\nverdict valid\n",
+    9300,
+    &[180000, 288000, 360000, 72000, 270000, 228000]
+);
+
+const LAST_DRILL: &[FaultCase] = drilled!(
+    "drill 18446744073709551615\ntasks 13\nscale 60\nrounds 7500\nrows 9101\npreemptions 3800\nmigrations 1900\nverdict valid\n",
+    7500,
+    &[
         54000, 60000, 180000, 48000, 60000, 216000, 180000, 36000, 360000, 18000, 72000, 132000,
-        24000,
-    ],
-};
+        24000
+    ]
+);
 
-/// Makes sure that `trace`, `check` and `rate` tell of the drill's set what the drill tells.
-fn assert_told_alike<X: Abort + Threads + Wait + Sync>(
-    rt: &X,
-    alloc: Global,
-    drill: &Drill,
-) -> Result<(), Fail> {
-    let rates = text_of(rt, alloc, &["rate"], drill.set.as_bytes())?;
-    let head = ["processors 4\nhorizon 6000\n", drill.head];
-    assert!(rt; rest_behind(rates.as_slice(), &head).is_some());
-    let rows = text_of(rt, alloc, &["trace"], drill.set.as_bytes())?;
-    assert_valid(rt, alloc, rows.as_slice(), drill.counts)
-}
+/// What `rate` tells of the sets has the lines of the head that their drills tell.
+const RATES: &[ShownCase] = &[
+    (
+        &[FIRST],
+        "processors 4\nhorizon 6000\ntasks 9\nscale 60\n",
+        &[],
+        "",
+    ),
+    (
+        &[SECOND],
+        "processors 4\nhorizon 6000\ntasks 6\nscale 60\n",
+        &[],
+        "",
+    ),
+    (
+        &[LAST],
+        "processors 4\nhorizon 6000\ntasks 13\nscale 60\n",
+        &[],
+        "",
+    ),
+];
 
-/// Makes sure of what a drill tells and of what its gates and jobs did. It reads nothing.
-fn assert_drilled<X: Abort + Threads + Wait + Sync>(
-    rt: &X,
-    alloc: Global,
-    drill: &Drill,
-) -> Result<(), Fail> {
-    let left = call(rt, alloc, &["drill", drill.number], b"unread", &ROOMY)?;
-    let texts = [
-        "drill ",
-        drill.number,
-        "\n",
-        drill.head,
-        drill.line,
-        drill.counts,
-        "verdict valid\n",
-    ];
-    assert_told(rt, &left.told, (Status::Done, &texts, ""));
-    assert!(rt; left.told.unread == 6);
-    for (p, kit) in left.kits.iter().enumerate() {
-        let want = if p < 4 { drill.rounds } else { 0 };
-        assert!(rt; list_of(rt, kit).len() == want, "on processor {p}");
-    }
-    assert_worked(rt, &left, drill.ticks);
-    Ok(())
-}
-
-/// The counts were worked out by a program outside, which goes tick by tick.
-#[test]
-fn drills_are_valid(rt: HostRuntime) -> Result<(), Fail> {
-    for drill in [FIRST, SECOND, LAST] {
-        assert_drilled(&rt, rt.alloc(), &drill)?;
-        assert_told_alike(&rt, rt.alloc(), &drill)?;
-    }
-    Ok(())
-}
+/// What `check` tells of the traces of the sets has the counts that their drills tell.
+const REPORTS: &[ReportCase] = &[
+    (
+        &[FIRST],
+        "valid\nrows 9101\npreemptions 4300\nmigrations 2700\n",
+    ),
+    (
+        &[SECOND],
+        "valid\nrows 9303\npreemptions 5000\nmigrations 3900\n",
+    ),
+    (
+        &[LAST],
+        "valid\nrows 9101\npreemptions 3800\nmigrations 1900\n",
+    ),
+];
 
 /// Where a stream, a gate or a job fails, a drill stops as an execution does.
-const FAULTS: [(Outside, Status, &str, &str); 3] = [
+const FAULTS: &[FaultCase] = &[
     (
         Outside { out: &[3], ..ROOMY },
         Status::WriteFault,
         "drill 1\ntasks 9\n",
         "refused 4 WriteFault\n",
+        Did::Unread(6),
     ),
     (
         Outside {
@@ -141,6 +124,7 @@ const FAULTS: [(Outside, Status, &str, &str); 3] = [
         Status::GateFault,
         "",
         "refused 10 GateFault processor 3 row 0 32 t6\n",
+        Did::Unread(6),
     ),
     (
         Outside {
@@ -150,15 +134,23 @@ const FAULTS: [(Outside, Status, &str, &str); 3] = [
         Status::JobFault,
         "",
         "refused 11 JobFault task t2 processor 0 row 0 32\n",
+        Did::Unread(6),
     ),
 ];
 
+const TABLES: &[Table] = &[
+    (&["drill", "1"], Cases::Faults(&["unread"], FIRST_DRILL)),
+    (&["drill", "2"], Cases::Faults(&["unread"], SECOND_DRILL)),
+    (
+        &["drill", "18446744073709551615"],
+        Cases::Faults(&["unread"], LAST_DRILL),
+    ),
+    (&["rate"], Cases::Shown(RATES)),
+    (&["trace"], Cases::Reports(REPORTS)),
+    (&["drill", "1"], Cases::Faults(&["unread"], FAULTS)),
+];
+
 #[test]
-fn drills_that_stop(rt: HostRuntime) -> Result<(), Fail> {
-    for (outside, status, out, err) in &FAULTS {
-        let left = call(&rt, rt.alloc(), &["drill", "1"], b"unread", outside)?;
-        assert_told(&rt, &left.told, (*status, &[*out], *err));
-        assert!(rt; left.told.unread == 6);
-    }
-    Ok(())
+fn drills_are_valid_or_stop(rt: HostRuntime) {
+    assert_tables(&rt, rt.alloc(), TABLES);
 }

@@ -1,15 +1,16 @@
 //! Faults of the streams in mid-stream, and the end of a run.
 
 use super::calls::{Outside, SURE};
-use super::cases::{FaultCase, assert_faults};
+use super::cases::{Cases, FaultCase, Table, assert_tables};
 use super::lanes::Did;
 use super::texts::{THREE_RATES, THREE_TASKS};
 use run_tool::{Status, close_flushed};
 use sched_edges::{Failed, MemSink};
-use std::test::Fail;
+use std::alloc::Global;
+use std::process::Abort;
 
 /// Faults leave a first part.
-const FAULTS: [FaultCase; 4] = [
+const FAULTS: &[FaultCase] = &[
     // The first read gives all, and the second one is to find the end.
     (
         Outside {
@@ -50,13 +51,15 @@ const FAULTS: [FaultCase; 4] = [
     ),
 ];
 
+const TABLES: &[Table] = &[(&["rate"], Cases::Faults(&[THREE_TASKS], FAULTS))];
+
 #[test]
-fn faults_leave_a_first_part(rt: HostRuntime) -> Result<(), Fail> {
-    assert_faults(&rt, rt.alloc(), &["rate"], &[THREE_TASKS], &FAULTS)
+fn faults_leave_a_first_part(rt: HostRuntime) {
+    assert_tables(&rt, rt.alloc(), TABLES);
 }
 
 /// How a call ended, what became of the bytes kept back, how the run ends, and what `err` takes.
-const CLOSED: [(Status, bool, Status, &str); 6] = [
+const CLOSED: &[(Status, bool, Status, &str)] = &[
     (Status::Done, true, Status::Done, ""),
     (
         Status::Done,
@@ -76,16 +79,31 @@ const CLOSED: [(Status, bool, Status, &str); 6] = [
     (Status::Overload, false, Status::Overload, ""),
 ];
 
+// Makes sure of how a run ends whose bytes that were kept back were handed on, or were not.
+fn assert_closed(
+    rt: &impl Abort,
+    alloc: Global,
+    (status, is_flushed): (Status, bool),
+    (at_the_end, line): (Status, &str),
+) {
+    let flushed = if is_flushed { Ok(()) } else { Err(Failed) };
+    let mut err = MemSink::new(alloc, 64, &[]).expect(rt, "there is memory");
+    let closed = close_flushed(status, flushed, &mut err);
+    assert!(rt;
+        closed == at_the_end && err.taken() == line.as_bytes(),
+        "{line}"
+    );
+}
+
 #[test]
-fn a_text_kept_back_is_not_lost_silently(rt: HostRuntime) -> Result<(), Fail> {
-    for (status, is_flushed, at_the_end, line) in &CLOSED {
-        let flushed = if *is_flushed { Ok(()) } else { Err(Failed) };
-        let mut err = MemSink::new(rt.alloc(), 64, &[])?;
-        let closed = close_flushed(*status, flushed, &mut err);
-        assert!(rt;
-            closed == *at_the_end && err.taken() == line.as_bytes(),
-            "{line}"
-        );
+fn a_text_kept_back_is_not_lost_silently(rt: HostRuntime) {
+    for (status, is_flushed, at_the_end, line) in CLOSED {
+        let end = (*at_the_end, *line);
+        assert_closed(&rt, rt.alloc(), (*status, *is_flushed), end);
     }
-    Ok(())
+}
+
+#[test]
+fn statuses_have_their_codes(rt: HostRuntime) {
+    assert!(rt; Status::Usage.code() == 2 && Status::ModeFault.code() == 15);
 }

@@ -1,43 +1,37 @@
 //! Executions of worked sets: the text is that of `trace`, whatever the window.
 
 use super::calls::{Outside, SURE};
-use super::cases::{DoneCase, RefusedCase, assert_call, assert_done, assert_refused, text_of};
-use super::lanes::Did;
+use super::cases::{Cases, DoneCase, RefusedCase, Table, assert_call, assert_tables, text_of};
+use super::lanes::{Did, Schedule};
 use super::texts::{
     FULL_MET, FULL_RATE, FULL_ROWS, LATE_ROWS, LATE_TASK, NINE_TASKS, NO_TASKS, NO_TASKS_ROWS,
     ONE_IDLE, ONE_IDLE_ROWS, OVERLOAD, THREE_ROWS, THREE_TASKS, TWO_REDUCTIONS, TWO_ROWS,
 };
 use run_tool::Status;
-use std::test::Fail;
-
-const LINES: [&[&str]; 6] = [
-    &["exec"],
-    &["exec", "--window", "1"],
-    &["exec", "--window", "2"],
-    &["exec", "--window=2"],
-    &["exec", "--window", "32"],
-    &["exec", "--window", "1024"],
-];
+use std::alloc::Global;
+use std::process::Abort;
+use std::sync::Wait;
+use std::thread::Threads;
 
 /// In each window.
-const WINDOWED: [DoneCase; 2] = [
-    (&[THREE_TASKS], &[THREE_ROWS], Did::RanThree),
-    (&[TWO_REDUCTIONS], &[TWO_ROWS], Did::RanTwo),
+const WINDOWED: &[DoneCase] = &[
+    (&[THREE_TASKS], &[THREE_ROWS], Did::Ran(Schedule::Three)),
+    (&[TWO_REDUCTIONS], &[TWO_ROWS], Did::Ran(Schedule::Two)),
 ];
 
 const LATE: DoneCase = (&[LATE_TASK], &[LATE_ROWS], Did::Worked(&[4, 5]));
 
-const OTHER: [DoneCase; 4] = [
+const OTHER: &[DoneCase] = &[
     (&[NO_TASKS], &[NO_TASKS_ROWS], Did::Worked(&[])),
     (&[ONE_IDLE], &[ONE_IDLE_ROWS], Did::Worked(&[15, 15, 15])),
     (&[FULL_RATE], &[FULL_ROWS], Did::Worked(&[3])),
     LATE,
 ];
 
-const MET: [DoneCase; 2] = [(&[FULL_RATE], &[FULL_MET], Did::Worked(&[3])), LATE];
+const MET: &[DoneCase] = &[(&[FULL_RATE], &[FULL_MET], Did::Worked(&[3])), LATE];
 
 /// A set that is refused calls no gate.
-const REFUSED: [RefusedCase; 4] = [
+const REFUSED: &[RefusedCase] = &[
     (
         &[OVERLOAD],
         Status::Overload,
@@ -64,20 +58,26 @@ const REFUSED: [RefusedCase; 4] = [
     ),
 ];
 
+const TABLES: &[Table] = &[
+    (&["exec"], Cases::Done(WINDOWED)),
+    (&["exec", "--window", "1"], Cases::Done(WINDOWED)),
+    (&["exec", "--window", "2"], Cases::Done(WINDOWED)),
+    (&["exec", "--window=2"], Cases::Done(WINDOWED)),
+    (&["exec", "--window", "32"], Cases::Done(WINDOWED)),
+    (&["exec", "--window", "1024"], Cases::Done(WINDOWED)),
+    (&["exec"], Cases::Done(OTHER)),
+    (&["exec", "--met"], Cases::Done(MET)),
+    (&["exec", "--window", "1"], Cases::Done(&[LATE])),
+    (&["exec"], Cases::Refused(REFUSED)),
+];
+
 #[test]
-fn executions_of_worked_sets(rt: HostRuntime) -> Result<(), Fail> {
-    let alloc = rt.alloc();
-    for line in &LINES {
-        assert_done(&rt, alloc, line, &WINDOWED)?;
-    }
-    assert_done(&rt, alloc, &["exec"], &OTHER)?;
-    assert_done(&rt, alloc, &["exec", "--met"], &MET)?;
-    assert_done(&rt, alloc, &["exec", "--window", "1"], &[LATE])?;
-    assert_refused(&rt, alloc, &["exec"], &REFUSED)
+fn executions_of_worked_sets(rt: HostRuntime) {
+    assert_tables(&rt, rt.alloc(), TABLES);
 }
 
 /// What each task works in a second: work after work of each period.
-const NINE_TICKS: [u128; 9] = [
+const NINE_TICKS: &[u128] = &[
     600_000_000_000,
     600_000_000_000,
     600_000_000_000,
@@ -89,16 +89,22 @@ const NINE_TICKS: [u128; 9] = [
     200_000_000_000,
 ];
 
-#[test]
-fn nine_tasks_of_a_vehicle(rt: HostRuntime) -> Result<(), Fail> {
-    let alloc = rt.alloc();
-    let outside = Outside {
-        gate_room: 65_536,
-        ..SURE
-    };
-    let rows = text_of(&rt, alloc, &["trace"], NINE_TASKS.as_bytes())?;
-    let rows = [std::str::from_utf8(rows.as_slice())?];
+/// Each gate has room for the rows of a second.
+const ROOMY: Outside = Outside {
+    gate_room: 65_536,
+    ..SURE
+};
+
+// Makes sure that the execution of nine tasks tells what `trace` does.
+fn assert_nine<X: Abort + Threads + Wait + Sync>(rt: &X, alloc: Global) {
+    let rows = text_of(rt, alloc, &["trace"], &[NINE_TASKS]);
+    let rows = [rows.as_str()];
     let end = (Status::Done, rows.as_slice(), "");
-    let did = Did::Worked(&NINE_TICKS);
-    assert_call(&rt, alloc, &["exec"], &[NINE_TASKS], &outside, end, did)
+    let did = Did::Worked(NINE_TICKS);
+    assert_call(rt, alloc, &["exec"], &[NINE_TASKS], &ROOMY, end, did);
+}
+
+#[test]
+fn nine_tasks_of_a_vehicle(rt: HostRuntime) {
+    assert_nine(&rt, rt.alloc());
 }

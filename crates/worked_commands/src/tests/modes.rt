@@ -1,11 +1,8 @@
 //! Sets that follow each other as modes, and the line `modes`.
 
-use super::calls::{Outside, SURE, call};
-use super::cases::{
-    DoneCase, FaultCase, RefusedCase, assert_call, assert_done, assert_faults, assert_refused,
-};
-use super::lanes::{Did, Front, modes_lanes};
-use super::stops::assert_stop;
+use super::calls::{Outside, SURE, Told, call};
+use super::cases::{Cases, DoneCase, FaultCase, RefusedCase, Table, assert_tables};
+use super::lanes::{Did, Front, Schedule};
 use super::texts::{
     NO_TASKS, NO_TASKS_ROWS, ONE_IDLE, ONE_IDLE_ROWS, OVERLOAD, THREE_ROWS, THREE_TASKS,
 };
@@ -13,7 +10,6 @@ use run_tool::Status;
 use std::alloc::Global;
 use std::process::Abort;
 use std::sync::Wait;
-use std::test::Fail;
 use std::thread::Threads;
 
 /// Two tasks of rate 1/2 and one of rate 1/4 on two processors.
@@ -36,7 +32,7 @@ const LATE: &str =
 const OVER: &str =
     "processors = 2\nhorizon = 3\ntask = [{name = \"a\", work = 3, period = 3}, {name = \"b\", work = 3, period = 3}, {name = \"c\", work = 3, period = 3}]\n";
 
-const MODES: [DoneCase; 3] = [
+const MODES: &[DoneCase] = &[
     // Each gate's list is the rows of the first mode, and then those of the second.
     (
         &[THREE_TASKS, "%%\n", HALVES],
@@ -46,7 +42,7 @@ const MODES: [DoneCase; 3] = [
             "mode 1 3 4\n",
             HALVES_ROWS,
         ],
-        Did::RanModes,
+        Did::Ran(Schedule::Modes),
     ),
     // The scales are others. The last mode has no tasks, so the jobs tell what they worked in the mode before it.
     (
@@ -64,7 +60,7 @@ const MODES: [DoneCase; 3] = [
     (
         &[THREE_TASKS],
         &["run-modes 1\nmodes 1\nmode 0 0 3\n", THREE_ROWS],
-        Did::RanThree,
+        Did::Ran(Schedule::Three),
     ),
 ];
 
@@ -73,7 +69,7 @@ const LONG: &str =
     "processors = 1\nhorizon = 1048577\ntask = [{name = \"a\", work = 1, period = 1}]\n";
 
 /// Sets with the line that tells why they are refused.
-const REFUSED: [RefusedCase; 14] = [
+const REFUSED: &[RefusedCase] = &[
     (
         &[OPEN],
         Status::ModeFault,
@@ -150,7 +146,7 @@ const REFUSED: [RefusedCase; 14] = [
 ];
 
 /// What fails.
-const FAULTS: [FaultCase; 3] = [
+const FAULTS: &[FaultCase] = &[
     (
         Outside {
             source: &[1],
@@ -180,18 +176,122 @@ const FAULTS: [FaultCase; 3] = [
     ),
 ];
 
+/// The line of a mode that `err` doesn't take.
+const UNTOLD: &[FaultCase] = &[(
+    Outside { err: &[1], ..SURE },
+    Status::ModeFault,
+    "",
+    "",
+    Did::Nothing,
+)];
+
+/// A gate or a job that fails.
+const STOPS: &[FaultCase] = &[
+    (
+        Outside {
+            gate: Some((1, 2)),
+            ..SURE
+        },
+        Status::GateFault,
+        "",
+        "set 0 refused 10 GateFault processor 1 row 3 6 c\n",
+        Did::Stopped(Front {
+            schedule: Schedule::Modes,
+            processor: 1,
+            ran: 1,
+            most: 7,
+            failed: None,
+            worked: None,
+        }),
+    ),
+    (
+        Outside {
+            gate: Some((0, 4)),
+            ..SURE
+        },
+        Status::GateFault,
+        "",
+        "set 1 refused 10 GateFault processor 0 row 0 4 a\n",
+        Did::Stopped(Front {
+            schedule: Schedule::Modes,
+            processor: 0,
+            ran: 3,
+            most: 7,
+            failed: None,
+            worked: None,
+        }),
+    ),
+    (
+        Outside {
+            gate: Some((1, 4)),
+            ..SURE
+        },
+        Status::GateFault,
+        "",
+        "set 1 refused 10 GateFault processor 1 row 0 4 c\n",
+        Did::Stopped(Front {
+            schedule: Schedule::Modes,
+            processor: 1,
+            ran: 3,
+            most: 7,
+            failed: None,
+            worked: None,
+        }),
+    ),
+    (
+        Outside {
+            gate: Some((0, 5)),
+            ..SURE
+        },
+        Status::GateFault,
+        "",
+        "set 1 refused 10 GateFault processor 0 row 4 8 b\n",
+        Did::Stopped(Front {
+            schedule: Schedule::Modes,
+            processor: 0,
+            ran: 4,
+            most: 7,
+            failed: None,
+            worked: None,
+        }),
+    ),
+    // The job of c has two rows in the first mode, so its third is in the second one.
+    (
+        Outside {
+            job: Some((2, 3)),
+            ..SURE
+        },
+        Status::JobFault,
+        "",
+        "set 1 refused 11 JobFault task c processor 1 row 0 4\n",
+        Did::Stopped(Front {
+            schedule: Schedule::Modes,
+            processor: 1,
+            ran: 4,
+            most: 7,
+            failed: Some(2),
+            worked: None,
+        }),
+    ),
+];
+
+const TABLES: &[Table] = &[
+    (&["modes"], Cases::Done(MODES)),
+    (&["modes"], Cases::Refused(REFUSED)),
+    (
+        &["modes"],
+        Cases::Faults(&[THREE_TASKS, "%%\n", NO_TASKS], FAULTS),
+    ),
+    (&["modes"], Cases::Faults(&[OPEN], UNTOLD)),
+    (
+        &["modes"],
+        Cases::Faults(&[THREE_TASKS, "%%\n", HALVES, "%%\n", NO_TASKS], STOPS),
+    ),
+];
+
 #[test]
-fn sets_as_modes(rt: HostRuntime) -> Result<(), Fail> {
-    assert!(rt; Status::ModeFault.code() == 15);
-    let alloc = rt.alloc();
-    assert_done(&rt, alloc, &["modes"], &MODES)?;
-    assert_refused(&rt, alloc, &["modes"], &REFUSED)?;
-    let input = [THREE_TASKS, "%%\n", NO_TASKS];
-    assert_faults(&rt, alloc, &["modes"], &input, &FAULTS)?;
-    // The line of a mode that `err` doesn't take.
-    let outside = Outside { err: &[1], ..SURE };
-    let end = (Status::ModeFault, [].as_slice(), "");
-    assert_call(&rt, alloc, &["modes"], &[OPEN], &outside, end, Did::Nothing)
+fn sets_as_modes(rt: HostRuntime) {
+    assert_tables(&rt, rt.alloc(), TABLES);
 }
 
 /// Three tasks of rate 2/3, and then a mode without tasks.
@@ -200,16 +300,15 @@ const CUT: &str =
         {name = \"c\", work = 2, period = 3}]\n%%\nprocessors = 2\nhorizon = 1\n";
 
 // Makes sure of what is told of the text cut after so many bytes.
-fn assert_cut<X: Threads + Wait + Abort + Sync>(
-    rt: &X,
-    alloc: Global,
-    cut: &[u8],
-) -> Result<(), Fail> {
+fn assert_cut<X: Threads + Wait + Abort + Sync>(rt: &X, alloc: Global, cut: &[u8]) {
+    let left = call(rt, alloc, &["modes"], cut, &SURE);
+    assert_cut_told(rt, &left.told, cut.len());
+}
+
+fn assert_cut_told(rt: &impl Abort, told: &Told, end: usize) {
     let first = THREE_TASKS.len();
     let head = "processors = 2\nhorizon = 3\n".len();
-    let left = call(rt, alloc, &["modes"], cut, &SURE)?;
     // Without its tasks it is a set too. The last line feed of a set may be missing.
-    let end = cut.len();
     let next = end.saturating_add(1);
     let last = [head, first, CUT.len()];
     let is_whole = last.contains(&end) || last.contains(&next);
@@ -218,101 +317,19 @@ fn assert_cut<X: Threads + Wait + Abort + Sync>(
     } else {
         Status::BadInput
     };
-    assert!(rt; left.told.status == status, "after {end}");
     let start = if end <= first.saturating_add(1) {
-        b"set 0 refused 6 ".as_slice()
+        "set 0 refused 6 "
     } else {
-        b"set 1 refused 6 ".as_slice()
+        "set 1 refused 6 "
     };
-    assert!(rt;
-        is_whole || left.told.err.taken().starts_with(start),
-        "after {end}"
-    );
-    Ok(())
+    let is_told = is_whole || told.err.taken().starts_with(start.as_bytes());
+    assert!(rt; told.status == status && is_told, "after {end}");
 }
 
 #[test]
-fn a_text_cut_after_each_byte(rt: HostRuntime) -> Result<(), Fail> {
+fn a_text_cut_after_each_byte(rt: HostRuntime) {
     let text = CUT.as_bytes();
     for end in 0..=text.len() {
-        assert_cut(&rt, rt.alloc(), &text[..end])?;
+        assert_cut(&rt, rt.alloc(), &text[..end]);
     }
-    Ok(())
-}
-
-/// The gate and its call that fails, how many rows it ran, and what `err` takes.
-const GATE_FAULTS: [(u32, u64, usize, &str); 4] = [
-    (
-        1,
-        2,
-        1,
-        "set 0 refused 10 GateFault processor 1 row 3 6 c\n",
-    ),
-    (
-        0,
-        4,
-        3,
-        "set 1 refused 10 GateFault processor 0 row 0 4 a\n",
-    ),
-    (
-        1,
-        4,
-        3,
-        "set 1 refused 10 GateFault processor 1 row 0 4 c\n",
-    ),
-    (
-        0,
-        5,
-        4,
-        "set 1 refused 10 GateFault processor 0 row 4 8 b\n",
-    ),
-];
-
-#[test]
-fn a_gate_or_a_job_fails_in_a_mode(rt: HostRuntime) -> Result<(), Fail> {
-    let (alloc, lanes) = (rt.alloc(), modes_lanes());
-    let input = [THREE_TASKS, "%%\n", HALVES, "%%\n", NO_TASKS];
-    for (processor, number, ran, err) in &GATE_FAULTS {
-        let outside = Outside {
-            gate: Some((*processor, *number)),
-            ..SURE
-        };
-        let front = Front {
-            processor: *processor,
-            ran: *ran,
-            most: 7,
-            failed: None,
-        };
-        assert_stop(
-            &rt,
-            alloc,
-            &["modes"],
-            &input,
-            &outside,
-            &lanes,
-            (front, *err),
-        )?;
-    }
-    // The job of c has two rows in the first mode, so its third is in the second one.
-    let outside = Outside {
-        job: Some((2, 3)),
-        ..SURE
-    };
-    let front = Front {
-        processor: 1,
-        ran: 4,
-        most: 7,
-        failed: Some(2),
-    };
-    let err = "set 1 refused 11 JobFault task c processor 1 row 0 4\n";
-    assert_stop(
-        &rt,
-        alloc,
-        &["modes"],
-        &input,
-        &outside,
-        &lanes,
-        (front, err),
-    )?;
-    Ok(())
 }

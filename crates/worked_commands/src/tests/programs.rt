@@ -1,14 +1,11 @@
 //! Jobs that run programs.
 
 use super::calls::{Outside, SURE};
-use super::cases::{
-    DoneCase, FaultCase, RefusedCase, assert_call, assert_done, assert_faults, assert_refused,
-};
-use super::lanes::{Did, Front, three_lanes};
-use super::stops::assert_stop;
+use super::cases::{Cases, DoneCase, FaultCase, RefusedCase, Table, assert_tables};
+use super::lanes::{Did, Schedule};
+use super::stops::THREE_STOPS;
 use super::texts::{NINE_TASKS, OVERLOAD, THREE_TASKS, TWO_REDUCTIONS};
 use run_tool::Status;
-use std::test::Fail;
 
 /// Counts every second unit in register 0.
 const COUNTS: &str = "set 1 1\nadd 0 1\njump 1\n";
@@ -18,7 +15,7 @@ const ONE_TASK: &str =
     "processors = 1\nhorizon = 6\ntask = [{name = \"a\", work = 1, period = 1}]\n";
 
 /// One step in each unit of a program of task a.
-const DONE: [DoneCase; 2] = [
+const DONE: &[DoneCase] = &[
     (
         &[
             "run-jobs 1\nprogram a\nset 0 1\nadd 1 0\njump 1\ntasks\n",
@@ -27,7 +24,7 @@ const DONE: [DoneCase; 2] = [
         &[
             "run-jobs 1\njob a 2 2 1 1 0 0 0 0 0 0\njob b 2 0 0 0 0 0 0 0 0 0\njob c 2 0 0 0 0 0 0 0 0 0\n",
         ],
-        Did::RanThree,
+        Did::Ran(Schedule::Three),
     ),
     // Loops count their units.
     (
@@ -45,12 +42,12 @@ const DONE: [DoneCase; 2] = [
             "run-jobs 1\njob a 3 1 1 1 0 0 0 0 0 0\njob b 3 0 0 0 0 0 0 0 0 0\njob c 3 1 1 1 0 0 0 0 0 0\n\
             job d 3 0 0 0 0 0 0 0 0 0\njob e 3 1 1 1 0 0 0 0 0 0\n",
         ],
-        Did::RanTwo,
+        Did::Ran(Schedule::Two),
     ),
 ];
 
 /// Of a second of a vehicle's tasks, each unit is one step. Every second one counts.
-const NINE_PROGRAMS: [&str; 9] = [
+const NINE_PROGRAMS: &[&str] = &[
     "run-jobs 1\n",
     "program control\n",
     COUNTS,
@@ -69,10 +66,10 @@ const NINE_LINES: &str =
         job health 200000 2 100000 1 0 0 0 0 0 0\n";
 
 /// A text with a program for task a.
-const HALTING: [&str; 2] = ["run-jobs 1\nprogram a\nhalt\ntasks\n", THREE_TASKS];
+const HALTING: &[&str] = &["run-jobs 1\nprogram a\nhalt\ntasks\n", THREE_TASKS];
 
 /// What is refused of the programs, or of the set behind them.
-const REFUSED: [RefusedCase; 13] = [
+const REFUSED: &[RefusedCase] = &[
     (
         &[
             "run-jobs 1\n",
@@ -187,7 +184,7 @@ const REFUSED: [RefusedCase; 13] = [
 ];
 
 /// A stream that fails.
-const FAULTS: [FaultCase; 1] = [(
+const FAULTS: &[FaultCase] = &[(
     Outside { out: &[1], ..SURE },
     Status::WriteFault,
     "",
@@ -195,140 +192,133 @@ const FAULTS: [FaultCase; 1] = [(
     Did::Worked(&[6, 6, 6]),
 )];
 
-#[test]
-fn sets_with_programs(rt: HostRuntime) -> Result<(), Fail> {
-    let alloc = rt.alloc();
-    assert_done(&rt, alloc, &["jobs"], &DONE)?;
-    assert_refused(&rt, alloc, &["jobs"], &REFUSED)?;
-    assert_faults(&rt, alloc, &["jobs"], &HALTING, &FAULTS)?;
-    // Another list of words.
-    let end = (Status::Usage, [].as_slice(), "refused 2 Usage\n");
-    assert_call(
-        &rt,
-        alloc,
-        &["jobs", "--met"],
-        &HALTING,
-        &SURE,
-        end,
-        Did::Nothing,
-    )?;
-    let outside = Outside {
+/// Another list of words.
+const OTHER_WORDS: &[FaultCase] = &[(SURE, Status::Usage, "", "refused 2 Usage\n", Did::Nothing)];
+
+/// Gates with room for the rows of a second.
+const NINE: &[FaultCase] = &[(
+    Outside {
         gate_room: 65_536,
         ..SURE
+    },
+    Status::Done,
+    NINE_LINES,
+    "",
+    Did::Unseen,
+)];
+
+/// The instructions of a program, and what is told after six units.
+macro_rules! program {
+    ($program:expr, $told:expr) => {
+        (
+            &["run-jobs 1\nprogram a\n", $program, "tasks\n", ONE_TASK],
+            &["run-jobs 1\njob a ", $told, "\n"],
+            Did::Worked(&[6]),
+        )
     };
-    let end = (Status::Done, [NINE_LINES].as_slice(), "");
-    assert_call(
-        &rt,
-        alloc,
-        &["jobs"],
-        &NINE_PROGRAMS,
-        &outside,
-        end,
-        Did::Unseen,
-    )
 }
 
-/// The instructions, and what is told after six units.
-const PROGRAMS: [(&str, &str); 11] = [
-    ("", "6 0 0 0 0 0 0 0 0 0"),
-    ("set 7 4294967295\n", "6 1 0 0 0 0 0 0 0 4294967295"),
+/// Each instruction does its work.
+const PROGRAMS: &[DoneCase] = &[
+    program!("", "6 0 0 0 0 0 0 0 0 0"),
+    program!("set 7 4294967295\n", "6 1 0 0 0 0 0 0 0 4294967295"),
     // 0 - 1 is the greatest number of 64 bits. Its square is 1, and one more is 0.
-    (
+    program!(
         "set 1 1\nsub 0 1\n",
-        "6 2 18446744073709551615 1 0 0 0 0 0 0",
+        "6 2 18446744073709551615 1 0 0 0 0 0 0"
     ),
-    ("set 1 1\nsub 0 1\nmul 0 0\n", "6 3 1 1 0 0 0 0 0 0"),
-    ("set 1 1\nsub 0 1\nadd 0 1\n", "6 3 0 1 0 0 0 0 0 0"),
-    (
+    program!("set 1 1\nsub 0 1\nmul 0 0\n", "6 3 1 1 0 0 0 0 0 0"),
+    program!("set 1 1\nsub 0 1\nadd 0 1\n", "6 3 0 1 0 0 0 0 0 0"),
+    program!(
         "set 2 3\nadd 2 2\nmul 2 2\nsub 2 3\nset 3 1\nsub 2 3\n",
-        "6 6 0 0 35 1 0 0 0 0",
+        "6 6 0 0 35 1 0 0 0 0"
     ),
     // A jump to the number of instructions ends the program.
-    ("jz 0 2\nhalt\n", "6 2 0 0 0 0 0 0 0 0"),
-    ("set 0 5\njz 0 0\n", "6 2 5 0 0 0 0 0 0 0"),
-    ("jump 1\n", "6 1 0 0 0 0 0 0 0 0"),
-    ("set 4 9\nhalt\nset 4 8\n", "6 1 0 0 0 0 9 0 0 0"),
-    (COUNTS, "6 2 3 1 0 0 0 0 0 0"),
+    program!("jz 0 2\nhalt\n", "6 2 0 0 0 0 0 0 0 0"),
+    program!("set 0 5\njz 0 0\n", "6 2 5 0 0 0 0 0 0 0"),
+    program!("jump 1\n", "6 1 0 0 0 0 0 0 0 0"),
+    program!("set 4 9\nhalt\nset 4 8\n", "6 1 0 0 0 0 9 0 0 0"),
+    program!(COUNTS, "6 2 3 1 0 0 0 0 0 0"),
 ];
 
-#[test]
-fn each_instruction_does_its_work(rt: HostRuntime) -> Result<(), Fail> {
-    let alloc = rt.alloc();
-    for (program, told) in &PROGRAMS {
-        let input = ["run-jobs 1\nprogram a\n", *program, "tasks\n", ONE_TASK];
-        let out = ["run-jobs 1\njob a ", *told, "\n"];
-        let end = (Status::Done, out.as_slice(), "");
-        assert_call(&rt, alloc, &["jobs"], &input, &SURE, end, Did::Worked(&[6]))?;
-    }
-    // A job without a program tells zeros: that of task a counts its calls, and none of them fails.
-    let outside = Outside {
+/// A job without a program tells zeros: that of task a counts its calls, and none of them fails.
+const WITHOUT: &[FaultCase] = &[(
+    Outside {
         job: Some((0, 1_000_000)),
         ..SURE
-    };
-    let input = ["run-jobs 1\nprogram a\n", COUNTS, "tasks\n", ONE_TASK];
-    let out = ["run-jobs 1\njob a 6 0 0 0 0 0 0 0 0 0\n"];
-    let end = (Status::Done, out.as_slice(), "");
-    assert_call(
-        &rt,
-        alloc,
-        &["jobs"],
-        &input,
-        &outside,
-        end,
-        Did::Worked(&[6]),
-    )
-}
+    },
+    Status::Done,
+    "run-jobs 1\njob a 6 0 0 0 0 0 0 0 0 0\n",
+    "",
+    Did::Worked(&[6]),
+)];
 
-/// The text cut after so many bytes, and what `err` takes.
-const CUT: [(usize, &str); 10] = [
-    (0, "refused 6 BadProgram 1\n"),
-    (8, "refused 6 BadProgram 1\n"),
-    (10, "refused 6 BadProgram 2\n"),
-    (18, "refused 6 BadProgram 2\n"),
-    (21, "refused 6 BadProgram 3\n"),
-    (24, "refused 6 BadProgram 3\n"),
-    (27, "refused 6 BadProgram 3\n"),
-    (28, "refused 6 BadProgram 4\n"),
-    (33, "refused 6 BadProgram 4\n"),
+/// A text that is cut after some bytes.
+const CUT: &[RefusedCase] = &[
+    (&[""], Status::BadInput, "refused 6 BadProgram 1\n"),
+    (&["run-jobs"], Status::BadInput, "refused 6 BadProgram 1\n"),
+    (
+        &["run-jobs 1"],
+        Status::BadInput,
+        "refused 6 BadProgram 2\n",
+    ),
+    (
+        &["run-jobs 1\nprogram"],
+        Status::BadInput,
+        "refused 6 BadProgram 2\n",
+    ),
+    (
+        &["run-jobs 1\nprogram a\n"],
+        Status::BadInput,
+        "refused 6 BadProgram 3\n",
+    ),
+    (
+        &["run-jobs 1\nprogram a\nset"],
+        Status::BadInput,
+        "refused 6 BadProgram 3\n",
+    ),
+    (
+        &["run-jobs 1\nprogram a\nset 0 "],
+        Status::BadInput,
+        "refused 6 BadProgram 3\n",
+    ),
+    (
+        &["run-jobs 1\nprogram a\nset 0 1"],
+        Status::BadInput,
+        "refused 6 BadProgram 4\n",
+    ),
+    (
+        &["run-jobs 1\nprogram a\nset 0 1\ntask"],
+        Status::BadInput,
+        "refused 6 BadProgram 4\n",
+    ),
     // The last line is `tasks` without its line feed, and an empty set stands behind it.
-    (34, "refused 6 Missing top processors\n"),
+    (
+        &["run-jobs 1\nprogram a\nset 0 1\ntasks"],
+        Status::BadInput,
+        "refused 6 Missing top processors\n",
+    ),
+];
+
+const TABLES: &[Table] = &[
+    (&["jobs"], Cases::Done(DONE)),
+    (&["jobs"], Cases::Refused(REFUSED)),
+    (&["jobs"], Cases::Faults(HALTING, FAULTS)),
+    (&["jobs"], Cases::Faults(HALTING, THREE_STOPS)),
+    (&["jobs", "--met"], Cases::Faults(HALTING, OTHER_WORDS)),
+    (&["jobs"], Cases::Faults(NINE_PROGRAMS, NINE)),
+    (&["jobs"], Cases::Done(PROGRAMS)),
+    (
+        &["jobs"],
+        Cases::Faults(
+            &["run-jobs 1\nprogram a\n", COUNTS, "tasks\n", ONE_TASK],
+            WITHOUT,
+        ),
+    ),
+    (&["jobs"], Cases::Refused(CUT)),
 ];
 
 #[test]
-fn cut_job_texts_are_refused(rt: HostRuntime) -> Result<(), Fail> {
-    let text = "run-jobs 1\nprogram a\nset 0 1\ntasks";
-    for (end, err) in &CUT {
-        let cut = [text.get(..*end).expect(&rt, "a text of so many bytes")];
-        let end = (Status::BadInput, [].as_slice(), *err);
-        assert_call(&rt, rt.alloc(), &["jobs"], &cut, &SURE, end, Did::Nothing)?;
-    }
-    Ok(())
-}
-
-#[test]
-fn jobs_with_programs_stop(rt: HostRuntime) -> Result<(), Fail> {
-    let (alloc, lanes) = (rt.alloc(), three_lanes());
-    let outside = Outside {
-        gate: Some((1, 2)),
-        ..SURE
-    };
-    let front = Front {
-        processor: 1,
-        ran: 1,
-        most: 3,
-        failed: None,
-    };
-    let stop = (front, "refused 10 GateFault processor 1 row 3 6 c\n");
-    assert_stop(&rt, alloc, &["jobs"], &HALTING, &outside, &lanes, stop)?;
-    let outside = Outside {
-        job: Some((2, 1)),
-        ..SURE
-    };
-    let front = Front {
-        failed: Some(2),
-        ..front
-    };
-    let stop = (front, "refused 11 JobFault task c processor 1 row 0 3\n");
-    assert_stop(&rt, alloc, &["jobs"], &HALTING, &outside, &lanes, stop)?;
-    Ok(())
+fn sets_with_programs(rt: HostRuntime) {
+    assert_tables(&rt, rt.alloc(), TABLES);
 }

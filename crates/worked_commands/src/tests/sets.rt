@@ -1,19 +1,18 @@
 //! The commands `rate` and `tree` on worked sets.
 
-use super::calls::{Outside, SURE, call};
-use super::cases::{DoneCase, RefusedCase, assert_done, assert_refused, assert_told};
+use super::calls::{Outside, SURE};
+use super::cases::{Cases, DoneCase, RefusedCase, Table, assert_call, assert_tables};
 use super::lanes::Did;
 use super::texts::{
     NINE_TASKS, NO_TASKS, ONE_IDLE, OVERLOAD, THREE_RATES, THREE_TASKS, TWO_REDUCTIONS,
 };
 use run_tool::Status;
-use std::alloc::{AllocError, Global};
+use std::alloc::Global;
 use std::process::Abort;
 use std::sync::Wait;
-use std::test::Fail;
 use std::thread::Threads;
 
-const RATES: [DoneCase; 3] = [
+const RATES: &[DoneCase] = &[
     (&[THREE_TASKS], &[THREE_RATES], Did::Nothing),
     (
         &[NO_TASKS],
@@ -33,7 +32,7 @@ const RATES: [DoneCase; 3] = [
     ),
 ];
 
-const REFUSED: [RefusedCase; 11] = [
+const REFUSED: &[RefusedCase] = &[
     (
         &[OVERLOAD],
         Status::Overload,
@@ -102,7 +101,7 @@ const REFUSED: [RefusedCase; 11] = [
     ),
 ];
 
-const TREES: [DoneCase; 3] = [
+const TREES: &[DoneCase] = &[
     // One idle leaf takes the slack.
     (
         &[ONE_IDLE],
@@ -136,63 +135,110 @@ const TREES: [DoneCase; 3] = [
     ),
 ];
 
-const WITHOUT_A_TREE: [RefusedCase; 1] = [(
+const WITHOUT_A_TREE: &[RefusedCase] = &[(
     &[OVERLOAD],
     Status::Overload,
     "refused 7 Overload total 7 room 6\n",
 )];
 
+const TABLES: &[Table] = &[
+    (&["rate"], Cases::Done(RATES)),
+    (&["rate"], Cases::Refused(REFUSED)),
+    (&["tree"], Cases::Done(TREES)),
+    (&["tree"], Cases::Refused(WITHOUT_A_TREE)),
+];
+
 #[test]
-fn rates_and_trees_of_worked_sets(rt: HostRuntime) -> Result<(), Fail> {
-    let alloc = rt.alloc();
-    assert_done(&rt, alloc, &["rate"], &RATES)?;
-    assert_refused(&rt, alloc, &["rate"], &REFUSED)?;
-    assert_done(&rt, alloc, &["tree"], &TREES)?;
-    assert_refused(&rt, alloc, &["tree"], &WITHOUT_A_TREE)
+fn rates_and_trees_of_worked_sets(rt: HostRuntime) {
+    assert_tables(&rt, rt.alloc(), TABLES);
 }
 
+/// A word, a text, the bytes up to which line feeds stand behind it, what is outside, the status, and what `out` and `err` take.
+type Padded = (
+    &'static str,
+    &'static str,
+    usize,
+    Outside,
+    Status,
+    &'static str,
+    &'static str,
+);
+
+const PADDED: &[Padded] = &[
+    (
+        "rate",
+        THREE_TASKS,
+        1_048_576,
+        SURE,
+        Status::Done,
+        THREE_RATES,
+        "",
+    ),
+    (
+        "rate",
+        THREE_TASKS,
+        1_048_577,
+        SURE,
+        Status::InputTooLong,
+        "",
+        "refused 12 InputTooLong 1048577\n",
+    ),
+    // A source that gives one byte too many has done so, though it would fail at the next call.
+    (
+        "batch",
+        "",
+        1_048_577,
+        Outside {
+            source: &[18],
+            ..SURE
+        },
+        Status::InputTooLong,
+        "",
+        "refused 12 InputTooLong 1048577\n",
+    ),
+    (
+        "rate",
+        "",
+        1_048_577,
+        Outside {
+            source: &[18],
+            ..SURE
+        },
+        Status::InputTooLong,
+        "",
+        "refused 12 InputTooLong 1048577\n",
+    ),
+];
+
 // The text, and line feeds up to so many bytes.
-fn padded(alloc: Global, text: &str, count: usize) -> Result<Vec<u8>, AllocError> {
-    let mut bytes = Vec::from_slice(alloc, text.as_bytes())?;
+fn padded(rt: &impl Abort, alloc: Global, text: &str, count: usize) -> String {
+    let mut padded = String::from_str(alloc, text).expect(rt, "there is memory");
     for _ in text.len()..count {
-        bytes.push(b'\n')?;
+        padded.push_str("\n").expect(rt, "there is memory");
     }
-    Ok(bytes)
+    padded
 }
 
 // Makes sure of what a command leaves of a text with so many bytes.
-fn assert_padded<X: Abort + Threads + Wait + Sync>(
-    rt: &X,
-    alloc: Global,
-    word: &str,
-    (text, count): (&str, usize),
-    outside: &Outside,
-    end: (Status, &[&str], &str),
-) -> Result<(), Fail> {
-    let bytes = padded(alloc, text, count)?;
-    let left = call(rt, alloc, &[word], bytes.as_slice(), outside)?;
-    assert_told(rt, &left.told, end);
-    Ok(())
+fn assert_padded<X: Abort + Threads + Wait + Sync>(rt: &X, alloc: Global, row: &Padded) {
+    let (word, text, count, outside, status, out, err) = row;
+    let text = padded(rt, alloc, text, *count);
+    let out = [*out];
+    let end = (*status, out.as_slice(), *err);
+    assert_call(
+        rt,
+        alloc,
+        &[*word],
+        &[text.as_str()],
+        outside,
+        end,
+        Did::Unseen,
+    );
 }
 
 #[test]
-fn a_set_has_at_most_a_mebibyte(rt: HostRuntime) -> Result<(), Fail> {
-    let alloc = rt.alloc();
-    let done = (Status::Done, [THREE_RATES].as_slice(), "");
-    assert_padded(&rt, alloc, "rate", (THREE_TASKS, 1_048_576), &SURE, done)?;
-    let long: (Status, &[&str], &str) = (
-        Status::InputTooLong,
-        &[],
-        "refused 12 InputTooLong 1048577\n",
-    );
-    assert_padded(&rt, alloc, "rate", (THREE_TASKS, 1_048_577), &SURE, long)?;
-    // A source that gives one byte too many has done so, though it would fail at the next call.
-    let outside = Outside {
-        source: &[18],
-        ..SURE
-    };
-    for word in ["batch", "rate"] {
-        assert_padded(&rt, alloc, word, ("", 1_048_577), &outside, long)?;
+fn a_set_has_at_most_a_mebibyte(rt: HostRuntime) {
+    for row in PADDED {
+        assert_padded(&rt, rt.alloc(), row);
     }
-    Ok(())
 }

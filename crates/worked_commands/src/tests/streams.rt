@@ -1,21 +1,13 @@
 //! Executions over streams that fail.
 
 use super::calls::{Outside, SURE};
-use super::cases::{FaultCase, assert_faults};
-use super::lanes::{Did, Front, two_lanes};
-use super::stops::assert_stop;
+use super::cases::{Cases, FaultCase, Table, assert_tables};
+use super::lanes::{Did, Front, Schedule};
 use super::texts::{TWO_REDUCTIONS, TWO_ROWS};
 use run_tool::Status;
-use std::test::Fail;
-
-const LINES: [&[&str]; 3] = [
-    &["exec", "--window", "1"],
-    &["exec", "--window", "2"],
-    &["exec", "--window", "32"],
-];
 
 /// The source fails before anything runs, and `out` after all rows ran.
-const FAULTS: [FaultCase; 11] = [
+const FAULTS: &[FaultCase] = &[
     // The first read gives all, and the second one is to find the end.
     (
         Outside {
@@ -47,7 +39,7 @@ const FAULTS: [FaultCase; 11] = [
         Status::WriteFault,
         "",
         "refused 4 WriteFault\n",
-        Did::RanTwo,
+        Did::Ran(Schedule::Two),
     ),
     (
         Outside {
@@ -58,7 +50,7 @@ const FAULTS: [FaultCase; 11] = [
         Status::WriteFault,
         "run-trace 1\n",
         "refused 4 WriteFault\n",
-        Did::RanTwo,
+        Did::Ran(Schedule::Two),
     ),
     (
         Outside {
@@ -69,7 +61,7 @@ const FAULTS: [FaultCase; 11] = [
         Status::WriteFault,
         "run-trace 1\nprocessors 3\n",
         "refused 4 WriteFault\n",
-        Did::RanTwo,
+        Did::Ran(Schedule::Two),
     ),
     (
         Outside {
@@ -80,7 +72,7 @@ const FAULTS: [FaultCase; 11] = [
         Status::WriteFault,
         "run-trace 1\nprocessors 3\nhorizon 5\n",
         "refused 4 WriteFault\n",
-        Did::RanTwo,
+        Did::Ran(Schedule::Two),
     ),
     (
         Outside {
@@ -90,7 +82,7 @@ const FAULTS: [FaultCase; 11] = [
         Status::WriteFault,
         "",
         "refused 4 WriteFault\n",
-        Did::RanTwo,
+        Did::Ran(Schedule::Two),
     ),
     (
         Outside {
@@ -100,7 +92,7 @@ const FAULTS: [FaultCase; 11] = [
         Status::WriteFault,
         "run-t",
         "refused 4 WriteFault\n",
-        Did::RanTwo,
+        Did::Ran(Schedule::Two),
     ),
     (
         Outside {
@@ -110,7 +102,7 @@ const FAULTS: [FaultCase; 11] = [
         Status::WriteFault,
         "run-trace 1\n",
         "refused 4 WriteFault\n",
-        Did::RanTwo,
+        Did::Ran(Schedule::Two),
     ),
     (
         Outside {
@@ -120,7 +112,7 @@ const FAULTS: [FaultCase; 11] = [
         Status::WriteFault,
         "run-trace 1\np",
         "refused 4 WriteFault\n",
-        Did::RanTwo,
+        Did::Ran(Schedule::Two),
     ),
     (
         Outside {
@@ -130,63 +122,101 @@ const FAULTS: [FaultCase; 11] = [
         Status::WriteFault,
         "run-trace 1\nprocessors 3\nhoriz",
         "refused 4 WriteFault\n",
-        Did::RanTwo,
+        Did::Ran(Schedule::Two),
+    ),
+];
+
+/// The write of `err` that fails and its room, and what it took of the line of a gate's fault, which is one piece: gate 1 fails at
+/// its first call.
+macro_rules! told_to {
+    ($err:expr, $room:expr, $taken:expr) => {
+        (
+            Outside {
+                err: $err,
+                err_room: $room,
+                gate: Some((1, 1)),
+                ..SURE
+            },
+            Status::GateFault,
+            "",
+            $taken,
+            Did::Stopped(Front {
+                schedule: Schedule::Two,
+                processor: 1,
+                ran: 0,
+                most: 4,
+                failed: None,
+                worked: None,
+            }),
+        )
+    };
+}
+
+/// Where all is done `err` isn't called.
+macro_rules! done_beside {
+    ($err:expr, $room:expr) => {
+        (
+            Outside {
+                err: $err,
+                err_room: $room,
+                ..SURE
+            },
+            Status::Done,
+            TWO_ROWS,
+            "",
+            Did::Ran(Schedule::Two),
+        )
+    };
+}
+
+/// A fault of `err` changes nothing else.
+const ERRORS: &[FaultCase] = &[
+    told_to!(&[1], 4096, ""),
+    told_to!(&[2], 4096, "refused 10 GateFault processor 1 row 0 5 b\n"),
+    told_to!(&[3], 4096, "refused 10 GateFault processor 1 row 0 5 b\n"),
+    told_to!(&[4], 4096, "refused 10 GateFault processor 1 row 0 5 b\n"),
+    told_to!(&[], 0, ""),
+    told_to!(&[], 10, "refused 10"),
+    told_to!(&[], 42, "refused 10 GateFault processor 1 row 0 5 b"),
+    told_to!(&[], 43, "refused 10 GateFault processor 1 row 0 5 b\n"),
+    done_beside!(&[1], 4096),
+    done_beside!(&[2], 4096),
+    done_beside!(&[3], 4096),
+    done_beside!(&[4], 4096),
+    done_beside!(&[], 0),
+    done_beside!(&[], 10),
+    done_beside!(&[], 42),
+    done_beside!(&[], 43),
+];
+
+const TABLES: &[Table] = &[
+    (
+        &["exec", "--window", "1"],
+        Cases::Faults(&[TWO_REDUCTIONS], FAULTS),
+    ),
+    (
+        &["exec", "--window", "2"],
+        Cases::Faults(&[TWO_REDUCTIONS], FAULTS),
+    ),
+    (
+        &["exec", "--window", "32"],
+        Cases::Faults(&[TWO_REDUCTIONS], FAULTS),
+    ),
+    (
+        &["exec", "--window", "1"],
+        Cases::Faults(&[TWO_REDUCTIONS], ERRORS),
+    ),
+    (
+        &["exec", "--window", "2"],
+        Cases::Faults(&[TWO_REDUCTIONS], ERRORS),
+    ),
+    (
+        &["exec", "--window", "32"],
+        Cases::Faults(&[TWO_REDUCTIONS], ERRORS),
     ),
 ];
 
 #[test]
-fn the_source_or_out_fails(rt: HostRuntime) -> Result<(), Fail> {
-    for line in &LINES {
-        assert_faults(&rt, rt.alloc(), line, &[TWO_REDUCTIONS], &FAULTS)?;
-    }
-    Ok(())
-}
-
-/// The write of `err` that fails or its room, and what it took of the line of a gate's fault, which is one piece.
-const ERRORS: [(&[u64], usize, &str); 8] = [
-    (&[1], 4096, ""),
-    (&[2], 4096, "refused 10 GateFault processor 1 row 0 5 b\n"),
-    (&[3], 4096, "refused 10 GateFault processor 1 row 0 5 b\n"),
-    (&[4], 4096, "refused 10 GateFault processor 1 row 0 5 b\n"),
-    (&[], 0, ""),
-    (&[], 10, "refused 10"),
-    (&[], 42, "refused 10 GateFault processor 1 row 0 5 b"),
-    (&[], 43, "refused 10 GateFault processor 1 row 0 5 b\n"),
-];
-
-#[test]
-fn a_fault_of_err_changes_nothing_else(rt: HostRuntime) -> Result<(), Fail> {
-    let front = Front {
-        processor: 1,
-        ran: 0,
-        most: 4,
-        failed: None,
-    };
-    for line in &LINES {
-        for (err, err_room, taken) in &ERRORS {
-            let sure = Outside {
-                err: *err,
-                err_room: *err_room,
-                ..SURE
-            };
-            let outside = Outside {
-                gate: Some((1, 1)),
-                ..sure
-            };
-            let input = [TWO_REDUCTIONS];
-            assert_stop(
-                &rt,
-                rt.alloc(),
-                line,
-                &input,
-                &outside,
-                &two_lanes(),
-                (front, *taken),
-            )?;
-            // Where all is done `err` isn't called.
-            let done = [(sure, Status::Done, TWO_ROWS, "", Did::RanTwo)];
-            assert_faults(&rt, rt.alloc(), line, &input, &done)?;
-        }
-    }
-    Ok(())
+fn the_source_or_out_or_err_fails(rt: HostRuntime) {
+    assert_tables(&rt, rt.alloc(), TABLES);
 }

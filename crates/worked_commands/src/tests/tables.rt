@@ -1,10 +1,9 @@
 //! Worked schedules as C source, and the lines of `table`.
 
-use super::cases::{DoneCase, RefusedCase, assert_done, assert_refused, holds, text_of};
+use super::cases::{Cases, DoneCase, RefusedCase, ShownCase, Table, assert_tables};
 use super::lanes::Did;
 use super::texts::{LATE_TASK, OVERLOAD, THREE_TASKS};
 use run_tool::Status;
-use std::test::Fail;
 
 /// The schedule of three tasks on two processors.
 const THREE_TABLE: &str = "/* The schedule of a set of periodic tasks, written by furnacelime.
@@ -73,31 +72,39 @@ const struct furnacelime_table furnacelime_table = {
 };
 ";
 
-const TABLES: [DoneCase; 1] = [(&[THREE_TASKS], &[THREE_TABLE], Did::Nothing)];
+const WHOLE: &[DoneCase] = &[(&[THREE_TASKS], &[THREE_TABLE], Did::Nothing)];
 
 /// One unit of each of two tasks: 641 units have 2^64 - 1 ticks.
 const WIDEST: &str =
     "processors = 1\nhorizon = 641\ntask = [{name = \"a\", work = 1, period = 4294967295}, {name = \"b\", work = 1, period = 6700417}]\n";
 
 /// Sets, each with the line of its rows' width and its rows.
-const PARTS: [(&str, &str, &str); 2] = [
+const PARTS: &[ShownCase] = &[
     // A late task waits in ticks that are no row's.
     (
-        LATE_TASK,
-        "  uint8_t start, end;\n",
-        "  {\"a\", 1u, 2u, 1u},\n  {\"b\", 1u, 2u, 0u},\n  {\"\", 0u, 0u, 0u}\n};\n\n\
+        &[LATE_TASK],
+        "",
+        &[
+            "  uint8_t start, end;\n",
+            "  {\"a\", 1u, 2u, 1u},\n  {\"b\", 1u, 2u, 0u},\n  {\"\", 0u, 0u, 0u}\n};\n\n\
             static const struct furnacelime_row furnacelime_rows_0[] = {\n  {0u, 1u, -1},\n  {1u, 3u, 1},\n  {3u, 5u, 0},\n\
             \x20 {5u, 7u, 1},\n  {7u, 9u, 0},\n  {9u, 10u, 1},\n  {0u, 0u, -1}\n};\n",
+        ],
+        "",
     ),
     (
-        WIDEST,
-        "  uint64_t start, end;\n",
-        "furnacelime_rows_0[] = {\n  {0u, 28778071877862015u, 1},\n  {28778071877862015u, 57556143755724030u, 0},\n\
+        &[WIDEST],
+        "",
+        &[
+            "  uint64_t start, end;\n",
+            "furnacelime_rows_0[] = {\n  {0u, 28778071877862015u, 1},\n  {28778071877862015u, 57556143755724030u, 0},\n\
             \x20 {57556143755724030u, 18446744073709551615u, -1},\n  {0u, 0u, -1}\n};\n",
+        ],
+        "",
     ),
 ];
 
-const WITHOUT: [RefusedCase; 6] = [
+const WITHOUT: &[RefusedCase] = &[
     // The first number from 2^64 on that a horizon and a scale make.
     (
         &[
@@ -141,18 +148,13 @@ const WITHOUT: [RefusedCase; 6] = [
     ),
 ];
 
-#[test]
-fn worked_schedules_in_c(rt: HostRuntime) -> Result<(), Fail> {
-    let alloc = rt.alloc();
-    assert_done(&rt, alloc, &["table"], &TABLES)?;
-    assert_refused(&rt, alloc, &["table"], &WITHOUT)
-}
+const TABLES: &[Table] = &[
+    (&["table"], Cases::Done(WHOLE)),
+    (&["table"], Cases::Shown(PARTS)),
+    (&["table"], Cases::Refused(WITHOUT)),
+];
 
 #[test]
-fn rows_of_worked_sets(rt: HostRuntime) -> Result<(), Fail> {
-    for (input, width, part) in &PARTS {
-        let text = text_of(&rt, rt.alloc(), &["table"], input.as_bytes())?;
-        assert!(rt; holds(text.as_slice(), width) && holds(text.as_slice(), part));
-    }
-    Ok(())
+fn worked_schedules_in_c(rt: HostRuntime) {
+    assert_tables(&rt, rt.alloc(), TABLES);
 }

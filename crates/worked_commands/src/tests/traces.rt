@@ -2,8 +2,7 @@
 
 use super::calls::{Outside, SURE};
 use super::cases::{
-    DoneCase, FaultCase, RefusedCase, assert_done, assert_faults, assert_refused, assert_valid,
-    holds, text_of,
+    Cases, DoneCase, FaultCase, RefusedCase, ReportCase, ShownCase, Table, assert_tables,
 };
 use super::lanes::Did;
 use super::texts::{
@@ -11,9 +10,8 @@ use super::texts::{
     ONE_IDLE, ONE_IDLE_ROWS, OVERLOAD, THREE_ROWS, THREE_TASKS, TWO_REDUCTIONS, TWO_ROWS,
 };
 use run_tool::Status;
-use std::test::Fail;
 
-const SCHEDULES: [DoneCase; 8] = [
+const SCHEDULES: &[DoneCase] = &[
     (&[THREE_TASKS], &[THREE_ROWS], Did::Nothing),
     // No task migrates, and the idle rows of two leaves are one.
     (
@@ -51,12 +49,12 @@ const SCHEDULES: [DoneCase; 8] = [
 ];
 
 /// Schedules with when each period was done.
-const MET: [DoneCase; 2] = [
+const MET: &[DoneCase] = &[
     (&[FULL_RATE], &[FULL_MET], Did::Nothing),
     (&[LATE_TASK], &[LATE_ROWS], Did::Nothing),
 ];
 
-const WITHOUT: [RefusedCase; 2] = [
+const WITHOUT: &[RefusedCase] = &[
     (
         &[OVERLOAD],
         Status::Overload,
@@ -71,7 +69,7 @@ const WITHOUT: [RefusedCase; 2] = [
 ];
 
 /// A fault leaves the lines before.
-const FAULTS: [FaultCase; 5] = [
+const FAULTS: &[FaultCase] = &[
     (
         Outside { out: &[1], ..SURE },
         Status::WriteFault,
@@ -109,25 +107,28 @@ const FAULTS: [FaultCase; 5] = [
     ),
 ];
 
-#[test]
-fn schedules_of_worked_sets(rt: HostRuntime) -> Result<(), Fail> {
-    let alloc = rt.alloc();
-    assert_done(&rt, alloc, &["trace"], &SCHEDULES)?;
-    assert_done(&rt, alloc, &["trace", "--met"], &MET)?;
-    assert_refused(&rt, alloc, &["trace"], &WITHOUT)?;
-    assert_faults(&rt, alloc, &["trace"], &[THREE_TASKS], &FAULTS)
-}
+/// How the schedule of nine tasks of a vehicle begins, and the rows of its second processor.
+const NINE: &[ShownCase] = &[(
+    &[NINE_TASKS],
+    "run-trace 1\nprocessors 4\nhorizon 1000000\nscale 1000000\ntasks 9\ntask control 600 1000\ntask sense 1200 2000\n\
+        task fuse 3000 5000\ntask plan 6000 10000\ntask video 12000 20000\ntask log 10000 50000\ntask net 30000 100000\n\
+        task store 60000 200000\ntask health 200000 1000000\nrow 0 0 600000000 control\nrow 0 600000000 1000000000 log\n",
+    &["row 1 0 200000000 fuse\nrow 1 200000000 1400000000 sense\n"],
+    "",
+)];
+
+const NINE_REPORT: &[ReportCase] = &[(&[NINE_TASKS], "valid\n")];
+
+const TABLES: &[Table] = &[
+    (&["trace"], Cases::Done(SCHEDULES)),
+    (&["trace", "--met"], Cases::Done(MET)),
+    (&["trace"], Cases::Refused(WITHOUT)),
+    (&["trace"], Cases::Faults(&[THREE_TASKS], FAULTS)),
+    (&["trace"], Cases::Shown(NINE)),
+    (&["trace"], Cases::Reports(NINE_REPORT)),
+];
 
 #[test]
-fn nine_tasks_of_a_vehicle(rt: HostRuntime) -> Result<(), Fail> {
-    let head =
-        "run-trace 1\nprocessors 4\nhorizon 1000000\nscale 1000000\ntasks 9\ntask control 600 1000\ntask sense 1200 2000\n\
-            task fuse 3000 5000\ntask plan 6000 10000\ntask video 12000 20000\ntask log 10000 50000\ntask net 30000 100000\n\
-            task store 60000 200000\ntask health 200000 1000000\nrow 0 0 600000000 control\nrow 0 600000000 1000000000 log\n";
-    let second = "row 1 0 200000000 fuse\nrow 1 200000000 1400000000 sense\n";
-    let alloc = rt.alloc();
-    let text = text_of(&rt, alloc, &["trace"], NINE_TASKS.as_bytes())?;
-    assert!(rt; text.as_slice().starts_with(head.as_bytes()));
-    assert!(rt; holds(text.as_slice(), second));
-    assert_valid(&rt, alloc, text.as_slice(), "")
+fn schedules_of_worked_sets(rt: HostRuntime) {
+    assert_tables(&rt, rt.alloc(), TABLES);
 }

@@ -1,18 +1,17 @@
 //! Words that are no command line.
 
-use super::calls::{SURE, call};
-use super::cases::assert_told;
-use super::lanes::{Did, assert_did};
+use super::calls::SURE;
+use super::cases::assert_call;
+use super::lanes::Did;
 use super::texts::THREE_TASKS;
 use run_tool::Status;
 use std::alloc::Global;
 use std::process::Abort;
 use std::sync::Wait;
-use std::test::Fail;
 use std::thread::Threads;
 
 /// Words that are no command line.
-const FAULTY: [&[&str]; 86] = [
+const FAULTY: &[&[&str]] = &[
     &[],
     &["run"],
     &["rate", "x"],
@@ -44,6 +43,10 @@ const FAULTY: [&[&str]; 86] = [
     &["rate", "-h"],
     &["--version"],
     &["furnacelime", "rate"],
+];
+
+/// Words that are near the lines of `exec`, and are none.
+const EXECS: &[&[&str]] = &[
     &["exec", "--window", "0"],
     &["exec", "--window", "1025"],
     &["exec", "--window", "01"],
@@ -84,6 +87,10 @@ const FAULTY: [&[&str]; 86] = [
     &["--met", "exec"],
     &["--", "exec"],
     &["Exec"],
+];
+
+/// Words that are near the line of `drill`, and are none.
+const DRILLS: &[&[&str]] = &[
     &["trace", "--window", "2"],
     &["drill"],
     &["drill", "1", "2"],
@@ -109,7 +116,7 @@ const FAULTY: [&[&str]; 86] = [
 ];
 
 /// Words that are near the lines of `draw`, and are none.
-const DRAWS: [&[&str]; 36] = [
+const DRAWS: &[&[&str]] = &[
     &["draw", "--units", "0"],
     &["draw", "--units=0"],
     &["draw", "--units", "07"],
@@ -149,8 +156,8 @@ const DRAWS: [&[&str]; 36] = [
     &["check", "--from", "1"],
 ];
 
-/// Words that are near the lines of `trace --by wrap`, and are none.
-const WRAPS: [&[&str]; 15] = [
+/// Words that are near the lines of `trace --by wrap`, `table`, `batch` and `modes`, and are none.
+const OTHERS: &[&[&str]] = &[
     &["trace", "--by"],
     &["trace", "--by="],
     &["trace", "--by", ""],
@@ -166,20 +173,12 @@ const WRAPS: [&[&str]; 15] = [
     &["--by", "wrap", "trace"],
     &["exec", "--by", "wrap"],
     &["rate", "--by=wrap"],
-];
-
-/// Words that are near the line of `table`, and are none.
-const TABLES: [&[&str]; 6] = [
     &["tables"],
     &["Table"],
     &["table", ""],
     &["table", "table"],
     &["table", "--met"],
     &["table", "--by=wrap"],
-];
-
-/// Words that are near the line of `batch`, and are none.
-const BATCHES: [&[&str]; 7] = [
     &["batch", ""],
     &["batch", "x"],
     &["batch", "batch"],
@@ -187,33 +186,41 @@ const BATCHES: [&[&str]; 7] = [
     &["--", "batch"],
     &["batch", "--"],
     &["Batch"],
+    &["modes", "modes"],
+    &["modes", "--met"],
+    &["modes", "x"],
 ];
 
-/// Words that are near the line of `modes`, and are none.
-const MODES: [&[&str]; 3] = [&["modes", "modes"], &["modes", "--met"], &["modes", "x"]];
-
 /// Makes sure that such words are refused: nothing is read, nothing is written to `out`, and no gate and no job is called.
-fn assert_no_lines<X: Abort + Threads + Wait + Sync>(
-    rt: &X,
-    alloc: Global,
-    lines: &[&[&str]],
-) -> Result<(), Fail> {
+fn assert_no_lines<X: Abort + Threads + Wait + Sync>(rt: &X, alloc: Global, lines: &[&[&str]]) {
     for line in lines {
-        let left = call(rt, alloc, line, THREE_TASKS.as_bytes(), &SURE)?;
-        assert_told(rt, &left.told, (Status::Usage, &[], "refused 2 Usage\n"));
-        assert_did(rt, &left, Did::NothingRead(THREE_TASKS.len()));
+        let end = (Status::Usage, [].as_slice(), "refused 2 Usage\n");
+        let did = Did::NothingRead(THREE_TASKS.len());
+        assert_call(rt, alloc, line, &[THREE_TASKS], &SURE, end, did);
     }
-    Ok(())
 }
 
 #[test]
-fn other_words_are_no_line(rt: HostRuntime) -> Result<(), Fail> {
-    assert!(rt; Status::Usage.code() == 2);
-    let alloc = rt.alloc();
-    assert_no_lines(&rt, alloc, &FAULTY)?;
-    assert_no_lines(&rt, alloc, &DRAWS)?;
-    assert_no_lines(&rt, alloc, &WRAPS)?;
-    assert_no_lines(&rt, alloc, &TABLES)?;
-    assert_no_lines(&rt, alloc, &BATCHES)?;
-    assert_no_lines(&rt, alloc, &MODES)
+fn other_words_are_no_line(rt: HostRuntime) {
+    assert_no_lines(&rt, rt.alloc(), FAULTY);
+}
+
+#[test]
+fn words_near_an_execution_are_no_line(rt: HostRuntime) {
+    assert_no_lines(&rt, rt.alloc(), EXECS);
+}
+
+#[test]
+fn words_near_a_drill_are_no_line(rt: HostRuntime) {
+    assert_no_lines(&rt, rt.alloc(), DRILLS);
+}
+
+#[test]
+fn words_near_a_drawing_are_no_line(rt: HostRuntime) {
+    assert_no_lines(&rt, rt.alloc(), DRAWS);
+}
+
+#[test]
+fn words_near_other_lines_are_no_line(rt: HostRuntime) {
+    assert_no_lines(&rt, rt.alloc(), OTHERS);
 }

@@ -1,18 +1,19 @@
 //! Wrapped schedules of worked sets, and the lines of `trace --by wrap`.
 
-use super::cases::{DoneCase, RefusedCase, assert_done, assert_refused, assert_valid};
+use super::cases::{Cases, DoneCase, RefusedCase, Table, assert_tables};
 use super::lanes::Did;
 use super::texts::{LATE_TASK, NO_TASKS, NO_TASKS_ROWS, OVERLOAD, THREE_TASKS};
 use run_tool::Status;
-use std::test::Fail;
 
 /// The wrapped schedule of three tasks on two processors: the second one goes on where the first processor ends.
 const THREE_WRAPPED: &str =
     "run-trace 1\nprocessors 2\nhorizon 3\nscale 3\ntasks 3\ntask a 2 3\ntask b 2 3\ntask c 2 3\nrow 0 0 6 a\nrow 0 6 9 b\n\
         row 1 0 3 b\nrow 1 3 9 c\ntotal a 6\ntotal b 6\ntotal c 6\nrows 4\n";
 
-const WRAPPED: [DoneCase; 4] = [
-    (&[THREE_TASKS], &[THREE_WRAPPED], Did::Nothing),
+const THREE: DoneCase = (&[THREE_TASKS], &[THREE_WRAPPED], Did::Nothing);
+
+const WRAPPED: &[DoneCase] = &[
+    THREE,
     // The second processor has a task of its own, and is idle behind it in each of two slices.
     (
         &[
@@ -39,7 +40,7 @@ const WRAPPED: [DoneCase; 4] = [
     ),
 ];
 
-const WITHOUT: [RefusedCase; 3] = [
+const WITHOUT: &[RefusedCase] = &[
     (
         &[OVERLOAD],
         Status::Overload,
@@ -58,12 +59,22 @@ const WITHOUT: [RefusedCase; 3] = [
     ),
 ];
 
+const TABLES: &[Table] = &[
+    (&["trace", "--by", "wrap"], Cases::Done(WRAPPED)),
+    (&["trace", "--by=wrap"], Cases::Done(&[THREE])),
+    (&["trace", "--by", "wrap"], Cases::Refused(WITHOUT)),
+    (
+        &["check"],
+        Cases::Shown(&[(
+            &[THREE_WRAPPED],
+            "valid\nrows 4\npreemptions 1\nmigrations 1\n",
+            &[],
+            "",
+        )]),
+    ),
+];
+
 #[test]
-fn wrapped_schedules_of_worked_sets(rt: HostRuntime) -> Result<(), Fail> {
-    let alloc = rt.alloc();
-    assert_done(&rt, alloc, &["trace", "--by", "wrap"], &WRAPPED)?;
-    assert_done(&rt, alloc, &["trace", "--by=wrap"], &WRAPPED[..1])?;
-    assert_refused(&rt, alloc, &["trace", "--by", "wrap"], &WITHOUT)?;
-    let report = "rows 4\npreemptions 1\nmigrations 1\n";
-    assert_valid(&rt, alloc, THREE_WRAPPED.as_bytes(), report)
+fn wrapped_schedules_of_worked_sets(rt: HostRuntime) {
+    assert_tables(&rt, rt.alloc(), TABLES);
 }

@@ -1,20 +1,16 @@
 //! Jobs that count when they are let go.
-ghost use Rattle.std.specs.Prelude.{◌≡◌, ◌+◌, ◌<◌, ◌^◌, None, Some, IfOk};
-ghost use Rattle.run_tool.specs.Executions.{gates_of};
-ghost use Rattle.run_tool.specs.Ready.{AreFirstGates};
+ghost use Rattle.std.specs.Prelude.{◌≡◌, ◌+◌, ◌<◌, ◌^◌, None};
 
-use crate::tests::calls::{SURE, perform};
+use crate::tests::calls::{Outside, SURE, kits_of, perform};
 use crate::tests::cases::assert_told;
 use crate::tests::texts::{THREE_ROWS, THREE_TASKS};
-use exec_workers::Kit;
 use run_tool::Status;
 use sched_base::NoMemory;
-use sched_edges::{Failed, Job, Jobs, ListGate};
-use std::alloc::{AllocError, Global};
+use sched_edges::{Failed, Job, Jobs};
+use std::alloc::Global;
 use std::process::Abort;
 use std::sync::atomic::{AtomicU64, Ordering};
 use std::sync::{Arc, Wait};
-use std::test::Fail;
 use std::thread::Threads;
 
 /// A job that counts its ticks, and adds one to a shared count when it is let go. Its first call may fail.
@@ -28,17 +24,17 @@ struct LastingJob {
 
 impl LastingJob {
     /// A job that has worked no tick yet.
-    fn new(id: u32, fails: bool, drops: &Arc<AtomicU64>) -> Result<LastingJob, AllocError>
-        ensures id { IfOk result (λ j. j.id ≡ id) }
-        ensures used { IfOk result (λ j. j.used ≡ 0) }
+    fn new(rt: &impl Abort, id: u32, fails: bool, drops: &Arc<AtomicU64>) -> LastingJob
+        ensures id { result.id ≡ id }
+        ensures used { result.used ≡ 0 }
     {
-        Ok(LastingJob {
+        LastingJob {
             id,
             used: 0,
             fails,
             faults: 0,
-            drops: Arc::try_clone(drops)?,
-        })
+            drops: Arc::try_clone(drops).expect(rt, "there is memory"),
+        }
     }
 }
 
@@ -96,68 +92,66 @@ impl Job for LastingJob {
     }
 }
 
-/// Kits with gates that list their rows, of which gate 1 fails at these calls.
-fn kits_of(alloc: Global, fails: &[u64]) -> Result<Vec<Kit<ListGate>>, NoMemory>
-    ensures { IfOk result (λ kits. AreFirstGates 32 (gates_of (λ g. Some g.ran) (λ g. g.faults) kits.items)) }
-{
-    let mut kits = Vec::new(alloc);
-    for p in 0..32_u32 {
-        let calls = if p == 1 { fails } else { &[] };
-        kits.push(Kit::new(ListGate::new(alloc, 3, calls)?))?;
-    }
-    Ok(kits)
-}
+/// Whether the first call of task c's job fails, what else fails, the status, and what `out` and `err` take.
+type Lasting = (bool, Outside, Status, &'static str, &'static str);
 
-/// Executes the three tasks with these calls of gate 1 failing, and with the first call of task c's job failing or not. The jobs
-/// are let go by the end and no sooner.
-fn assert_lasting<X: Threads + Wait + Abort + Sync>(
-    rt: &X,
-    alloc: Global,
-    gate_fails: &[u64],
-    job_fails: bool,
-    want: (Status, &str, &str),
-) -> Result<(), Fail> {
-    let drops = Arc::new(alloc, AtomicU64::new(0))?;
-    let mut jobs = Jobs::with_room(alloc, 256)?;
-    for id in 0..256 {
-        jobs.add(Box::new(alloc, LastingJob::new(id, job_fails && id == 2, &drops)?)?);
-    }
-    let mut kits = kits_of(alloc, gate_fails)?;
-    let input = THREE_TASKS.as_bytes();
-    let told = perform(rt, alloc, &["exec"], input, &SURE, &mut kits, &mut jobs)?;
-    let (status, out, err) = want;
-    assert_told(rt, &told, (status, &[out], err));
-    assert!(rt; drops.load(Ordering::SeqCst) == 0);
-    drop(jobs);
-    assert!(rt; drops.load(Ordering::SeqCst) == 256);
-    Ok(())
-}
+/// Each gate has room for three rows.
+const ROOM: Outside = Outside {
+    gate_room: 3,
+    ..SURE
+};
 
 /// At the statuses 0, 10 and 11.
-#[test]
-fn jobs_last_until_they_are_let_go(rt: HostRuntime) -> Result<(), Fail> {
-    let alloc = rt.alloc();
-    assert_lasting(&rt, alloc, &[], false, (Status::Done, THREE_ROWS, ""))?;
-    assert_lasting(
-        &rt,
-        alloc,
-        &[2],
+const LASTING: &[Lasting] = &[
+    (false, ROOM, Status::Done, THREE_ROWS, ""),
+    (
         false,
-        (
-            Status::GateFault,
-            "",
-            "refused 10 GateFault processor 1 row 3 6 c\n",
-        ),
-    )?;
-    assert_lasting(
-        &rt,
-        alloc,
-        &[],
+        Outside {
+            gate: Some((1, 2)),
+            ..ROOM
+        },
+        Status::GateFault,
+        "",
+        "refused 10 GateFault processor 1 row 3 6 c\n",
+    ),
+    (
         true,
-        (
-            Status::JobFault,
-            "",
-            "refused 11 JobFault task c processor 1 row 0 3\n",
-        ),
-    )
+        ROOM,
+        Status::JobFault,
+        "",
+        "refused 11 JobFault task c processor 1 row 0 3\n",
+    ),
+];
+
+// Executes the three tasks with jobs that count in `drops` when they are let go, of which that of task c may fail at its first call.
+fn run_lasting<X: Threads + Wait + Abort + Sync>(
+    rt: &X,
+    alloc: Global,
+    drops: &Arc<AtomicU64>,
+    (job_fails, outside, status, out, err): &Lasting,
+) {
+    let mut jobs = Jobs::with_room(alloc, 256).expect(rt, "there is memory");
+    for id in 0..256 {
+        let job = LastingJob::new(rt, id, *job_fails && id == 2, drops);
+        jobs.add(Box::new(alloc, job).expect(rt, "there is memory"));
+    }
+    let mut kits = kits_of(rt, alloc, outside);
+    let input = THREE_TASKS.as_bytes();
+    let told = perform(rt, alloc, &["exec"], input, outside, &mut kits, &mut jobs);
+    assert_told(rt, alloc, &told, (*status, &[*out], *err));
+    assert!(rt; drops.load(Ordering::SeqCst) == 0);
+}
+
+/// Makes sure that the jobs are let go by the end and no sooner.
+fn assert_lasting<X: Threads + Wait + Abort + Sync>(rt: &X, alloc: Global, row: &Lasting) {
+    let drops = Arc::new(alloc, AtomicU64::new(0)).expect(rt, "there is memory");
+    run_lasting(rt, alloc, &drops, row);
+    assert!(rt; drops.load(Ordering::SeqCst) == 256);
+}
+
+#[test]
+fn jobs_last_until_they_are_let_go(rt: HostRuntime) {
+    for lasting in LASTING {
+        assert_lasting(&rt, rt.alloc(), lasting);
+    }
 }

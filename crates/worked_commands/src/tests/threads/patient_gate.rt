@@ -1,10 +1,10 @@
 //! A gate that waits for the calls of another gate.
-ghost use Rattle.std.specs.Prelude.{◌≡◌, None, IfOk};
+ghost use Rattle.std.specs.Prelude.{◌≡◌, None};
 
 use sched_base::Row;
 use sched_edges::{Failed, Gate};
-use std::alloc::AllocError;
 use std::marker::Model;
+use std::process::Abort;
 use std::sync::Arc;
 use std::sync::atomic::{AtomicU64, Ordering};
 use std::thread;
@@ -32,23 +32,25 @@ impl<X: Clock + Copy> Model for PatientGate<X> {
     ghost view = { λ g. g.faults };
 }
 
-impl<X: Clock + Copy> PatientGate<X> {
+impl<X: Abort + Clock + Copy> PatientGate<X> {
     /// A gate with this count of its calls, which waits until that one stands at the number wanted.
     pub fn new(
         rt: X,
         calls: &Arc<AtomicU64>,
         awaited: &Arc<AtomicU64>,
         wanted: u64,
-    ) -> Result<PatientGate<X>, AllocError> {
-        Ok(PatientGate {
+    ) -> PatientGate<X> {
+        PatientGate {
             rt,
-            calls: Arc::try_clone(calls)?,
-            awaited: Arc::try_clone(awaited)?,
+            calls: Arc::try_clone(calls).expect(&rt, "there is memory"),
+            awaited: Arc::try_clone(awaited).expect(&rt, "there is memory"),
             wanted,
             faults: 0,
-        })
+        }
     }
+}
 
+impl<X: Clock + Copy> PatientGate<X> {
     /// Waits for the calls of the other gate. False where they don't come.
     fn meets(&self) -> bool {
         for _ in 0..PATIENCE {

@@ -5,4 +5,4 @@ use Rattle.run_tool.specs.Ready.{AreFirstGates}
 use Rattle.worked_commands.proofs.tests.calls.kits_of.Given as goal
 
 abbrev pub invariant-loop-p : goal.invariant-loop-p
-invariant-loop-p l = AreFirstGates l.p (gates_of (λ (g : GateHeld). Some g.ran) (λ (g : GateHeld). g.faults) l.kits.items)
+invariant-loop-p g l = AreFirstGates l.p (gates_of (λ (g : GateHeld). Some g.ran) (λ (g : GateHeld). g.faults) l.kits.items)

@@ -9,7 +9,8 @@ loop-p-init g c = no_gates _ _ _ c.new-kits.ensures.items
 
 pub loop-p-preserved : goal.loop-p-preserved
 loop-p-preserved g c =
-    more_gates _ _ c.loop-p.p _ _ _ c.loop-p.invariant (c.in_ok-push.ensures.items ∙ ap (λ kit. c.loop-p.kits.items ++ kit ∷ []) c.new-in-loop-p.ensures) tt
+    let pushed = rw c.expect.ensures at c.push.ensures.items in
+    more_gates _ _ c.loop-p.p _ _ _ c.loop-p.invariant (pushed ∙ ap (λ kit. c.loop-p.kits.items ++ kit ∷ []) c.new.ensures) tt
 
 pub returns : goal.returns
 returns g c =
