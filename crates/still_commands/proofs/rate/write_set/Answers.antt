@@ -39,7 +39,7 @@ returns-in_err-write_rate-clause-stops g c =
     let scale = c.in_ok-scale.scale in
     let room : c.from.result * scale ≡ room_of scale s = ap (λ n. n * scale) (c.from.ensures ∙ c.processors.ensures.value) in
     let total = c.total-total.ensures.value in
-    let fits : Fits scale s = omega (arith, room, total, c.if-total-room.false) in
+    let fits : Fits scale s = omega (arith, room, total) in
     let why = err_from_is_err_and c.from_residual-in_err-write_rate.result c.from_residual-in_err-write_rate.ensures.1 in
     rw (why.1, why.2) (
       scale,
@@ -55,7 +55,7 @@ returns-clause-done g c =
     let scale = c.in_ok-scale.scale in
     let room : c.from.result * scale ≡ room_of scale s = ap (λ n. n * scale) (c.from.ensures ∙ c.processors.ensures.value) in
     let total = c.total-total.ensures.value in
-    let fits : Fits scale s = omega (arith, room, total, c.if-total-room.false) in (
+    let fits : Fits scale s = omega (arith, room, total) in (
       scale,
       record { is_scale = c.in_ok-scale.ensures.scale; within = c.in_ok-scale.ensures.within; fits = fits },
       tt,
