@@ -79,9 +79,10 @@ fn open(
 {
     let alloc = *nodes.allocator();
     nodes.reserve(2)?;
+    packs.reserve(1)?;
     let number = base + nodes.len() as u32;
     let pack = opened(alloc, level, NodeId(number + 1), rate)?;
-    packs.push(number)?;
+    packs.push_reserved(number);
     nodes.push_reserved(pack);
     nodes.push_reserved(Node::member(alloc, kind, rate, number, 0));
     Ok(())

@@ -11,17 +11,20 @@ returns-in_err-reserve-clause-packs c = IfOk-from_err _ _ c.from_residual.ensure
 pub returns-in_err-reserve-clause-err : goal.returns-in_err-reserve-clause-err
 returns-in_err-reserve-clause-err c = MatchResult-from_err _ _ _ c.from_residual.ensures.0 (λ _. (c.in_err-reserve.ensures.items, refl))
 
-pub returns-in_err-push-clause-nodes : goal.returns-in_err-push-clause-nodes
-returns-in_err-push-clause-nodes c = IfOk-from_err _ _ c.from_residual-in_err-push.ensures.0
-
-pub returns-in_err-push-clause-packs : goal.returns-in_err-push-clause-packs
-returns-in_err-push-clause-packs c = IfOk-from_err _ _ c.from_residual-in_err-push.ensures.0
-
 pub returns-in_err-pack-clause-nodes : goal.returns-in_err-pack-clause-nodes
 returns-in_err-pack-clause-nodes c = IfOk-from_err _ _ c.from_residual-in_err-pack.ensures.0
 
 pub returns-in_err-pack-clause-packs : goal.returns-in_err-pack-clause-packs
 returns-in_err-pack-clause-packs c = IfOk-from_err _ _ c.from_residual-in_err-pack.ensures.0
 
+pub returns-in_err-reserve-2-clause-nodes : goal.returns-in_err-reserve-2-clause-nodes
+returns-in_err-reserve-2-clause-nodes c = IfOk-from_err _ _ c.from_residual-in_err-reserve-2.ensures.0
+
+pub returns-in_err-reserve-2-clause-packs : goal.returns-in_err-reserve-2-clause-packs
+returns-in_err-reserve-2-clause-packs c = IfOk-from_err _ _ c.from_residual-in_err-reserve-2.ensures.0
+
+pub returns-in_err-reserve-2-clause-err : goal.returns-in_err-reserve-2-clause-err
+returns-in_err-reserve-2-clause-err c = MatchResult-from_err _ _ _ c.from_residual-in_err-reserve-2.ensures.0 (λ _. (c.in_ok-reserve.ensures.items, c.in_err-reserve-2.ensures.items))
+
 pub returns-in_err-pack-clause-err : goal.returns-in_err-pack-clause-err
-returns-in_err-pack-clause-err c = MatchResult-from_err _ _ _ c.from_residual-in_err-pack.ensures.0 (λ _. (c.in_ok-reserve.ensures.items, refl))
+returns-in_err-pack-clause-err c = MatchResult-from_err _ _ _ c.from_residual-in_err-pack.ensures.0 (λ _. (c.in_ok-reserve.ensures.items, c.in_ok-reserve-2.ensures.items))
