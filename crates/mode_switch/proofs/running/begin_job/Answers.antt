@@ -16,3 +16,6 @@ pub returns-clause-filled : goal.returns-clause-filled
 returns-clause-filled g c =
     let is = put_new _ _ _ c.args.i c.load.new.self c.lift-job.ensures.rest c.lay.ensures in
     rw is (still_filled c.args.jobs.now.places c.args.i c.lift-job.result c.load.new.self c.lift-job.ensures.job)
+
+pub lift-job-requires : goal.lift-job-requires
+lift-job-requires g c = c.requires

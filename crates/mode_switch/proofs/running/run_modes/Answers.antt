@@ -2,7 +2,7 @@ use Rattle.std.proofs.Common.{◌≡◌, ◌+◌, ◌≤◌, ◌<◌, [], ◌∷
 use Rattle.sched_base.specs.Tables.{row_limit}
 use Rattle.run_tree.specs.Plans.{PlanContents}
 use Rattle.mode_join.proofs.ModeLemmas.{few_modes}
-use Rattle.mode_switch.proofs.RunLemmas.{all_get, next_mode, modes_back, filled_after, own_after, stopped_in, ran_more, run_through, ran_first, names_risen, are_back, refused_outcome, told_fault, no_answer, ran_none}
+use Rattle.mode_switch.proofs.RunLemmas.{all_get, next_mode, modes_back, filled_after, own_after, stopped_in, ran_more, run_through, ran_first, names_risen, are_back, refused_outcome, told_fault, no_answer, ran_none, ran_to_end}
 use Rattle.mode_switch.specs.declared.answers.ModesFault.TheVariants as fault
 use Rattle.mode_switch.specs.Runs.{Roster}
 use Rattle.mode_switch.proofs.running.run_modes.Goals as goal
@@ -171,3 +171,20 @@ loop-j-init g c = record {
     made = λ j. (g.dyn-1.0.entry j.vtable).1.made j.value;
   }) c.args.modes.now.modes c.in_ok-runs.runs.items _ c.in_ok-runs.ensures.items;
 }
+
+pub overflow_cast-count : goal.overflow_cast-count
+overflow_cast-count g c = let fits = c.count.type_inv in omega (arith, fits)
+
+pub push_reserved-requires : goal.push_reserved-requires
+push_reserved-requires g c =
+    let long = c.loop-j.runs.ok.0 in
+    let count = c.loop-j.invariant.count in
+    let room = c.loop-j.invariant.room in
+    let below = c.loop-j-test.true in
+    let end = c.count-j-end.ensures.value in
+    omega (arith, long, count, room, below, end)
+
+pub returns-clause-outcome : goal.returns-clause-outcome
+returns-clause-outcome g c =
+    let past : length c.args.modes.now.modes ≤ c.loop-j.j = omega (arith, c.count-j-end.ensures.value, c.loop-j-test.false) in
+    ran_to_end _ _ c.args.modes.now.modes c.loop-j.j c.loop-j.runs.items _ _ past c.loop-j.invariant.ran
