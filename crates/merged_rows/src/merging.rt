@@ -20,7 +20,10 @@ pub struct MergedRows {
 
 impl Drop for MergedRows {
     fn drop(self) {
-        let Self { lanes: _lanes, end: _end } = self;
+        let Self {
+            lanes: _lanes,
+            end: _end,
+        } = self;
     }
 }
 

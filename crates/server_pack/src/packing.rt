@@ -26,7 +26,10 @@ pub struct Packing {
 
 impl Drop for Packing {
     fn drop(self) {
-        let Self { scale: _scale, servers: _servers } = self;
+        let Self {
+            scale: _scale,
+            servers: _servers,
+        } = self;
     }
 }
 
