@@ -40,8 +40,8 @@ done >"$work/sizes"
 
 # Each crate of the repository that the wanted one needs, with the processor seconds that it takes and those of them that it stands
 # on: first the one with the longest chain of crates above it, since that chain decides how long the whole takes. The guess of the
-# time that is left goes by these seconds too. They were measured (build.seconds). A crate that isn't there takes 3.3 seconds for
-# each 1,000 bytes of its code, and 0.13 for each 1,000 bytes of the crates below it, whose statements are read.
+# time that is left goes by these seconds too. They were measured (build.seconds). A crate that isn't there takes 1.7 seconds for
+# each 1,000 bytes of its code, and 0.07 for each 1,000 bytes of the crates below it, whose statements are read.
 awk -v wanted="$wanted" '
     FILENAME ~ /sizes$/ { size[$1] = $2; next }
     FILENAME ~ /seconds$/ { if ($1 != "#") takes[$1] = $2; next }
@@ -51,7 +51,7 @@ awk -v wanted="$wanted" '
         seen[of, crate] = 1
         n = split(below[crate], names, " ")
         for (i = 1; i <= n; i++) if (names[i] in below) read_below(names[i], of)
-        takes[of] += (crate == of ? 0.0033 : 0.00013) * size[crate]
+        takes[of] += (crate == of ? 0.0017 : 0.00007) * size[crate]
     }
     function visit(crate, chain,    names, n, i) {
         if (!(crate in takes)) read_below(crate, crate)
@@ -119,7 +119,6 @@ memory=$(awk '/^MemAvailable/ { print int($2 / 2097152) }' /proc/meminfo 2>/dev/
 memory=${memory:-$processors}
 jobs=$((memory < processors ? memory : processors))
 [ "$jobs" -lt 1 ] && jobs=1
-most=$((jobs < 4 ? jobs : 4))
 
 say "proving and building $wanted first: $count crates, $jobs at once; it takes 2 GB of memory for each of them and 2 GB of disk"
 
@@ -231,7 +230,8 @@ ready() {
 is_long() { [ "$((2 * $1 * jobs))" -gt "$((whole - done_size))" ]; }
 
 # Each crate has a processor and one job, since several jobs take more work for the same proofs; a processor that no crate waits for is
-# one more. A long crate has as many jobs as there are processors, where there is memory, and the system shares the processors out.
+# one more. A long crate has two jobs at least, where there is memory, and the system shares the processors out: with two it takes a
+# quarter less time and a quarter more work, with four hardly less time and half as much work again.
 free=$jobs
 while [ "$done_count" -lt "$count" ]; do
     take_ended
@@ -242,7 +242,7 @@ while [ "$done_count" -lt "$count" ]; do
         [ "$share" -lt 1 ] && share=1
         [ "$share" -gt 4 ] && share=4
         at_once=$share
-        [ "$memory" -ge "$((2 * jobs))" ] && is_long "$size" && at_once=$most
+        [ "$share" -eq 1 ] && [ "$memory" -ge "$((2 * jobs))" ] && is_long "$size" && at_once=2
         : >"$work/$name.begun"
         build "$name" "$share" "$at_once"
         free=$((free - share))
