@@ -6,7 +6,7 @@ ghost use Rattle.wrap_sched.specs.Faults.{IsWrapFault};
 ghost use Rattle.wrap_sched.specs.Steps.{points};
 ghost use Rattle.wrap_sched.specs.Wrapped.{wrapped_rounds};
 
-use crate::cuts::{cuts_of, rates_of};
+use crate::cuts::{count_cuts, rates_of};
 use crate::points::next_point;
 use sched_base::{NoMemory, ROW_LIMIT, TaskSet};
 use std::alloc::Global;
@@ -38,17 +38,17 @@ impl From<NoMemory> for WrapFault {
 }
 
 // The rounds of all slices, where each slice has that many, and they are at most `most`.
-fn count_slices(set: &TaskSet, each: u64, most: u64) -> Option<u64>
+fn count_slices(set: &TaskSet, each: u128, most: u64) -> Option<u64>
     ensures count { IfSome result (λ count. (count ≡ each * length (points set.now)) × (count ≤ most)) }
     ensures past { IfNone result (most < each * length (points set.now)) }
 {
     let mut count: u64 = 0;
     let mut x: u64 = 0;
     'slices: while x < set.horizon() {
-        if most - count < each {
+        if u128::from(most - count) < each {
             return None;
         }
-        count += each;
+        count += each as u64;
         x = next_point(set, x);
     }
     Some(count)
@@ -64,10 +64,10 @@ pub fn wrap_rounds(alloc: Global, set: &TaskSet, scale: u128) -> Result<u64, Wra
     ensures fault { IfErr result (λ fault. IsWrapFault scale set.now fault) }
 {
     let rates = rates_of(alloc, set, scale)?;
-    let cuts = cuts_of(alloc, &rates, scale)?;
+    let each = count_cuts(&rates, scale);
     let processors = u64::from(set.processors());
     let most = ROW_LIMIT / processors;
-    match count_slices(set, cuts.as_slice().len() as u64, most) {
+    match count_slices(set, each, most) {
         Some(count) => Ok(count),
         None => Err(WrapFault::TooLong {
             rows: (most + 1) * processors,

@@ -9,10 +9,9 @@ ghost use Rattle.wrap_sched.specs.Merged.{AreMergedOf, AreMergedUpTo};
 ghost use Rattle.wrap_sched.specs.Steps.{rates, unit_rounds};
 ghost use Rattle.wrap_sched.specs.Wrapped.{slice_rows, wrapped_rounds};
 
-use crate::cuts::rates_of;
 use crate::points::next_point;
 use crate::tables::write_rows;
-use crate::units::{UnitRound, unit_rounds};
+use crate::units::{UnitRound, pattern_of};
 use merged_rows::MergedRows;
 use sched_base::{NoMemory, Row, TaskSet, blank_rows};
 use std::alloc::Global;
@@ -90,9 +89,8 @@ pub fn merged_wrap(alloc: Global, set: &TaskSet, scale: u128) -> Result<MergedRo
     ensures lawful { IfOk result (λ merged. AreLawful set.now merged.lanes) }
 {
     let processors = set.processors();
-    let rates = rates_of(alloc, set, scale)?;
-    let pattern = unit_rounds(alloc, &rates, scale, processors)?;
     let mut rows = blank_rows(alloc, processors)?;
+    let pattern = pattern_of(alloc, set, scale)?;
     let none = MergedRows::new(alloc, processors)?;
     merge_slices(set, scale, &pattern, &mut rows, none)
 }

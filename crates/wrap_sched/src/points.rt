@@ -27,8 +27,9 @@ pub(crate) fn next_point(set: &TaskSet, x: u64) -> u64
     requires { x < set.now.horizon }
     ensures { IsNext (is_point set.now.tasks) set.now.horizon x result }
 {
+    let tasks = set.tasks();
     let mut next = set.horizon();
-    for task in set.tasks() {
+    for task in tasks {
         next = next.min(next_boundary(task, x));
     }
     next

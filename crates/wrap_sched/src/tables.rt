@@ -9,9 +9,8 @@ ghost use Rattle.sched_base.specs.Lanes.{lanes_of};
 ghost use Rattle.wrap_sched.specs.Steps.{rates, stretched_rows, unit_rounds};
 ghost use Rattle.wrap_sched.specs.Wrapped.{leaf_of, slice_rows, wrapped, wrapped_rounds};
 
-use crate::cuts::rates_of;
 use crate::points::next_point;
-use crate::units::{UnitRound, unit_rounds};
+use crate::units::{UnitRound, pattern_of};
 use sched_base::{Leaf, NoMemory, Row, RowTable, TaskId, TaskSet, blank_rows};
 use std::alloc::Global;
 
@@ -138,9 +137,8 @@ pub fn wrap(alloc: Global, set: &TaskSet, scale: u128, rounds: u64) -> Result<Ro
     ensures valid { IfOk result (λ t. IsValid set.now scale (set.now.horizon * scale) (set.now.horizon * scale) (all_rows t.lanes)) }
 {
     let processors = set.processors();
-    let rates = rates_of(alloc, set, scale)?;
-    let pattern = unit_rounds(alloc, &rates, scale, processors)?;
     let mut rows = blank_rows(alloc, processors)?;
+    let pattern = pattern_of(alloc, set, scale)?;
     let mut table = RowTable::new(alloc, processors, rounds)?;
     push_slices(set, scale, &pattern, &mut rows, &mut table);
     table.know_whole();

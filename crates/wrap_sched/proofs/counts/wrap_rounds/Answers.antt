@@ -9,7 +9,7 @@ pub returns-in-Some-clause-count : goal.returns-in-Some-clause-count
 returns-in-Some-clause-count c =
     let s = c.args.set.now in
     let m_is = c.from-processors.ensures ∙ c.processors.ensures.value in
-    let same : length c.as_slice.result.now ≡ length (cuts c.args.scale (rates c.args.scale s.tasks)) = ap length (c.as_slice.ensures.value ∙ c.in_ok-cuts.ensures ∙ ap (cuts c.args.scale) (c.deref.ensures.value ∙ c.in_ok-rates.ensures.value)) in
+    let same = c.count_cuts-each.ensures ∙ ap (λ ns. length (cuts c.args.scale ns)) (c.deref.ensures.value ∙ c.in_ok-rates.ensures.value) in
     let all = wrapped_rounds_are s c.args.scale c.processors.ensures.lawful c.requires.scale in
     let each = ap (λ n. n * length (points s)) same in
     let (count, most) = c.in-Some.ensures.count in
@@ -20,7 +20,7 @@ pub returns-clause-fault : goal.returns-clause-fault
 returns-clause-fault c =
     let s = c.args.set.now in
     let m_is = c.from-processors.ensures ∙ c.processors.ensures.value in
-    let same : length c.as_slice.result.now ≡ length (cuts c.args.scale (rates c.args.scale s.tasks)) = ap length (c.as_slice.ensures.value ∙ c.in_ok-cuts.ensures ∙ ap (cuts c.args.scale) (c.deref.ensures.value ∙ c.in_ok-rates.ensures.value)) in
+    let same = c.count_cuts-each.ensures ∙ ap (λ ns. length (cuts c.args.scale ns)) (c.deref.ensures.value ∙ c.in_ok-rates.ensures.value) in
     let all = wrapped_rounds_are s c.args.scale c.processors.ensures.lawful c.requires.scale in
     let each = ap (λ n. n * length (points s)) same in
     let past = c.in-None.ensures.past in

@@ -1,4 +1,5 @@
 use Rattle.std.proofs.Common.{arith, length, ◌<◌, ◌≤◌}
+use Rattle.std.proofs.lemmas.Result.{IfOk-from_err}
 use Rattle.wrap_sched.proofs.MergedLemmas.{all_lawful, all_merged_rows, next_before, none_before}
 use Rattle.wrap_sched.proofs.ValidRows.{point_at_zero}
 use Rattle.wrap_sched.proofs.merged.merge_slices.Goals as goal
@@ -39,3 +40,39 @@ returns-clause-lawful c =
     let s = c.args.set.now in
     let past : s.horizon ≤ c.slices.x = (let off = c.slices-test.false in let is = c.horizon.ensures.value in omega (arith, off, is)) in
     all_lawful s c.args.scale c.know_lawful.ensures.lawful c.requires.scale c.requires.fits (length c.args.pattern.now) c.slices.x c.slices.merged c.slices.invariant.before past c.requires.few
+
+pub next_point-y-requires : goal.next_point-y-requires
+next_point-y-requires c =
+    let on = c.slices-test.true in
+    let is = c.horizon.ensures.value in
+    omega (arith, on, is)
+
+pub merge_slice-requires-clause-scale : goal.merge_slice-requires-clause-scale
+merge_slice-requires-clause-scale c = c.requires.scale
+
+pub merge_slice-requires-clause-scale_fits : goal.merge_slice-requires-clause-scale_fits
+merge_slice-requires-clause-scale_fits c = c.requires.scale_fits
+
+pub merge_slice-requires-clause-fits : goal.merge_slice-requires-clause-fits
+merge_slice-requires-clause-fits c = c.requires.fits
+
+pub merge_slice-requires-clause-pattern : goal.merge_slice-requires-clause-pattern
+merge_slice-requires-clause-pattern c = c.requires.pattern
+
+pub merge_slice-requires-clause-forward : goal.merge_slice-requires-clause-forward
+merge_slice-requires-clause-forward c = c.next_point-y.ensures.above
+
+pub merge_slice-requires-clause-early : goal.merge_slice-requires-clause-early
+merge_slice-requires-clause-early c = c.next_point-y.ensures.within
+
+pub returns-in_err-merged-clause-rows : goal.returns-in_err-merged-clause-rows
+returns-in_err-merged-clause-rows c = IfOk-from_err _ _ c.from_residual.ensures.0
+
+pub returns-in_err-merged-clause-lawful : goal.returns-in_err-merged-clause-lawful
+returns-in_err-merged-clause-lawful c = IfOk-from_err _ _ c.from_residual.ensures.0
+
+pub slices-smaller : goal.slices-smaller
+slices-smaller c =
+    let above = c.next_point-y.ensures.above in
+    let within = c.next_point-y.ensures.within in
+    omega (arith, above, within)

@@ -1,11 +1,6 @@
+use Rattle.std.proofs.Common.{[], ap, replicate, ◌∙◌}
 use Rattle.std.proofs.lemmas.Result.{IfOk-from_err}
 use Rattle.wrap_sched.proofs.merged.merged_wrap.Goals as goal
-
-pub returns-in_err-rates-clause-rows : goal.returns-in_err-rates-clause-rows
-returns-in_err-rates-clause-rows c = IfOk-from_err _ _ c.from_residual.ensures.0
-
-pub returns-in_err-rates-clause-lawful : goal.returns-in_err-rates-clause-lawful
-returns-in_err-rates-clause-lawful c = IfOk-from_err _ _ c.from_residual.ensures.0
 
 pub returns-in_err-pattern-clause-rows : goal.returns-in_err-pattern-clause-rows
 returns-in_err-pattern-clause-rows c = IfOk-from_err _ _ c.from_residual-in_err-pattern.ensures.0
@@ -14,10 +9,10 @@ pub returns-in_err-pattern-clause-lawful : goal.returns-in_err-pattern-clause-la
 returns-in_err-pattern-clause-lawful c = IfOk-from_err _ _ c.from_residual-in_err-pattern.ensures.0
 
 pub returns-in_err-rows-clause-rows : goal.returns-in_err-rows-clause-rows
-returns-in_err-rows-clause-rows c = IfOk-from_err _ _ c.from_residual-in_err-rows.ensures.0
+returns-in_err-rows-clause-rows c = IfOk-from_err _ _ c.from_residual.ensures.0
 
 pub returns-in_err-rows-clause-lawful : goal.returns-in_err-rows-clause-lawful
-returns-in_err-rows-clause-lawful c = IfOk-from_err _ _ c.from_residual-in_err-rows.ensures.0
+returns-in_err-rows-clause-lawful c = IfOk-from_err _ _ c.from_residual.ensures.0
 
 pub returns-in_err-none-clause-rows : goal.returns-in_err-none-clause-rows
 returns-in_err-none-clause-rows c = IfOk-from_err _ _ c.from_residual-in_err-none.ensures.0
@@ -25,26 +20,11 @@ returns-in_err-none-clause-rows c = IfOk-from_err _ _ c.from_residual-in_err-non
 pub returns-in_err-none-clause-lawful : goal.returns-in_err-none-clause-lawful
 returns-in_err-none-clause-lawful c = IfOk-from_err _ _ c.from_residual-in_err-none.ensures.0
 
-pub rates_of-requires-clause-scale : goal.rates_of-requires-clause-scale
-rates_of-requires-clause-scale c = c.requires.scale
-
-pub rates_of-requires-clause-scale_fits : goal.rates_of-requires-clause-scale_fits
-rates_of-requires-clause-scale_fits c = c.requires.scale_fits
-
 pub returns-clause-rows : goal.returns-clause-rows
 returns-clause-rows c = c.merge_slices.ensures.rows
 
 pub returns-clause-lawful : goal.returns-clause-lawful
 returns-clause-lawful c = c.merge_slices.ensures.lawful
-
-pub unit_rounds-requires-clause-within : goal.unit_rounds-requires-clause-within
-unit_rounds-requires-clause-within c = rw c.deref.ensures.value c.in_ok-rates.ensures.within
-
-pub unit_rounds-requires-clause-few_processors : goal.unit_rounds-requires-clause-few_processors
-unit_rounds-requires-clause-few_processors c = rw c.processors-processors.ensures.value c.processors-processors.ensures.lawful.few_processors
-
-pub unit_rounds-requires-clause-scale_fits : goal.unit_rounds-requires-clause-scale_fits
-unit_rounds-requires-clause-scale_fits c = c.requires.scale_fits
 
 pub merge_slices-requires-clause-scale : goal.merge_slices-requires-clause-scale
 merge_slices-requires-clause-scale c = c.requires.scale
@@ -58,5 +38,17 @@ merge_slices-requires-clause-fits c = c.requires.fits
 pub merge_slices-requires-clause-few : goal.merge_slices-requires-clause-few
 merge_slices-requires-clause-few c = c.requires.few
 
-pub unit_rounds-requires-clause-some_scale : goal.unit_rounds-requires-clause-some_scale
-unit_rounds-requires-clause-some_scale c = c.requires.scale.positive
+pub pattern_of-requires-clause-scale : goal.pattern_of-requires-clause-scale
+pattern_of-requires-clause-scale c = c.requires.scale
+
+pub pattern_of-requires-clause-scale_fits : goal.pattern_of-requires-clause-scale_fits
+pattern_of-requires-clause-scale_fits c = c.requires.scale_fits
+
+pub merge_slices-requires-clause-pattern : goal.merge_slices-requires-clause-pattern
+merge_slices-requires-clause-pattern c = c.deref.ensures.value ∙ c.in_ok-pattern.ensures
+
+pub merge_slices-requires-clause-none : goal.merge_slices-requires-clause-none
+merge_slices-requires-clause-none c = c.in_ok-none.ensures.none ∙ ap (λ n. replicate n []) c.processors-processors.ensures.value
+
+pub merge_slices-requires-clause-start : goal.merge_slices-requires-clause-start
+merge_slices-requires-clause-start c = c.in_ok-none.ensures.start

@@ -5,4 +5,4 @@ use Rattle.wrap_sched.specs.Steps.{IsNext}
 use Rattle.wrap_sched.proofs.points.next_point.Given as goal
 
 abbrev pub invariant-loop-task : goal.invariant-loop-task
-invariant-loop-task l = IsNext (λ k. list_any (λ task. task_boundary task k) (take l.task-index l.task-items)) l.set.horizon l.x l.next
+invariant-loop-task l = IsNext (λ k. list_any (λ task. task_boundary task k) (take l.task-index l.tasks)) l.set.horizon l.x l.next

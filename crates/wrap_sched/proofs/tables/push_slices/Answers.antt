@@ -1,5 +1,5 @@
 use Rattle.std.proofs.Common.{[], List, ap, arith, filter, length, sym, ◌*◌, ◌++◌, ◌-◌, ◌<◌, ◌∙◌, ◌≡◌, ◌≤◌}
-use Rattle.std.proofs.lemmas.List.{append_assoc}
+use Rattle.std.proofs.lemmas.List.{append-nil, append_assoc}
 use Rattle.std.specs.List.{flat_map, range_with_len}
 use Rattle.sched_base.specs.declared.rows.Row.{Row}
 use Rattle.sched_base.specs.Lanes.{lanes_of}
@@ -69,3 +69,71 @@ slices-preserved c =
       room = omega (arith, more, room, less);
       count = omega (arith, less, count, grown);
     }
+
+pub next_point-y-requires : goal.next_point-y-requires
+next_point-y-requires c =
+    let on = c.slices-test.true in
+    let is = c.horizon.ensures.value in
+    omega (arith, on, is)
+
+pub push_slice-requires-clause-forward : goal.push_slice-requires-clause-forward
+push_slice-requires-clause-forward c = c.next_point-y.ensures.above
+
+pub push_slice-requires-clause-early : goal.push_slice-requires-clause-early
+push_slice-requires-clause-early c = c.next_point-y.ensures.within
+
+pub push_slice-requires-clause-whole : goal.push_slice-requires-clause-whole
+push_slice-requires-clause-whole c = c.slices.invariant.whole
+
+pub push_slice-requires-clause-start : goal.push_slice-requires-clause-start
+push_slice-requires-clause-start c = c.slices.invariant.end
+
+pub slices-smaller : goal.slices-smaller
+slices-smaller c =
+    let above = c.next_point-y.ensures.above in
+    let within = c.next_point-y.ensures.within in
+    omega (arith, above, within)
+
+pub returns-clause-lanes : goal.returns-clause-lanes
+returns-clause-lanes c =
+    let s = c.args.set.now in
+    let off = c.slices-test.false in
+    let is = c.horizon.ensures.value in
+    let none : s.horizon - c.slices.x ≡ 0 = omega (arith, off, is) in
+    let (done, are, all) = c.slices.invariant.rows in
+    let f = slice_rows c.args.scale s.tasks s.processors in
+    let rest = ap (λ n. done ++ flat_map f (spans (filter (is_point s.tasks) (range_with_len c.slices.x n)) s.horizon)) none in
+    are ∙ ap (lanes_of s.processors) (sym (append-nil done) ∙ sym rest ∙ all)
+
+pub returns-clause-full : goal.returns-clause-full
+returns-clause-full c =
+    let s = c.args.set.now in
+    let off = c.slices-test.false in
+    let is = c.horizon.ensures.value in
+    let none : s.horizon - c.slices.x ≡ 0 = omega (arith, off, is) in
+    let rest = ap (λ n. length c.args.pattern.now * length (filter (is_point s.tasks) (range_with_len c.slices.x n))) none in
+    let room = c.slices.invariant.room in
+    omega (arith, rest, room)
+
+pub push_slice-requires-clause-scale : goal.push_slice-requires-clause-scale
+push_slice-requires-clause-scale c = c.requires.scale
+
+pub push_slice-requires-clause-scale_fits : goal.push_slice-requires-clause-scale_fits
+push_slice-requires-clause-scale_fits c = c.requires.scale_fits
+
+pub push_slice-requires-clause-fits : goal.push_slice-requires-clause-fits
+push_slice-requires-clause-fits c = c.requires.fits
+
+pub push_slice-requires-clause-pattern : goal.push_slice-requires-clause-pattern
+push_slice-requires-clause-pattern c = c.requires.pattern
+
+pub returns-clause-count : goal.returns-clause-count
+returns-clause-count c =
+    let s = c.args.set.now in
+    let off = c.slices-test.false in
+    let is = c.horizon.ensures.value in
+    let none : s.horizon - c.slices.x ≡ 0 = omega (arith, off, is) in
+    let rest = ap (λ n. length c.args.pattern.now * length (filter (is_point s.tasks) (range_with_len c.slices.x n))) none in
+    let room = c.slices.invariant.room in
+    let count = c.slices.invariant.count in
+    omega (arith, rest, room, count)
