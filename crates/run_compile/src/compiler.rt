@@ -1,6 +1,6 @@
 //! Sets into plans.
-ghost use Rattle.std.specs.Prelude.{ℕ, ◌≡◌, ◌≤◌, ◌+◌, ◌-◌, ◌^◌, ◌⊎◌, map, IfOk, IfErr};
-ghost use Rattle.sched_base.specs.Scale.{IsScale, Fits, rate_of};
+ghost use Rattle.std.specs.Prelude.{ℕ, ◌≡◌, ◌≤◌, ◌<◌, ◌+◌, ◌-◌, ◌^◌, ◌⊎◌, map, IfOk, IfErr};
+ghost use Rattle.sched_base.specs.Scale.{IsScale, Fits, rate_of, room_of, total_of};
 ghost use Rattle.run_tree.specs.TreeOfSet.{IsTreeOf};
 ghost use Rattle.run_tree.specs.Compiled.{tree_of};
 ghost use Rattle.run_compile.specs.Answers.{HasScale, IsRefused, IsSmall};
@@ -37,13 +37,22 @@ fn fitting_scale(set: &TaskSet) -> Result<u128, CompileFault>
 {
     let scale = scale_of(set)?;
     if !fits(set, scale) {
-        let room = u128::from(set.processors()) * scale;
-        return Err(CompileFault::Overload {
-            total: total(set, scale),
-            room,
-        });
+        return Err(overload(set, scale));
     }
     Ok(scale)
+}
+
+// The refusal of a set that asks for more than its processors have at this scale.
+fn overload(set: &TaskSet, scale: u128) -> CompileFault
+    requires scale { HasScale set.now scale }
+    requires over { room_of scale set.now < total_of scale set.now.tasks }
+    ensures refused { IsRefused set.now result }
+    ensures small { IsSmall result }
+{
+    CompileFault::Overload {
+        total: total(set, scale),
+        room: u128::from(set.processors()) * scale,
+    }
 }
 
 // The tree of a set that fits at this scale.
@@ -64,9 +73,10 @@ fn rates_of(alloc: Global, set: &TaskSet, scale: u128) -> Result<Vec<u128>, NoMe
     requires scale_fits { scale ≤ 2 ^ 94 }
     ensures { IfOk result (λ rates. rates.items ≡ map (rate_of scale) set.now.tasks) }
 {
-    let mut rates = Vec::new(alloc);
-    for task in set.tasks() {
-        rates.push(rate(task.work, task.period, scale))?;
+    let tasks = set.tasks();
+    let mut rates = Vec::with_capacity(alloc, tasks.len())?;
+    for task in tasks {
+        rates.push_reserved(rate(task.work, task.period, scale));
     }
     Ok(rates)
 }

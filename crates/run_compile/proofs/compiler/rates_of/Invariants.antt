@@ -1,6 +1,10 @@
-use Rattle.std.proofs.Common.{◌≡◌, map, take}
+use Rattle.std.proofs.Common.{◌≡◌, ◌≤◌, length, map, take, vec_capacity, vec_len}
 use Rattle.sched_base.specs.Scale.{rate_of}
 use Rattle.run_compile.proofs.compiler.rates_of.Given as goal
 
 abbrev pub invariant-loop-task : goal.invariant-loop-task
-invariant-loop-task l = l.rates.items ≡ map (rate_of l.scale) (take l.task-index l.task-items)
+invariant-loop-task l = record {
+  so_far : l.rates.items ≡ map (rate_of l.scale) (take l.task-index l.tasks);
+  count : vec_len l.rates ≡ l.task-index;
+  room : length l.tasks ≤ vec_capacity l.rates;
+}

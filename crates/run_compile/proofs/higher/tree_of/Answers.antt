@@ -1,5 +1,7 @@
-use Rattle.std.proofs.Common.{rules, ◌≡◌, ◌<◌, length, refl, ap, arith, ◌∙◌}
+use Rattle.std.proofs.Common.{sym, ◌≡◌, ◌<◌, length, refl, ap, arith, ◌∙◌}
 use Rattle.run_tree.specs.Making.{Making}
+use Rattle.std.proofs.lemmas.Bool.{eqb-false, eqb-true}
+use Rattle.std.proofs.lemmas.Result.{IfOk-from_err}
 use Rattle.tree_laws.proofs.CompiledTree.{level_0_kept}
 use Rattle.run_compile.proofs.HigherLemmas as higher
 use Rattle.run_compile.proofs.HigherLemmas.{IsClimbing, MayRaise, climb_start, climb_asks, climb_next, climb_end}
@@ -26,27 +28,76 @@ raise-requires-clause-positive c =
 
 pub lower_rates-requires-in-loop-alloc : goal.lower_rates-requires-in-loop-alloc
 lower_rates-requires-in-loop-alloc c =
-    let some : 0 < length c.loop-alloc.lower.items = search rules in
+    let more = eqb-false _ 0 (sym c.is_empty.ensures ∙ c.loop-alloc-test.true) in
+    let len = c.loop-alloc.lower.ok.0 in
+    let some : 0 < length c.loop-alloc.lower.items = omega (arith, more, len) in
     let next = climb_next c.args.processors c.args.scale c.args.rates.now c.requires.fit c.requires.few_processors c.requires.few_tasks c.loop-alloc.maker c.raise.new.maker c.loop-alloc.lower.items (higher.lower_rates c.raise.new.maker) c.loop-alloc.invariant some c.in_ok-raise.ensures refl in
     (climb_asks c.args.processors c.args.scale c.args.rates.now c.requires.fit c.requires.few_processors c.requires.few_tasks c.raise.new.maker (higher.lower_rates c.raise.new.maker) next.0).scale_is
 
 pub loop-alloc-smaller : goal.loop-alloc-smaller
 loop-alloc-smaller c =
-    let some : 0 < length c.loop-alloc.lower.items = search rules in
+    let more = eqb-false _ 0 (sym c.is_empty.ensures ∙ c.loop-alloc-test.true) in
+    let len = c.loop-alloc.lower.ok.0 in
+    let some : 0 < length c.loop-alloc.lower.items = omega (arith, more, len) in
     (climb_next c.args.processors c.args.scale c.args.rates.now c.requires.fit c.requires.few_processors c.requires.few_tasks c.loop-alloc.maker c.raise.new.maker c.loop-alloc.lower.items c.in_ok-lower-2.lower.items c.loop-alloc.invariant some c.in_ok-raise.ensures c.in_ok-lower-2.ensures).1
 
 pub loop-alloc-preserved : goal.loop-alloc-preserved
 loop-alloc-preserved c =
-    let some : 0 < length c.loop-alloc.lower.items = search rules in
+    let more = eqb-false _ 0 (sym c.is_empty.ensures ∙ c.loop-alloc-test.true) in
+    let len = c.loop-alloc.lower.ok.0 in
+    let some : 0 < length c.loop-alloc.lower.items = omega (arith, more, len) in
     (climb_next c.args.processors c.args.scale c.args.rates.now c.requires.fit c.requires.few_processors c.requires.few_tasks c.loop-alloc.maker c.raise.new.maker c.loop-alloc.lower.items c.in_ok-lower-2.lower.items c.loop-alloc.invariant
     some c.in_ok-raise.ensures c.in_ok-lower-2.ensures).0
 
 pub finish-requires : goal.finish-requires
 finish-requires c =
-    let none : length c.loop-alloc.lower.items ≡ 0 = search rules in
+    let empty = eqb-true _ 0 (sym c.is_empty.ensures ∙ c.loop-alloc-test.false) in
+    let len = c.loop-alloc.lower.ok.0 in
+    let none : length c.loop-alloc.lower.items ≡ 0 = omega (arith, empty, len) in
     (climb_end c.args.processors c.args.scale c.args.rates.now c.requires.fit c.requires.few_processors c.requires.few_tasks c.loop-alloc.maker c.loop-alloc.lower.items c.loop-alloc.invariant none).1
 
 pub returns : goal.returns
 returns c =
-    let none : length c.loop-alloc.lower.items ≡ 0 = search rules in
+    let empty = eqb-true _ 0 (sym c.is_empty.ensures ∙ c.loop-alloc-test.false) in
+    let len = c.loop-alloc.lower.ok.0 in
+    let none : length c.loop-alloc.lower.items ≡ 0 = omega (arith, empty, len) in
     c.finish.ensures ∙ (climb_end c.args.processors c.args.scale c.args.rates.now c.requires.fit c.requires.few_processors c.requires.few_tasks c.loop-alloc.maker c.loop-alloc.lower.items c.loop-alloc.invariant none).0
+
+pub first_level-requires-clause-fit : goal.first_level-requires-clause-fit
+first_level-requires-clause-fit c = c.requires.fit
+
+pub first_level-requires-clause-few_processors : goal.first_level-requires-clause-few_processors
+first_level-requires-clause-few_processors c = c.requires.few_processors
+
+pub first_level-requires-clause-scale_fits : goal.first_level-requires-clause-scale_fits
+first_level-requires-clause-scale_fits c = c.requires.scale_fits
+
+pub first_level-requires-clause-few_tasks : goal.first_level-requires-clause-few_tasks
+first_level-requires-clause-few_tasks c = c.requires.few_tasks
+
+pub returns-in_err-maker : goal.returns-in_err-maker
+returns-in_err-maker c = IfOk-from_err _ _ c.from_residual.ensures.0
+
+pub returns-in_err-lower : goal.returns-in_err-lower
+returns-in_err-lower c = IfOk-from_err _ _ c.from_residual-in_err-lower.ensures.0
+
+pub returns-in_err-raise : goal.returns-in_err-raise
+returns-in_err-raise c = IfOk-from_err _ _ c.from_residual-in_err-raise.ensures.0
+
+pub returns-in_err-lower-2 : goal.returns-in_err-lower-2
+returns-in_err-lower-2 c = IfOk-from_err _ _ c.from_residual-in_err-lower-2.ensures.0
+
+pub loop-alloc-init : goal.loop-alloc-init
+loop-alloc-init c = climb_start c.args.processors c.args.scale c.args.rates.now c.requires.fit c.requires.few_processors c.requires.few_tasks c.in_ok-maker.maker c.in_ok-lower.lower.items c.in_ok-maker.ensures c.in_ok-lower.ensures
+
+pub raise-requires-clause-scale_fits : goal.raise-requires-clause-scale_fits
+raise-requires-clause-scale_fits c = c.requires.scale_fits
+
+pub raise-requires-clause-some : goal.raise-requires-clause-some
+raise-requires-clause-some c =
+    let more = eqb-false _ 0 (sym c.is_empty.ensures ∙ c.loop-alloc-test.true) in
+    let long = c.as_slice.ensures.len in
+    omega (arith, more, long)
+
+pub raise-requires-clause-lower : goal.raise-requires-clause-lower
+raise-requires-clause-lower c = c.as_slice.ensures.value ∙ c.loop-alloc.invariant.rates

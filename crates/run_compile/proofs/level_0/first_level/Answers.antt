@@ -1,4 +1,5 @@
 use Rattle.std.proofs.Common.{ap, ℕ, ◌+◌, length, arith, ◌∙◌, sym, subst, subst₂, drop}
+use Rattle.std.proofs.lemmas.Result.{IfOk-from_err}
 use Rattle.sched_base.specs.FirstFit.{homes, packed}
 use Rattle.server_pack.specs.Servers.{items_of}
 use Rattle.run_tree.specs.Making.{Making}
@@ -81,3 +82,51 @@ returns c =
     let asked = asked_of c.args.processors c.args.scale c.args.rates.now in
     let long = idles_long c.fill.new.packing.servers asked told in
     fill_end (first_level c.args.processors c.args.scale c.args.rates.now) c.loop-s.maker (length c.args.rates.now) c.loop-s.s c.loop-s.number asked c.loop-s.invariant (omega (arith, long))
+
+pub first_fit-requires-clause-scale : goal.first_fit-requires-clause-scale
+first_fit-requires-clause-scale c = c.requires.scale_fits
+
+pub first_fit-requires-clause-each : goal.first_fit-requires-clause-each
+first_fit-requires-clause-each c = c.requires.fit.each
+
+pub first_fit-requires-clause-few : goal.first_fit-requires-clause-few
+first_fit-requires-clause-few c = omega (arith, c.requires.few_tasks)
+
+pub returns-in_err-packing : goal.returns-in_err-packing
+returns-in_err-packing c = IfOk-from_err _ _ c.from_residual.ensures.0
+
+pub returns-in_err-maker : goal.returns-in_err-maker
+returns-in_err-maker c = IfOk-from_err _ _ c.from_residual-in_err-maker.ensures.0
+
+pub returns-in_err-fill : goal.returns-in_err-fill
+returns-in_err-fill c = IfOk-from_err _ _ c.from_residual-in_err-fill.ensures.0
+
+pub returns-in_err-leaf : goal.returns-in_err-leaf
+returns-in_err-leaf c = IfOk-from_err _ _ c.from_residual-in_err-leaf.ensures.0
+
+pub packed_tasks-requires-clause-fit : goal.packed_tasks-requires-clause-fit
+packed_tasks-requires-clause-fit c = c.requires.fit
+
+pub packed_tasks-requires-clause-few_processors : goal.packed_tasks-requires-clause-few_processors
+packed_tasks-requires-clause-few_processors c = c.requires.few_processors
+
+pub packed_tasks-requires-clause-scale_fits : goal.packed_tasks-requires-clause-scale_fits
+packed_tasks-requires-clause-scale_fits c = c.requires.scale_fits
+
+pub packed_tasks-requires-clause-few_tasks : goal.packed_tasks-requires-clause-few_tasks
+packed_tasks-requires-clause-few_tasks c = c.requires.few_tasks
+
+pub packed_tasks-requires-clause-scale : goal.packed_tasks-requires-clause-scale
+packed_tasks-requires-clause-scale c = c.in_ok-packing.ensures.scale
+
+pub fill-requires-clause-made : goal.fill-requires-clause-made
+fill-requires-clause-made c = c.in_ok-packing.ensures.scale
+
+pub fill-requires-clause-no_idle : goal.fill-requires-clause-no_idle
+fill-requires-clause-no_idle c = c.in_ok-packing.ensures.no_idle
+
+pub fill-requires-clause-few : goal.fill-requires-clause-few
+fill-requires-clause-few c = c.requires.few_processors
+
+pub fill-requires-clause-fits : goal.fill-requires-clause-fits
+fill-requires-clause-fits c = let sum = c.in_ok-packing.ensures.sum in let fit = c.requires.fit.fit in omega (arith, sum, fit)

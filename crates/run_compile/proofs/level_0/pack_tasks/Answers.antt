@@ -1,4 +1,8 @@
 use Rattle.std.proofs.Common.{length, ap, arith, ◌∙◌}
+use Rattle.std.proofs.lemmas.List.{take_all}
+use Rattle.std.proofs.lemmas.Result.{IfOk-from_err}
+use Rattle.run_tree.specs.Making.{started}
+use Rattle.run_tree.specs.Compiled.{pack_items, task_items}
 use Rattle.run_compile.proofs.HomeLemmas.{homes_long}
 use Rattle.run_compile.proofs.Level0Lemmas.{task_asks, task_count, task_put}
 use Rattle.run_compile.proofs.level_0.pack_tasks.Goals as goal
@@ -33,3 +37,30 @@ leaf-requires-clause-within c =
 pub loop-j-preserved : goal.loop-j-preserved
 loop-j-preserved c =
     c.in_ok-leaf.ensures.ok ∙ task_put c.args.processors c.args.scale c.args.rates.now c.args.told.now c.requires.fit c.requires.homes c.loop-j.maker c.loop-j.j c.loop-j.invariant (omega arith)
+
+pub start-maker-requires-clause-some_processors : goal.start-maker-requires-clause-some_processors
+start-maker-requires-clause-some_processors c = c.requires.fit.some_processors
+
+pub start-maker-requires-clause-few_processors : goal.start-maker-requires-clause-few_processors
+start-maker-requires-clause-few_processors c = c.requires.few_processors
+
+pub start-maker-requires-clause-some_scale : goal.start-maker-requires-clause-some_scale
+start-maker-requires-clause-some_scale c = c.requires.fit.some_scale
+
+pub start-maker-requires-clause-scale_fits : goal.start-maker-requires-clause-scale_fits
+start-maker-requires-clause-scale_fits c = c.requires.scale_fits
+
+pub loop-j-init : goal.loop-j-init
+loop-j-init c = c.start-maker.ensures
+
+pub returns-in_err-leaf : goal.returns-in_err-leaf
+returns-in_err-leaf c = IfOk-from_err _ _ c.from_residual.ensures.0
+
+pub leaf-requires-clause-some_rate : goal.leaf-requires-clause-some_rate
+leaf-requires-clause-some_rate c =
+    (task_asks c.args.processors c.args.scale c.args.rates.now c.args.told.now c.requires.fit c.requires.homes c.loop-j.maker c.loop-j.j c.loop-j.invariant (omega arith)).some_rate
+
+pub returns : goal.returns
+returns c =
+    let off = c.loop-j-test.false in
+    c.loop-j.invariant ∙ ap (λ rs. pack_items (task_items 0 rs) (started c.args.processors c.args.scale)) (take_all c.loop-j.j c.args.rates.now (omega (arith, off)))
