@@ -25,8 +25,9 @@ pub fn total(set: &TaskSet, scale: u128) -> u128
     ensures value { result ≡ total_of scale set.now.tasks }
     ensures within { result ≤ 256 * scale }
 {
+    let tasks = set.tasks();
     let mut sum: u128 = 0;
-    for task in set.tasks() {
+    for task in tasks {
         sum += rate(task.work, task.period, scale);
     }
     sum
