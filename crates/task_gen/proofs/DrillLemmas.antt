@@ -1,8 +1,8 @@
 -- Sets that words draw.
-use Rattle.std.proofs.Common.{◌≡◌, ℕ, zero, suc, ◌+◌, ◌/◌, ◌%◌, ◌*◌, ◌^◌, ◌<◌, ◌≤◌, Bool, true, false, List, [], ◌∷◌, ◌++◌, length, get_or, drop, refl, sym, ◌∙◌, ap, subst, arith, length-append}
+use Rattle.std.proofs.Common.{◌≡◌, ℕ, zero, suc, ◌+◌, ◌/◌, ◌%◌, ◌*◌, ◌^◌, ◌<◌, ◌≤◌, Bool, true, false, List, [], ◌∷◌, ◌++◌, length, get_or, drop, refl, sym, ◌∙◌, ap, subst, arith, length-append, div-add-mod', mod-lt, inl, inr}
 use Rattle.std.specs.Int.{◌∣◌}
 use Rattle.std.specs.Prelude.{nat_le}
-use Rattle.std.proofs.lemmas.Bool.{leb-true, le-leb, lt-leb}
+use Rattle.std.proofs.lemmas.Bool.{cases_lt, leb-true, le-leb, lt-leb}
 use Rattle.std.proofs.lemmas.List.{drop_more, drop_all}
 use Rattle.std.proofs.lemmas.Nat.Gcd.{dvd_of_mod-eq-zero}
 use Rattle.std.proofs.Math.Nat.{mul-div_assoc, mul-div_cancel', mul-le-mul_right, dvd-mod_iff}
@@ -37,6 +37,32 @@ pub period_is : (w : ℕ) → IsPeriod (period_by w)
 period_is w =
     let at = AllByRecursion-at (λ p. (1 ≤ p) × (p ≤ 30) × (60 % p ≡ 0)) periods (w % 8) (omega arith) each_period in
     period_of_60 (period_by w) at.0 at.1 at.2
+
+-- the work and the period that a pair of words chooses
+pub record AreChosen (work period : ℕ) : Type 0 where
+  pub some_work : 1 ≤ work
+  pub work_fits : work ≤ period
+  pub some_period : 1 ≤ period
+  pub small_period : period ≤ 30
+
+pub are_chosen : (w v work period : ℕ) → work ≡ work_by v period → period ≡ period_by w → AreChosen work period
+are_chosen w v work period work_is of_word =
+    let p = subst IsPeriod (sym of_word) (period_is w) in
+    let some = p.some in
+    let rest : v % period < period = mod-lt v some in
+    record { some_work = omega (arith, work_is); work_fits = omega (arith, work_is, rest); some_period = some; small_period = p.small }
+
+-- a weight is at most that of a whole processor
+pub light : (work period : ℕ) → AreChosen work period → work * 60 / period ≤ 60
+light work period h = elim (cases_lt 60 (work * 60 / period)) [
+  | inl past ↦
+      (let more : 61 * period ≤ work * 60 / period * period = mul-le-mul_right period past in
+      let parts = div-add-mod' (work * 60) period in
+      let fits = h.work_fits in
+      let some = h.some_period in
+      absurd (omega (arith, more, parts, fits, some)))
+  | inr within ↦ within
+]
 
 -- the set of drawn tasks
 abbrev pub set_of : List Task → SetContents
