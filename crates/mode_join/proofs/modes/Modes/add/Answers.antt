@@ -122,3 +122,31 @@ returns-in_err-push-clause-lawful c = IfOk-from_err _ _ c.from_residual-in_err-p
 
 pub plan_of-requires : goal.plan_of-requires
 plan_of-requires c = c.in_default.ensures.none.whole_periods
+
+pub rounds_after-requires : goal.rounds_after-requires
+rounds_after-requires c =
+    let few = c.self.invariant.0.few_rows in
+    let so_far = c.self.invariant.1 in
+    omega (arith, few, so_far)
+
+pub returns-in_err-push-clause-refused : goal.returns-in_err-push-clause-refused
+returns-in_err-push-clause-refused c =
+    let why = err_from_is_err_and c.from_residual-in_err-push.result c.from_residual-in_err-push.ensures.1 in
+    rw (why.1, why.2) tt
+
+pub overflow_mul-self : goal.overflow_mul-self
+overflow_mul-self c =
+    let after = (goal.at.overflow_mul-self c).In_ok-push in
+    let by : c.in_ok-rounds.rounds * c.from.result ≡ c.in_ok-rounds.rounds * c.self.inside.processors = ap (λ w. c.in_ok-rounds.rounds * w) c.from.ensures in
+    let row = rows after in
+    let most = few after in
+    omega (arith, by, row, most)
+
+pub overflow_add-self : goal.overflow_add-self
+overflow_add-self c =
+    let after = (goal.at.overflow_add-self c).In_ok-push in
+    let by : c.in_ok-rounds.rounds * c.from.result ≡ c.in_ok-rounds.rounds * c.self.inside.processors = ap (λ w. c.in_ok-rounds.rounds * w) c.from.ensures in
+    let row = rows after in
+    let most = few after in
+    let so_far = c.self.invariant.1 in
+    omega (arith, by, row, most, so_far)
