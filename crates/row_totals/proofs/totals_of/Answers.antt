@@ -1,7 +1,9 @@
-use Rattle.std.proofs.Common.{◌≡◌, ◌∙◌, length, ap, sym, subst, replicate, IfOk}
-use Rattle.std.proofs.lemmas.List.{length-replicate}
+use Rattle.std.proofs.Common.{List, ℕ, ◌≡◌, ◌∙◌, arith, get_or, length, ap, sym, subst, replicate, IfOk}
+use Rattle.std.proofs.lemmas.List.{get_or-replicate, length-replicate}
+use Rattle.std.proofs.lemmas.Result.{IfOk-from_err}
+use Rattle.std.specs.List.{AllByRecursion}
 use Rattle.sched_base.specs.Tables.{all_rows}
-use Rattle.row_totals.specs.Sums.{Adds}
+use Rattle.row_totals.specs.Sums.{Adds, NamesAmong}
 use Rattle.row_totals.proofs.SumLemmas.{sums_are, written_back}
 use Rattle.row_totals.proofs.totals_of.Goals as goal
 
@@ -15,3 +17,17 @@ returns c =
     let kept : c.deref.result.now ≡ c.add_lanes.new.sums =
     c.deref.ensures.value ∙ written_back c.add_lanes.new.sums c.in_ok-sums.sums.items c.in_ok-sums.sums.len (long ∙ sym room) (ap length (sym c.deref_mut.ensures.value) ∙ c.deref_mut.ensures.len) in
     subst (λ sums. IfOk c.totals_from.result (λ t. t.ticks ≡ sums)) (kept ∙ sums_are c.args.tasks c.args.table.now.lanes c.add_lanes.new.sums long adds) c.totals_from.ensures
+
+pub returns-in_err-sums : goal.returns-in_err-sums
+returns-in_err-sums c = IfOk-from_err _ _ c.from_residual.ensures.0
+
+pub add_lanes-requires-clause-names : goal.add_lanes-requires-clause-names
+add_lanes-requires-clause-names c =
+    let count = ap length (c.deref_mut.ensures.value ∙ c.in_ok-sums.ensures) ∙ length-replicate c.args.tasks 0 in
+    subst (λ (n : ℕ). AllByRecursion (NamesAmong n) c.args.table.now.lanes) (sym count) c.requires
+
+pub add_lanes-requires-clause-none : goal.add_lanes-requires-clause-none
+add_lanes-requires-clause-none c = λ i within.
+    let zeros = c.deref_mut.ensures.value ∙ c.in_ok-sums.ensures in
+    let count = ap length zeros ∙ length-replicate c.args.tasks 0 in
+    ap (λ (sums : List ℕ). get_or sums i 0) zeros ∙ get_or-replicate c.args.tasks i 0 0 (omega (arith, within, count))

@@ -24,3 +24,6 @@ loop-p-preserved c =
     let less : c.loop-p.p < length c.args.table.now.lanes = omega arith in
     rw add-one (let more = ticks_in-lanes-more j c.args.table.now.lanes c.loop-p.p less in omega (arith, more, value)))
     c.loop-p.invariant c.add_lane.ensures
+
+pub loop-p-init : goal.loop-p-init
+loop-p-init c = λ j within. omega arith
