@@ -12,7 +12,6 @@ ghost use Rattle.sched_laws.specs.Rates.{RunsRate};
 
 /// The law of levels: each pack runs its rate in each of its windows, each leaf and each dual exactly its due in each
 /// of its own, and at each tick at which a pack runs a member of it runs.
-#[tactic(auto, using(crate::proofs::LevelRates::pack_served, crate::proofs::LevelRates::member_served, crate::proofs::LevelRates::member_runs))]
 pub fn levels_law()
     ensures packs { (of_leaf : Leaf → ℕ → Bool) (t : Tree) → IsTree t → HaveBoundaries of_leaf t → (p : ℕ) → IsPack t p →
         RunsRate of_leaf t p }
@@ -25,7 +24,6 @@ pub fn levels_law()
 
 /// The law of counts: at each tick the number of a level's packs that run, times the scale, is what their rates come
 /// to. So as many packs of level 0 run as there are processors, and each of them is placed on exactly one.
-#[tactic(auto, using(crate::proofs::LevelCounts::each_level, crate::proofs::LevelCounts::processors_run, crate::proofs::PlacedPacks::placed_once))]
 pub fn count_law()
     ensures each { (of_leaf : Leaf → ℕ → Bool) (t : Tree) → IsTree t → HaveBoundaries of_leaf t → (l n : ℕ) → l < t.levels →
         running of_leaf t l n * t.scale ≡ level_rate t l }

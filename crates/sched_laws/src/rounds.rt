@@ -18,7 +18,6 @@ pub fn round_law()
 
 /// Rounds follow one another from tick 0: each begins at an event, which is below the next one and below the end of
 /// the schedule. So every row starts before it ends.
-#[tactic(auto, using(crate::proofs::WholeRounds::event_first, crate::proofs::WholeRounds::event_next, crate::proofs::WholeRounds::event_last, crate::proofs::WholeRounds::set_forward))]
 pub fn order_law()
     ensures first { (of_leaf : Leaf → ℕ → Bool) (t : Tree) (stop : ℕ) → 0 < stop → slice_get (events_below of_leaf t stop) 0 ≡ Some 0 }
     ensures next { (of_leaf : Leaf → ℕ → Bool) (t : Tree) (stop k : ℕ) → k + 1 < length (events_below of_leaf t stop) →

@@ -8,7 +8,6 @@ ghost use Rattle.sched_laws.specs.Rates.{RunsRate};
 
 /// The law of a server that serves by earliest deadline first: where a pack runs its rate in each of its windows, each
 /// member runs exactly its due in each of the member's windows, and at each tick at which the pack runs a member runs.
-#[tactic(auto, using(crate::proofs::LevelRates::one_pack_served, crate::proofs::LevelRates::one_pack_runs))]
 pub fn edf_law()
     ensures served { (of_leaf : Leaf → ℕ → Bool) (t : Tree) → IsTree t → HaveBoundaries of_leaf t → (p k : ℕ) → IsPack t p →
         RunsRate of_leaf t p →
