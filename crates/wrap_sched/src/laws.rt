@@ -22,7 +22,6 @@ pub fn wrap_law()
 {}
 
 /// A task that a row of a wrapped schedule names, running or waiting, is one of the set.
-#[tactic(auto, using(crate::proofs::RowNames::wrapped_names, crate::proofs::RowNames::lanes_name))]
 pub fn names_law()
     ensures rows { (s : SetContents) (scale : ℕ) → IsLawful s → IsScale s.tasks scale → Fits scale s →
         AllByRecursion (λ r. NamesOneOf s.tasks r.leaf) (wrapped scale s) }

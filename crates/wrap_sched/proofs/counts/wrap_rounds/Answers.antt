@@ -1,4 +1,5 @@
 use Rattle.std.proofs.Common.{ap, arith, length, subst, ℕ, ◌+◌, ◌*◌, ◌/◌, ◌<◌, ◌∙◌, ◌≡◌, ◌≤◌}
+use Rattle.std.proofs.lemmas.Result.{IfOk-from_err, err_from_is_err_and}
 use Rattle.sched_base.specs.Tables.{row_limit}
 use Rattle.wrap_sched.specs.Steps.{cuts, points, rates}
 use Rattle.wrap_sched.specs.Wrapped.{wrapped_rounds}
@@ -29,3 +30,26 @@ returns-clause-fault c =
       past_limit row_limit s.processors (wrapped_rounds c.args.scale s) some (subst P m_is (omega (arith, all, each, past))),
       ap (λ m. (row_limit / m + 1) * m) m_is,
     )
+
+pub rates_of-requires-clause-scale : goal.rates_of-requires-clause-scale
+rates_of-requires-clause-scale c = c.requires.scale
+
+pub rates_of-requires-clause-scale_fits : goal.rates_of-requires-clause-scale_fits
+rates_of-requires-clause-scale_fits c = c.requires.scale_fits
+
+pub returns-in_err-rates-clause-count : goal.returns-in_err-rates-clause-count
+returns-in_err-rates-clause-count c = IfOk-from_err _ _ c.from_residual.ensures.0
+
+pub returns-in_err-rates-clause-fault : goal.returns-in_err-rates-clause-fault
+returns-in_err-rates-clause-fault c =
+    let why = err_from_is_err_and c.from_residual.result c.from_residual.ensures.1 in
+    rw (why.1, why.2) tt
+
+pub count_cuts-each-requires-clause-within : goal.count_cuts-each-requires-clause-within
+count_cuts-each-requires-clause-within c = rw c.deref.ensures.value c.in_ok-rates.ensures.within
+
+pub count_cuts-each-requires-clause-scale_fits : goal.count_cuts-each-requires-clause-scale_fits
+count_cuts-each-requires-clause-scale_fits c = c.requires.scale_fits
+
+pub count_cuts-each-requires-clause-some_scale : goal.count_cuts-each-requires-clause-some_scale
+count_cuts-each-requires-clause-some_scale c = c.requires.scale.positive

@@ -87,3 +87,26 @@ returns-clause-end c =
     let many = ap length c.requires.pattern ∙ length-map rs (unit_round s.processors c.args.scale (rates c.args.scale s.tasks)) in
     last_reached s c.args.scale c.know_lawful.ensures.lawful c.requires.scale c.args.x c.args.y c.requires.forward c.loop-round.table.lanes c.loop-round.round-index
     (let l = c.loop-round-test.false in omega (arith, l, many)) c.loop-round.invariant.reached
+
+pub push_round-requires-clause-room : goal.push_round-requires-clause-room
+push_round-requires-clause-room c =
+    let on = c.loop-round-test.true in
+    let room = c.loop-round.invariant.room in
+    omega (arith, on, room, c.requires.room)
+
+pub returns-clause-whole : goal.returns-clause-whole
+returns-clause-whole c = c.loop-round.invariant.reached.whole
+
+pub returns-clause-count : goal.returns-clause-count
+returns-clause-count c =
+    let off = c.loop-round-test.false in
+    let end = c.loop-round.auto.round-index-end in
+    let count = c.loop-round.invariant.count in
+    omega (arith, off, end, count)
+
+pub returns-clause-room : goal.returns-clause-room
+returns-clause-room c =
+    let off = c.loop-round-test.false in
+    let end = c.loop-round.auto.round-index-end in
+    let room = c.loop-round.invariant.room in
+    omega (arith, off, end, room)
