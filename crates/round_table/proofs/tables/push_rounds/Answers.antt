@@ -9,6 +9,7 @@ use Rattle.sched_laws.proofs.WholeRounds.{length-round}
 use Rattle.sched_base.specs.Lanes.{lanes_of}
 use Rattle.sched_base.proofs.ScheduleLanes.{lanes_of-none, length-lanes_of}
 use Rattle.event_core.proofs.PlanRounds.{is_round, next_count, next_end, next_lanes, no_end, no_round}
+use Rattle.round_table.proofs.tables.push_rounds.Goals.{After-rounds}
 use Rattle.round_table.proofs.tables.push_rounds.Goals as goal
 
 pub rounds-init : goal.rounds-init
@@ -78,3 +79,31 @@ advance-requires-clause-belongs c = c.rounds.invariant.belongs
 
 pub advance-requires-clause-rows : goal.advance-requires-clause-rows
 advance-requires-clause-rows c = c.rounds.auto.rows ∙ c.requires.rows
+
+pub advance-requires-clause-early : goal.advance-requires-clause-early
+advance-requires-clause-early c =
+    let now = c.now.ensures.value in
+    let end = c.rounds_end-end.ensures.value in
+    let on = c.rounds-test.true in
+    omega (arith, now, end, on)
+
+-- the core has come to the end
+at_end : (c : After-rounds) → c.rounds.core.tick ≡ stop_of c.args.plan.now
+at_end c =
+    let now = c.now.ensures.value in
+    let end = c.rounds_end-end.ensures.value in
+    let off = c.rounds-test.false in
+    let early = c.rounds.invariant.belongs.at.early in
+    omega (arith, now, end, off, early)
+
+pub returns-clause-lanes : goal.returns-clause-lanes
+returns-clause-lanes c = c.rounds.invariant.lanes ∙ ap (λ n. lanes_of c.args.plan.now.tree.processors (rows_before c.args.plan.now n)) (at_end (goal.at.returns-clause-lanes c).After-rounds)
+
+pub returns-clause-count : goal.returns-clause-count
+returns-clause-count c = c.rounds.invariant.count ∙ ap (rounds_before c.args.plan.now) (at_end (goal.at.returns-clause-count c).After-rounds)
+
+pub returns-clause-full : goal.returns-clause-full
+returns-clause-full c =
+    let all = ap (rounds_before c.args.plan.now) (at_end (goal.at.returns-clause-full c).After-rounds) in
+    let room = c.rounds.invariant.room in
+    omega (arith, all, room)

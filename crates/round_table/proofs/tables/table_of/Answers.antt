@@ -1,5 +1,6 @@
 use Rattle.std.proofs.lemmas.Result.{IfOk-from_err}
-use Rattle.std.proofs.Common.{◌∙◌}
+use Rattle.std.proofs.Common.{[], ap, replicate, sym, ◌∙◌}
+use Rattle.run_tree.specs.Tree.{Tree}
 use Rattle.sched_laws.proofs.TableRows.{lanes_valid}
 use Rattle.round_table.proofs.tables.table_of.Goals as goal
 
@@ -50,3 +51,15 @@ push_rounds-requires-clause-first c = c.in_ok-core.ensures.0
 
 pub push_rounds-requires-clause-room : goal.push_rounds-requires-clause-room
 push_rounds-requires-clause-room c = c.in_ok-table.ensures.room ∙ c.requires.rounds
+
+pub push_rounds-requires-clause-none : goal.push_rounds-requires-clause-none
+push_rounds-requires-clause-none c = c.in_ok-table.ensures.none ∙ ap (λ n. replicate n []) (c.processors.ensures.value ∙ ap (λ (t : Tree). t.processors) c.tree.ensures.value)
+
+pub returns-clause-lanes : goal.returns-clause-lanes
+returns-clause-lanes c = c.push_rounds.ensures.lanes
+
+pub returns-clause-rounds : goal.returns-clause-rounds
+returns-clause-rounds c = c.push_rounds.ensures.count ∙ sym c.requires.rounds
+
+pub returns-clause-full : goal.returns-clause-full
+returns-clause-full c = c.push_rounds.ensures.full
