@@ -1,5 +1,5 @@
 -- The rows of a plan's schedule, and of its lanes.
-use Rattle.std.proofs.Common.{◌≡◌, ◌<◌, ◌≤◌, List, arith, ap, sym, ◌∙◌}
+use Rattle.std.proofs.Common.{◌≡◌, ◌<◌, ◌≤◌, List, arith, ap, ◌∙◌}
 use Rattle.std.specs.List.{AllByRecursion}
 use Rattle.sched_base.specs.declared.rows.Row.{Row}
 use Rattle.sched_base.specs.Tables.{IsTable, all_rows}

@@ -1,5 +1,5 @@
 -- The merged rows of the first rounds of a wrapped schedule.
-use Rattle.std.proofs.Common.{[], add-zero, ap, arith, filter, length, List, map, refl, replicate, Some, subst, sym, ℕ, ◌*◌, ◌+◌, ◌++◌, ◌-◌, ◌<◌, ◌^◌, ◌∙◌, ◌≡◌, ◌≤◌, true}
+use Rattle.std.proofs.Common.{[], add-zero, ap, arith, filter, length, List, map, refl, replicate, subst, sym, ℕ, ◌*◌, ◌+◌, ◌++◌, ◌-◌, ◌<◌, ◌^◌, ◌∙◌, ◌≡◌, ◌≤◌, true}
 use Rattle.std.proofs.lemmas.List.{append-nil, append_assoc, length-map, take_all}
 use Rattle.std.specs.List.{flat_map, range_with_len}
 use Rattle.sched_base.specs.declared.rows.Row.{Row}

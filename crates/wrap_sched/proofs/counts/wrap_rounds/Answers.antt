@@ -1,7 +1,7 @@
-use Rattle.std.proofs.Common.{ap, arith, length, subst, ℕ, ◌+◌, ◌*◌, ◌/◌, ◌<◌, ◌∙◌, ◌≡◌, ◌≤◌}
+use Rattle.std.proofs.Common.{ap, arith, length, subst, ℕ, ◌+◌, ◌*◌, ◌/◌, ◌<◌, ◌∙◌, ◌≤◌}
 use Rattle.std.proofs.lemmas.Result.{IfOk-from_err, err_from_is_err_and}
 use Rattle.sched_base.specs.Tables.{row_limit}
-use Rattle.wrap_sched.specs.Steps.{cuts, points, rates}
+use Rattle.wrap_sched.specs.Steps.{cuts, points}
 use Rattle.wrap_sched.specs.Wrapped.{wrapped_rounds}
 use Rattle.wrap_sched.proofs.CountLemmas.{past_limit, within_limit, wrapped_rounds_are}
 use Rattle.wrap_sched.proofs.counts.wrap_rounds.Goals as goal

@@ -1,4 +1,4 @@
-use Rattle.std.proofs.Common.{ap, arith, filter, length, ◌-◌, ◌≡◌, ◌≤◌, ◌<◌, ◌^◌}
+use Rattle.std.proofs.Common.{ap, arith, filter, length, ◌-◌, ◌≡◌}
 use Rattle.std.specs.List.{range_with_len}
 use Rattle.wrap_sched.specs.Wrapped.{is_cut}
 use Rattle.wrap_sched.proofs.ShareLemmas.{cut_at_zero}
