@@ -1,5 +1,5 @@
 -- One more member of a growth.
-use Rattle.std.proofs.Common.{◌≡◌, ℕ, ◌+◌, ◌-◌, ◌<◌, ◌≤◌, ◌++◌, ◌∷◌, [], List, length, set, get_or, ap, ap₂, sym, ◌∙◌, refl, arith}
+use Rattle.std.proofs.Common.{◌≡◌, ℕ, ◌+◌, ◌-◌, ◌^◌, ◌<◌, ◌≤◌, ◌++◌, ◌∷◌, [], List, length, set, get_or, ap, ap₂, subst, sym, ◌∙◌, refl, arith}
 use Rattle.std.proofs.lemmas.Bool.{lt-ltb, le-ltb}
 use Rattle.std.proofs.lemmas.List.{get_or_push, get_or_read, length_push, set_at}
 use Rattle.run_tree.specs.declared.kinds.Kind.{Kind}
@@ -46,3 +46,43 @@ pub put_new_is : (base level : ℕ) (k : Kind) (rate b : ℕ) (g : Growth) (node
 put_new_is base level k rate b g nodes packs l made named =
     let G : List Node → List ℕ → Growth = λ (xs : List Node) (ys : List ℕ). record { nodes = xs; packs = ys } in
     ap₂ G made named ∙ sym (with_first_member base level k rate g) ∙ sym (grown_new base level k rate b g l)
+
+-- what a pack gives that gets a member, and the member at the end
+pub member_joined : (base place rate number members : ℕ) (k : Kind) (old kept new : List Node) (pack after member : Node) → kept ≡ old → pack ≡ node_in old place → number ≡ base + length old → members ≡ length pack.members →
+    after ≡ joined pack number rate → member ≡ member_node k rate (base + place) members → new ≡ set kept place after ++ member ∷ [] → new ≡ with_member base k rate place old
+member_joined base place rate number members k old kept new pack after member same pack_is number_is members_are joins makes push =
+    push
+    ∙ ap (λ (xs : List Node). set xs place after ++ member ∷ []) same
+    ∙ ap (λ (x : Node). set old place x ++ member ∷ []) joins
+    ∙ ap (λ (x : Node). set old place (joined pack number rate) ++ x ∷ []) makes
+    ∙ ap (λ (n : ℕ). set old place (joined pack n rate) ++ member_node k rate (base + place) members ∷ []) number_is
+    ∙ ap (λ (n : ℕ). set old place (joined pack (base + length old) rate) ++ member_node k rate (base + place) n ∷ []) members_are
+    ∙ ap (λ (x : Node). set old place (joined x (base + length old) rate) ++ member_node k rate (base + place) (length x.members) ∷ []) pack_is
+
+-- what a new pack and its first member give
+pub pack_opened : (base level rate number : ℕ) (k : Kind) (old kept more new : List Node) (pack member : Node) → kept ≡ old → number ≡ base + length old →
+    pack ≡ joined (pack_node level) (number + 1) rate → member ≡ member_node k rate number 0 → more ≡ kept ++ pack ∷ [] → new ≡ more ++ member ∷ [] →
+    new ≡ (old ++ joined (pack_node level) (base + length old + 1) rate ∷ []) ++ member_node k rate (base + length old) 0 ∷ []
+pack_opened base level rate number k old kept more new pack member same number_is opens makes first second =
+    second
+    ∙ ap (λ (xs : List Node). xs ++ member ∷ []) (first ∙ ap (λ (xs : List Node). xs ++ pack ∷ []) same ∙ ap (λ (x : Node). old ++ x ∷ []) opens)
+    ∙ ap (λ (x : Node). (old ++ joined (pack_node level) (number + 1) rate ∷ []) ++ x ∷ []) makes
+    ∙ ap (λ (n : ℕ). (old ++ joined (pack_node level) (n + 1) rate ∷ []) ++ member_node k rate n 0 ∷ []) number_is
+
+-- what is known of an old pack, of number q, to which a member of this rate comes
+pub record IsOld (base rate q : ℕ) (g : Growth) : Type 0 where
+  pub from : base ≤ q
+  pub within : q - base < length g.nodes
+  pub rate_fits : (node_in g.nodes (q - base)).rate + rate < 2 ^ 128
+  pub members_fit : length (node_in g.nodes (q - base)).members < 2 ^ 32
+
+pub old_pack : (base rate b q : ℕ) (g seen : Growth) → g ≡ seen → b < length g.packs → q ≡ get_or g.packs b q →
+    ((i : ℕ) → i < length seen.packs → (base ≤ get_or seen.packs i 0) × (get_or seen.packs i 0 < base + length seen.nodes)) →
+    (b < length seen.packs → (node_in seen.nodes (get_or seen.packs b 0 - base)).rate + rate < 2 ^ 128) →
+    (b < length seen.packs → length (node_in seen.nodes (get_or seen.packs b 0 - base)).members < 2 ^ 32) → IsOld base rate q g
+old_pack base rate b q g seen same l read among fits few =
+    let l' : b < length seen.packs = subst (λ (h : Growth). b < length h.packs) same l in
+    let is : q ≡ get_or seen.packs b 0 = get_or_read g.packs b q l read 0 ∙ ap (λ (h : Growth). get_or h.packs b 0) same in
+    let low = (among b l').0 in
+    let high = (among b l').1 in
+    subst (IsOld base rate q) (sym same) (subst (λ n. IsOld base rate n seen) (sym is) (record { from = low; within = omega (arith, low, high); rate_fits = fits l'; members_fit = few l' }))

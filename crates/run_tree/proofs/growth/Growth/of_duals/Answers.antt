@@ -1,7 +1,9 @@
-use Rattle.std.proofs.Common.{◌∙◌, ap, length, get_or, arith}
+use Rattle.std.proofs.Common.{◌∙◌, ◌≤◌, ◌-◌, ap, ap₂, length, get_or, arith, sym, subst, ℕ, List}
 use Rattle.run_tree.specs.Tree.{Node}
-use Rattle.run_tree.proofs.LevelsMade.{among_is, duals_step, level_step_is}
+use Rattle.run_tree.specs.Growth.{with_duals_of, no_growth}
+use Rattle.run_tree.proofs.LevelsMade.{IsLevelOf, among_is, duals_step, level_none, level_step_is}
 use Rattle.std.proofs.lemmas.Result.{IfOk-from_err}
+use Rattle.std.proofs.lemmas.List.{take_all}
 use Rattle.run_tree.proofs.growth.Growth.of_duals.Goals as goal
 
 pub put-requires-clause-packs : goal.put-requires-clause-packs
@@ -21,3 +23,26 @@ node_of-requires c = c.requires.packs c.loop-i.i c.loop-i-test.true
 
 pub overflow_sub-rate : goal.overflow_sub-rate
 overflow_sub-rate c = let at = c.rate.ensures ∙ ap (λ (n : Node). n.rate) c.node_of.ensures in let most = c.requires.rates c.loop-i.i c.loop-i-test.true in omega (arith, at, most)
+
+pub overflow_cast-base : goal.overflow_cast-base
+overflow_cast-base c = let fit = c.requires.numbers_fit in omega (arith, fit)
+
+pub put-requires-clause-numbers_fit : goal.put-requires-clause-numbers_fit
+put-requires-clause-numbers_fit c = let long = c.loop-i.invariant.kept.long in let below = c.loop-i-test.true in let few = c.requires.few in let fit = c.requires.numbers_fit in omega (arith, long, below, few, fit)
+
+pub put-requires-clause-members_fit : goal.put-requires-clause-members_fit
+put-requires-clause-members_fit c = λ _. (let few = c.loop-i.invariant.kept.members (get_or c.loop-i.growth.packs (get_or c.args.homes.now c.loop-i.i 0) 0 - length c.args.below.now) in let below = c.loop-i-test.true in let most = c.requires.few in omega (arith, few, below, most))
+
+pub loop-i-init : goal.loop-i-init
+loop-i-init c = record {
+  made = c.new-growth.ensures;
+  kept = subst (IsLevelOf (length c.args.below.now) c.args.level c.args.scale 0) (sym c.new-growth.ensures) (level_none (length c.args.below.now) c.args.level c.args.scale);
+}
+
+pub returns : goal.returns
+returns c =
+    let off = c.loop-i-test.false in
+    let each = c.requires.homes in
+    let homes : length c.args.homes.now ≤ c.loop-i.i = omega (arith, off, each) in
+    c.loop-i.invariant.made
+    ∙ ap₂ (λ (ps : List ℕ) (hs : List ℕ). with_duals_of c.args.below.now c.args.scale c.args.level ps hs no_growth) (take_all c.loop-i.i c.args.packs.now off) (take_all c.loop-i.i c.args.homes.now homes)
