@@ -5,11 +5,11 @@
 pub struct TaskId(pub u32);
 
 /// A processor, by its number from 0.
-#[derive(Clone, Copy, Debug, PartialEq, Eq)]
+#[derive(Clone, Copy, PartialEq, Eq)]
 pub struct ProcId(pub u32);
 
 /// A node of a tree, by its number in the order in which the nodes were made.
-#[derive(Clone, Copy, Debug, Default, PartialEq, Eq)]
+#[derive(Clone, Copy, Default, PartialEq, Eq)]
 pub struct NodeId(pub u32);
 
 /// What a processor runs.
