@@ -18,6 +18,7 @@ use Rattle.sched_base.proofs.RowLemmas.{AllByRecursion-append}
 use Rattle.run_tree.specs.Plans.{PlanContents, IsPlan, rounds_of}
 use Rattle.sched_base.specs.Tables.{row_limit}
 use Rattle.sched_base.specs.Lanes.{NamesOneOf}
+use Rattle.row_totals.specs.Sums.{totals_of}
 use Rattle.exec_book.specs.PlanRows.{plan_rows}
 use Rattle.exec_book.specs.Jobs.{Made}
 use Rattle.exec_book.proofs.RoundLemmas.{plan_table, plan_count, plan_lanes, in_lane}
@@ -480,6 +481,15 @@ module _ {G J : Type 0} (ran : G → Option (List Row)) (gate_faults : G → ℕ
         let here : Outcome ran gate_faults id used made job_faults p kits kits' places places' (Ok e) =
         subst (λ x. Outcome ran gate_faults id used made job_faults p kits kits' places places' x) is o in
         here.2.table
+
+    pub totals_by : (e : Executed) → result ≡ Ok e → e.totals.ticks ≡ totals_of (length p.set.tasks) (plan_rows p)
+    totals_by e is =
+        let here : Outcome ran gate_faults id used made job_faults p kits kits' places places' (Ok e) =
+        subst (λ x. Outcome ran gate_faults id used made job_faults p kits kits' places places' x) is o in
+        here.2.totals
+
+    pub left_by : result ≡ Err fault.NoMemory → (kits' ≡ kits) × (places' ≡ places)
+    left_by is = subst (λ x. Outcome ran gate_faults id used made job_faults p kits kits' places places' x) is o
 
     module _ (q : ℕ) (x : Row) (n : ℕ) (is : result ≡ Err (fault.Gate q x n)) where
       at_gate : Outcome ran gate_faults id used made job_faults p kits kits' places places' (Err (fault.Gate q x n))

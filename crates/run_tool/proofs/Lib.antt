@@ -9,6 +9,7 @@ pub mod WrittenLemmas
 pub mod AskedLemmas
 pub mod CrewLemmas
 pub mod CrewEndLemmas
+pub mod PartLemmas
 pub mod ReadyLemmas
 pub mod DrillLemmas
 pub mod DrillEndLemmas

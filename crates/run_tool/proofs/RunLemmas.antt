@@ -236,12 +236,6 @@ stopped_fault e old new b n (why.BadSet q) stops = set_fault q
 stopped_fault e old new b n (why.OfMode j m) stops = mode_fault m
 stopped_fault e old new b n _ stops = refl
 
--- where nothing was called the gates and the jobs are as they were
-pub untouched : {T K J : Type 0} (result : Result T Refusal) (called : Status → Bool) (kits : K) (jobs : J)
-    → IfErr result (λ r. called (status_of r) ≡ false → (kits ≡ kits) × (jobs ≡ jobs))
-untouched (Ok v) called kits jobs = tt
-untouched (Err r) called kits jobs = λ quiet. (refl, refl)
-
 -- a drill that stopped may have run
 pub drill_ran : (number : ℕ) (out out' : Option (List ℕ)) (faults faults' : ℕ) (b n : Crew) (r : Refusal) → StopsAtDrill number out out' faults faults' b n r
     → may_have_run (Some (Execute (Drill number))) (status_of r) ≡ true
@@ -262,38 +256,17 @@ pub unread_same : (left : Option (List ℕ)) (faults : ℕ) (out out' : Option (
     → IsUnread (streams left faults out out_faults) (streams left faults out' out_faults')
 unread_same left faults out out' out_faults out_faults' = record { left = keeps_same left; faults = refl }
 
-drill_done_as : {T E : Type 0} (result : Result T E) (number : ℕ) (old new : Streams) (b n : Crew) → IsUnread old new
+pub drill_done_as : {T E : Type 0} (result : Result T E) (number : ℕ) (old new : Streams) (b n : Crew) → IsUnread old new
     → OnOk result (RanDrill number old.out new.out b n) → OnOk result (ToldRun (Drill number) old new b n)
 drill_done_as (Ok x) number old new b n unread ran = (unread, ran)
 drill_done_as (Err e) number old new b n unread ran = tt
 
-pub drill_done : {T E : Type 0} (result : Result T E) (e : Execution) (number : ℕ) (old new : Streams) (b n : Crew) → e ≡ Drill number
-    → IsUnread old new → OnOk result (RanDrill number old.out new.out b n) → OnOk result (ToldRun e old new b n)
-drill_done result e number old new b n is unread ran =
-    subst (λ (k : Execution). OnOk result (ToldRun k old new b n)) (sym is) (drill_done_as result number old new b n unread ran)
-
-drill_stopped_as : {T : Type 0} (result : Result T Refusal) (number : ℕ) (old new : Streams) (b n : Crew) → IsUnread old new
+pub drill_stopped_as : {T : Type 0} (result : Result T Refusal) (number : ℕ) (old new : Streams) (b n : Crew) → IsUnread old new
     → IfErr result (StopsAtDrill number old.out new.out old.out_faults new.out_faults b n) → IfErr result (StopsRun (Drill number) old new b n)
 drill_stopped_as (Ok x) number old new b n unread stops = tt
 drill_stopped_as (Err r) number old new b n unread stops = (unread, stops)
 
-pub drill_stopped : {T : Type 0} (result : Result T Refusal) (e : Execution) (number : ℕ) (old new : Streams) (b n : Crew) → e ≡ Drill number
-    → IsUnread old new → IfErr result (StopsAtDrill number old.out new.out old.out_faults new.out_faults b n) → IfErr result (StopsRun e old new b n)
-drill_stopped result e number old new b n is unread stops =
-    subst (λ (k : Execution). IfErr result (StopsRun k old new b n)) (sym is) (drill_stopped_as result number old new b n unread stops)
-
 -- ---- an execution that is known
-
-module _ {T : Type 0} (result : Result T Refusal) (e k : Execution) (is : e ≡ k) where
-  pub told_as : (old new : Streams) (b n : Crew) → OnOk result (ToldRun k old new b n) → OnOk result (ToldRun e old new b n)
-  told_as old new b n told = subst (λ (x : Execution). OnOk result (ToldRun x old new b n)) (sym is) told
-
-  pub stopped_as : (old new : Streams) (b n : Crew) → IfErr result (StopsRun k old new b n) → IfErr result (StopsRun e old new b n)
-  stopped_as old new b n stops = subst (λ (x : Execution). IfErr result (StopsRun x old new b n)) (sym is) stops
-
-  pub uncalled_as : (P : Type 0) → IfErr result (λ r. may_have_run (Some (Execute k)) (status_of r) ≡ false → P)
-      → IfErr result (λ r. may_have_run (Some (Execute e)) (status_of r) ≡ false → P)
-  uncalled_as P uncalled = subst (λ (x : Execution). IfErr result (λ r. may_have_run (Some (Execute x)) (status_of r) ≡ false → P)) (sym is) uncalled
 
 -- an execution that takes all its memory first may have run where a gate or a job may have been called
 run_or_called : (e : Execution) (status : Status) → takes_memory_late (Some (Execute e)) ≡ false

@@ -1,5 +1,5 @@
 -- What `exec` writes, and why it stops: with what the gates and the jobs did.
-use Rattle.std.specs.Prelude.{ℕ, ◌≡◌, ◌⊎◌, Bool, true, false, List, take, Option, Some}
+use Rattle.std.specs.Prelude.{ℕ, ◌≡◌, ◌⊎◌, Bool, true, false, List, take, Option, Some, Result, OnOk, IfErr}
 use Rattle.std.specs.Io.KnownBytes.{Appends, Keeps}
 use Rattle.sched_base.specs.declared.sets.Task.{Task}
 use Rattle.sched_base.specs.Sets.{SetContents}
@@ -23,7 +23,7 @@ use Rattle.run_tool.specs.Drill.{drilled, drill_plan, IsDrill, drill_text}
 use Rattle.still_commands.specs.Ends.{Streams, ErrorStream, IsUnread, IsQuiet, Tells, IsTold, StopsAs, Ends}
 use Rattle.run_tree.specs.Plans.{PlanContents}
 use Rattle.still_commands.specs.Input.{IsSchedulable, IsRefusedSet, IsTooLongSet}
-use Rattle.run_tool.specs.Executions.{Crew, RanAll, GateStopped, JobStopped, NothingRose, name_at}
+use Rattle.run_tool.specs.Executions.{Crew, AreBack, RanAll, GateStopped, JobStopped, NothingRose, name_at}
 use Rattle.run_tool.specs.ModeRuns.{WritesModesRun, RefusesModesRun, MayHaveRun}
 
 -- the bytes are a set that fits, whose schedule has room
@@ -206,3 +206,19 @@ takes_memory_late _ = false
 abbrev pub may_have_run : Option Command → Status → Bool
 may_have_run asked NoMemory = takes_memory_late asked
 may_have_run asked status = may_have_called status
+
+-- ---- the parts of an execution
+
+-- how a part of an execution ended: with what it told, or with why it stopped. `Uncalled` is what is so where the status of a refusal
+-- says that no gate and no job was called
+pub record EndsPart {T : Type 0} (Told : Type 0) (Stops : Refusal → Type 0) (called : Status → Bool) (before now : Crew) (Uncalled : Type 0)
+    (result : Result T Refusal) : Type 0 where
+  pub told : OnOk result Told
+  pub stops : IfErr result Stops
+  pub uncalled : IfErr result (λ refusal. called (status_of refusal) ≡ false → Uncalled)
+  pub back : AreBack before now
+
+-- how a whole execution ended
+abbrev pub EndsExecution : {T : Type 0} → Execution → Streams → Streams → Crew → Crew → Type 0 → Result T Refusal → Type 0
+EndsExecution e old new before now Uncalled result =
+    EndsPart (ToldRun e old new before now) (StopsRun e old new before now) (may_have_run (Some (Execute e))) before now Uncalled result

@@ -11,7 +11,9 @@ ghost use Rattle.trace_check.specs.RoundTrip.{trace_again};
 ghost use Rattle.stat_report.specs.Report.{IsValidTrace};
 ghost use Rattle.run_tool.specs.Drill.{drilled, drill_plan, summary_by};
 ghost use Rattle.run_tool.specs.Executions.{crew_of, IsFreshCrew, AreBack};
-ghost use Rattle.run_tool.specs.Executed.{RanDrill, StopsAtDrill, WroteDrill, StopsAtText};
+ghost use Rattle.run_tool.specs.Executed.{RanDrill, StopsAtDrill, WroteDrill, StopsAtText, EndsPart, may_have_run};
+ghost use Rattle.command_words.specs.declared.command.Command.TheVariants.{Execute};
+ghost use Rattle.command_words.specs.declared.command.Execution.TheVariants.{Drill};
 
 use crate::exec::run_plan;
 use crate::summary::{Summary, summary_of, write_summary};
@@ -42,45 +44,17 @@ pub(crate) fn drill<W: Sink, G: Gate + Send, X: Threads + Wait + Sync>(
     jobs: &mut Jobs,
 ) -> Result<(), Refusal>
     requires ready { IsFreshCrew (crew_of G.Gate ⟦<BoxedJob as Job>⟧ kits.old jobs.old) }
-    ensures done { OnOk result (RanDrill number (W.taken out.old) (W.taken out.new)
-        (crew_of G.Gate ⟦<BoxedJob as Job>⟧ kits.old jobs.old)
-        (crew_of G.Gate ⟦<BoxedJob as Job>⟧ kits.new jobs.new)) }
-    ensures stops { IfErr result (StopsAtDrill number (W.taken out.old) (W.taken out.new) (W.faults out.old)
-        (W.faults out.new) (crew_of G.Gate ⟦<BoxedJob as Job>⟧ kits.old jobs.old)
-        (crew_of G.Gate ⟦<BoxedJob as Job>⟧ kits.new jobs.new)) }
-    ensures back { AreBack (crew_of G.Gate ⟦<BoxedJob as Job>⟧ kits.old jobs.old)
-        (crew_of G.Gate ⟦<BoxedJob as Job>⟧ kits.new jobs.new) }
+    ensures { let before = crew_of G.Gate ⟦<BoxedJob as Job>⟧ kits.old jobs.old in
+        let now = crew_of G.Gate ⟦<BoxedJob as Job>⟧ kits.new jobs.new in
+        EndsPart (RanDrill number (W.taken out.old) (W.taken out.new) before now)
+        (StopsAtDrill number (W.taken out.old) (W.taken out.new) (W.faults out.old) (W.faults out.new) before now)
+        (may_have_run (Some (Execute (Drill number)))) before now
+        ((kits.new.items ≡ kits.old.items) × (jobs.new.places ≡ jobs.old.places)) result }
 {
     let plan = drawn_plan(alloc, number)?;
-    run_drawn(rt, alloc, number, &plan, out, kits, jobs)
-}
-
-// Runs the schedule of a drawn set, by its plan, and writes what is counted of it.
-fn run_drawn<W: Sink, G: Gate + Send, X: Threads + Wait + Sync>(
-    rt: &X,
-    alloc: Global,
-    number: u64,
-    plan: &Plan,
-    out: &mut W,
-    kits: &mut Vec<Kit<G>>,
-    jobs: &mut Jobs,
-) -> Result<(), Refusal>
-    requires plan { plan.now ≡ drill_plan number plan.now.tree.scale }
-    requires scale { IsScale (drilled number).tasks plan.now.tree.scale }
-    requires few { rounds_of plan.now * plan.now.tree.processors ≤ row_limit }
-    requires ready { IsFreshCrew (crew_of G.Gate ⟦<BoxedJob as Job>⟧ kits.old jobs.old) }
-    ensures done { OnOk result (RanDrill number (W.taken out.old) (W.taken out.new)
-        (crew_of G.Gate ⟦<BoxedJob as Job>⟧ kits.old jobs.old)
-        (crew_of G.Gate ⟦<BoxedJob as Job>⟧ kits.new jobs.new)) }
-    ensures stops { IfErr result (StopsAtDrill number (W.taken out.old) (W.taken out.new) (W.faults out.old)
-        (W.faults out.new) (crew_of G.Gate ⟦<BoxedJob as Job>⟧ kits.old jobs.old)
-        (crew_of G.Gate ⟦<BoxedJob as Job>⟧ kits.new jobs.new)) }
-    ensures back { AreBack (crew_of G.Gate ⟦<BoxedJob as Job>⟧ kits.old jobs.old)
-        (crew_of G.Gate ⟦<BoxedJob as Job>⟧ kits.new jobs.new) }
-{
-    let rounds = few_rounds(alloc, plan)?;
-    let executed = run_plan(rt, alloc, plan, rounds, USUAL_WINDOW, kits, jobs)?;
-    write_judged(alloc, number, plan, rounds, &executed.table, out)
+    let rounds = few_rounds(alloc, &plan)?;
+    let executed = run_plan(rt, alloc, &plan, rounds, USUAL_WINDOW, kits, jobs)?;
+    write_judged(alloc, number, &plan, rounds, &executed.table, out)
 }
 
 // Judges the trace of a drawn set's rows, which were run, and writes what is counted of it.

@@ -12,7 +12,7 @@ ghost use Rattle.still_commands.specs.Refusals.{status_of};
 ghost use Rattle.still_commands.specs.Ends.{streams_of, IsTold, StopsAs};
 ghost use Rattle.still_commands.specs.Input.{IsSchedulable};
 ghost use Rattle.run_tool.specs.Executions.{crew_of, IsFreshCrew, AreBack, RanAll, name_at};
-ghost use Rattle.run_tool.specs.Executed.{WritesRun, RefusesRun, RanSet, StopsAtRun, StopsInRun, may_have_called};
+ghost use Rattle.run_tool.specs.Executed.{WritesRun, RefusesRun, RanSet, StopsAtRun, StopsInRun, EndsPart, may_have_called};
 ghost use Rattle.still_commands.specs.declared.status.Status.TheVariants.{Done};
 
 use crate::written::written;
@@ -42,48 +42,15 @@ pub(crate) fn exec<R: Source, W: Sink, G: Gate + Send, X: Threads + Wait + Sync>
     requires ready { IsFreshCrew (crew_of G.Gate ⟦<BoxedJob as Job>⟧ kits.old jobs.old) }
     requires some_window { 1 ≤ window }
     requires small_window { window ≤ 1024 }
-    ensures done { OnOk result (IsTold set_limit (WritesRun met (crew_of G.Gate ⟦<BoxedJob as Job>⟧ kits.old jobs.old)
-        (crew_of G.Gate ⟦<BoxedJob as Job>⟧ kits.new jobs.new)) Done (streams_of R.Source W.Sink source.old out.old)
-        (streams_of R.Source W.Sink source.new out.new)) }
-    ensures stops { IfErr result (StopsAs set_limit (WritesRun met
-        (crew_of G.Gate ⟦<BoxedJob as Job>⟧ kits.old jobs.old)
-        (crew_of G.Gate ⟦<BoxedJob as Job>⟧ kits.new jobs.new)) (RefusesRun met
-        (crew_of G.Gate ⟦<BoxedJob as Job>⟧ kits.old jobs.old) (crew_of G.Gate ⟦<BoxedJob as Job>⟧ kits.new jobs.new))
-        (streams_of R.Source W.Sink source.old out.old) (streams_of R.Source W.Sink source.new out.new)) }
-    ensures uncalled { IfErr result (λ refusal. may_have_called (status_of refusal) ≡ false →
-        (kits.new.items ≡ kits.old.items) × (jobs.new.places ≡ jobs.old.places)) }
-    ensures back { AreBack (crew_of G.Gate ⟦<BoxedJob as Job>⟧ kits.old jobs.old)
-        (crew_of G.Gate ⟦<BoxedJob as Job>⟧ kits.new jobs.new) }
+    ensures { let old = streams_of R.Source W.Sink source.old out.old in
+        let new = streams_of R.Source W.Sink source.new out.new in
+        let before = crew_of G.Gate ⟦<BoxedJob as Job>⟧ kits.old jobs.old in
+        let now = crew_of G.Gate ⟦<BoxedJob as Job>⟧ kits.new jobs.new in
+        EndsPart (IsTold set_limit (WritesRun met before now) Done old new)
+        (StopsAs set_limit (WritesRun met before now) (RefusesRun met before now) old new) may_have_called before now
+        ((kits.new.items ≡ kits.old.items) × (jobs.new.places ≡ jobs.old.places)) result }
 {
     let set = read_input(alloc, source)?;
-    run_set(rt, alloc, set, window, met, out, kits, jobs)
-}
-
-// Runs the schedule of a set, where it fits, and writes it.
-fn run_set<W: Sink, G: Gate + Send, X: Threads + Wait + Sync>(
-    rt: &X,
-    alloc: Global,
-    set: TaskSet,
-    window: u32,
-    met: bool,
-    out: &mut W,
-    kits: &mut Vec<Kit<G>>,
-    jobs: &mut Jobs,
-) -> Result<(), Refusal>
-    requires ready { IsFreshCrew (crew_of G.Gate ⟦<BoxedJob as Job>⟧ kits.old jobs.old) }
-    requires some_window { 1 ≤ window }
-    requires small_window { window ≤ 1024 }
-    ensures done { OnOk result (RanSet met (W.taken out.old) (W.taken out.new)
-        (crew_of G.Gate ⟦<BoxedJob as Job>⟧ kits.old jobs.old) (crew_of G.Gate ⟦<BoxedJob as Job>⟧ kits.new jobs.new)
-        set) }
-    ensures stops { IfErr result (StopsAtRun met (W.taken out.old) (W.taken out.new) (W.faults out.old)
-        (W.faults out.new) (crew_of G.Gate ⟦<BoxedJob as Job>⟧ kits.old jobs.old)
-        (crew_of G.Gate ⟦<BoxedJob as Job>⟧ kits.new jobs.new) set) }
-    ensures uncalled { IfErr result (λ refusal. may_have_called (status_of refusal) ≡ false →
-        (kits.new.items ≡ kits.old.items) × (jobs.new.places ≡ jobs.old.places)) }
-    ensures back { AreBack (crew_of G.Gate ⟦<BoxedJob as Job>⟧ kits.old jobs.old)
-        (crew_of G.Gate ⟦<BoxedJob as Job>⟧ kits.new jobs.new) }
-{
     let plan = plan_of(alloc, set)?;
     run_and_write(rt, alloc, &plan, window, met, out, kits, jobs)
 }
@@ -104,16 +71,11 @@ fn run_and_write<W: Sink, G: Gate + Send, X: Threads + Wait + Sync>(
     requires ready { IsFreshCrew (crew_of G.Gate ⟦<BoxedJob as Job>⟧ kits.old jobs.old) }
     requires some_window { 1 ≤ window }
     requires small_window { window ≤ 1024 }
-    ensures done { OnOk result (RanSet met (W.taken out.old) (W.taken out.new)
-        (crew_of G.Gate ⟦<BoxedJob as Job>⟧ kits.old jobs.old) (crew_of G.Gate ⟦<BoxedJob as Job>⟧ kits.new jobs.new)
-        plan.now.set) }
-    ensures stops { IfErr result (StopsAtRun met (W.taken out.old) (W.taken out.new) (W.faults out.old)
-        (W.faults out.new) (crew_of G.Gate ⟦<BoxedJob as Job>⟧ kits.old jobs.old)
-        (crew_of G.Gate ⟦<BoxedJob as Job>⟧ kits.new jobs.new) plan.now.set) }
-    ensures uncalled { IfErr result (λ refusal. may_have_called (status_of refusal) ≡ false →
-        (kits.new.items ≡ kits.old.items) × (jobs.new.places ≡ jobs.old.places)) }
-    ensures back { AreBack (crew_of G.Gate ⟦<BoxedJob as Job>⟧ kits.old jobs.old)
-        (crew_of G.Gate ⟦<BoxedJob as Job>⟧ kits.new jobs.new) }
+    ensures { let before = crew_of G.Gate ⟦<BoxedJob as Job>⟧ kits.old jobs.old in
+        let now = crew_of G.Gate ⟦<BoxedJob as Job>⟧ kits.new jobs.new in
+        EndsPart (RanSet met (W.taken out.old) (W.taken out.new) before now plan.now.set)
+        (StopsAtRun met (W.taken out.old) (W.taken out.new) (W.faults out.old) (W.faults out.new) before now plan.now.set) may_have_called before now
+        ((kits.new.items ≡ kits.old.items) × (jobs.new.places ≡ jobs.old.places)) result }
 {
     let rounds = count_rounds(alloc, plan)?;
     let executed = run_plan(rt, alloc, plan, rounds, window, kits, jobs)?;

@@ -2,12 +2,11 @@
 ghost use Rattle.std.specs.Prelude.{◌≡◌, ◌≤◌, false, length, OnOk, IfErr, IfOk, Ok};
 ghost use Rattle.job_vm.specs.Programs.{reading};
 ghost use Rattle.still_commands.specs.Commands.{set_limit};
-ghost use Rattle.still_commands.specs.Refusals.{status_of};
 ghost use Rattle.run_tree.specs.Compiled.{tree_of};
 ghost use Rattle.still_commands.specs.Ends.{streams_of};
 ghost use Rattle.still_commands.specs.Input.{IsSchedulable};
 ghost use Rattle.run_tool.specs.Executions.{crew_of, IsFreshCrew, AreBack};
-ghost use Rattle.run_tool.specs.Executed.{ToldRun, StopsRun, may_have_run};
+ghost use Rattle.run_tool.specs.Executed.{EndsPart, EndsExecution, may_have_run};
 ghost use Rattle.run_tool.specs.JobPrograms.{ReadsJobs};
 ghost use Rattle.run_tool.specs.JobInput.{GaveJobs, GaveNoJobs, RefusesJobText, RanJobs, StopsAtJobs};
 ghost use Rattle.command_words.specs.declared.command.Command.TheVariants.{Execute};
@@ -39,19 +38,16 @@ pub(crate) fn run_jobs<R: Source, W: Sink, G: Gate + Send, X: Threads + Wait + S
     jobs: &mut Jobs,
 ) -> Result<(), Refusal>
     requires ready { IsFreshCrew (crew_of G.Gate ⟦<BoxedJob as Job>⟧ kits.old jobs.old) }
-    ensures done { OnOk result (ToldRun Jobs (streams_of R.Source W.Sink source.old out.old)
-        (streams_of R.Source W.Sink source.new out.new) (crew_of G.Gate ⟦<BoxedJob as Job>⟧ kits.old jobs.old)
-        (crew_of G.Gate ⟦<BoxedJob as Job>⟧ kits.new jobs.new)) }
-    ensures stops { IfErr result (StopsRun Jobs (streams_of R.Source W.Sink source.old out.old)
-        (streams_of R.Source W.Sink source.new out.new) (crew_of G.Gate ⟦<BoxedJob as Job>⟧ kits.old jobs.old)
-        (crew_of G.Gate ⟦<BoxedJob as Job>⟧ kits.new jobs.new)) }
-    ensures uncalled { IfErr result (λ refusal. may_have_run (Some (Execute Jobs)) (status_of refusal) ≡ false →
-        (kits.new.items ≡ kits.old.items) × (jobs.new.places ≡ jobs.old.places)) }
-    ensures back { AreBack (crew_of G.Gate ⟦<BoxedJob as Job>⟧ kits.old jobs.old)
-        (crew_of G.Gate ⟦<BoxedJob as Job>⟧ kits.new jobs.new) }
+    ensures { let old = streams_of R.Source W.Sink source.old out.old in
+        let new = streams_of R.Source W.Sink source.new out.new in
+        let before = crew_of G.Gate ⟦<BoxedJob as Job>⟧ kits.old jobs.old in
+        let now = crew_of G.Gate ⟦<BoxedJob as Job>⟧ kits.new jobs.new in
+        EndsExecution Jobs old new before now
+        ((kits.new.items ≡ kits.old.items) × (jobs.new.places ≡ jobs.old.places)) result }
 {
     let (text, set) = read_job_input(alloc, source)?;
-    run_programs(rt, alloc, &text, set, out, kits, jobs)
+    let plan = plan_of(alloc, set)?;
+    load_and_run(rt, alloc, &text, &plan, out, kits, jobs)
 }
 
 // Reads the source to its end, as a job text with its set.
@@ -90,32 +86,6 @@ fn read_job_set(alloc: Global, bytes: &[u8], text: &JobText) -> Result<TaskSet, 
     }
 }
 
-// Runs the schedule of a set with the programs of a text, where it fits, and writes what they computed.
-fn run_programs<W: Sink, G: Gate + Send, X: Threads + Wait + Sync>(
-    rt: &X,
-    alloc: Global,
-    text: &JobText,
-    set: TaskSet,
-    out: &mut W,
-    kits: &mut Vec<Kit<G>>,
-    jobs: &mut Jobs,
-) -> Result<(), Refusal>
-    requires ready { IsFreshCrew (crew_of G.Gate ⟦<BoxedJob as Job>⟧ kits.old jobs.old) }
-    ensures done { OnOk result (RanJobs text.now (W.taken out.old) (W.taken out.new)
-        (crew_of G.Gate ⟦<BoxedJob as Job>⟧ kits.old jobs.old) (crew_of G.Gate ⟦<BoxedJob as Job>⟧ kits.new jobs.new)
-        set) }
-    ensures stops { IfErr result (StopsAtJobs text.now (W.taken out.old) (W.taken out.new) (W.faults out.old)
-        (W.faults out.new) (crew_of G.Gate ⟦<BoxedJob as Job>⟧ kits.old jobs.old)
-        (crew_of G.Gate ⟦<BoxedJob as Job>⟧ kits.new jobs.new) set) }
-    ensures uncalled { IfErr result (λ refusal. may_have_run (Some (Execute Jobs)) (status_of refusal) ≡ false →
-        (kits.new.items ≡ kits.old.items) × (jobs.new.places ≡ jobs.old.places)) }
-    ensures back { AreBack (crew_of G.Gate ⟦<BoxedJob as Job>⟧ kits.old jobs.old)
-        (crew_of G.Gate ⟦<BoxedJob as Job>⟧ kits.new jobs.new) }
-{
-    let plan = plan_of(alloc, set)?;
-    load_and_run(rt, alloc, text, &plan, out, kits, jobs)
-}
-
 // Loads the programs of a text, runs the schedule of the set that fits, by its plan, and writes what they computed.
 fn load_and_run<W: Sink, G: Gate + Send, X: Threads + Wait + Sync>(
     rt: &X,
@@ -129,16 +99,12 @@ fn load_and_run<W: Sink, G: Gate + Send, X: Threads + Wait + Sync>(
     requires run { IsSchedulable plan.now.set plan.now.tree.scale }
     requires tree { plan.now.tree ≡ tree_of plan.now.tree.scale plan.now.set }
     requires ready { IsFreshCrew (crew_of G.Gate ⟦<BoxedJob as Job>⟧ kits.old jobs.old) }
-    ensures done { OnOk result (RanJobs text.now (W.taken out.old) (W.taken out.new)
-        (crew_of G.Gate ⟦<BoxedJob as Job>⟧ kits.old jobs.old) (crew_of G.Gate ⟦<BoxedJob as Job>⟧ kits.new jobs.new)
-        plan.now.set) }
-    ensures stops { IfErr result (StopsAtJobs text.now (W.taken out.old) (W.taken out.new) (W.faults out.old)
-        (W.faults out.new) (crew_of G.Gate ⟦<BoxedJob as Job>⟧ kits.old jobs.old)
-        (crew_of G.Gate ⟦<BoxedJob as Job>⟧ kits.new jobs.new) plan.now.set) }
-    ensures uncalled { IfErr result (λ refusal. may_have_run (Some (Execute Jobs)) (status_of refusal) ≡ false →
-        (kits.new.items ≡ kits.old.items) × (jobs.new.places ≡ jobs.old.places)) }
-    ensures back { AreBack (crew_of G.Gate ⟦<BoxedJob as Job>⟧ kits.old jobs.old)
-        (crew_of G.Gate ⟦<BoxedJob as Job>⟧ kits.new jobs.new) }
+    ensures { let before = crew_of G.Gate ⟦<BoxedJob as Job>⟧ kits.old jobs.old in
+        let now = crew_of G.Gate ⟦<BoxedJob as Job>⟧ kits.new jobs.new in
+        EndsPart (RanJobs text.now (W.taken out.old) (W.taken out.new) before now plan.now.set)
+        (StopsAtJobs text.now (W.taken out.old) (W.taken out.new) (W.faults out.old) (W.faults out.new) before now plan.now.set)
+        (may_have_run (Some (Execute Jobs))) before now
+        ((kits.new.items ≡ kits.old.items) × (jobs.new.places ≡ jobs.old.places)) result }
 {
     let rounds = count_rounds(alloc, plan)?;
     load_programs(text, plan.set(), plan.scale(), jobs)?;

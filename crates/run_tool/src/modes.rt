@@ -6,13 +6,11 @@ ghost use Rattle.task_reader.specs.Pieces.{pieces_of, bytes_in, IsWithin};
 ghost use Rattle.task_reader.specs.Reading.{set_read_from};
 ghost use Rattle.still_commands.specs.Commands.{set_limit};
 ghost use Rattle.still_commands.specs.Ends.{streams_of};
-ghost use Rattle.run_tool.specs.Executed.{ToldRun, StopsRun, may_have_run};
+ghost use Rattle.run_tool.specs.Executed.{EndsExecution};
 ghost use Rattle.run_tool.specs.Executions.{crew_of, IsFreshCrew, AreBack};
 ghost use Rattle.run_tool.specs.ModeInput.{GaveModes, GaveNoModes, RefusesPiece, RefusesPieces};
 ghost use Rattle.run_tool.specs.ModeRuns.{RanThrough, StopsInModes};
 ghost use Rattle.run_tool.specs.ModeTexts.{ReadsSets};
-ghost use Rattle.still_commands.specs.Refusals.{status_of};
-ghost use Rattle.command_words.specs.declared.command.Command.TheVariants.{Execute};
 ghost use Rattle.command_words.specs.declared.command.Execution.TheVariants.{Modes as TheModes};
 
 use crate::exec::name_at;
@@ -41,16 +39,12 @@ pub(crate) fn modes<R: Source, W: Sink, G: Gate + Send, X: Threads + Wait + Sync
     jobs: &mut Jobs,
 ) -> Result<(), Refusal>
     requires ready { IsFreshCrew (crew_of G.Gate ⟦<BoxedJob as Job>⟧ kits.old jobs.old) }
-    ensures done { OnOk result (ToldRun TheModes (streams_of R.Source W.Sink source.old out.old)
-        (streams_of R.Source W.Sink source.new out.new) (crew_of G.Gate ⟦<BoxedJob as Job>⟧ kits.old jobs.old)
-        (crew_of G.Gate ⟦<BoxedJob as Job>⟧ kits.new jobs.new)) }
-    ensures stops { IfErr result (StopsRun TheModes (streams_of R.Source W.Sink source.old out.old)
-        (streams_of R.Source W.Sink source.new out.new) (crew_of G.Gate ⟦<BoxedJob as Job>⟧ kits.old jobs.old)
-        (crew_of G.Gate ⟦<BoxedJob as Job>⟧ kits.new jobs.new)) }
-    ensures uncalled { IfErr result (λ refusal. may_have_run (Some (Execute TheModes)) (status_of refusal) ≡ false →
-        (kits.new.items ≡ kits.old.items) × (jobs.new.places ≡ jobs.old.places)) }
-    ensures back { AreBack (crew_of G.Gate ⟦<BoxedJob as Job>⟧ kits.old jobs.old)
-        (crew_of G.Gate ⟦<BoxedJob as Job>⟧ kits.new jobs.new) }
+    ensures { let old = streams_of R.Source W.Sink source.old out.old in
+        let new = streams_of R.Source W.Sink source.new out.new in
+        let before = crew_of G.Gate ⟦<BoxedJob as Job>⟧ kits.old jobs.old in
+        let now = crew_of G.Gate ⟦<BoxedJob as Job>⟧ kits.new jobs.new in
+        EndsExecution TheModes old new before now
+        ((kits.new.items ≡ kits.old.items) × (jobs.new.places ≡ jobs.old.places)) result }
 {
     let modes = read_modes(alloc, source)?;
     let run = run_all(rt, alloc, &modes, kits, jobs)?;

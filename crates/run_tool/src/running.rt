@@ -7,7 +7,7 @@ ghost use Rattle.still_commands.specs.Ends.{streams_of, error_of, IsDone, IsUsag
 ghost use Rattle.run_tool.specs.Asked.{EndsAsked};
 ghost use Rattle.run_tool.specs.Ends.{IsCommandDone, IsCommandAnswered};
 ghost use Rattle.run_tool.specs.Executions.{crew_of, IsFreshCrew, AreBack};
-ghost use Rattle.run_tool.specs.Executed.{ToldRun, StopsRun, EndsWith, NoneFailed, may_have_run};
+ghost use Rattle.run_tool.specs.Executed.{EndsExecution, EndsWith, NoneFailed, may_have_run};
 ghost use Rattle.command_words.specs.declared.command.Command.{Command};
 ghost use Rattle.command_words.specs.declared.command.Command.TheVariants.{Read, Execute};
 ghost use Rattle.command_words.specs.declared.command.Reading.TheVariants.{Check};
@@ -145,16 +145,12 @@ fn perform<R: Source, W: Sink, G: Gate + Send, X: Threads + Wait + Sync>(
 ) -> Result<(), Refusal>
     requires ready { IsFreshCrew (crew_of G.Gate ⟦<BoxedJob as Job>⟧ kits.old jobs.old) }
     requires window { HasWindow execution }
-    ensures done { OnOk result (ToldRun execution (streams_of R.Source W.Sink source.old out.old)
-        (streams_of R.Source W.Sink source.new out.new) (crew_of G.Gate ⟦<BoxedJob as Job>⟧ kits.old jobs.old)
-        (crew_of G.Gate ⟦<BoxedJob as Job>⟧ kits.new jobs.new)) }
-    ensures stops { IfErr result (StopsRun execution (streams_of R.Source W.Sink source.old out.old)
-        (streams_of R.Source W.Sink source.new out.new) (crew_of G.Gate ⟦<BoxedJob as Job>⟧ kits.old jobs.old)
-        (crew_of G.Gate ⟦<BoxedJob as Job>⟧ kits.new jobs.new)) }
-    ensures uncalled { IfErr result (λ refusal. may_have_run (Some (Execute execution)) (status_of refusal) ≡ false →
-        (kits.new.items ≡ kits.old.items) × (jobs.new.places ≡ jobs.old.places)) }
-    ensures back { AreBack (crew_of G.Gate ⟦<BoxedJob as Job>⟧ kits.old jobs.old)
-        (crew_of G.Gate ⟦<BoxedJob as Job>⟧ kits.new jobs.new) }
+    ensures { let old = streams_of R.Source W.Sink source.old out.old in
+        let new = streams_of R.Source W.Sink source.new out.new in
+        let before = crew_of G.Gate ⟦<BoxedJob as Job>⟧ kits.old jobs.old in
+        let now = crew_of G.Gate ⟦<BoxedJob as Job>⟧ kits.new jobs.new in
+        EndsExecution execution old new before now
+        ((kits.new.items ≡ kits.old.items) × (jobs.new.places ≡ jobs.old.places)) result }
 {
     match execution {
         Execution::Exec { window } => exec(rt, alloc, source, window, false, out, kits, jobs),

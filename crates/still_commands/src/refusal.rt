@@ -9,7 +9,6 @@ use task_reader::ReadSet;
 use tree_check::TreeKind;
 
 /// Why a command wasn't done.
-#[derive(Drop)]
 pub enum Refusal {
     /// The words are no command line.
     Usage,
@@ -43,6 +42,29 @@ pub enum Refusal {
     TooWide { ticks: u128 },
     /// Of several sets that follow each other as modes, this mode, counted from 0, wasn't done, for this reason.
     OfMode { mode: u32, refusal: ModeRefusal },
+}
+
+impl Drop for Refusal {
+    fn drop(self) {
+        match self {
+            Refusal::Usage | Refusal::ReadFault | Refusal::WriteFault | Refusal::NoMemory => {}
+            Refusal::BadSet(_refusal) => {}
+            Refusal::BadLine { line: _ } => {}
+            Refusal::BadProgram { line: _ } => {}
+            Refusal::Overload { total: _, room: _ } => {}
+            Refusal::ScaleTooLarge { task: _ } => {}
+            Refusal::TooLong { rows: _ } => {}
+            Refusal::GateFault { row: _, name: _ } => {}
+            Refusal::JobFault { row: _, name: _ } => {}
+            Refusal::InputTooLong { count: _ } => {}
+            Refusal::BadTree { line: _, kind: _ } => {}
+            Refusal::TooWide { ticks: _ } => {}
+            Refusal::OfMode {
+                mode: _,
+                refusal: _refusal,
+            } => {}
+        }
+    }
 }
 
 impl Refusal {

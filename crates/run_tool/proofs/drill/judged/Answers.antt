@@ -1,5 +1,8 @@
-use Rattle.std.proofs.Common.{◌≡◌, ◌∙◌, false, true, List, subst}
+use Rattle.std.proofs.Common.{◌≡◌, ◌∙◌, false, true, List, length, ap, sym, subst}
+use Rattle.std.proofs.lemmas.Result.{IfOk-from_err}
+use Rattle.sched_base.specs.Sets.{SetContents}
 use Rattle.sched_base.specs.declared.rows.Row.{Row}
+use Rattle.row_totals.proofs.NameLemmas.{lanes_among}
 use Rattle.sched_base.specs.Tables.{IsTable}
 use Rattle.run_tree.specs.Plans.{stop_of}
 use Rattle.exec_book.specs.PlanRows.{plan_rows}
@@ -18,3 +21,21 @@ unreachable-requires c =
     c.in-None.ensures.valid (trace_valid c.in_ok-trace.trace p.set p.tree.scale (plan_rows p) is
     (c.merged_law.ensures p.set p.tree.scale (stop_of p) (stop_of p) (plan_rows p) table c.requires.valid)) in
     cc
+
+pub of_table-requires-clause-processors : goal.of_table-requires-clause-processors
+of_table-requires-clause-processors c =
+    ap (λ (lanes : List (List Row)). length lanes) c.requires.lanes ∙ c.table_law.ensures.processors c.args.plan.now c.set.ensures.lawful
+    ∙ ap (λ (s : SetContents). s.processors) (sym c.set.ensures.value)
+
+pub of_table-requires-clause-names : goal.of_table-requires-clause-names
+of_table-requires-clause-names c =
+    rw (c.set.ensures.value, c.requires.lanes) (lanes_among _ _ (c.table_law.ensures.lanes c.args.plan.now c.set.ensures.lawful))
+
+pub of_table-requires-clause-few : goal.of_table-requires-clause-few
+of_table-requires-clause-few c = c.requires.few
+
+pub returns-in_err-trace-clause-told : goal.returns-in_err-trace-clause-told
+returns-in_err-trace-clause-told c = IfOk-from_err _ _ c.from_residual.ensures.0
+
+pub returns-in_err-trace-clause-judged : goal.returns-in_err-trace-clause-judged
+returns-in_err-trace-clause-judged c = IfOk-from_err _ _ c.from_residual.ensures.0

@@ -1,8 +1,9 @@
 use Rattle.std.proofs.Common.{Err, ap, sym, ◌∙◌, subst}
 use Rattle.sched_base.specs.Sets.{SetContents}
 use Rattle.sched_base.specs.Lanes.{NamesOneOf}
+use Rattle.exec_lanes.proofs.ErrorLemmas.{untrue}
 use Rattle.run_tool.specs.Executions.{name_at}
-use Rattle.run_tool.proofs.CrewEndLemmas.{kits_filled, kit_empty, jobs_fresh, few_rows, back_by, all_by, rows_by, gate_by, gate_named, job_by, job_named}
+use Rattle.run_tool.proofs.CrewEndLemmas.{kits_filled, kit_empty, jobs_fresh, few_rows, back_by, all_by, rows_by, totals_by, left_by, gate_by, gate_named, job_by, job_named}
 use Rattle.run_tool.proofs.exec.run_plan.Goals as goal
 
 pub execute-requires-clause-kits : goal.execute-requires-clause-kits
@@ -66,3 +67,27 @@ returns-in-Err-Job-clause-back g c = back_by _ _ _ _ _ _ c.args.plan.now _ _ _ _
 
 pub returns-in-Err-NoMemory-clause-back : goal.returns-in-Err-NoMemory-clause-back
 returns-in-Err-NoMemory-clause-back g c = back_by _ _ _ _ _ _ c.args.plan.now _ _ _ _ c.execute.result c.execute.ensures.outcome
+
+pub execute-requires-clause-executable : goal.execute-requires-clause-executable
+execute-requires-clause-executable g c κs within = c.requires.executable
+
+pub returns-in-Ok-clause-lanes : goal.returns-in-Ok-clause-lanes
+returns-in-Ok-clause-lanes g c =
+    rows_by _ _ _ _ _ _ c.args.plan.now _ _ _ _ c.know_lawful.ensures.lawful c.requires.ready
+    (c.table_law.ensures.lanes c.args.plan.now c.know_lawful.ensures.lawful) c.execute.result c.execute.ensures.outcome c.in-Ok.executed c.in-Ok.is
+
+pub returns-in-Ok-clause-totals : goal.returns-in-Ok-clause-totals
+returns-in-Ok-clause-totals g c =
+    totals_by _ _ _ _ _ _ c.args.plan.now _ _ _ _ c.know_lawful.ensures.lawful c.requires.ready
+    (c.table_law.ensures.lanes c.args.plan.now c.know_lawful.ensures.lawful) c.execute.result c.execute.ensures.outcome c.in-Ok.executed c.in-Ok.is
+
+pub returns-in-Err-Gate-clause-uncalled : goal.returns-in-Err-Gate-clause-uncalled
+returns-in-Err-Gate-clause-uncalled g c = λ quiet. untrue (sym quiet)
+
+pub returns-in-Err-Job-clause-uncalled : goal.returns-in-Err-Job-clause-uncalled
+returns-in-Err-Job-clause-uncalled g c = λ quiet. untrue (sym quiet)
+
+pub returns-in-Err-NoMemory-clause-uncalled : goal.returns-in-Err-NoMemory-clause-uncalled
+returns-in-Err-NoMemory-clause-uncalled g c = λ quiet.
+    left_by _ _ _ _ _ _ c.args.plan.now _ _ _ _ c.know_lawful.ensures.lawful c.requires.ready
+    (c.table_law.ensures.lanes c.args.plan.now c.know_lawful.ensures.lawful) c.execute.result c.execute.ensures.outcome (c.in-Err-NoMemory.is ∙ ap Err c.in-Err-NoMemory.field-0-is)

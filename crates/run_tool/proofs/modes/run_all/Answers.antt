@@ -1,4 +1,4 @@
-use Rattle.std.proofs.Common.{Err, ap, ◌∙◌}
+use Rattle.std.proofs.Common.{Err, ap, ◌∙◌, arith}
 use Rattle.std.proofs.lemmas.Option.{slice_get_within}
 use Rattle.run_tool.proofs.ModeRunLemmas.{ready_staffed, filled_by, own_jobs, ran_by, gate_by, job_by, memory_by, back_at, plans_lawful, names_one, name_of}
 use Rattle.run_tool.proofs.modes.run_all.Goals as goal
@@ -90,3 +90,12 @@ returns-in-Err-NoMemory-clause-stops g c =
 
 pub returns-in-Err-NoMemory-clause-back : goal.returns-in-Err-NoMemory-clause-back
 returns-in-Err-NoMemory-clause-back g c = back_at g.G.Gate _ c.table_law.ensures.lanes _ _ c.run_modes.ensures.back
+
+pub run_modes-requires-clause-some_window : goal.run_modes-requires-clause-some_window
+run_modes-requires-clause-some_window g c κs within = omega arith
+
+pub run_modes-requires-clause-small_window : goal.run_modes-requires-clause-small_window
+run_modes-requires-clause-small_window g c κs within = omega arith
+
+pub returns-in-Ok-clause-runs : goal.returns-in-Ok-clause-runs
+returns-in-Ok-clause-runs g c = c.in-Ok.ensures.whole

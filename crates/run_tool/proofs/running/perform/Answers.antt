@@ -1,84 +1,52 @@
-use Rattle.std.proofs.Common.{◌≡◌, ◌∙◌, true, false, Some, refl, sym, ap}
-use Rattle.std.proofs.lemmas.Result.{IfErr-weaker}
-use Rattle.command_words.specs.declared.command.Command.TheVariants.{Execute}
-use Rattle.command_words.specs.declared.command.Execution.{Execution}
+use Rattle.std.proofs.Common.{refl, subst, arith}
+use Rattle.command_words.specs.Words.{HasWindow}
 use Rattle.command_words.specs.declared.command.Execution.TheVariants.{Exec, ExecMet, Jobs, Modes}
 use Rattle.still_commands.specs.Ends.{streams}
-use Rattle.run_tool.specs.Executed.{may_have_run}
-use Rattle.still_commands.specs.Refusals.{status_of}
-use Rattle.run_tool.proofs.RunLemmas.{unread_same, drill_done, drill_stopped, drill_ran, told_as, stopped_as, uncalled_as, uncalled_early}
+use Rattle.run_tool.proofs.PartLemmas.{ends_as, ends_early, ends_drill}
+use Rattle.run_tool.proofs.RunLemmas.{unread_same}
 use Rattle.run_tool.proofs.running.perform.Goals as goal
 
-pub returns-in-Drill-clause-done : goal.returns-in-Drill-clause-done
-returns-in-Drill-clause-done g c = drill_done c.drill.result c.args.execution c.in-Drill.number
+pub returns-in-Drill : goal.returns-in-Drill
+returns-in-Drill g c = ends_drill c.drill.result c.args.execution c.in-Drill.number c.in-Drill.is
     (streams (g.R.Source.left c.args.source.now) (g.R.Source.faults c.args.source.now) (g.W.Sink.taken c.args.out.now) (g.W.Sink.faults c.args.out.now))
     (streams (g.R.Source.left c.args.source.now) (g.R.Source.faults c.args.source.now) (g.W.Sink.taken c.drill.new.out) (g.W.Sink.faults c.drill.new.out))
-    _ _ c.in-Drill.is (unread_same _ _ _ _ _ _) c.drill.ensures.done
+    _ _ _ (unread_same _ _ _ _ _ _) c.drill.ensures
 
-pub returns-in-Drill-clause-stops : goal.returns-in-Drill-clause-stops
-returns-in-Drill-clause-stops g c = drill_stopped c.drill.result c.args.execution c.in-Drill.number
-    (streams (g.R.Source.left c.args.source.now) (g.R.Source.faults c.args.source.now) (g.W.Sink.taken c.args.out.now) (g.W.Sink.faults c.args.out.now))
-    (streams (g.R.Source.left c.args.source.now) (g.R.Source.faults c.args.source.now) (g.W.Sink.taken c.drill.new.out) (g.W.Sink.faults c.drill.new.out))
-    _ _ c.in-Drill.is (unread_same _ _ _ _ _ _) c.drill.ensures.stops
+pub returns-in-Exec : goal.returns-in-Exec
+returns-in-Exec g c = ends_early c.exec.result c.args.execution (Exec c.in-Exec.window) c.in-Exec.is _ _ _ _ _ refl c.exec.ensures
 
-pub returns-in-Drill-clause-uncalled : goal.returns-in-Drill-clause-uncalled
-returns-in-Drill-clause-uncalled g c = IfErr-weaker c.drill.result _ _
-    (λ r stops quiet.
-    let ran = sym (drill_ran c.in-Drill.number _ _ _ _ _ _ r stops) in
-    let same = ap (λ (e : Execution). may_have_run (Some (Execute e)) (status_of r)) (sym c.in-Drill.is) in
-    absurd (let bad : true ≡ false = ran ∙ same ∙ quiet in cc)) c.drill.ensures.stops
+pub returns-in-ExecMet : goal.returns-in-ExecMet
+returns-in-ExecMet g c = ends_early c.exec-in-ExecMet.result c.args.execution ExecMet c.in-ExecMet.is _ _ _ _ _ refl c.exec-in-ExecMet.ensures
 
-pub returns-in-Exec-clause-done : goal.returns-in-Exec-clause-done
-returns-in-Exec-clause-done g c = told_as c.exec.result c.args.execution (Exec c.in-Exec.window) c.in-Exec.is _ _ _ _ c.exec.ensures.done
+pub returns-in-Jobs : goal.returns-in-Jobs
+returns-in-Jobs g c = ends_as c.run_jobs.result c.args.execution Jobs c.in-Jobs.is _ _ _ _ _ c.run_jobs.ensures
 
-pub returns-in-Exec-clause-stops : goal.returns-in-Exec-clause-stops
-returns-in-Exec-clause-stops g c = stopped_as c.exec.result c.args.execution (Exec c.in-Exec.window) c.in-Exec.is _ _ _ _ c.exec.ensures.stops
+pub returns-in-Modes : goal.returns-in-Modes
+returns-in-Modes g c = ends_as c.modes.result c.args.execution Modes c.in-Modes.is _ _ _ _ _ c.modes.ensures
 
-pub returns-in-Exec-clause-uncalled : goal.returns-in-Exec-clause-uncalled
-returns-in-Exec-clause-uncalled g c =
-    uncalled_as c.exec.result c.args.execution (Exec c.in-Exec.window) c.in-Exec.is _
-    (uncalled_early _ c.exec.result (Exec c.in-Exec.window) refl c.exec.ensures.uncalled)
+pub exec-requires-clause-ready : goal.exec-requires-clause-ready
+exec-requires-clause-ready g c κs within = c.requires.ready
 
-pub returns-in-Exec-clause-back : goal.returns-in-Exec-clause-back
-returns-in-Exec-clause-back g c = c.exec.ensures.back
+pub exec-requires-clause-some_window : goal.exec-requires-clause-some_window
+exec-requires-clause-some_window g c κs within = (subst HasWindow c.in-Exec.is c.requires.window).0
 
-pub returns-in-ExecMet-clause-done : goal.returns-in-ExecMet-clause-done
-returns-in-ExecMet-clause-done g c = told_as c.exec-in-ExecMet.result c.args.execution ExecMet c.in-ExecMet.is _ _ _ _ c.exec-in-ExecMet.ensures.done
+pub exec-requires-clause-small_window : goal.exec-requires-clause-small_window
+exec-requires-clause-small_window g c κs within = (subst HasWindow c.in-Exec.is c.requires.window).1
 
-pub returns-in-ExecMet-clause-stops : goal.returns-in-ExecMet-clause-stops
-returns-in-ExecMet-clause-stops g c = stopped_as c.exec-in-ExecMet.result c.args.execution ExecMet c.in-ExecMet.is _ _ _ _ c.exec-in-ExecMet.ensures.stops
+pub exec-requires-in-ExecMet-clause-ready : goal.exec-requires-in-ExecMet-clause-ready
+exec-requires-in-ExecMet-clause-ready g c κs within = c.requires.ready
 
-pub returns-in-ExecMet-clause-uncalled : goal.returns-in-ExecMet-clause-uncalled
-returns-in-ExecMet-clause-uncalled g c =
-    uncalled_as c.exec-in-ExecMet.result c.args.execution ExecMet c.in-ExecMet.is _
-    (uncalled_early _ c.exec-in-ExecMet.result ExecMet refl c.exec-in-ExecMet.ensures.uncalled)
+pub exec-requires-in-ExecMet-clause-some_window : goal.exec-requires-in-ExecMet-clause-some_window
+exec-requires-in-ExecMet-clause-some_window g c κs within = omega arith
 
-pub returns-in-ExecMet-clause-back : goal.returns-in-ExecMet-clause-back
-returns-in-ExecMet-clause-back g c = c.exec-in-ExecMet.ensures.back
+pub exec-requires-in-ExecMet-clause-small_window : goal.exec-requires-in-ExecMet-clause-small_window
+exec-requires-in-ExecMet-clause-small_window g c κs within = omega arith
 
-pub returns-in-Jobs-clause-done : goal.returns-in-Jobs-clause-done
-returns-in-Jobs-clause-done g c = told_as c.run_jobs.result c.args.execution Jobs c.in-Jobs.is _ _ _ _ c.run_jobs.ensures.done
+pub drill-requires-clause-ready : goal.drill-requires-clause-ready
+drill-requires-clause-ready g c κs within = c.requires.ready
 
-pub returns-in-Jobs-clause-stops : goal.returns-in-Jobs-clause-stops
-returns-in-Jobs-clause-stops g c = stopped_as c.run_jobs.result c.args.execution Jobs c.in-Jobs.is _ _ _ _ c.run_jobs.ensures.stops
+pub run_jobs-requires-clause-ready : goal.run_jobs-requires-clause-ready
+run_jobs-requires-clause-ready g c κs within = c.requires.ready
 
-pub returns-in-Jobs-clause-uncalled : goal.returns-in-Jobs-clause-uncalled
-returns-in-Jobs-clause-uncalled g c = uncalled_as c.run_jobs.result c.args.execution Jobs c.in-Jobs.is _ c.run_jobs.ensures.uncalled
-
-pub returns-in-Jobs-clause-back : goal.returns-in-Jobs-clause-back
-returns-in-Jobs-clause-back g c = c.run_jobs.ensures.back
-
-pub returns-in-Modes-clause-done : goal.returns-in-Modes-clause-done
-returns-in-Modes-clause-done g c = told_as c.modes.result c.args.execution Modes c.in-Modes.is _ _ _ _ c.modes.ensures.done
-
-pub returns-in-Modes-clause-stops : goal.returns-in-Modes-clause-stops
-returns-in-Modes-clause-stops g c = stopped_as c.modes.result c.args.execution Modes c.in-Modes.is _ _ _ _ c.modes.ensures.stops
-
-pub returns-in-Modes-clause-uncalled : goal.returns-in-Modes-clause-uncalled
-returns-in-Modes-clause-uncalled g c = uncalled_as c.modes.result c.args.execution Modes c.in-Modes.is _ c.modes.ensures.uncalled
-
-pub returns-in-Modes-clause-back : goal.returns-in-Modes-clause-back
-returns-in-Modes-clause-back g c = c.modes.ensures.back
-
-pub returns-in-Drill-clause-back : goal.returns-in-Drill-clause-back
-returns-in-Drill-clause-back g c = c.drill.ensures.back
+pub modes-requires-clause-ready : goal.modes-requires-clause-ready
+modes-requires-clause-ready g c κs within = c.requires.ready

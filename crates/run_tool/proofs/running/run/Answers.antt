@@ -120,3 +120,6 @@ returns-clause-back g c = c.run_execution.ensures.back
 
 pub returns-clause-answered : goal.returns-clause-answered
 returns-clause-answered g c = c.run_execution.ensures.answered
+
+pub run_batch-requires-clause-batch : goal.run_batch-requires-clause-batch
+run_batch-requires-clause-batch g c κs within = sym c.asks_for_batch.ensures ∙ c.if-asks_for_batch.true
