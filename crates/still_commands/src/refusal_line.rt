@@ -35,74 +35,64 @@ pub fn refuse<E: Sink>(refusal: &Refusal, err: &mut E) -> Status
 }
 
 // Writes the line of a refusal, as one piece but for that of an unknown key, whose text may be long, and for that of a mode.
-#[tactic(auto, unfolding(crate::specs::Refusals::refusal_line))]
 fn write_refusal<W: Sink>(refusal: &Refusal, out: &mut W) -> Result<(), Failed>
     ensures wrote { Wrote (W.taken out.old) (W.taken out.new) (refusal_line refusal.now) result }
     ensures cause { HasCause (W.faults out.old) (W.faults out.new) result }
 {
-    match refusal {
-        Refusal::Usage => write_line(plain_line(Status::Usage, b"Usage"), out),
-        Refusal::ReadFault => write_line(plain_line(Status::ReadFault, b"ReadFault"), out),
-        Refusal::WriteFault => write_line(plain_line(Status::WriteFault, b"WriteFault"), out),
-        Refusal::NoMemory => write_line(plain_line(Status::NoMemory, b"NoMemory"), out),
-        Refusal::BadSet(refusal) => write_set_refusal(refusal, out),
-        Refusal::BadLine { line } => write_line(
-            number_line(Status::BadInput, b"BadLine", u128::from(*line)),
-            out,
+    let line = match refusal {
+        Refusal::BadSet(refusal) => return write_set_refusal(refusal, out),
+        Refusal::OfMode { mode, refusal } => return write_mode_refusal(*mode, refusal, out),
+        Refusal::Usage => plain_line(Status::Usage, b"Usage"),
+        Refusal::ReadFault => plain_line(Status::ReadFault, b"ReadFault"),
+        Refusal::WriteFault => plain_line(Status::WriteFault, b"WriteFault"),
+        Refusal::NoMemory => plain_line(Status::NoMemory, b"NoMemory"),
+        Refusal::BadLine { line } => number_line(Status::BadInput, b"BadLine", u128::from(*line)),
+        Refusal::BadProgram { line } => number_line(
+            Status::BadInput,
+            b"BadProgram",
+            u128::from(*line),
         ),
-        Refusal::BadProgram { line } => write_line(
-            number_line(Status::BadInput, b"BadProgram", u128::from(*line)),
-            out,
+        Refusal::Overload { total, room } => overload_line(*total, *room),
+        Refusal::ScaleTooLarge { task } => scale_line(*task),
+        Refusal::TooLong { rows } => rows_line(*rows),
+        Refusal::GateFault { row, name } => gate_line(row, name),
+        Refusal::JobFault { row, name } => job_line(row, name),
+        Refusal::InputTooLong { count } => number_line(
+            Status::InputTooLong,
+            b"InputTooLong",
+            u128::from(*count),
         ),
-        Refusal::Overload { total, room } => write_line(overload_line(*total, *room), out),
-        Refusal::ScaleTooLarge { task } => write_line(scale_line(*task), out),
-        Refusal::TooLong { rows } => write_line(rows_line(*rows), out),
-        Refusal::GateFault { row, name } => write_line(gate_line(row, name), out),
-        Refusal::JobFault { row, name } => write_line(job_line(row, name), out),
-        Refusal::InputTooLong { count } => {
-            write_line(
-                number_line(Status::InputTooLong, b"InputTooLong", u128::from(*count)),
-                out,
-            )
-        }
-        Refusal::BadTree { line, kind } => write_line(tree_line(*line, *kind), out),
-        Refusal::TooWide { ticks } => write_line(ticks_line(*ticks), out),
-        Refusal::OfMode { mode, refusal } => write_mode_refusal(*mode, refusal, out),
-    }
+        Refusal::BadTree { line, kind } => tree_line(*line, *kind),
+        Refusal::TooWide { ticks } => ticks_line(*ticks),
+    };
+    write_line(line, out)
 }
 
 /// The same for bytes that are no set.
-#[tactic(auto, unfolding(crate::specs::Refusals::refusal_line))]
 pub(crate) fn write_set_refusal<W: Sink>(refusal: &ReadSet, out: &mut W) -> Result<(), Failed>
     ensures wrote { Wrote (W.taken out.old) (W.taken out.new) (refusal_line (BadSet refusal.now)) result }
     ensures cause { HasCause (W.faults out.old) (W.faults out.new) result }
 {
-    match refusal {
-        ReadSet::NotToml => write_line(plain_line(Status::BadInput, b"NotToml"), out),
-        ReadSet::UnknownKey { place, key } => write_key_line(*place, key.as_slice(), out),
-        ReadSet::Missing { place, key } => write_line(
-            place_line(b"Missing", *place, key_text(*key)),
-            out,
+    let line = match refusal {
+        ReadSet::UnknownKey { place, key } => return write_key_line(*place, key.as_slice(), out),
+        ReadSet::NotToml => plain_line(Status::BadInput, b"NotToml"),
+        ReadSet::Missing { place, key } => place_line(b"Missing", *place, key_text(*key)),
+        ReadSet::WrongKind { place, key } => place_line(b"WrongKind", *place, key_text(*key)),
+        ReadSet::BadProcessors { value } => value_line(b"BadProcessors", *value),
+        ReadSet::BadHorizon { value } => value_line(b"BadHorizon", *value),
+        ReadSet::TooManyTasks { count } => number_line(
+            Status::BadInput,
+            b"TooManyTasks",
+            u128::from(*count),
         ),
-        ReadSet::WrongKind { place, key } => write_line(
-            place_line(b"WrongKind", *place, key_text(*key)),
-            out,
-        ),
-        ReadSet::BadProcessors { value } => write_line(value_line(b"BadProcessors", *value), out),
-        ReadSet::BadHorizon { value } => write_line(value_line(b"BadHorizon", *value), out),
-        ReadSet::TooManyTasks { count } => {
-            write_line(
-                number_line(Status::BadInput, b"TooManyTasks", u128::from(*count)),
-                out,
-            )
-        }
-        ReadSet::BadName { index } => write_line(index_line(b"BadName", *index), out),
-        ReadSet::SameName { index } => write_line(index_line(b"SameName", *index), out),
-        ReadSet::BadPeriod { index } => write_line(index_line(b"BadPeriod", *index), out),
-        ReadSet::BadWork { index } => write_line(index_line(b"BadWork", *index), out),
-        ReadSet::BadOffset { index } => write_line(index_line(b"BadOffset", *index), out),
-        ReadSet::NoMemory => write_line(plain_line(Status::NoMemory, b"NoMemory"), out),
-    }
+        ReadSet::BadName { index } => index_line(b"BadName", *index),
+        ReadSet::SameName { index } => index_line(b"SameName", *index),
+        ReadSet::BadPeriod { index } => index_line(b"BadPeriod", *index),
+        ReadSet::BadWork { index } => index_line(b"BadWork", *index),
+        ReadSet::BadOffset { index } => index_line(b"BadOffset", *index),
+        ReadSet::NoMemory => plain_line(Status::NoMemory, b"NoMemory"),
+    };
+    write_line(line, out)
 }
 
 /// Writes a line as one piece.

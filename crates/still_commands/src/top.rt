@@ -116,17 +116,18 @@ fn read<R: Source, W: Sink>(
     ensures stops { IfErr result (Stops (output_of reading) (streams_of R.Source W.Sink source.old out.old)
         (streams_of R.Source W.Sink source.new out.new)) }
 {
-    match reading {
-        Reading::Rate => done(rate(alloc, source, out)),
-        Reading::Tree => done(tree(alloc, source, out)),
-        Reading::Trace => done(trace(alloc, source, false, out)),
-        Reading::TraceMet => done(trace(alloc, source, true, out)),
-        Reading::Check => check(alloc, source, out),
-        Reading::TraceWrap => done(trace_by_wrapping(alloc, source, out)),
-        Reading::Table => done(table(alloc, source, out)),
-        Reading::Follow => done(follow(alloc, source, out)),
-        Reading::Draw(asked) => done(draw(alloc, asked, source, out)),
-    }
+    let told = match reading {
+        Reading::Check => return check(alloc, source, out),
+        Reading::Rate => rate(alloc, source, out),
+        Reading::Tree => tree(alloc, source, out),
+        Reading::Trace => trace(alloc, source, false, out),
+        Reading::TraceMet => trace(alloc, source, true, out),
+        Reading::TraceWrap => trace_by_wrapping(alloc, source, out),
+        Reading::Table => table(alloc, source, out),
+        Reading::Follow => follow(alloc, source, out),
+        Reading::Draw(asked) => draw(alloc, asked, source, out),
+    };
+    done(told)
 }
 
 // `Done`, where a text was told.

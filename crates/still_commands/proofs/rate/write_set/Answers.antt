@@ -1,4 +1,5 @@
-use Rattle.std.proofs.Common.{◌≡◌, ◌*◌, ◌∙◌, ap, arith}
+use Rattle.std.proofs.Common.{◌≡◌, ◌*◌, ◌^◌, ◌≤◌, ◌∙◌, ap, arith}
+use Rattle.std.proofs.lemmas.Nat.{mul-le}
 use Rattle.std.proofs.lemmas.Result.{IfOk-from_err, err_from_is_err_and}
 use Rattle.sched_base.specs.Scale.{Fits, room_of}
 use Rattle.still_commands.proofs.EndLemmas.{keeps_same}
@@ -61,3 +62,9 @@ returns-clause-done g c =
       tt,
       c.in_ok-write_rate.ensures.wrote.ok,
     )
+
+pub overflow_mul-room : goal.overflow_mul-room
+overflow_mul-room g c =
+    let few : c.from.result ≤ 32 = rw (c.from.ensures, c.processors.ensures.value) c.processors.ensures.lawful.few_processors in
+    let most = mul-le c.from.result c.in_ok-scale.scale 32 (2 ^ 94) few c.in_ok-scale.ensures.within in
+    omega (arith, most)

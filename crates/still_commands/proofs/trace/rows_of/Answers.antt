@@ -2,6 +2,7 @@ use Rattle.std.proofs.Common.{length, ap, ◌∙◌}
 use Rattle.std.proofs.lemmas.Result.{IfOk-from_err}
 use Rattle.run_tree.specs.Plans.{schedule_of}
 use Rattle.sched_base.proofs.ScheduleLanes.{length-lanes_of}
+use Rattle.row_totals.proofs.NameLemmas.{lanes_among}
 use Rattle.still_commands.proofs.TraceLemmas.{few_rows}
 use Rattle.still_commands.proofs.trace.rows_of.Goals as goal
 
@@ -34,3 +35,9 @@ returns-clause-few c =
     let p = c.args.plan.now in
     let many = ap length c.in_ok-table.ensures.lanes ∙ length-lanes_of p.tree.processors (schedule_of p) in
     few_rows c.in_ok-table.table.lanes p.tree.processors c.args.rounds many c.in_ok-table.ensures.rounds c.requires.few
+
+pub totals_of-requires : goal.totals_of-requires
+totals_of-requires c = rw (c.count.ensures.value, c.set.ensures.value, c.in_ok-table.ensures.lanes) (lanes_among _ _ (c.table_law.ensures.lanes c.args.plan.now c.set.ensures.lawful))
+
+pub returns-clause-totals : goal.returns-clause-totals
+returns-clause-totals c = rw (c.count.ensures.value, c.set.ensures.value) at c.in_ok-totals.ensures

@@ -2,6 +2,7 @@ use Rattle.std.proofs.Common.{length, ap, ◌∙◌}
 use Rattle.std.proofs.lemmas.Result.{IfOk-from_err}
 use Rattle.sched_base.proofs.ScheduleLanes.{length-lanes_of}
 use Rattle.wrap_sched.specs.Wrapped.{wrapped}
+use Rattle.row_totals.proofs.NameLemmas.{lanes_among}
 use Rattle.still_commands.proofs.TraceLemmas.{few_rows}
 use Rattle.still_commands.proofs.wrap.rows_of.Goals as goal
 
@@ -63,3 +64,9 @@ wrap-requires-clause-rounds c = c.requires.rounds
 
 pub returns-clause-lanes : goal.returns-clause-lanes
 returns-clause-lanes c = c.in_ok-table.ensures.lanes
+
+pub totals_of-requires : goal.totals_of-requires
+totals_of-requires c = rw (c.count.ensures.value, c.in_ok-table.ensures.lanes) (lanes_among _ _ (c.names_law.ensures.lanes c.args.set.now c.args.scale c.know_lawful.ensures.lawful c.requires.run.is_scale c.requires.run.fits))
+
+pub returns-clause-totals : goal.returns-clause-totals
+returns-clause-totals c = rw c.count.ensures.value at c.in_ok-totals.ensures
