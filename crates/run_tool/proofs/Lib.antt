@@ -5,7 +5,6 @@ pub mod ExecutionAnswerLemmas
 pub mod LoadedLemmas
 pub mod JobRunLemmas
 pub mod RunLemmas
-pub mod WrittenLemmas
 pub mod AskedLemmas
 pub mod CrewLemmas
 pub mod CrewEndLemmas

@@ -16,7 +16,7 @@ use Rattle.still_commands.specs.declared.status.Status.TheVariants.{WriteFault}
 use Rattle.run_tool.specs.Executed.{ToldRun, StopsRun, RanDrill, StopsAtDrill, EndsPart, EndsExecution, may_have_called, takes_memory_late, may_have_run}
 use Rattle.run_tool.specs.Executions.{Crew, AreBack}
 use Rattle.run_tool.proofs.RunLemmas.{back_same, drill_ran, drill_done_as, drill_stopped_as, uncalled_early}
-use Rattle.run_tool.proofs.WrittenLemmas.{on_written, if_unwritten}
+use Rattle.still_commands.proofs.WrittenLemmas.{on_written, if_unwritten}
 
 -- it stopped for the reason of a part below
 pub stops_with : {T : Type 0} (result : Result T Refusal) (refusal : Refusal) {Told : Type 0} {Stops : Refusal → Type 0} {called : Status → Bool} {b n : Crew}

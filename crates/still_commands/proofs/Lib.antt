@@ -11,3 +11,4 @@ pub mod CheckLemmas
 pub mod SoundLemmas
 pub mod NumberedLemmas
 pub mod BatchLemmas
+pub mod WrittenLemmas

@@ -18,6 +18,7 @@ use crate::mode_line::set_start;
 use crate::refusal::Refusal;
 use crate::refusal_line::{overload_line, refuse, scale_line, write_line, write_set_refusal};
 use crate::status::Status;
+use crate::written::written;
 use batch_compile::{Answer, Answers, answers_of};
 use command_words::is_batch;
 use sched_base::NoMemory;
@@ -76,7 +77,7 @@ fn batch<R: Source, W: Sink, X: Threads + Sync>(
 {
     let bytes = read_all(alloc, source, SET_LIMIT)?;
     let answers = answers_in(rt, alloc, bytes.as_slice())?;
-    Ok(write_answers(&answers, out)?)
+    written(write_answers(&answers, out))
 }
 
 // The answers of the pieces of a text.

@@ -14,6 +14,7 @@ ghost use Rattle.still_commands.specs.declared.status.Status.TheVariants.{Done};
 use crate::input::SET_LIMIT;
 use crate::refusal::Refusal;
 use crate::trace::rows_of;
+use crate::written::written;
 use event_core::count_rounds;
 use reading_laws::form_law;
 use round_table::table_law;
@@ -101,5 +102,5 @@ fn write_table<W: Sink>(
         (W.faults out.old) (W.faults out.new) tree.now) }
 {
     table_law();
-    Ok(write_trace(out, tree.set(), plan.scale(), table, totals)?)
+    written(write_trace(out, tree.set(), plan.scale(), table, totals))
 }

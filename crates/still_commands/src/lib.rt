@@ -21,6 +21,7 @@ mod top;
 mod trace;
 mod tree;
 mod wrap;
+mod written;
 
 pub use batch::run_batch;
 pub use command_words::Reading;

@@ -8,6 +8,7 @@ ghost use Rattle.still_commands.specs.declared.status.Status.TheVariants.{Done};
 use crate::input::read_input;
 use crate::rate_text::write_rate;
 use crate::refusal::Refusal;
+use crate::written::written;
 use rate_scale::{scale_of, total};
 use sched_base::TaskSet;
 use sched_edges::{Sink, Source};
@@ -40,5 +41,5 @@ fn write_set<W: Sink>(set: &TaskSet, out: &mut W) -> Result<(), Refusal>
     if total > room {
         return Err(Refusal::Overload { total, room });
     }
-    Ok(write_rate(set, scale, total, room, out)?)
+    written(write_rate(set, scale, total, room, out))
 }

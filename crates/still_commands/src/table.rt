@@ -14,6 +14,7 @@ ghost use Rattle.still_commands.specs.declared.status.Status.TheVariants.{Done};
 use crate::input::read_input;
 use crate::plan::plan_of;
 use crate::refusal::Refusal;
+use crate::written::written;
 use merged_rounds::merged_of;
 use merged_rows::MergedRows;
 use run_tree::Plan;
@@ -60,7 +61,7 @@ fn write_plan<W: Sink>(alloc: Global, plan: &Plan, out: &mut W) -> Result<(), Re
         return Err(Refusal::TooWide { ticks });
     }
     let rows = merged_of(alloc, plan)?;
-    Ok(write_rows(plan, &rows, out)?)
+    written(write_rows(plan, &rows, out))
 }
 
 // Writes the merged rows of a plan as C source.

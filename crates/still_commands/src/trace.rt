@@ -21,6 +21,7 @@ ghost use Rattle.still_commands.specs.declared.status.Status.TheVariants.{Done};
 use crate::input::read_input;
 use crate::plan::plan_of;
 use crate::refusal::Refusal;
+use crate::written::written;
 use event_core::{CountFault, count_rounds};
 use merged_rounds::merged_of;
 use merged_rows::{MergedRows, totals_of as totals_of_merged};
@@ -91,7 +92,7 @@ fn write_second_version<W: Sink>(
 {
     let rounds = count_rounds(alloc, plan)?;
     let (table, totals) = rows_of(alloc, plan, rounds)?;
-    Ok(write_rows(plan, &table, totals.as_slice(), met, out)?)
+    written(write_rows(plan, &table, totals.as_slice(), met, out))
 }
 
 // Writes the schedule of a set that fits, by its plan, in version 1.
@@ -110,7 +111,7 @@ fn write_first_version<W: Sink>(
         (W.faults out.old) (W.faults out.new) plan.now.set) }
 {
     let (rows, totals) = merged_rows_of(alloc, plan)?;
-    Ok(write_merged_rows(plan, &rows, &totals, met, out)?)
+    written(write_merged_rows(plan, &rows, &totals, met, out))
 }
 
 // The merged rows of a plan, in one pass over its rounds, and the ticks of each task in them.

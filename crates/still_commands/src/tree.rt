@@ -8,6 +8,7 @@ ghost use Rattle.still_commands.specs.declared.status.Status.TheVariants.{Done};
 use crate::input::read_input;
 use crate::plan::plan_of;
 use crate::refusal::Refusal;
+use crate::written::written;
 use sched_base::TaskSet;
 use sched_edges::{Sink, Source};
 use std::alloc::Global;
@@ -35,5 +36,5 @@ fn write_set<W: Sink>(alloc: Global, set: TaskSet, out: &mut W) -> Result<(), Re
         (W.faults out.old) (W.faults out.new) set) }
 {
     let plan = plan_of(alloc, set)?;
-    Ok(write_tree(&plan, out)?)
+    written(write_tree(&plan, out))
 }

@@ -17,6 +17,7 @@ ghost use Rattle.still_commands.specs.declared.status.Status.TheVariants.{Done};
 use crate::input::read_input;
 use crate::refusal::Refusal;
 use crate::trace::{wants_met, write_table};
+use crate::written::written;
 use merged_rows::{MergedRows, totals_of as totals_of_merged};
 use rate_scale::{scale_of, total};
 use row_totals::totals_of;
@@ -72,7 +73,7 @@ fn write_second_version<W: Sink>(
         (W.faults out.old) (W.faults out.new) set.now) }
 {
     let (table, totals) = rows_of(alloc, set, scale, rounds)?;
-    Ok(write_table(set, scale, &table, totals.as_slice(), false, out)?)
+    written(write_table(set, scale, &table, totals.as_slice(), false, out))
 }
 
 // Writes the wrapped schedule of a set that fits, in version 1.
@@ -90,7 +91,7 @@ fn write_first_version<W: Sink>(
         (W.faults out.old) (W.faults out.new) set.now) }
 {
     let (rows, totals) = merged_rows_of(alloc, set, scale)?;
-    Ok(write_merged_rows(set, scale, &rows, &totals, out)?)
+    written(write_merged_rows(set, scale, &rows, &totals, out))
 }
 
 // The scale of a set that fits, in ticks per unit.

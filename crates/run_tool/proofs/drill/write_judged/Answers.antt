@@ -5,7 +5,7 @@ use Rattle.still_commands.proofs.EndLemmas.{keeps_same}
 use Rattle.run_tool.specs.Drill.{summary_lines}
 use Rattle.run_tool.proofs.DrillLemmas.{text_is, drill_is}
 use Rattle.run_tool.proofs.DrillEndLemmas.{drill_written, drill_unwritten}
-use Rattle.run_tool.proofs.WrittenLemmas.{on_written, if_unwritten}
+use Rattle.still_commands.proofs.WrittenLemmas.{on_written, if_unwritten}
 use Rattle.run_tool.proofs.drill.write_judged.Goals as goal
 
 pub judged-requires-clause-lanes : goal.judged-requires-clause-lanes

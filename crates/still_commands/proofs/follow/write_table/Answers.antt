@@ -1,11 +1,11 @@
 use Rattle.std.proofs.Common.{sym, ◌∙◌, ap, length, refl}
-use Rattle.std.proofs.lemmas.Result.{err_from_is_err_and}
 use Rattle.sched_base.specs.Sets.{SetContents}
 use Rattle.row_totals.proofs.NameLemmas.{lanes_among}
 use Rattle.run_tree.specs.Plans.{PlanContents}
 use Rattle.still_commands.specs.Follow.{followed_text}
 use Rattle.still_commands.proofs.LineLemmas.{appends_as, took_as}
 use Rattle.still_commands.proofs.FollowLemmas.{followed_is}
+use Rattle.still_commands.proofs.WrittenLemmas.{on_written, if_unwritten}
 use Rattle.still_commands.proofs.follow.write_table.Goals as goal
 
 pub write_trace-requires-clause-on_time : goal.write_trace-requires-clause-on_time
@@ -32,15 +32,16 @@ write_trace-requires-clause-totals g c =
 pub returns-clause-done : goal.returns-clause-done
 returns-clause-done g c =
     let is = followed_is c.args.tree.now c.args.plan.now _ _ _ c.set.ensures.value c.scale.ensures.value c.requires.plan c.requires.text c.requires.lanes in
-    (followed_text c.args.tree.now, (c.requires.text, c.requires.room, refl), appends_as _ _ _ _ is c.in_ok-write_trace.ensures.wrote.ok)
+    on_written c.write_trace.result c.written.result c.written.ensures _ _ c.write_trace.ensures.wrote.ok
+    (λ took. (followed_text c.args.tree.now, (c.requires.text, c.requires.room, refl), appends_as _ _ _ _ is took))
 
-pub returns-in_err-write_trace-clause-stops : goal.returns-in_err-write_trace-clause-stops
-returns-in_err-write_trace-clause-stops g c =
-    let why = err_from_is_err_and c.from_residual.result c.from_residual.ensures.1 in
+pub returns-clause-stops : goal.returns-clause-stops
+returns-clause-stops g c =
     let is = followed_is c.args.tree.now c.args.plan.now _ _ _ c.set.ensures.value c.scale.ensures.value c.requires.plan c.requires.text c.requires.lanes in
-    rw (why.1, why.2) (
+    if_unwritten c.write_trace.result c.written.result c.written.ensures _ _ _ c.write_trace.ensures.wrote.err c.write_trace.ensures.cause.failed
+    (λ took rose. (
       followed_text c.args.tree.now,
       (c.requires.text, c.requires.room, refl),
-      took_as _ _ _ _ is c.in_err-write_trace.ensures.wrote.err,
-      c.in_err-write_trace.ensures.cause.failed,
-    )
+      took_as _ _ _ _ is took,
+      rose,
+    ))

@@ -3,6 +3,7 @@ use Rattle.std.proofs.lemmas.Nat.{mul-le}
 use Rattle.std.proofs.lemmas.Result.{IfOk-from_err, err_from_is_err_and}
 use Rattle.sched_base.specs.Scale.{Fits, room_of}
 use Rattle.still_commands.proofs.EndLemmas.{keeps_same}
+use Rattle.still_commands.proofs.WrittenLemmas.{on_written, if_unwritten}
 use Rattle.still_commands.proofs.rate.write_set.Goals as goal
 
 pub returns-in_err-scale-clause-done : goal.returns-in_err-scale-clause-done
@@ -31,24 +32,21 @@ write_rate-requires-clause-total g c = c.total-total.ensures.value
 pub write_rate-requires-clause-room : goal.write_rate-requires-clause-room
 write_rate-requires-clause-room g c = ap (λ n. n * c.in_ok-scale.scale) (c.from.ensures ∙ c.processors.ensures.value)
 
-pub returns-in_err-write_rate-clause-done : goal.returns-in_err-write_rate-clause-done
-returns-in_err-write_rate-clause-done g c = IfOk-from_err _ _ c.from_residual-in_err-write_rate.ensures.0
-
-pub returns-in_err-write_rate-clause-stops : goal.returns-in_err-write_rate-clause-stops
-returns-in_err-write_rate-clause-stops g c =
+pub returns-clause-stops : goal.returns-clause-stops
+returns-clause-stops g c =
     let s = c.args.set.now in
     let scale = c.in_ok-scale.scale in
     let room : c.from.result * scale ≡ room_of scale s = ap (λ n. n * scale) (c.from.ensures ∙ c.processors.ensures.value) in
     let total = c.total-total.ensures.value in
     let fits : Fits scale s = omega (arith, room, total) in
-    let why = err_from_is_err_and c.from_residual-in_err-write_rate.result c.from_residual-in_err-write_rate.ensures.1 in
-    rw (why.1, why.2) (
+    if_unwritten c.write_rate.result c.written.result c.written.ensures _ _ _ c.write_rate.ensures.wrote.err c.write_rate.ensures.cause.failed
+    (λ took rose. (
       scale,
       record { is_scale = c.in_ok-scale.ensures.scale; within = c.in_ok-scale.ensures.within; fits = fits },
       tt,
-      c.in_err-write_rate.ensures.wrote.err,
-      c.in_err-write_rate.ensures.cause.failed,
-    )
+      took,
+      rose,
+    ))
 
 pub returns-clause-done : goal.returns-clause-done
 returns-clause-done g c =
@@ -56,12 +54,13 @@ returns-clause-done g c =
     let scale = c.in_ok-scale.scale in
     let room : c.from.result * scale ≡ room_of scale s = ap (λ n. n * scale) (c.from.ensures ∙ c.processors.ensures.value) in
     let total = c.total-total.ensures.value in
-    let fits : Fits scale s = omega (arith, room, total) in (
+    let fits : Fits scale s = omega (arith, room, total) in
+    on_written c.write_rate.result c.written.result c.written.ensures _ _ c.write_rate.ensures.wrote.ok (λ took. (
       scale,
       record { is_scale = c.in_ok-scale.ensures.scale; within = c.in_ok-scale.ensures.within; fits = fits },
       tt,
-      c.in_ok-write_rate.ensures.wrote.ok,
-    )
+      took,
+    ))
 
 pub overflow_mul-room : goal.overflow_mul-room
 overflow_mul-room g c =

@@ -12,6 +12,7 @@ use Rattle.still_commands.specs.declared.refusal.Refusal.TheVariants as why
 use Rattle.still_commands.proofs.CountedLemmas.{plan_is, uncounted, has_room}
 use Rattle.still_commands.proofs.EndLemmas.{keeps_same}
 use Rattle.still_commands.proofs.LineLemmas.{appends_as, took_as}
+use Rattle.still_commands.proofs.WrittenLemmas.{on_written, if_unwritten}
 use Rattle.still_commands.proofs.table.write_plan.Goals as goal
 
 module _ (p : PlanContents) (run : IsSchedulable p.set p.tree.scale) (is : p.tree ≡ tree_of p.tree.scale p.set) where
@@ -55,28 +56,26 @@ write_rows-requires-clause-rows g c = c.in_ok-rows.ensures.rows
 pub write_rows-requires-clause-lawful : goal.write_rows-requires-clause-lawful
 write_rows-requires-clause-lawful g c = c.in_ok-rows.ensures.lawful
 
-pub returns-in_err-write_rows-clause-done : goal.returns-in_err-write_rows-clause-done
-returns-in_err-write_rows-clause-done g c = IfOk-from_err _ _ c.from_residual-in_err-write_rows.ensures.0
-
-pub returns-in_err-write_rows-clause-stops : goal.returns-in_err-write_rows-clause-stops
-returns-in_err-write_rows-clause-stops g c =
+pub returns-clause-stops : goal.returns-clause-stops
+returns-clause-stops g c =
     let p = c.args.plan.now in
     let few : stop_of p < 2 ^ 64 = omega arith in
-    let why = err_from_is_err_and c.from_residual-in_err-write_rows.result c.from_residual-in_err-write_rows.ensures.1 in
-    rw (why.1, why.2) (
+    if_unwritten c.write_rows.result c.written.result c.written.ensures _ _ _ c.write_rows.ensures.wrote.err c.write_rows.ensures.cause.failed
+    (λ took rose. (
       p.tree.scale,
       c.requires.run,
       (narrow p c.requires.run c.requires.tree few, has_room p c.requires.tree c.in_ok-rows.ensures.few),
-      took_as _ _ _ _ (ap plan_table (plan_is p c.requires.tree)) c.in_err-write_rows.ensures.wrote.err,
-      c.in_err-write_rows.ensures.cause.failed,
-    )
+      took_as _ _ _ _ (ap plan_table (plan_is p c.requires.tree)) took,
+      rose,
+    ))
 
 pub returns-clause-done : goal.returns-clause-done
 returns-clause-done g c =
     let p = c.args.plan.now in
-    let few : stop_of p < 2 ^ 64 = omega arith in (
+    let few : stop_of p < 2 ^ 64 = omega arith in
+    on_written c.write_rows.result c.written.result c.written.ensures _ _ c.write_rows.ensures.wrote.ok (λ took. (
       p.tree.scale,
       c.requires.run,
       (narrow p c.requires.run c.requires.tree few, has_room p c.requires.tree c.in_ok-rows.ensures.few),
-      appends_as _ _ _ _ (ap plan_table (plan_is p c.requires.tree)) c.in_ok-write_rows.ensures.wrote.ok,
-    )
+      appends_as _ _ _ _ (ap plan_table (plan_is p c.requires.tree)) took,
+    ))

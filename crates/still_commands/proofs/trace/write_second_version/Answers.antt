@@ -5,6 +5,7 @@ use Rattle.still_commands.specs.Commands.{schedule_text}
 use Rattle.still_commands.proofs.CountedLemmas.{plan_is, uncounted, has_room}
 use Rattle.still_commands.proofs.EndLemmas.{keeps_same}
 use Rattle.still_commands.proofs.LineLemmas.{appends_as, took_as}
+use Rattle.still_commands.proofs.WrittenLemmas.{on_written, if_unwritten}
 use Rattle.still_commands.proofs.trace.write_second_version.Goals as goal
 
 pub returns-in_err-rounds-clause-done : goal.returns-in_err-rounds-clause-done
@@ -35,30 +36,28 @@ write_rows-requires-clause-lanes g c = c.in_ok-table.ensures.lanes
 pub write_rows-requires-clause-few : goal.write_rows-requires-clause-few
 write_rows-requires-clause-few g c = c.in_ok-table.ensures.few
 
-pub returns-in_err-write_rows-clause-done : goal.returns-in_err-write_rows-clause-done
-returns-in_err-write_rows-clause-done g c = IfOk-from_err _ _ c.from_residual-in_err-write_rows.ensures.0
-
-pub returns-in_err-write_rows-clause-stops : goal.returns-in_err-write_rows-clause-stops
-returns-in_err-write_rows-clause-stops g c =
+pub returns-clause-stops : goal.returns-clause-stops
+returns-clause-stops g c =
     let p = c.args.plan.now in
     let count = c.in_ok-rounds.ensures.count in
     let few = subst (λ (n : ℕ). n * p.tree.processors ≤ row_limit) count.0 count.1 in
-    let why = err_from_is_err_and c.from_residual-in_err-write_rows.result c.from_residual-in_err-write_rows.ensures.1 in
-    rw (why.1, why.2) (
+    if_unwritten c.write_rows.result c.written.result c.written.ensures _ _ _ c.write_rows.ensures.wrote.err c.write_rows.ensures.cause.failed
+    (λ took rose. (
       p.tree.scale,
       c.requires.run,
       has_room p c.requires.tree few,
-      took_as _ _ _ _ (ap (schedule_text c.args.met) (plan_is p c.requires.tree)) c.in_err-write_rows.ensures.wrote.err,
-      c.in_err-write_rows.ensures.cause.failed,
-    )
+      took_as _ _ _ _ (ap (schedule_text c.args.met) (plan_is p c.requires.tree)) took,
+      rose,
+    ))
 
 pub returns-clause-done : goal.returns-clause-done
 returns-clause-done g c =
     let p = c.args.plan.now in
     let count = c.in_ok-rounds.ensures.count in
-    let few = subst (λ (n : ℕ). n * p.tree.processors ≤ row_limit) count.0 count.1 in (
+    let few = subst (λ (n : ℕ). n * p.tree.processors ≤ row_limit) count.0 count.1 in
+    on_written c.write_rows.result c.written.result c.written.ensures _ _ c.write_rows.ensures.wrote.ok (λ took. (
       p.tree.scale,
       c.requires.run,
       has_room p c.requires.tree few,
-      appends_as _ _ _ _ (ap (schedule_text c.args.met) (plan_is p c.requires.tree)) c.in_ok-write_rows.ensures.wrote.ok,
-    )
+      appends_as _ _ _ _ (ap (schedule_text c.args.met) (plan_is p c.requires.tree)) took,
+    ))
