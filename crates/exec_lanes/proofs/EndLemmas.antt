@@ -1,15 +1,34 @@
 -- The counts of posted rows, and those of faults once each lane's failure is noted.
-use Rattle.std.proofs.Common.{◌≡◌, ◌≢◌, ℕ, suc, ◌+◌, ◌<◌, ◌≤◌, Bool, true, false, List, [], ◌∷◌, set, Option, Some, None, length, refl, sym, ap, ◌∙◌, subst, arith, inl, inr}
+use Rattle.std.proofs.Common.{◌≡◌, ◌≢◌, ℕ, suc, ◌+◌, ◌<◌, ◌≤◌, Bool, true, false, List, [], ◌∷◌, get_or, set, Option, Some, None, length, refl, sym, ap, ◌∙◌, subst, arith, inl, inr}
 use Rattle.std.specs.Prelude.{slice_index, slice_set, IfNone}
+use Rattle.std.specs.Option.{is_some}
 use Rattle.std.proofs.lemmas.Bool.{cases_eq}
-use Rattle.std.proofs.lemmas.List.{get_or-set_same, get_or-set_other}
+use Rattle.std.proofs.lemmas.List.{get_or_default, get_or-set_same, get_or-set_other}
 use Rattle.sched_base.specs.declared.rows.Leaf.TheVariants.{Task}
 use Rattle.sched_base.specs.declared.rows.TaskId.{TaskId}
 use Rattle.sched_base.specs.declared.rows.Row.{Row}
 use Rattle.exec_lanes.specs.declared.causes.Cause.{Cause}
 use Rattle.exec_lanes.specs.declared.causes.Cause.TheVariants as cause
-use Rattle.exec_lanes.specs.Lanes.{LaneContents, HasRisen, JobRose, IsCaused, AllServed, AllAt, NoneFailed, lane_in}
+use Rattle.exec_lanes.specs.Lanes.{LaneContents, HasRisen, JobRose, IsCaused, AllServed, AllAt, NoneFailed, lane_in, no_lane}
 use Rattle.exec_lanes.specs.Ends.{JobFailed, NoGateBefore, NoJobBefore, JobsRose, KeepsCounts, posted_by}
+
+-- what holds of each lane before lane k, and of lane k, holds of each up to it
+pub each_lane : (P : LaneContents → Type 0) (lanes : List LaneContents) (k : ℕ) (lane : LaneContents) → k < length lanes → lane ≡ get_or lanes k lane → P lane →
+    ((p : ℕ) → p < k → P (lane_in lanes p)) → (p : ℕ) → p < k + 1 → P (lane_in lanes p)
+each_lane P lanes k lane within is here before p below = elim (cases_eq p k) [
+  | inl last ↦ subst (λ q. P (lane_in lanes q)) (sym last) (subst P (is ∙ get_or_default lanes k lane no_lane within) here)
+  | inr other ↦ before p (omega (arith, below, other))
+]
+
+-- a test for something is false where there is nothing
+pub none_of : {X : Type 0} (o : Option X) → is_some o ≡ false → o ≡ None
+none_of None test = refl
+none_of (Some x) test = absurd (let e : true ≡ false = test in cc)
+
+-- and true where there is something
+pub not_none : {X : Type 0} (o : Option X) → is_some o ≡ true → o ≢ None
+not_none None test is = absurd (let e : false ≡ true = test in cc)
+not_none (Some x) test is = cc
 
 -- one lane's count more is noted
 pub posted_more : (lanes : List LaneContents) (posted : List ℕ) (p n : ℕ) → p < length lanes → length posted ≡ length lanes →

@@ -8,7 +8,7 @@ use Rattle.exec_lanes.specs.Kits.{KitAt, IsGateOf}
 use Rattle.exec_lanes.proofs.PlaceLemmas.{below_set, above_set}
 use Rattle.exec_lanes.proofs.StageLemmas.{next_lane}
 use Rattle.exec_lanes.proofs.stage.empty_lanes.Goals as goal
-use Rattle.exec_lanes.proofs.stage.empty_lanes.Goals.{After-lane}
+use Rattle.exec_lanes.proofs.stage.empty_lanes.Goals.{After-lane, In-None}
 
 module _ (g : _) (c : After-lane g) where
   next : (length c.loop-lane.yielded < length c.args.lanes.items) × (lane_in c.args.lanes.items (length c.loop-lane.yielded) ≡ c.in-Some.lane)
@@ -59,21 +59,27 @@ loop-lane-preserved g c =
       seats = λ p above. rw seats (above_set (λ q place. place ≡ slice_get c.args.seats.now q) c.loop-lane.seats n (Some seat) inv.seats p (omega (arith, above, long)));
     }
 
-pub returns-clause-kits : goal.returns-clause-kits
-returns-clause-kits g c p below =
+-- at the end all lanes were given
+all_given : (g : _) (c : In-None g) → length c.loop-lane.yielded ≡ c.args.lanes.len
+all_given g c =
     let none : length c.loop-lane.lane-iterator.rest.items ≡ 0 = search rules in
     let whole = ap length c.loop-lane.invariant.whole in
-    c.loop-lane.invariant.put p (omega (arith, below, whole, none, length-append c.loop-lane.yielded c.loop-lane.lane-iterator.rest.items))
+    let long : length c.args.lanes.items ≡ c.args.lanes.len = search rules in
+    omega (arith, whole, none, long, length-append c.loop-lane.yielded c.loop-lane.lane-iterator.rest.items)
+
+pub returns-clause-kits : goal.returns-clause-kits
+returns-clause-kits g c p below =
+    let end = all_given g (goal.at.returns-clause-kits g c).In-None in
+    c.loop-lane.invariant.put p (omega (arith, below, end))
 
 pub returns-clause-seats : goal.returns-clause-seats
 returns-clause-seats g c p below =
-    let none : length c.loop-lane.lane-iterator.rest.items ≡ 0 = search rules in
-    let whole = ap length c.loop-lane.invariant.whole in
-    c.loop-lane.invariant.laid p (omega (arith, below, whole, none, length-append c.loop-lane.yielded c.loop-lane.lane-iterator.rest.items))
+    let end = all_given g (goal.at.returns-clause-seats g c).In-None in
+    c.loop-lane.invariant.laid p (omega (arith, below, end))
 
 pub loop-lane-init : goal.loop-lane-init
 loop-lane-init g c = record {
-  whole = search rules;
+  whole = sym c.into_iter-lane-iterator.ensures.into_iter_gives.0;
   all_kits = refl;
   all_seats = refl;
   put = λ p below. absurd (omega (arith, below));
@@ -84,9 +90,8 @@ loop-lane-init g c = record {
 
 pub returns-clause-other_kits : goal.returns-clause-other_kits
 returns-clause-other_kits g c = λ p past.
-    let none : length c.loop-lane.lane-iterator.rest.items ≡ 0 = search rules in
-    let whole = ap length c.loop-lane.invariant.whole in
-    c.loop-lane.invariant.kits p (omega (arith, past, whole, none, length-append c.loop-lane.yielded c.loop-lane.lane-iterator.rest.items))
+    let end = all_given g (goal.at.returns-clause-other_kits g c).In-None in
+    c.loop-lane.invariant.kits p (omega (arith, past, end))
 
 pub returns-clause-all_seats : goal.returns-clause-all_seats
 returns-clause-all_seats g c = c.loop-lane.invariant.all_seats
