@@ -259,10 +259,10 @@ impl Parts {
         let lanes = plan.tree().processors();
         let events = 2 * (rounds * u64::from(lanes));
         Ok(Parts {
-            state: MachineState::new(alloc, lanes)?,
+            computed: Rounds::new(alloc, plan, rounds)?,
             log: Vec::with_capacity(alloc, events as usize)?,
             handed: no_notes(alloc, lanes)?,
-            computed: Rounds::new(alloc, plan, rounds)?,
+            state: MachineState::new(alloc, lanes)?,
         })
     }
 }

@@ -1,4 +1,7 @@
-use Rattle.std.proofs.Common.{◌≡◌, ◌∙◌, true, false, refl, sym, arith}
+use Rattle.std.proofs.Common.{◌≡◌, ◌∙◌, true, false, inl, inr, refl, sym, arith}
+use Rattle.sched_base.specs.Tables.{rounds_of as rounds_in}
+use Rattle.book_machine.specs.Machine.{posted_at}
+use Rattle.exec_book.proofs.RoundLemmas.{below_or}
 use Rattle.exec_book.proofs.book.Book.compute_for.Goals as goal
 
 pub wants_round-requires-clause-lane : goal.wants_round-requires-clause-lane
@@ -48,3 +51,9 @@ returns-else-wants_round-clause-rounds g c = record {
   wanted = λ wants. absurd (let e : true ≡ false = sym (c.wants_round.ensures.wants.1 (wants.in_window, wants.not_held)) ∙ c.if-wants_round.false in cc);
   unwanted = λ _. refl;
 }
+
+pub returns-else-wants_round-clause-held : goal.returns-else-wants_round-clause-held
+returns-else-wants_round-clause-held g c = λ inside. elim (below_or (posted_at c.args.self.now.state c.args.p) (rounds_in c.args.self.now.table.lanes)) [
+  | inl below ↦ below
+  | inr past ↦ absurd (let e : true ≡ false = sym (c.wants_round.ensures.wants.1 (inside, past)) ∙ c.if-wants_round.false in cc)
+]
