@@ -117,9 +117,7 @@ pub(crate) fn is_job_of<Q: PostLedger, J: Job>(
             }
             None => false,
         },
-        Leaf::Wait(_) => job.is_none(),
-        Leaf::Idle(_) => job.is_none(),
-        Leaf::Empty => job.is_none(),
+        Leaf::Wait(_) | Leaf::Idle(_) | Leaf::Empty => job.is_none(),
     }
 }
 

@@ -14,6 +14,7 @@ mod passes;
 mod rows;
 mod run;
 mod serving;
+mod turns;
 
 pub use close::close_book;
 pub use exec_lanes::{Cause, ExecFault, Executed, Kit, Lane};

@@ -33,9 +33,9 @@ pub(crate) fn open_book<Q: PostLedger, J: Job>(
     ensures kept { IfErr result (λ refused. jobs.new.places ≡ jobs.old.places) }
 {
     let n = plan.set().count();
+    let copy = plan.copy()?;
     let mut out = JobList::with_room(alloc, n)?;
     let (side, seats) = unit_ledger::open::<Q>(blank, alloc, plan.tree().processors())?;
-    let copy = plan.copy()?;
     lift_jobs(jobs, &mut out, n);
     match Book::new(alloc, copy, rounds, window, side, out) {
         Ok(book) => Ok((book, seats)),

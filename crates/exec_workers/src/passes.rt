@@ -5,6 +5,7 @@ ghost use Rattle.exec_book.specs.PlanRows.{plan_rows};
 ghost use Rattle.exec_lanes.specs.Lanes.{lane_in, AllServed, NoneFailed, AllAt};
 
 use crate::serving::serve_beside;
+use crate::turns::{TURNS, wait_for_good};
 use exec_book::Book;
 use exec_lanes::{Lane, Waiters, all_at, any_failed};
 use run_tree::Plan;
@@ -36,7 +37,7 @@ pub(crate) fn serve_passes<
     ensures done { IsTrue result → NoneFailed lanes.new × AllAt rounds lanes.new }
     ensures failed { result ≡ false → (p : ℕ) × (p < length lanes.new) × ((lane_in lanes.new p).cause ≢ None) }
 {
-    for _ in rt.forever() {
+    for _ in 0..TURNS {
         serve_all(rt, book, plan, lanes, counts, waiters);
         if any_failed(lanes) {
             return false;
@@ -45,7 +46,7 @@ pub(crate) fn serve_passes<
             return true;
         }
     }
-    unreachable!()
+    wait_for_good(rt)
 }
 
 // Serves each lane once, in a thread of its own where one can be made.

@@ -6,6 +6,7 @@ ghost use Rattle.exec_workers.specs.Found.{IsFreeAt, IsOutWith, IsToldAt};
 ghost use Rattle.exec_workers.specs.Promises.{Agrees, Gives, GivesRow};
 
 use crate::found::{is_free_at, is_halted_or_told, is_job_of, is_of_plan, is_out_at, ticks_of};
+use crate::turns::{TURNS, wait_for_good};
 use exec_book::{Book, Look};
 use exec_lanes::{Waiters, lock_soon, tell};
 use run_tree::Plan;
@@ -49,14 +50,14 @@ fn lock_told_at<'a, Q: PostLedger, J: Job, R: Wait>(
     requires counts { length counts.now ≡ length plan.now.set.tasks }
     ensures { IsToldAt J.faults plan.now (mutex_guard_value result) seat.now counts.now }
 {
-    for _ in rt.forever() {
+    for _ in 0..TURNS {
         let guard = book.lock(rt);
         let held = &*guard;
         if is_free_at(held, plan, seat) && is_halted_or_told(held, counts) {
             return guard;
         }
     }
-    unreachable!()
+    wait_for_good(rt)
 }
 
 /// Posts a row that is out on a seat's lane, with its job, which has worked the row's ticks.
@@ -116,14 +117,14 @@ fn lock_out_at<'a, Q: PostLedger, J: Job, R: Wait>(
     requires agrees { Agrees J.made Q.made row.now.leaf job.now }
     ensures { IsOutWith J.id J.used J.made Q.made plan.now (mutex_guard_value result) seat.now row.now job.now ticks }
 {
-    for _ in rt.forever() {
+    for _ in 0..TURNS {
         let guard = lock_soon(rt, book);
         let held = &*guard;
         if is_out_at(held, plan, seat, row) && is_job_of(held, seat.lane(), row, job, ticks) {
             return guard;
         }
     }
-    unreachable!()
+    wait_for_good(rt)
 }
 
 /// Waits for a book of this plan: then the set is the ledger's, and so each book of the ledger is of this plan.
@@ -131,14 +132,14 @@ pub(crate) fn agree<Q: PostLedger, J: Job, R: Wait>(rt: &R, book: &Mutex<Book<Q,
     ensures compiled { IsCompiled plan.now }
     ensures set { plan.now.set ≡ Q.set }
 {
-    for _ in rt.forever() {
+    for _ in 0..TURNS {
         let guard = book.lock(rt);
         let held = &*guard;
         if is_of_plan(held, plan) {
             return;
         }
     }
-    unreachable!()
+    wait_for_good(rt)
 }
 
 /// Takes the next row of a seat's lane, of a plan with the ledger's set, with its task's job. How often the job has failed isn't
@@ -171,14 +172,14 @@ fn lock_free_at<'a, Q: PostLedger, J: Job, R: Wait>(
     requires set { plan.now.set ≡ Q.set }
     ensures { IsFreeAt plan.now (mutex_guard_value result) seat.now }
 {
-    for _ in rt.forever() {
+    for _ in 0..TURNS {
         let guard = lock_soon(rt, book);
         let held = &*guard;
         if is_free_at(held, plan, seat) {
             return guard;
         }
     }
-    unreachable!()
+    wait_for_good(rt)
 }
 
 /// Posts a row that is out on a seat's lane, as `post_row` does, and takes the lane's next row, as `take_next` does: two events

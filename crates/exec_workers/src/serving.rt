@@ -6,6 +6,7 @@ ghost use Rattle.exec_workers.specs.Promises.{IsNextRow, GivesRow};
 
 use crate::found::ticks_of;
 use crate::rows::{agree, halt_row, post_and_take, take_next};
+use crate::turns::{TURNS, wait_for_good};
 use exec_book::{Book, Look};
 use exec_lanes::{Cause, Lane, Waiters, risen, wait, wake, work_on};
 use run_tree::Plan;
@@ -76,14 +77,14 @@ fn serve_rows<G: Gate, Q: PostLedger, J: Job, R: Wait>(
 {
     let mut waits = 0;
     let mut look = take_next(rt, book, plan, &lane.seat);
-    for _ in rt.forever() {
+    for _ in 0..TURNS {
         wake(waiters);
         match follow(rt, waiters, book, plan, lane, counts, &mut waits, look) {
             Some(next) => look = next,
             None => return,
         }
     }
-    unreachable!()
+    wait_for_good(rt)
 }
 
 // Does what a look at the lane says: runs the row that was taken, or waits. It gives the lane's next look, and None where the lane
@@ -122,8 +123,7 @@ fn follow<G: Gate, Q: PostLedger, J: Job, R: Wait>(
             wait(rt, waiters, lane.seat.lane(), lane.seat.posted());
             Some(take_next(rt, book, plan, &lane.seat))
         }
-        Look::Done => None,
-        Look::Halted => None,
+        Look::Done | Look::Halted => None,
     }
 }
 

@@ -1,4 +1,3 @@
-use Rattle.exec_lanes.proofs.ErrorLemmas.{untrue}
 use Rattle.std.proofs.Common.{ap, length, subst, sym, ◌∙◌}
 use Rattle.run_tree.specs.Plans.{PlanContents}
 use Rattle.exec_workers.specs.Found.{IsClosable}
@@ -22,6 +21,3 @@ faults_are-requires-clause-each g c = c.requires.counts ∙ ap (λ (p : PlanCont
 pub returns-then-faults_are : goal.returns-then-faults_are
 returns-then-faults_are g c = subst (λ b. IsClosable g.J.Job.faults c.args.plan.now b c.args.posted.now c.args.counts.now) c.deref-held.ensures
     (record { whole = c.is_whole_at.ensures c.if-is_whole_at.true; told = c.faults_are.ensures.0 c.if-faults_are.true })
-
-pub unreachable-requires : goal.unreachable-requires
-unreachable-requires g c = untrue c.in-None.ensures.steps

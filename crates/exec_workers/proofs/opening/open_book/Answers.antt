@@ -1,10 +1,10 @@
 use Rattle.unit_ledger.specs.Seats.{seats_at_start}
 use Rattle.run_tree.specs.Tree.{Tree}
 use Rattle.exec_lanes.proofs.ErrorLemmas.{no_answer, each_error}
-use Rattle.std.proofs.Common.{rules, ◌≡◌, ℕ, ◌<◌, ◌≤◌, inl, inr, length, ap, ◌∙◌, arith, refl, subst, sym}
+use Rattle.std.proofs.Common.{◌≡◌, ℕ, ◌<◌, ◌≤◌, inl, inr, length, ap, ◌∙◌, arith, refl, subst, sym}
 use Rattle.std.specs.Prelude.{slice_get}
 use Rattle.sched_base.specs.Sets.{SetContents}
-use Rattle.sched_edges.specs.Jobs.{JobAt}
+use Rattle.sched_edges.specs.Jobs.{JobAt, JobPlaces}
 use Rattle.run_tree.specs.Plans.{PlanContents}
 use Rattle.exec_book.proofs.RoundLemmas.{below_or}
 use Rattle.exec_workers.proofs.WholeLemmas.{same_places}
@@ -32,7 +32,7 @@ new-requires-clause-jobs g c = λ t within.
 pub lay_jobs-requires-clause-there : goal.lay_jobs-requires-clause-there
 lay_jobs-requires-clause-there g c = λ t below.
     let job = job_of g (goal.at.lay_jobs-requires-clause-there g c).After-count-n t below in
-    let same : c.in-Err.field-0.jobs.places ≡ c.lift_jobs.new.out.places = search rules in
+    let same = ap (λ (jobs : JobPlaces g.row.J.Denot). jobs.places) c.in-Err.ensures.back in
     (job.0, ap (λ places. slice_get places t) same ∙ c.lift_jobs.ensures.out t below ∙ job.1)
 
 pub returns-in-Ok-clause-opened : goal.returns-in-Ok-clause-opened
@@ -46,14 +46,14 @@ returns-in-Ok-clause-opened g c =
 
 pub returns-in-Err-clause-kept : goal.returns-in-Err-clause-kept
 returns-in-Err-clause-kept g c =
-    let same : c.in-Err.field-0.jobs.places ≡ c.lift_jobs.new.out.places = search rules in
+    let same = ap (λ (jobs : JobPlaces g.row.J.Denot). jobs.places) c.in-Err.ensures.back in
     same_places c.lay_jobs.new.jobs.places c.args.jobs.now.places (c.lay_jobs.ensures.all ∙ c.lift_jobs.ensures.all) (λ t. elim (below_or t c.count-n.result) [
       | inl below ↦ c.lay_jobs.ensures.jobs t below ∙ ap (λ places. slice_get places t) same ∙ c.lift_jobs.ensures.out t below
       | inr past ↦ c.lay_jobs.ensures.other_jobs t past ∙ c.lift_jobs.ensures.other_jobs t past
     ])
 
 pub returns-in_err-out-clause-opened : goal.returns-in_err-out-clause-opened
-returns-in_err-out-clause-opened g c = no_answer _ _ c.from_residual.ensures.0
+returns-in_err-out-clause-opened g c = no_answer _ _ c.from_residual-in_err-out.ensures.0
 
 pub returns-in_err-out-clause-kept : goal.returns-in_err-out-clause-kept
 returns-in_err-out-clause-kept g c = each_error _ _ (λ _. refl)
@@ -65,7 +65,7 @@ pub returns-in_err-side-clause-kept : goal.returns-in_err-side-clause-kept
 returns-in_err-side-clause-kept g c = each_error _ _ (λ _. refl)
 
 pub returns-in_err-copy-clause-opened : goal.returns-in_err-copy-clause-opened
-returns-in_err-copy-clause-opened g c = no_answer _ _ c.from_residual-in_err-copy.ensures.0
+returns-in_err-copy-clause-opened g c = no_answer _ _ c.from_residual.ensures.0
 
 pub returns-in_err-copy-clause-kept : goal.returns-in_err-copy-clause-kept
 returns-in_err-copy-clause-kept g c = each_error _ _ (λ _. refl)
@@ -108,3 +108,18 @@ lift_jobs-requires-clause-room g c = let room = c.in_ok-out.ensures.room in omeg
 
 pub new-requires-clause-side : goal.new-requires-clause-side
 new-requires-clause-side g c = c.in_ok-side.ensures.book
+
+pub open-requires-clause-some : goal.open-requires-clause-some
+open-requires-clause-some g c =
+    let m = c.processors.ensures.value ∙ ap (λ (t : Tree). t.processors) c.tree.ensures.value in
+    let some = c.set.ensures.lawful.sized.some_processors in
+    omega (arith, m, some)
+
+pub open-requires-clause-few : goal.open-requires-clause-few
+open-requires-clause-few g c =
+    let m = c.processors.ensures.value ∙ ap (λ (t : Tree). t.processors) c.tree.ensures.value in
+    let few = c.set.ensures.lawful.sized.few_processors in
+    omega (arith, m, few)
+
+pub same-out : goal.same-out
+same-out g c = refl

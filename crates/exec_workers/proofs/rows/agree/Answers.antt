@@ -1,4 +1,3 @@
-use Rattle.exec_lanes.proofs.ErrorLemmas.{untrue}
 use Rattle.exec_workers.proofs.rows.agree.Goals as goal
 
 pub returns-then-is_of_plan-clause-compiled : goal.returns-then-is_of_plan-clause-compiled
@@ -6,6 +5,3 @@ returns-then-is_of_plan-clause-compiled g c = c.is_of_plan.ensures.compiled c.if
 
 pub returns-then-is_of_plan-clause-set : goal.returns-then-is_of_plan-clause-set
 returns-then-is_of_plan-clause-set g c = c.is_of_plan.ensures.set c.if-is_of_plan.true
-
-pub unreachable-requires : goal.unreachable-requires
-unreachable-requires g c = untrue c.in-None.ensures.steps

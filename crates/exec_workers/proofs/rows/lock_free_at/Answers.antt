@@ -1,4 +1,3 @@
-use Rattle.exec_lanes.proofs.ErrorLemmas.{untrue}
 use Rattle.std.proofs.Common.{subst}
 use Rattle.exec_workers.specs.Found.{IsFreeAt}
 use Rattle.exec_workers.proofs.rows.lock_free_at.Goals as goal
@@ -11,6 +10,3 @@ is_free_at-requires-clause-set g c = c.requires.set
 
 pub returns-then-is_free_at : goal.returns-then-is_free_at
 returns-then-is_free_at g c = subst (λ b. IsFreeAt c.args.plan.now b c.args.seat.now) c.deref-held.ensures (c.is_free_at.ensures c.if-is_free_at.true)
-
-pub unreachable-requires : goal.unreachable-requires
-unreachable-requires g c = untrue c.in-None.ensures.steps

@@ -1,4 +1,3 @@
-use Rattle.exec_lanes.proofs.ErrorLemmas.{untrue}
 use Rattle.std.proofs.Common.{subst}
 use Rattle.exec_workers.specs.Found.{IsOutWith}
 use Rattle.exec_workers.proofs.rows.lock_out_at.Goals as goal
@@ -19,6 +18,3 @@ pub returns-then-is_job_of : goal.returns-then-is_job_of
 returns-then-is_job_of g c =
     subst (λ b. IsOutWith g.J.Job.id g.J.Job.used g.J.Job.made g.Q.PostLedger.made c.args.plan.now b c.args.seat.now c.args.row.now c.args.job.now c.args.ticks) c.deref-held.ensures
     (record { found = c.is_out_at.ensures c.if-is_out_at.true; own = c.is_job_of.ensures c.if-is_job_of.true })
-
-pub unreachable-requires : goal.unreachable-requires
-unreachable-requires g c = untrue c.in-None.ensures.steps

@@ -1,4 +1,3 @@
-use Rattle.exec_lanes.proofs.ErrorLemmas.{untrue}
 use Rattle.std.proofs.Common.{ap, length, subst, sym, ◌∙◌}
 use Rattle.run_tree.specs.Plans.{PlanContents}
 use Rattle.exec_workers.specs.Found.{IsToldAt}
@@ -19,6 +18,3 @@ is_halted_or_told-requires-clause-counts g c = c.requires.counts ∙ ap (λ (p :
 pub returns-then-is_halted_or_told : goal.returns-then-is_halted_or_told
 returns-then-is_halted_or_told g c = subst (λ b. IsToldAt g.J.Job.faults c.args.plan.now b c.args.seat.now c.args.counts.now) c.deref-held.ensures
     (record { free = c.is_free_at.ensures c.if-is_free_at.true; told = c.is_halted_or_told.ensures c.if-is_halted_or_told.true })
-
-pub unreachable-requires : goal.unreachable-requires
-unreachable-requires g c = untrue c.in-None.ensures.steps

@@ -1,5 +1,5 @@
 use Rattle.std.specs.Prelude.{IfSome}
-use Rattle.std.proofs.Common.{◌≤◌, Option, Some, None, arith, subst}
+use Rattle.std.proofs.Common.{◌≤◌, Option, Some, None, arith, refl, subst}
 use Rattle.exec_workers.specs.Promises.{GivesRow}
 use Rattle.exec_lanes.proofs.ServeLemmas.{served_none}
 use Rattle.exec_workers.proofs.serving.follow.Goals as goal
@@ -62,5 +62,5 @@ returns-else-waits-ge-PATIENCE-clause-look g c = rw (← c.lane.view_is) c.take_
 pub returns-in-Done-clause-served : goal.returns-in-Done-clause-served
 returns-in-Done-clause-served g c = served_none _ _ _ c.requires.fresh
 
-pub returns-in-Halted-clause-served : goal.returns-in-Halted-clause-served
-returns-in-Halted-clause-served g c = served_none _ _ _ c.requires.fresh
+pub same-lane : goal.same-lane
+same-lane g c = refl
