@@ -1,5 +1,8 @@
 -- The periods that are shown begin by the end of the window.
-use Rattle.std.proofs.Common.{ℕ, ◌+◌, ◌-◌, ◌*◌, ◌^◌, ◌<◌, ◌≤◌, ◌≡◌, inl, inr, min, ◌&&◌, cond, not, eqb, leb, ltb, sym, ap, ◌∙◌, arith, [], ◌∷◌}
+use Rattle.std.proofs.Common.{ℕ, ◌+◌, ◌-◌, ◌*◌, ◌^◌, ◌<◌, ◌≤◌, ◌≡◌, inl, inr, min, ◌&&◌, cond, not, eqb, leb, ltb, sym, ap, ◌∙◌, arith, [], ◌∷◌, Fits}
+use Rattle.std.specs.Int.{w128}
+use Rattle.std.proofs.lemmas.Nat.{mul-le}
+use Rattle.sched_base.specs.Valid.{period_start}
 use Rattle.std.proofs.Math.Nat.{le-div_iff_mul-le, le-mul_of_pos_right}
 use Rattle.std.proofs.lemmas.Bool.{cases_Bool, cases_lt, ne_eqb, lt-ltb}
 use Rattle.sched_base.specs.declared.sets.Task.{Task}
@@ -56,3 +59,53 @@ lines_capped w horizon y a b due given done small =
     ap (λ t. line_if (leb (first_tick w) a) (arrow_line (place w a) y)
     ∷ cond t (box_line (119 ∷ []) (place w a) (y - 20) (place w b - place w a) 40) (line_if (leb b horizon && (has_tick w done && ltb (first_tick w) done)) (ring_line (place w done) y)) ∷ [])
     (wrong_capped horizon b due given small)
+
+-- ---- ticks of a lawful task and of the schedule
+
+pub small_work : (work period : ℕ) → work ≤ period → period < 2 ^ 32 → work ≤ 2 ^ 32 - 1
+small_work work period a b = omega arith
+
+pub small_units : (units : ℕ) → units < 2 ^ 32 → units ≤ 2 ^ 32 - 1
+small_units units h = omega arith
+
+pub ticks_fit : (units scale : ℕ) → units ≤ 2 ^ 32 - 1 → scale ≤ 2 ^ 94 → Fits w128 (units * scale)
+ticks_fit units scale a b = (let most = mul-le units scale (2 ^ 32 - 1) (2 ^ 94) a b in omega (arith, most))
+
+pub ticks_small : (units scale : ℕ) → units ≤ 2 ^ 32 - 1 → scale ≤ 2 ^ 94 → units * scale < 2 ^ 128 - 1
+ticks_small units scale a b = (let most = mul-le units scale (2 ^ 32 - 1) (2 ^ 94) a b in omega (arith, most))
+
+pub ticks_are : (n units m scale : ℕ) → n ≡ units → m ≡ scale → n * m ≡ units * scale
+ticks_are n units m scale a b = ap (λ x. x * m) a ∙ ap (λ x. units * x) b
+
+pub start_is : (n scale : ℕ) (t u : Task) (k : ℕ) → n ≡ scale → t ≡ u → period_start n t k ≡ period_start scale u k
+start_is n scale t u k a b = ap (λ x. period_start x t k) a ∙ ap (λ x. period_start scale x k) b
+
+-- the lines of equal places and ticks, with the ticks that were given capped
+pub lines_are : (w : Window) (horizon stop y top a begin b end due owed given g done d : ℕ) → horizon ≡ stop → y ≡ top → a ≡ begin → b ≡ end → due ≡ owed → given ≡ min g (2 ^ 128 - 1) → done ≡ d
+    → owed < 2 ^ 128 - 1 → period_lines w horizon y a b due given done ≡ period_lines w stop top begin end owed g d
+lines_are w horizon stop y top a begin b end due owed given g done d eh ey ea eb ed eg ef small =
+    ap (λ x. period_lines w x y a b due given done) eh
+    ∙ ap (λ x. period_lines w stop x a b due given done) ey
+    ∙ ap (λ x. period_lines w stop top x b due given done) ea
+    ∙ ap (λ x. period_lines w stop top begin x due given done) eb
+    ∙ ap (λ x. period_lines w stop top begin end x given done) ed
+    ∙ ap (λ x. period_lines w stop top begin end owed x done) eg
+    ∙ ap (λ x. period_lines w stop top begin end owed (min g (2 ^ 128 - 1)) x) ef
+    ∙ lines_capped w stop top begin end owed g d small
+
+-- ---- the periods that are shown
+
+pub some_period : (work period : ℕ) → 1 ≤ work → work ≤ period → 1 ≤ period
+some_period work period a b = omega arith
+
+pub below_count : (i end count : ℕ) → i < end → end ≡ count → i < count
+below_count i end count a b = omega arith
+
+pub begun_early : (at end : ℕ) → at < end + 1 → end < 2 ^ 32 → at < 2 ^ 32
+begun_early at end a b = omega arith
+
+pub number_small : (k at end : ℕ) → k ≤ at → at < end + 1 → end < 2 ^ 32 → k ≤ 2 ^ 32
+number_small k at end a b c = omega arith
+
+pub all_shown : (i end count : ℕ) → i ≤ end → end ≤ i → end ≡ count → i ≡ count
+all_shown i end count a b c = omega arith
