@@ -9,3 +9,4 @@ pub mod DigitLemmas
 pub mod PageLemmas
 pub mod RowLemmas
 pub mod CauseLemmas
+pub mod NameLemmas
