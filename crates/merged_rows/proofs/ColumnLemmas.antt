@@ -1,5 +1,5 @@
 -- Rows by where they begin: one row more, one round more.
-use Rattle.std.proofs.Common.{◌≡◌, ℕ, zero, suc, ◌+◌, ◌-◌, ◌<◌, inl, inr, Bool, true, false, List, [], ◌∷◌, ◌++◌, ◌&&◌, Some, None, length, map, take, drop, set, get_or, replicate, Option, eqb, eq-eqb, refl, sym, ap, ◌∙◌, arith, add-one}
+use Rattle.std.proofs.Common.{◌≡◌, ℕ, zero, suc, ◌+◌, ◌-◌, ◌<◌, inl, inr, true, false, List, [], ◌∷◌, ◌++◌, ◌&&◌, Some, None, length, map, take, drop, set, get_or, replicate, Option, eqb, eq-eqb, refl, sym, ap, ◌∙◌, arith, add-one}
 use Rattle.std.specs.Prelude.{slice_get}
 use Rattle.std.proofs.lemmas.Bool.{cases_Bool, cond-true, cond-false}
 use Rattle.std.proofs.lemmas.List.{take_at}
@@ -7,7 +7,7 @@ use Rattle.std.proofs.lemmas.Option.{slice_get-get_or}
 use Rattle.sched_base.specs.declared.rows.Leaf.{Leaf}
 use Rattle.sched_base.specs.declared.rows.Row.{Row}
 use Rattle.sched_base.specs.Tables.{IsRound, end_after, lane_of, with_round}
-use Rattle.trace_lines.specs.Merging.{shown, lengthened, merge_onto, merged}
+use Rattle.trace_lines.specs.Merging.{shown, merged}
 use Rattle.trace_lines.proofs.MergeLemmas.{goes_on}
 use Rattle.merged_rows.specs.Columns.{Begun, begun_of, rows_up_to, lanes_up_to, shows_last, showing, showing_each, going_on, going_on_each, ends_showing, AreTold}
 use Rattle.merged_rows.proofs.PushLemmas.{merged_with, merged_round, round_push}

@@ -1,4 +1,4 @@
-use Rattle.std.proofs.Common.{◌≡◌, ◌+◌, arith}
+use Rattle.std.proofs.Common.{arith}
 use Rattle.merged_rows.proofs.ColumnLemmas.{inner_row, last_row, new_row}
 use Rattle.merged_rows.proofs.merging.row_of.Goals as goal
 

@@ -1,4 +1,4 @@
-use Rattle.std.proofs.Common.{◌<◌, ◌∙◌, length, sym, arith}
+use Rattle.std.proofs.Common.{◌<◌, length, sym, arith}
 use Rattle.merged_rows.proofs.ColumnLemmas.{showing_none, get_or-showing, showing_more}
 use Rattle.merged_rows.proofs.merging.show_each.Goals as goal
 

@@ -1,4 +1,4 @@
-use Rattle.std.proofs.Common.{◌<◌, ◌∙◌, length, sym, arith}
+use Rattle.std.proofs.Common.{◌<◌, length, sym, arith}
 use Rattle.merged_rows.proofs.ColumnLemmas.{going_none, get_or-going, going_more}
 use Rattle.merged_rows.proofs.merging.show_told.Goals as goal
 

@@ -1,4 +1,4 @@
-use Rattle.std.proofs.Common.{◌≡◌, ◌<◌, ◌∙◌, [], ◌∷◌, ◌+◌, arith, add-one, get_or, length, suc, sym, ap, subst, take, Some}
+use Rattle.std.proofs.Common.{◌<◌, [], ◌∷◌, ◌+◌, arith, add-one, length, suc, ap, take}
 use Rattle.sched_base.specs.declared.rows.Row.{Row}
 use Rattle.sched_base.specs.Tables.{lane_of, ticks_in}
 use Rattle.row_totals.proofs.SumLemmas.{ticks_in-take-more, ticks_in-take-le, Adds-then, room_after}

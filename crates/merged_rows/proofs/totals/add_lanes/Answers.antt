@@ -1,4 +1,4 @@
-use Rattle.std.proofs.Common.{◌≡◌, ◌<◌, ◌+◌, length, arith, add-one, suc, take}
+use Rattle.std.proofs.Common.{◌<◌, ◌+◌, length, arith, add-one, suc, take}
 use Rattle.sched_base.specs.Tables.{all_rows, lane_of}
 use Rattle.row_totals.proofs.SumLemmas.{ticks_in-lanes-more, ticks_in-lanes-le, Adds-then, room_after}
 use Rattle.merged_rows.proofs.totals.add_lanes.Goals as goal

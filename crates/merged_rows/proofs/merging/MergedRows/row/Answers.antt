@@ -1,7 +1,7 @@
 use Rattle.std.proofs.Common.{◌≡◌, ◌<◌, ◌∙◌, ap, sym, length, arith}
 use Rattle.std.specs.Prelude.{slice_get}
 use Rattle.sched_base.specs.Tables.{lane_of}
-use Rattle.merged_rows.specs.Columns.{MergedContents, rows_up_to}
+use Rattle.merged_rows.specs.Columns.{MergedContents}
 use Rattle.merged_rows.proofs.ColumnLemmas.{lane_here, length-lanes_up_to, length-rows_up_to}
 use Rattle.merged_rows.proofs.merging.MergedRows.row.Goals as goal
 
