@@ -1,6 +1,7 @@
-use Rattle.std.proofs.lemmas.Result.{IfOk-from_err}
+use Rattle.std.proofs.lemmas.Result.{IfOk-from_err, err_from_is_err_and}
+use Rattle.std.proofs.Math.Nat.{mul-le-mul_left}
 use Rattle.event_core.specs.Rounds.{IsRoundUpTo}
-use Rattle.std.proofs.Common.{[], List, None, Option, Some, get_or, ap, arith, length, map, replicate, subst, sym, ℕ, ◌*◌, ◌+◌, ◌/◌, ◌<◌, ◌≤◌, ◌∙◌, ◌≡◌}
+use Rattle.std.proofs.Common.{[], List, None, Option, Some, get_or, ap, arith, length, map, replicate, subst, sym, ℕ, ◌*◌, ◌+◌, ◌/◌, ◌<◌, ◌≤◌, ◌-◌, ◌∙◌, ◌≡◌, Fits, w64}
 use Rattle.sched_base.specs.declared.rows.Leaf.TheVariants.{Empty}
 use Rattle.sched_base.specs.declared.rows.NodeId.{NodeId}
 use Rattle.sched_base.specs.declared.rows.Row.{Row}
@@ -8,7 +9,7 @@ use Rattle.sched_base.specs.Lanes.{lanes_of}
 use Rattle.sched_base.specs.Tables.{IsRound, IsTable, end_after, end_of, lane_of, row_limit, rounds_of as rounds_in}
 use Rattle.sched_base.proofs.ScheduleLanes.{lanes_of-none, length-lanes_of}
 use Rattle.sched_base.proofs.TableLemmas.{IsTable-none, IsTable-with_round}
-use Rattle.std.proofs.lemmas.List.{get_or-replicate, length-map}
+use Rattle.std.proofs.lemmas.List.{get_or-replicate, length-map, length-replicate}
 use Rattle.std.proofs.lemmas.Option.{slice_get_within}
 use Rattle.run_tree.specs.Tree.{Tree}
 use Rattle.run_tree.specs.Plans.{rounds_of, stop_of}
@@ -25,6 +26,20 @@ use Rattle.merged_rounds.proofs.LookLemmas.{are_told, kept_on}
 use Rattle.merged_rows.proofs.MergedTables.{end_of_all, merged_none}
 use Rattle.merged_rounds.proofs.ScheduleLemmas.{lawful_merged}
 use Rattle.merged_rounds.proofs.passes.merge_rounds.Goals as goal
+
+next_fits : (count n processors : ℕ) → n ≡ processors → 1 ≤ processors → count * n ≤ 2097152 → Fits w64 (count + 1)
+next_fits count n processors is some few =
+    let most : count * 1 ≤ count * n = mul-le-mul_left count (subst (λ m. 1 ≤ m) (sym is) some) in
+    omega (arith, most, few)
+
+rows_fit : (count n processors : ℕ) → n ≡ processors → processors ≤ 32 → count * n ≤ 2097152 → Fits w64 ((count + 1) * n)
+rows_fit count n processors is most few = omega arith
+
+early : (now tick end stop : ℕ) → now ≡ tick → end ≡ stop → now < end → tick < stop
+early now tick end stop a b h = omega arith
+
+nearer : (stop old new : ℕ) → old < stop → old < new → stop - new < stop - old
+nearer stop old new a b = omega arith
 
 pub rounds-init : goal.rounds-init
 rounds-init c =
@@ -182,3 +197,38 @@ returns-clause-few c =
     c.from-processors.ensures ∙ c.processors.ensures.value ∙ ap (λ (t : Tree). t.processors) c.tree.ensures.value in
     let all = ap (λ (n : ℕ). n * c.from-processors.result) count ∙ ap (λ (n : ℕ). rounds_of p * n) same in
     subst (λ (n : ℕ). n ≤ row_limit) all c.rounds.invariant.few
+
+pub returns-in_err-none-clause-fault : goal.returns-in_err-none-clause-fault
+returns-in_err-none-clause-fault c = let why = err_from_is_err_and c.from_residual.result c.from_residual.ensures.1 in rw (why.1, why.2) tt
+
+pub returns-in_err-merged-clause-fault : goal.returns-in_err-merged-clause-fault
+returns-in_err-merged-clause-fault c = let why = err_from_is_err_and c.from_residual-in_err-merged.result c.from_residual-in_err-merged.ensures.1 in rw (why.1, why.2) tt
+
+pub overflow_add-next_rows : goal.overflow_add-next_rows
+overflow_add-next_rows c =
+    next_fits c.rounds.count c.from-processors.result c.args.plan.now.tree.processors (c.from-processors.ensures ∙ c.processors.ensures.value ∙ ap (λ (t : Tree). t.processors) c.tree.ensures.value)
+    c.rounds_end-end.ensures.lawful.sized.some_processors c.rounds.invariant.few
+
+pub overflow_mul-next_rows : goal.overflow_mul-next_rows
+overflow_mul-next_rows c =
+    rows_fit c.rounds.count c.from-processors.result c.args.plan.now.tree.processors (c.from-processors.ensures ∙ c.processors.ensures.value ∙ ap (λ (t : Tree). t.processors) c.tree.ensures.value)
+    c.rounds_end-end.ensures.lawful.sized.few_processors c.rounds.invariant.few
+
+pub go-requires-clause-early : goal.go-requires-clause-early
+go-requires-clause-early c = early c.now.result c.rounds.core.tick c.rounds_end-end.result (stop_of c.args.plan.now) c.now.ensures.value c.rounds_end-end.ensures.value c.rounds-test.true
+
+pub look_each-requires-clause-kept : goal.look_each-requires-clause-kept
+look_each-requires-clause-kept c = c.rounds.auto.kept ∙ ap length c.requires.kept ∙ length-replicate c.args.plan.now.tree.processors None
+
+pub look_each-requires-clause-told : goal.look_each-requires-clause-told
+look_each-requires-clause-told c = c.rounds.auto.told ∙ c.requires.told
+
+pub overflow_add-count : goal.overflow_add-count
+overflow_add-count c =
+    next_fits c.rounds.count c.from-processors.result c.args.plan.now.tree.processors (c.from-processors.ensures ∙ c.processors.ensures.value ∙ ap (λ (t : Tree). t.processors) c.tree.ensures.value)
+    c.rounds_end-end.ensures.lawful.sized.some_processors c.rounds.invariant.few
+
+pub rounds-smaller : goal.rounds-smaller
+rounds-smaller c =
+    nearer (stop_of c.args.plan.now) c.rounds.core.tick c.go.new.self.tick
+    (early c.now.result c.rounds.core.tick c.rounds_end-end.result (stop_of c.args.plan.now) c.now.ensures.value c.rounds_end-end.ensures.value c.rounds-test.true) c.go.ensures.round.above
