@@ -1,11 +1,12 @@
 -- Which command the words are, by what the first of them asks for.
-use Rattle.std.proofs.Common.{◌≡◌, ◌≢◌, ℕ, if◌then◌else◌, Bool, true, false, ◌||◌, ◌⊎◌, inl, inr, List, [], ◌∷◌, codes, Option, Some, None, refl, sym, ◌∙◌, ap, rules, tests}
-use Rattle.std.specs.Prelude.{option_map, option_and_then}
+use Rattle.std.proofs.Common.{◌≡◌, ◌≢◌, ◌↔◌, ℕ, if◌then◌else◌, Bool, true, false, ◌||◌, ◌⊎◌, inl, inr, List, [], ◌∷◌, length, map, get_or, codes, Option, Some, None, refl, sym, ◌∙◌, ap, ap₂, arith, rules, tests}
+use Rattle.std.specs.Prelude.{option_map, option_and_then, slice_get}
 use Rattle.std.specs.Str.{bytes_eq}
 use Rattle.command_words.specs.declared.command.Command.{Command}
 use Rattle.command_words.specs.declared.command.Command.TheVariants.{Read, Batch, Execute}
 use Rattle.command_words.specs.declared.command.Reading.{Reading}
 use Rattle.command_words.specs.declared.command.Execution.{Execution}
+use Rattle.command_words.specs.Words.{reading_by, reading_with, reading_with_value, execution_named, execution_with}
 use Rattle.command_words.specs.Words.{command_of, reading_of, reading_named, execution_of, batch_of, asks_to_execute, asks_for_batch, asks_for_threads}
 
 pub some_is : {A : Type 0} (a b : A) → Some a ≡ Some b → a ≡ b
@@ -94,3 +95,52 @@ unexecuted_runs_none false words x e = let (r, is) = only_read (reading_of words
 -- words that ask for no execution are the line of none
 pub not_executing : (words : List (List ℕ)) (x : Execution) → asks_to_execute words ≡ false → command_of words ≡ Some (Execute x) → ⊥
 not_executing words x asks e = unexecuted_runs_none (asks_for_batch words) words x (sym (executes_none words asks) ∙ e)
+
+-- ---- the words as they are given
+
+-- what words ask for, the first of them tells
+pub no_first : {A : Type 0} (words : List A) → None ≡ slice_get words 0 → words ≡ []
+no_first [] e = refl
+no_first (word ∷ words) e = absurd (no_some word e)
+
+pub batch_asked : {A : Type 0} (f : A → List ℕ) (words : List A) (word : A) → Some word ≡ slice_get words 0 → bytes_eq (f word) (codes "batch") ≡ asks_for_batch (map f words)
+batch_asked f [] word e = absurd (no_some word (sym e))
+batch_asked f (first ∷ words) word e = ap (λ w. bytes_eq (f w) (codes "batch")) (some_is word first e)
+
+pub execution_asked : {A : Type 0} (f : A → List ℕ) (words : List A) (word : A) → Some word ≡ slice_get words 0 → asks_to_execute (f word ∷ []) ≡ asks_to_execute (map f words)
+execution_asked f [] word e = absurd (no_some word (sym e))
+execution_asked f (first ∷ words) word e = ap (λ w. asks_to_execute (f w ∷ [])) (some_is word first e)
+
+-- what is said of one answer is said of the same one
+pub said_of_same : {A P : Type 0} (a b : Option A) (x : A) → a ≡ b → P ↔ (a ≡ Some x) → P ↔ (b ≡ Some x)
+said_of_same a b x e h = (λ p. sym e ∙ h.0 p, λ is. h.1 (e ∙ is))
+
+pub reading_by_none : {A : Type 0} (f : A → List ℕ) (word : List ℕ) (options : List A) → length options ≡ 0 → reading_named word ≡ reading_by word (map f options)
+reading_by_none f word [] e = refl
+reading_by_none f word (o ∷ os) e = absurd (omega (arith, e))
+
+pub reading_by_one : {A : Type 0} (f : A → List ℕ) (word text : List ℕ) (options : List A) (option : A) → length options ≡ 1 → option ≡ get_or options 0 option
+    → text ≡ f option → reading_with word text ≡ reading_by word (map f options)
+reading_by_one f word text [] option e at is = absurd (omega (arith, e))
+reading_by_one f word text (o ∷ []) option e at is = ap (reading_with word) (is ∙ ap f at)
+reading_by_one f word text (o ∷ v ∷ os) option e at is = absurd (omega (arith, e))
+
+pub reading_by_two : {A : Type 0} (f : A → List ℕ) (word text more : List ℕ) (options : List A) (option value : A) → length options ≡ 2 → option ≡ get_or options 0 option
+    → value ≡ get_or options 1 value → text ≡ f option → more ≡ f value → reading_with_value word text more ≡ reading_by word (map f options)
+reading_by_two f word text more [] option value e at next is given = absurd (omega (arith, e))
+reading_by_two f word text more (o ∷ []) option value e at next is given = absurd (omega (arith, e))
+reading_by_two f word text more (o ∷ v ∷ []) option value e at next is given = ap₂ (reading_with_value word) (is ∙ ap f at) (given ∙ ap f next)
+reading_by_two f word text more (o ∷ v ∷ w ∷ os) option value e at next is given = absurd (omega (arith, e))
+
+pub execution_of_one : {A : Type 0} (f : A → List ℕ) (text : List ℕ) (words : List A) (word : A) → length words ≡ 1 → word ≡ get_or words 0 word → text ≡ f word
+    → execution_named text ≡ execution_of (map f words)
+execution_of_one f text [] word e at is = absurd (omega (arith, e))
+execution_of_one f text (w ∷ []) word e at is = ap execution_named (is ∙ ap f at)
+execution_of_one f text (w ∷ o ∷ ws) word e at is = absurd (omega (arith, e))
+
+pub execution_of_two : {A : Type 0} (f : A → List ℕ) (text more : List ℕ) (words : List A) (word option : A) → length words ≡ 2 → word ≡ get_or words 0 word
+    → option ≡ get_or words 1 option → text ≡ f word → more ≡ f option → execution_with text more ≡ execution_of (map f words)
+execution_of_two f text more [] word option e at next is given = absurd (omega (arith, e))
+execution_of_two f text more (w ∷ []) word option e at next is given = absurd (omega (arith, e))
+execution_of_two f text more (w ∷ o ∷ []) word option e at next is given = ap₂ execution_with (is ∙ ap f at) (given ∙ ap f next)
+execution_of_two f text more (w ∷ o ∷ v ∷ ws) word option e at next is given = absurd (omega (arith, e))

@@ -363,7 +363,7 @@ pub fn asks_to_execute(words: &[String]) -> bool
 fn names_execution(word: &str) -> bool
     ensures { result ≡ asks_to_execute (word.now ∷ []) }
 {
-    word == "exec" || word == "drill" || word == "jobs" || word == "modes"
+    matches!(word, "exec" | "drill" | "jobs" | "modes")
 }
 
 /// Whether the words ask for many sets, by the first of them.
