@@ -1,6 +1,7 @@
-use Rattle.std.proofs.Common.{ap, refl, ◌∙◌, inl, Some}
+use Rattle.std.proofs.Common.{false, [], ◌∷◌, ◌++◌, ap, refl, sym, ◌∙◌, inl, inr, Some, arith}
+use Rattle.std.proofs.lemmas.Bool.{both_ways}
 use Rattle.sched_edges.specs.Memory.{next_call}
-use Rattle.sched_edges.specs.Gates.{GateHeld}
+use Rattle.sched_edges.specs.Gates.{GateHeld, rows_left}
 use Rattle.sched_edges.proofs.CallLemmas.{fault_cause, no_cause, listed_is}
 use Rattle.sched_edges.proofs.test_gates.ListGateGate.run.Goals as goal
 
@@ -53,3 +54,32 @@ returns-clause-room c = ap (λ (s : GateHeld). s.room) c.self.view_is
 
 pub returns-clause-count : goal.returns-clause-count
 returns-clause-count c = ap (λ (s : GateHeld). s.faults) c.self.view_is
+
+pub invariant_of-self : goal.invariant_of-self
+invariant_of-self c = c.self.invariant
+
+pub invariant_of-self-then-len-self : goal.invariant_of-self-then-len-self
+invariant_of-self-then-len-self c = c.self.invariant
+
+pub returns-then-len-self-clause-failed : goal.returns-then-len-self-clause-failed
+returns-then-len-self-clause-failed c =
+    let left = ap rows_left c.self.view_is in
+    (λ _. inr (omega (arith, left, c.if-len-self.true, c.len.ensures, c.self.inside.rows.ok.0)), λ _. refl)
+
+pub push_reserved-requires : goal.push_reserved-requires
+push_reserved-requires c = omega (arith, c.if-len-self.false, c.len.ensures, c.self.invariant.1)
+
+pub invariant_of-self-2 : goal.invariant_of-self-2
+invariant_of-self-2 c =
+    (omega (arith, c.push_reserved.ensures.len, c.if-len-self.false, c.len.ensures), omega (arith, c.push_reserved.ensures.capacity, c.self.invariant.1))
+
+pub returns-clause-ok : goal.returns-clause-ok
+returns-clause-ok c = ap (λ ran. Some ran) (c.push_reserved.ensures.items ∙ ap (λ (s : GateHeld). s.ran ++ c.args.row.now ∷ []) c.self.view_is)
+
+pub returns-clause-failed : goal.returns-clause-failed
+returns-clause-failed c =
+    let listed = listed_is _ _ _ _ (c.deref.ensures.value ∙ ap (λ (s : GateHeld). s.fails) c.self.view_is) c.call_fails.ensures.listed ∙ c.if-call_fails.false in
+    let left = ap rows_left c.self.view_is in (
+      λ no. absurd (both_ways false refl no),
+      λ why. elim why [ inl is ↦ sym listed ∙ is | inr full ↦ absurd (omega (arith, left, full, c.if-len-self.false, c.len.ensures, c.self.inside.rows.ok.0)) ],
+    )
