@@ -1,5 +1,5 @@
 -- Jobs that are lifted out of their places, loaded, and laid back.
-use Rattle.std.proofs.Common.{ℕ, zero, suc, ◌+◌, ◌<◌, ◌≤◌, ◌≡◌, ◌≢◌, List, [], ◌∷◌, length, get_or, set, take, Option, Some, None, Result, Ok, Err, OnOk, OnErr, option_map, sym, refl, ap, ◌∙◌, subst, arith, inl, inr, add-one}
+use Rattle.std.proofs.Common.{ℕ, zero, suc, ◌+◌, ◌<◌, ◌≤◌, ◌≡◌, ◌≢◌, List, [], ◌∷◌, length, get_or, set, take, Option, Some, None, Result, Ok, Err, OnOk, OnErr, option_map, option_and_then, sym, refl, ap, ◌∙◌, subst, arith, inl, inr, add-one}
 use Rattle.std.specs.Prelude.{slice_get, slice_set}
 use Rattle.std.proofs.lemmas.Bool.{cases_eq}
 use Rattle.std.proofs.lemmas.List.{set-set, map-set, set-get_or}
@@ -11,6 +11,7 @@ use Rattle.sched_edges.specs.Jobs.{JobAt, JobPlaces, reloaded}
 use Rattle.job_vm.specs.Programs.{Program}
 use Rattle.job_vm.specs.Seen.{JobSeen, job_seen, seen}
 use Rattle.job_vm.specs.Loading.{code_of, anew, loaded}
+use Rattle.job_vm.specs.Results.{Told, told_of, told_at}
 
 pub at_set_same : {X : Type 0} (xs : List X) (i : ℕ) (x : X) → i < length xs → slice_get (set xs i x) i ≡ Some x
 at_set_same [] i x within = absurd (omega arith)
@@ -134,3 +135,18 @@ loaded_more tells scale programs tasks start now next i t job within at before t
     let more = loaded_next scale programs tasks (seen tells start) i t (job_seen tells.id tells.used tells.faults tells.made job) within at here in
     step ∙ (ap (λ s. set s i (Some (anew scale (code_of programs t.name) (job_seen tells.id tells.used tells.faults tells.made job)))) before
     ∙ (more ∙ ap (λ n. loaded scale programs (take n tasks) (seen tells start)) (sym (add-one i))))
+
+-- what is told of a job in its place
+pub told_in_place : {J : Type 0} (tells : JobTells J) (scale : ℕ) (places : List (Option J)) (i : ℕ) (job : J) → JobAt places i job
+    → told_at scale (seen tells places) i ≡ told_of scale (job_seen tells.id tells.used tells.faults tells.made job)
+told_in_place tells scale places i job at =
+    let told : Option (Option JobSeen) → Told = λ found. elim (option_and_then (λ (place : Option JobSeen). place) found) [
+      | Some seen ↦ told_of scale seen
+      | None ↦ record { units = 0; numbers = [] }
+    ] in
+    ap told (seen_at tells places i job at)
+
+-- a place that a job was lifted out of
+pub lifted_place : {J : Type 0} (s t : JobPlaces J) (i : ℕ) (job : J) → JobAt s.places i job → t ≡ record s { places = slice_set s.places i None } → slice_get t.places i ≡ Some None
+lifted_place s t i job at lifted =
+    ap (λ (v : JobPlaces _). slice_get v.places i) lifted ∙ at_set_same s.places i None (slice_get_within s.places i (Some job) at)
