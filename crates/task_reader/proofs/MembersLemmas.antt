@@ -1,5 +1,6 @@
 -- Lemmas on the refusals for keys.
-use Rattle.std.proofs.Common.{◌≡◌, ℕ, Ordering, Less, Equal, Greater, nat_cmp, is_eq, IsSome, true, false, List, [], ◌∷◌, Option, Some, None, String, Global, string_bytes, refl, sym, ◌∙◌, ap, subst, inl, inr}
+use Rattle.std.proofs.Common.{◌≡◌, ℕ, suc, ◌+◌, ◌<◌, ◌≤◌, length, get_or, drop, add-one, ap₂, Ordering, Less, Equal, Greater, nat_cmp, is_eq, IsSome, true, false, List, [], ◌∷◌, Option, Some, None, String, Global, string_bytes, refl, sym, ◌∙◌, ap, subst, inl, inr}
+use Rattle.std.proofs.lemmas.List.{at_drop_more, at_drop_all}
 use Rattle.std.proofs.lemmas.Bool.{cases_Bool, false≢true}
 use Rattle.std.proofs.lemmas.Cmp.{nat_list_cmp_total, tied_itself}
 use Rattle.std.proofs.lemmas.Map.Text.{is_eq-slice_cmp}
@@ -8,15 +9,17 @@ use Rattle.std.specs.Cmp.Lexicographic.{slice_cmp}
 use Rattle.std.specs.List.{AllByRecursion}
 use Rattle.std.specs.List.Sorted.{IsStrictlySortedBy}
 use Rattle.std.specs.Map.{keys_of}
+use Rattle.std.specs.Option.{option_or}
 use Rattle.std.specs.Ordering.{is_lt, match_ordering}
 use Rattle.std.specs.Str.{bytes_eq}
 use Rattle.std.specs.String.{string_cmp}
 use Rattle.toml.specs.Data.{Data, Members, no_members, member, get_member}
-use Rattle.toml.specs.View.{members_view}
+use Rattle.toml.specs.View.{view, items_view, members_view}
 use Rattle.toml.specs.declared.value.Value.{Value}
 use Rattle.task_reader.specs.declared.refusals.Place.{Place}
 use Rattle.task_reader.specs.declared.refusals.ReadSet.{ReadSet}
 use Rattle.task_reader.specs.Keys.{is_known}
+use Rattle.task_reader.specs.Tree.{Placed, placed_from, task_place}
 use Rattle.task_reader.specs.Members.{first_refusal, lesser, least_unknown}
 use Rattle.task_reader.specs.Writes.{HasOnlyKnown}
 
@@ -88,3 +91,41 @@ none_from_known p no_members only = refl
 none_from_known p (member l d ms) only =
     let here : IsSome (get_member l (member l d ms)) = rw (tied_itself nat_list_cmp_total l) refl in
     rw (only l here) (none_from_known p ms (λ text there. only text (there_later text l d ms (slice_cmp nat_cmp text l) there)))
+
+-- ---- one after the other
+
+-- what is found at place i is the first refusal from there on
+pub first_found : {A : Type 0} (refusal : A → Option ReadSet) (xs : List A) (i : ℕ) (d : A) (found : Option ReadSet) (r : ReadSet) → i < length xs → found ≡ refusal (get_or xs i d) → found ≡ Some r
+    → first_refusal refusal (drop i xs) ≡ Some r
+first_found refusal xs i d found r within is some =
+    at_drop_more (first_refusal refusal) xs i d within ∙ ap (λ o. option_or o (first_refusal refusal (drop (i + 1) xs))) (sym is ∙ some)
+
+pub first_more : {A : Type 0} (refusal : A → Option ReadSet) (xs : List A) (i : ℕ) (d : A) (found : Option ReadSet) → i < length xs → found ≡ refusal (get_or xs i d) → found ≡ None
+    → first_refusal refusal (drop i xs) ≡ first_refusal refusal (drop (i + 1) xs)
+first_more refusal xs i d found within is none =
+    at_drop_more (first_refusal refusal) xs i d within ∙ first_refusal-none refusal (get_or xs i d) (drop (i + 1) xs) (sym is ∙ none)
+
+pub first_past : {A : Type 0} (refusal : A → Option ReadSet) (xs : List A) (i : ℕ) → length xs ≤ i → first_refusal refusal (drop i xs) ≡ None
+first_past refusal xs i past = at_drop_all (first_refusal refusal) xs i past
+
+-- the first refusal of the tasks from i on
+abbrev from_task : (Placed → Option ReadSet) → ℕ → List Value → Option ReadSet
+from_task refusal i vs = first_refusal refusal (placed_from i (items_view vs))
+
+-- the same of the tasks of the document
+pub task_found : (at : Place → Data → Option ReadSet) (vs : List Value) (i : ℕ) (v : Value) (p : Place) (found : Option ReadSet) (r : ReadSet) → i < length vs → v ≡ get_or vs i v → p ≡ task_place i
+    → found ≡ at p (view v) → found ≡ Some r → from_task (λ (w : Placed). at w.place w.value) i (drop i vs) ≡ Some r
+task_found at vs i v p found r within here place is some =
+    at_drop_more (from_task (λ (w : Placed). at w.place w.value) i) vs i v within
+    ∙ ap (λ o. option_or o (from_task (λ (w : Placed). at w.place w.value) (suc i) (drop (i + 1) vs))) (ap₂ (λ q w. at q (view w)) (sym place) (sym here) ∙ sym is ∙ some)
+
+pub task_more : (at : Place → Data → Option ReadSet) (vs : List Value) (i : ℕ) (v : Value) (p : Place) (found : Option ReadSet) → i < length vs → v ≡ get_or vs i v → p ≡ task_place i
+    → found ≡ at p (view v) → found ≡ None
+    → from_task (λ (w : Placed). at w.place w.value) i (drop i vs) ≡ from_task (λ (w : Placed). at w.place w.value) (i + 1) (drop (i + 1) vs)
+task_more at vs i v p found within here place is none =
+    at_drop_more (from_task (λ (w : Placed). at w.place w.value) i) vs i v within
+    ∙ ap (λ o. option_or o (from_task (λ (w : Placed). at w.place w.value) (suc i) (drop (i + 1) vs))) (ap₂ (λ q w. at q (view w)) (sym place) (sym here) ∙ sym is ∙ none)
+    ∙ ap (λ n. from_task (λ (w : Placed). at w.place w.value) n (drop (i + 1) vs)) (sym (add-one i))
+
+pub task_past : (at : Place → Data → Option ReadSet) (vs : List Value) (i : ℕ) → length vs ≤ i → from_task (λ (w : Placed). at w.place w.value) i (drop i vs) ≡ None
+task_past at vs i past = at_drop_all (from_task (λ (w : Placed). at w.place w.value) i) vs i past
