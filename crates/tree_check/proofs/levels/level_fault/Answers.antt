@@ -1,5 +1,7 @@
-use Rattle.std.proofs.Common.{◌≡◌, ℕ, false, [], length, replicate, ap, sym, subst, ◌∙◌}
-use Rattle.tree_check.specs.Scans.{AreMarks, HasFaultIn}
+use Rattle.std.proofs.Common.{◌≡◌, ℕ, Bool, List, false, [], length, replicate, ap, sym, subst, ◌∙◌, arith}
+use Rattle.std.proofs.lemmas.List.{take_at}
+use Rattle.tree_check.specs.Scans.{AreMarks, HasFaultIn, names_of}
+use Rattle.tree_check.specs.Written.{level_at}
 use Rattle.tree_check.specs.Faults.{IsFirstOf}
 use Rattle.tree_check.proofs.LevelScans.{level_first, line_first}
 use Rattle.tree_check.proofs.MarkLemmas.{marks_none}
@@ -40,3 +42,13 @@ scan-first-requires-clause-rates c = c.deref.ensures.value ∙ c.in_ok-rates.ens
 
 pub line_fault-requires-clause-rates : goal.line_fault-requires-clause-rates
 line_fault-requires-clause-rates c = c.deref-2.ensures.value ∙ c.in_ok-rates.ensures
+
+pub to_place-requires : goal.to_place-requires
+to_place-requires c = c.requires.level
+
+pub line_fault-requires-clause-marks : goal.line_fault-requires-clause-marks
+line_fault-requires-clause-marks c =
+    let names = names_of c.args.tree.now c.args.l (level_at c.args.tree.now c.args.l) in
+    let marked = subst (λ (rates : List ℕ). AreMarks rates names c.scan-first.new.marks) (c.deref.ensures.value ∙ sym c.deref-2.ensures.value) c.scan-first.ensures.marks in
+    let kept = c.deref-3.ensures.value ∙ take_at c.scan-first.new.marks _ _ (omega (arith, c.scan-first.auto.marks, c.deref_mut.ensures.len)) in
+    subst (λ (marks : List Bool). AreMarks c.deref-2.result.now names marks) (sym kept) marked
