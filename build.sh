@@ -39,12 +39,13 @@ sed -n 's/^\([a-z][a-z_]*\).*:.*/\1/p' "$top/crates.txt" | while read -r name; d
 done >"$work/sizes"
 
 # Each crate of the repository that the wanted one needs, with the processor seconds that it takes and those of them that it stands
-# on: first the one with the longest chain of crates above it, since that chain decides how long the whole takes. The guess of the
-# time that is left goes by these seconds too. They were measured (build.seconds). A crate that isn't there takes 1.7 seconds for
-# each 1,000 bytes of its code, and 0.07 for each 1,000 bytes of the crates below it, whose statements are read.
+# on: first the one with the longest chain of crates above it, since that chain decides how long the whole takes. In a chain a crate
+# that several jobs share well counts with what it then takes by the clock. The guess of the time that is left goes by processor
+# seconds. All were measured (build.seconds). A crate that isn't there takes 1.7 seconds for each 1,000 bytes of its code, and 0.07
+# for each 1,000 bytes of the crates below it, whose statements are read.
 awk -v wanted="$wanted" '
     FILENAME ~ /sizes$/ { size[$1] = $2; next }
-    FILENAME ~ /seconds$/ { if ($1 != "#") takes[$1] = $2; next }
+    FILENAME ~ /seconds$/ { if ($1 != "#") { takes[$1] = $2; if (NF > 2) shared[$1] = $3 }; next }
     /^[a-z]/ { name = $1; sub(":.*", "", name); line = $0; sub("^[^:]*:", "", line); below[name] = line }
     function read_below(crate, of,    names, n, i) {
         if ((of, crate) in seen) return 0
@@ -55,7 +56,7 @@ awk -v wanted="$wanted" '
     }
     function visit(crate, chain,    names, n, i) {
         if (!(crate in takes)) read_below(crate, crate)
-        chain += takes[crate]
+        chain += crate in shared ? shared[crate] : takes[crate]
         if (crate in above && above[crate] >= chain) return
         above[crate] = chain
         own[crate] = ""
@@ -226,12 +227,17 @@ ready() {
     done <"$work/crates"
 }
 
+# Whether several jobs share a crate well, by its second number in build.seconds: then as many as there are processors take hardly more
+# work than two, and two thirds of their time.
+is_shared() { grep -q "^$1 [0-9]* [0-9]" "$top/build.seconds"; }
+
 # Whether what a crate takes is more than half of what all that is left takes on all processors: then the others would wait for it.
 is_long() { [ "$((2 * $1 * jobs))" -gt "$((whole - done_size))" ]; }
 
 # Each crate has a processor and one job, since several jobs take more work for the same proofs; a processor that no crate waits for is
-# one more. A long crate has two jobs at least, where there is memory, and the system shares the processors out: with two it takes a
-# quarter less time and a quarter more work, with four hardly less time and half as much work again.
+# one more. Where there is memory, a crate that several share well has a job for each processor, and a long one two at least, and the
+# system shares the processors out: of exec_workers two take a quarter less time and a quarter more work than one, four hardly less time
+# and half as much work again.
 free=$jobs
 while [ "$done_count" -lt "$count" ]; do
     take_ended
@@ -242,7 +248,10 @@ while [ "$done_count" -lt "$count" ]; do
         [ "$share" -lt 1 ] && share=1
         [ "$share" -gt 4 ] && share=4
         at_once=$share
-        [ "$share" -eq 1 ] && [ "$memory" -ge "$((2 * jobs))" ] && is_long "$size" && at_once=2
+        if [ "$memory" -ge "$((2 * jobs))" ]; then
+            [ "$share" -eq 1 ] && is_long "$size" && at_once=2
+            [ "$jobs" -gt "$share" ] && is_shared "$name" && at_once=$((jobs < 4 ? jobs : 4))
+        fi
         : >"$work/$name.begun"
         build "$name" "$share" "$at_once"
         free=$((free - share))
