@@ -26,6 +26,8 @@ if command -v flock >/dev/null && ! flock -n 9; then
 fi
 
 work=$(mktemp -d) || exit 126
+# Each build that has ended is a line here.
+mkfifo "$work/endings" && exec 8<>"$work/endings" || exit 126
 # Ends the builds that go on, each with all that it called.
 stop() { for it in "$work"/*.group; do [ -e "$it" ] && kill -- "-$(cat "$it")" 2>/dev/null; done; }
 trap 'rm -rf "$work"' EXIT
@@ -197,6 +199,7 @@ build() {
         awk -v crate="$1" 'NR == 2 { split($1 "m" $2, took, "[ms]+"); printf "%s %d\n", crate, 60 * (took[1] + took[3]) + took[2] + took[4] }' \
             "$work/$1.times" >"$libraries/$1.took"
         mv "$work/$1.status" "$work/$1.ended"
+        echo "$1" >&8
     ) 2>/dev/null &
 }
 
@@ -257,7 +260,7 @@ while [ "$done_count" -lt "$count" ]; do
         free=$((free - share))
         left=$((left - 1))
     done <"$work/ready"
-    sleep 0.2
+    [ "$done_count" -lt "$count" ] && read -r _ <&8
 done
 [ -t 2 ] && echo >&2
 say "built"
