@@ -1,5 +1,5 @@
 -- The counts of posted rows, and those of faults once each lane's failure is noted.
-use Rattle.std.proofs.Common.{◌≡◌, ◌≢◌, ℕ, suc, ◌+◌, ◌<◌, ◌≤◌, Bool, true, false, List, [], ◌∷◌, get_or, set, Option, Some, None, length, refl, sym, ap, ◌∙◌, subst, arith, inl, inr}
+use Rattle.std.proofs.Common.{◌≡◌, ◌≢◌, ◌⊎◌, ℕ, suc, ◌+◌, ◌<◌, ◌≤◌, true, false, List, [], ◌∷◌, get_or, set, Option, Some, None, length, refl, sym, ap, ◌∙◌, subst, arith, inl, inr}
 use Rattle.std.specs.Prelude.{slice_index, slice_set, IfNone}
 use Rattle.std.specs.Option.{is_some}
 use Rattle.std.proofs.lemmas.Bool.{cases_eq}
@@ -148,6 +148,6 @@ if_none None f h = f h
 if_none (Some x) f h = tt
 
 -- where nothing failed, the passes went on until all was posted
-pub all_at_end : (lanes : List LaneContents) (done : Bool) (rounds : ℕ) → NoneFailed lanes → (done ≡ true → NoneFailed lanes × AllAt rounds lanes) → (done ≡ false → (p : ℕ) × (p < length lanes) × ((lane_in lanes p).cause ≢ None)) → AllAt rounds lanes
-all_at_end lanes true rounds none done failed = (done refl).1
-all_at_end lanes false rounds none done failed = let some = failed refl in absurd (some.2 (none some.0 some.1))
+pub all_at_end : (lanes : List LaneContents) (rounds : ℕ) → NoneFailed lanes → (NoneFailed lanes × AllAt rounds lanes) ⊎ ((p : ℕ) × (p < length lanes) × ((lane_in lanes p).cause ≢ None)) → AllAt rounds lanes
+all_at_end lanes rounds none (inl done) = done.1
+all_at_end lanes rounds none (inr some) = absurd (some.2 (none some.0 some.1))

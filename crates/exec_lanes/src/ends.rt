@@ -1,5 +1,5 @@
 //! What the lanes of a run say when it has ended.
-ghost use Rattle.std.specs.Prelude.{◌≡◌, ◌≢◌, ◌<◌, ◌^◌, ℕ, Some, None, length, slice_index, slice_set, IfSome, IfNone, IsTrue, true, false};
+ghost use Rattle.std.specs.Prelude.{◌≡◌, ◌≢◌, ◌<◌, ◌^◌, ◌↔◌, ℕ, Some, None, length, slice_index, slice_set, IfSome, IfNone, IsTrue, true, false};
 ghost use Rattle.sched_base.specs.declared.rows.Row.{Row};
 ghost use Rattle.sched_base.specs.declared.rows.TaskId.{TaskId};
 ghost use Rattle.exec_lanes.specs.Lanes.{lane_in, JobRose, NoneFailed, AllAt};
@@ -27,7 +27,7 @@ pub fn any_failed<G: Gate, Q: PostLedger>(lanes: &[Lane<G, Q>]) -> bool
 
 /// Whether each lane has posted that many rows.
 pub fn all_at<G: Gate, Q: PostLedger>(lanes: &[Lane<G, Q>], rounds: u64) -> bool
-    ensures { IsTrue result → AllAt rounds lanes.now }
+    ensures { IsTrue result ↔ AllAt rounds lanes.now }
 {
     for lane in lanes {
         if lane.seat.posted() != rounds {

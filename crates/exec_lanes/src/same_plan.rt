@@ -1,5 +1,5 @@
 //! Whether two plans are the same.
-ghost use Rattle.std.specs.Prelude.{◌≡◌, ◌<◌, length, IsTrue};
+ghost use Rattle.std.specs.Prelude.{◌≡◌, ◌<◌, ◌↔◌, length, IsTrue};
 ghost use Rattle.run_tree.specs.Tree.{node as node_in};
 
 use run_tree::{Plan, Tree};
@@ -7,14 +7,14 @@ use sched_base::NodeId;
 
 /// Whether both are the same plan: the same set, and the same tree node by node.
 pub fn is_same_plan(a: &Plan, b: &Plan) -> bool
-    ensures { IsTrue result → a.now ≡ b.now }
+    ensures { IsTrue result ↔ (a.now ≡ b.now) }
 {
     a.set().is_same(b.set()) && is_same_tree(a.tree(), b.tree())
 }
 
 // Whether both are the same tree.
 fn is_same_tree(a: &Tree, b: &Tree) -> bool
-    ensures { IsTrue result → a.now ≡ b.now }
+    ensures { IsTrue result ↔ (a.now ≡ b.now) }
 {
     if !has_same_size(a, b) {
         return false;
@@ -29,10 +29,8 @@ fn is_same_tree(a: &Tree, b: &Tree) -> bool
 
 // Whether both have as many processors, ticks of a unit, levels and nodes.
 fn has_same_size(a: &Tree, b: &Tree) -> bool
-    ensures processors { IsTrue result → a.now.processors ≡ b.now.processors }
-    ensures scale { IsTrue result → a.now.scale ≡ b.now.scale }
-    ensures levels { IsTrue result → a.now.levels ≡ b.now.levels }
-    ensures nodes { IsTrue result → length a.now.nodes ≡ length b.now.nodes }
+    ensures { IsTrue result ↔ ((a.now.processors ≡ b.now.processors) × (a.now.scale ≡ b.now.scale) × (a.now.levels ≡ b.now.levels)
+        × (length a.now.nodes ≡ length b.now.nodes)) }
 {
     a.processors() == b.processors()
         && a.scale() == b.scale()
@@ -44,7 +42,7 @@ fn has_same_size(a: &Tree, b: &Tree) -> bool
 fn is_same_node(a: &Tree, b: &Tree, n: NodeId) -> bool
     requires first { n.0 < length a.now.nodes }
     requires second { n.0 < length b.now.nodes }
-    ensures { IsTrue result → node_in a.now n.0 ≡ node_in b.now n.0 }
+    ensures { IsTrue result ↔ (node_in a.now n.0 ≡ node_in b.now n.0) }
 {
     if a.kind(n) != b.kind(n) || a.rate(n) != b.rate(n) {
         return false;
@@ -57,7 +55,7 @@ fn is_same_node(a: &Tree, b: &Tree, n: NodeId) -> bool
 
 // Whether both lists are the same.
 fn is_same_list(left: &[NodeId], right: &[NodeId]) -> bool
-    ensures { IsTrue result → left.now ≡ right.now }
+    ensures { IsTrue result ↔ (left.now ≡ right.now) }
 {
     if left.len() != right.len() {
         return false;
@@ -72,7 +70,7 @@ fn is_same_list(left: &[NodeId], right: &[NodeId]) -> bool
 
 // Whether both are the same dual, or neither is one.
 fn is_same_dual(a: Option<NodeId>, b: Option<NodeId>) -> bool
-    ensures { IsTrue result → a ≡ b }
+    ensures { IsTrue result ↔ (a ≡ b) }
 {
     match (a, b) {
         (Some(a), Some(b)) => a.0 == b.0,

@@ -1,5 +1,5 @@
 //! Serving all lanes.
-ghost use Rattle.std.specs.Prelude.{◌≡◌, ◌≢◌, ◌<◌, ℕ, None, length, IsTrue, true, false};
+ghost use Rattle.std.specs.Prelude.{◌≡◌, ◌≢◌, ◌<◌, ◌⊎◌, ℕ, None, length};
 ghost use Rattle.run_tree.specs.Plans.{rounds_of};
 ghost use Rattle.exec_book.specs.PlanRows.{plan_rows};
 ghost use Rattle.exec_lanes.specs.Lanes.{lane_in, AllServed, NoneFailed, AllAt};
@@ -15,8 +15,7 @@ use std::thread;
 use std::thread::Threads;
 use unit_ledger::PostLedger;
 
-/// Serves the lanes in passes, one worker for each lane, until all have posted that many rows or one has failed. False
-/// where one has failed.
+/// Serves the lanes in passes, one worker for each lane, until all have posted that many rows or one has failed.
 pub(crate) fn serve_passes<
     G: Gate + Send,
     Q: PostLedger + Send + Sync,
@@ -30,20 +29,16 @@ pub(crate) fn serve_passes<
     counts: &[u64],
     waiters: &Waiters,
     rounds: u64,
-) -> bool
+)
     requires counts { length counts.now ≡ length plan.now.set.tasks }
     requires fresh { NoneFailed lanes.old }
     ensures served { AllServed (plan_rows plan.now) counts.now lanes.old lanes.new }
-    ensures done { IsTrue result → NoneFailed lanes.new × AllAt rounds lanes.new }
-    ensures failed { result ≡ false → (p : ℕ) × (p < length lanes.new) × ((lane_in lanes.new p).cause ≢ None) }
+    ensures ended { (NoneFailed lanes.new × AllAt rounds lanes.new) ⊎ ((p : ℕ) × (p < length lanes.new) × ((lane_in lanes.new p).cause ≢ None)) }
 {
     for _ in 0..TURNS {
         serve_all(rt, book, plan, lanes, counts, waiters);
-        if any_failed(lanes) {
-            return false;
-        }
-        if all_at(lanes, rounds) {
-            return true;
+        if any_failed(lanes) || all_at(lanes, rounds) {
+            return;
         }
     }
     wait_for_good(rt)

@@ -1,4 +1,8 @@
+use Rattle.std.proofs.Common.{ap, sym, ◌∙◌}
+use Rattle.std.proofs.lemmas.Bool.{iff_false}
+use Rattle.run_tree.specs.Tree.{Node}
 use Rattle.exec_lanes.proofs.ErrorLemmas.{untrue}
+use Rattle.exec_lanes.proofs.TreeLemmas.{same_numbers}
 use Rattle.exec_lanes.proofs.same_plan.is_same_node.Goals as goal
 
 pub kind-requires : goal.kind-requires
@@ -13,9 +17,6 @@ rate-requires c = c.requires.first
 pub rate-requires-else-ne : goal.rate-requires-else-ne
 rate-requires-else-ne c = c.requires.second
 
-pub returns-then-ne : goal.returns-then-ne
-returns-then-ne c = untrue
-
 pub home-requires : goal.home-requires
 home-requires c = c.requires.first
 
@@ -28,9 +29,6 @@ place-requires c = c.requires.first
 pub place-requires-else-home : goal.place-requires-else-home
 place-requires-else-home c = c.requires.second
 
-pub returns-then-home : goal.returns-then-home
-returns-then-home c = untrue
-
 pub members-requires : goal.members-requires
 members-requires c = c.requires.first
 
@@ -42,3 +40,9 @@ dual-requires c = c.requires.first
 
 pub dual-requires-then-is_same_list : goal.dual-requires-then-is_same_list
 dual-requires-then-is_same_list c = c.requires.second
+
+pub returns-else-is_same_list : goal.returns-else-is_same_list
+returns-else-is_same_list c = (
+  λ is. untrue (sym c.if-is_same_list.false ∙ is),
+  λ same. absurd (iff_false c.is_same_list.ensures c.if-is_same_list.false (same_numbers _ _ (c.members.ensures ∙ ap (λ (n : Node). n.members) same ∙ sym c.members-2.ensures))),
+)
