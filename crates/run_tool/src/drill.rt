@@ -17,7 +17,6 @@ ghost use Rattle.command_words.specs.declared.command.Execution.TheVariants.{Dri
 
 use crate::exec::run_plan;
 use crate::summary::{Summary, summary_of, write_summary};
-use crate::written::written;
 use command_words::USUAL_WINDOW;
 use event_core::{CountFault, count_rounds};
 use exec_workers::Kit;
@@ -29,7 +28,7 @@ use sched_edges::{BoxedJob, Gate, Job, Jobs, Sink};
 use std::alloc::Global;
 use std::sync::Wait;
 use std::thread::Threads;
-use still_commands::Refusal;
+use still_commands::{Refusal, written};
 use task_gen::{drill_law, make, words_of};
 use trace_check::{ReadTrace, merged_law};
 

@@ -15,7 +15,6 @@ ghost use Rattle.run_tool.specs.Executions.{crew_of, IsFreshCrew, AreBack, RanAl
 ghost use Rattle.run_tool.specs.Executed.{WritesRun, RefusesRun, RanSet, StopsAtRun, StopsInRun, EndsPart, may_have_called};
 ghost use Rattle.still_commands.specs.declared.status.Status.TheVariants.{Done};
 
-use crate::written::written;
 use event_core::count_rounds;
 use exec_workers::{ExecFault, Executed, Kit, execute};
 use round_table::table_law;
@@ -25,7 +24,7 @@ use sched_edges::{BoxedJob, Gate, Job, Jobs, Sink, Source};
 use std::alloc::Global;
 use std::sync::Wait;
 use std::thread::Threads;
-use still_commands::{Refusal, plan_of, read_input, write_rows};
+use still_commands::{Refusal, plan_of, read_input, write_rows, written};
 
 /// Reads a task set, has the gates and the jobs run its schedule, and writes it; in version 2 where `met` is asked for or some
 /// task is released late. A lane may run up to `window` rounds ahead of the others.

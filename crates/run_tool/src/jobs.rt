@@ -13,7 +13,6 @@ ghost use Rattle.command_words.specs.declared.command.Command.TheVariants.{Execu
 ghost use Rattle.command_words.specs.declared.command.Execution.TheVariants.{Jobs};
 
 use crate::exec::run_plan;
-use crate::written::written;
 use command_words::USUAL_WINDOW;
 use event_core::count_rounds;
 use exec_workers::Kit;
@@ -24,7 +23,7 @@ use sched_edges::{BoxedJob, Gate, Job, Jobs, Sink, Source, read_all};
 use std::alloc::Global;
 use std::sync::Wait;
 use std::thread::Threads;
-use still_commands::{Refusal, SET_LIMIT, plan_of};
+use still_commands::{Refusal, SET_LIMIT, plan_of, written};
 use task_reader::read_set;
 
 /// Reads a job text, loads each task's program into its job, has the gates and the jobs run the schedule of the set, and writes

@@ -9,7 +9,6 @@ mod mode_text;
 mod modes;
 mod running;
 mod summary;
-mod written;
 
 pub use closing::{close_flushed, close_run};
 pub use command_words::{Command, Execution, Reading};

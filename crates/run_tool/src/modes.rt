@@ -15,7 +15,6 @@ ghost use Rattle.command_words.specs.declared.command.Execution.TheVariants.{Mod
 
 use crate::exec::name_at;
 use crate::mode_text::write_modes;
-use crate::written::written;
 use command_words::USUAL_WINDOW;
 use exec_workers::Kit;
 use mode_switch::{Modes, ModesFault, ModesRun, run_modes};
@@ -25,7 +24,7 @@ use sched_edges::{BoxedJob, Gate, Job, Jobs, Sink, Source, read_all};
 use std::alloc::Global;
 use std::sync::Wait;
 use std::thread::Threads;
-use still_commands::{ModeRefusal, Refusal, SET_LIMIT};
+use still_commands::{ModeRefusal, Refusal, SET_LIMIT, written};
 use task_reader::{Pieces, ReadSet, cut, pieces_law, read_set};
 
 /// Reads task sets, has the gates and the jobs run their schedules as modes, one after the other, and writes them. In each mode a

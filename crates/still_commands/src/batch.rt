@@ -18,7 +18,7 @@ use crate::mode_line::set_start;
 use crate::refusal::Refusal;
 use crate::refusal_line::{overload_line, refuse, scale_line, write_line, write_set_refusal};
 use crate::status::Status;
-use crate::written::written;
+use crate::unwritten::written;
 use batch_compile::{Answer, Answers, answers_of};
 use command_words::is_batch;
 use sched_base::NoMemory;

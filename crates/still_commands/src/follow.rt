@@ -14,7 +14,7 @@ ghost use Rattle.still_commands.specs.declared.status.Status.TheVariants.{Done};
 use crate::input::SET_LIMIT;
 use crate::refusal::Refusal;
 use crate::trace::rows_of;
-use crate::written::written;
+use crate::unwritten::written;
 use event_core::count_rounds;
 use reading_laws::form_law;
 use round_table::table_law;

@@ -20,8 +20,8 @@ mod table;
 mod top;
 mod trace;
 mod tree;
+mod unwritten;
 mod wrap;
-mod written;
 
 pub use batch::run_batch;
 pub use command_words::Reading;
@@ -35,3 +35,4 @@ pub use sound::{follow_law, sound_law};
 pub use status::Status;
 pub use top::{run_reading, run_still};
 pub use trace::write_rows;
+pub use unwritten::written;

@@ -8,7 +8,7 @@ ghost use Rattle.still_commands.specs.declared.status.Status.TheVariants.{Done};
 use crate::input::read_input;
 use crate::rate_text::write_rate;
 use crate::refusal::Refusal;
-use crate::written::written;
+use crate::unwritten::written;
 use rate_scale::{scale_of, total};
 use sched_base::TaskSet;
 use sched_edges::{Sink, Source};

@@ -14,7 +14,7 @@ ghost use Rattle.still_commands.specs.declared.status.Status.TheVariants.{Done};
 use crate::input::read_input;
 use crate::plan::plan_of;
 use crate::refusal::Refusal;
-use crate::written::written;
+use crate::unwritten::written;
 use merged_rounds::merged_of;
 use merged_rows::MergedRows;
 use run_tree::Plan;

@@ -17,7 +17,7 @@ ghost use Rattle.still_commands.specs.declared.status.Status.TheVariants.{Done};
 use crate::input::read_input;
 use crate::refusal::Refusal;
 use crate::trace::{wants_met, write_table};
-use crate::written::written;
+use crate::unwritten::written;
 use merged_rows::{MergedRows, totals_of as totals_of_merged};
 use rate_scale::{scale_of, total};
 use row_totals::totals_of;

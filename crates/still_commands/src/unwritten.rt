@@ -2,11 +2,11 @@
 ghost use Rattle.std.specs.Prelude.{◌≡◌, Ok, Err, MatchResult};
 ghost use Rattle.still_commands.specs.declared.refusal.Refusal.TheVariants as why;
 
+use crate::refusal::Refusal;
 use sched_edges::Failed;
-use still_commands::Refusal;
 
 /// Where the sink of a text failed, that is told.
-pub(crate) fn written(wrote: Result<(), Failed>) -> Result<(), Refusal>
+pub fn written(wrote: Result<(), Failed>) -> Result<(), Refusal>
     ensures { MatchResult wrote (λ v. result ≡ Ok v) (λ _. result ≡ Err why.WriteFault) }
 {
     match wrote {
