@@ -6,7 +6,6 @@ ghost use Rattle.run_tree.specs.Making.{member_node, pack_node, joined, with_dua
 
 use crate::kinds::Kind;
 use sched_base::{NoMemory, NodeId};
-use smallvec::SmallVec;
 use std::alloc::Global;
 use std::marker::Model;
 
@@ -16,7 +15,7 @@ pub(crate) struct Node {
     rate: u128,
     home: u32,
     place: u32,
-    members: SmallVec<NodeId, 4>,
+    members: Vec<NodeId>,
     dual: Option<NodeId>,
 }
 
@@ -59,7 +58,7 @@ impl Node {
             rate: 0,
             home: 0,
             place: 0,
-            members: SmallVec::new(alloc),
+            members: Vec::new(alloc),
             dual: None,
         }
     }
@@ -73,7 +72,7 @@ impl Node {
             rate,
             home,
             place,
-            members: SmallVec::new(alloc),
+            members: Vec::new(alloc),
             dual: None,
         }
     }
@@ -87,7 +86,7 @@ impl Node {
             rate: self.rate,
             home: self.home,
             place: self.place,
-            members: SmallVec::from_slice(*self.members.allocator(), self.members.as_slice())?,
+            members: Vec::from_slice(*self.members.allocator(), self.members.as_slice())?,
             dual: self.dual,
         })
     }
