@@ -3,12 +3,11 @@ use Rattle.std.proofs.Common.{◌≡◌, ◌≢◌, ◌⊎◌, inl, inr, ℕ, ze
 use Rattle.std.specs.Prelude.{slice_get}
 use Rattle.std.proofs.lemmas.Bool.{cases_eq, cases_order}
 use Rattle.std.proofs.lemmas.List.{get_or-set_other, get_or-set_same, get_or_default, get_or_past, length-set, length-replicate}
-use Rattle.std.proofs.lemmas.Option.{slice_get_within}
 use Rattle.sched_base.specs.declared.rows.Row.{Row}
 use Rattle.sched_base.specs.declared.rows.Leaf.{Leaf}
 use Rattle.sched_base.specs.declared.rows.Leaf.TheVariants.{Task}
 use Rattle.sched_base.specs.declared.rows.TaskId.{TaskId}
-use Rattle.sched_base.specs.Tables.{Table, RowAt, IsTable, lane_of, rounds_of, with_round}
+use Rattle.sched_base.specs.Tables.{Table, RowAt, IsTable, rounds_of, with_round}
 use Rattle.sched_base.proofs.TableLemmas.{RowAt-with_round, lane_within, length-with_round, length-lane_of-with_round}
 use Rattle.book_machine.specs.declared.links.Link.{Link}
 use Rattle.book_machine.specs.declared.links.Link.TheVariants.{First, After, Unknown}
@@ -16,7 +15,7 @@ use Rattle.book_machine.specs.declared.links.Trail.{Trail}
 use Rattle.book_machine.specs.declared.links.Trail.TheVariants.{NoRow, Last}
 use Rattle.book_machine.specs.declared.links.Place.{Place}
 use Rattle.book_machine.specs.Machine.{State, posted_at, least_posted, EarlierPosted}
-use Rattle.book_machine.specs.Links.{IsBefore, IsLink, Says, IsLast, IsTrail, link_at, AreLinked, LinkIsPosted, ArePostedInOrder, IsLinkedTable}
+use Rattle.book_machine.specs.Links.{IsBefore, Says, IsTrail, link_at, AreLinked, LinkIsPosted, ArePostedInOrder, IsLinkedTable}
 use Rattle.book_machine.proofs.Lanes.{least_le}
 
 -- ---- places before others

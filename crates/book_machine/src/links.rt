@@ -4,7 +4,7 @@ ghost use Rattle.std.specs.Prelude.{slice_index_or, IfOk};
 ghost use Rattle.sched_base.specs.declared.rows.Row.{Row};
 ghost use Rattle.sched_base.specs.declared.rows.Leaf.TheVariants.{Task};
 ghost use Rattle.sched_base.specs.declared.rows.TaskId.{TaskId};
-ghost use Rattle.sched_base.specs.Tables.{rounds_of, end_of, RowAt, IsRound, IsTable, with_round};
+ghost use Rattle.sched_base.specs.Tables.{rounds_of, end_of, RowAt, IsRound, with_round};
 ghost use Rattle.book_machine.specs.declared.links.Link.TheVariants.{Unknown};
 ghost use Rattle.book_machine.specs.declared.links.Trail.{Trail};
 ghost use Rattle.book_machine.specs.declared.links.Trail.TheVariants.{NoRow, Last};

@@ -4,7 +4,7 @@
 //! that many ticks later.
 #![tactic(auto)]
 
-ghost use Rattle.std.specs.Prelude.{ℕ, List, Bool, false, ◌≡◌, ◌<◌, ◌≤◌, ◌+◌, ◌*◌, length, slice_index};
+ghost use Rattle.std.specs.Prelude.{ℕ, List, Bool, false, ◌≡◌, ◌<◌, ◌≤◌, ◌+◌, ◌*◌, slice_index};
 ghost use Rattle.run_tree.specs.Plans.{PlanContents, IsPlan, boundary_of};
 ghost use Rattle.run_tree.specs.Tree.{IsMember};
 ghost use Rattle.budget_laws.specs.Spending.{SaysLeft, SaysMembersRun, AreSpent, left_of};

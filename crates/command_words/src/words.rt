@@ -1,5 +1,5 @@
 //! Command lines.
-ghost use Rattle.std.specs.Prelude.{◌≡◌, ◌↔◌, true, false, [], ◌∷◌, codes, map, string_bytes, Some, None, IfOk, IfSome, IsTrue, option_map};
+ghost use Rattle.std.specs.Prelude.{◌≡◌, ◌↔◌, true, false, [], ◌∷◌, map, string_bytes, Some, None, IfOk, IfSome, IsTrue, option_map};
 ghost use Rattle.command_words.specs.declared.command.Command.TheVariants.{Read, Batch, Execute};
 ghost use Rattle.command_words.specs.declared.command.Execution.TheVariants.{Exec, Drill};
 ghost use Rattle.command_words.specs.Words.{window_of, exec_with, exec_by, drill_of, drill_with, HasWindow};

@@ -1,9 +1,9 @@
 //! What a window that begins gives: its due, its end, and a pack that is to be looked at again.
-ghost use Rattle.std.specs.Prelude.{ℕ, [], ◌≡◌, ◌<◌, ◌≤◌, ◌-◌, ◌*◌, ◌^◌, length, true, slice_index, slice_index_or, slice_set};
-ghost use Rattle.run_tree.specs.Tree.{rate, home, place, members, IsMember};
+ghost use Rattle.std.specs.Prelude.{ℕ, [], ◌≡◌, ◌<◌, ◌≤◌, ◌-◌, ◌^◌, length, true, slice_index, slice_index_or, slice_set};
+ghost use Rattle.run_tree.specs.Tree.{home, place, members, IsMember};
 ghost use Rattle.run_tree.specs.Plans.{IsPlan};
 ghost use Rattle.release_calendar.specs.Calendars.{BelongsTo};
-ghost use Rattle.event_core.specs.Serving.{due_of, no_tick, AreBegun};
+ghost use Rattle.event_core.specs.Serving.{due_of, AreBegun};
 
 use crate::dried::put_end;
 use knockout::Knockout;

@@ -1,6 +1,6 @@
 //! What a member that ran dry leaves: it is ready no more, and its pack is to be looked at again.
 ghost use Rattle.std.specs.Prelude.{ℕ, [], ◌≡◌, ◌≢◌, ◌+◌, ◌<◌, ◌≤◌, length, true, None, Some, slice_index, slice_index_or, slice_set};
-ghost use Rattle.run_tree.specs.Tree.{IsTree, IsPack, level as level_of};
+ghost use Rattle.run_tree.specs.Tree.{IsTree, level as level_of};
 ghost use Rattle.run_tree.specs.Schedule.{packs_at};
 ghost use Rattle.knockout.specs.Knockouts.{never};
 ghost use Rattle.event_core.specs.Serving.{lists, AreSoonestFrom, IsServing, IsDrying, IsDried};

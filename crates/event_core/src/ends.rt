@@ -1,6 +1,6 @@
 //! Where a round ends: the first tick at which a member that runs has nothing left.
-ghost use Rattle.std.specs.Prelude.{ℕ, ◌≡◌, ◌+◌, ◌<◌, ◌≤◌, min, length, slice_index, slice_set};
-ghost use Rattle.run_tree.specs.Tree.{IsTree, IsPack, level as level_of};
+ghost use Rattle.std.specs.Prelude.{◌≡◌, ◌<◌, ◌≤◌, min, length, slice_index, slice_set};
+ghost use Rattle.run_tree.specs.Tree.{IsTree, level as level_of};
 ghost use Rattle.event_core.specs.Serving.{AreSoonestFrom, IsSoonest};
 
 use crate::walks::pack_of;

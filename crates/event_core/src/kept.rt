@@ -1,5 +1,5 @@
 //! What a core keeps of packs and nodes from round to round.
-ghost use Rattle.std.specs.Prelude.{ℕ, [], ◌≡◌, ◌≢◌, ◌<◌, ◌≤◌, ◌^◌, length, replicate, false, None, slice_index, slice_index_or};
+ghost use Rattle.std.specs.Prelude.{ℕ, [], ◌≡◌, ◌<◌, ◌≤◌, ◌^◌, length, replicate, false, None, slice_index, slice_index_or};
 ghost use Rattle.run_tree.specs.Tree.{IsMember, IsPack, home, level as level_of, place};
 ghost use Rattle.run_tree.specs.Plans.{IsPlan};
 ghost use Rattle.run_tree.specs.Runs.{runs_now};

@@ -1,6 +1,6 @@
 //! Which member of a pack runs, and what is left of its due.
 ghost use Rattle.std.specs.Prelude.{ℕ, List, ◌≡◌, ◌≢◌, ◌<◌, ◌≤◌, length, true, false, Some, slice_index_or};
-ghost use Rattle.sched_base.specs.Candidates.{is_at, earliest};
+ghost use Rattle.sched_base.specs.Candidates.{is_at};
 ghost use Rattle.run_tree.specs.Tree.{IsTree, IsPack, IsMember, level, member, members};
 ghost use Rattle.edf_pick.specs.Ready.{AreReady};
 ghost use Rattle.tree_select.specs.Selected.{candidates};

@@ -3,7 +3,7 @@ ghost use Rattle.std.specs.Prelude.{◌≡◌, ◌<◌, ◌≤◌, ◌+◌, ◌*
 ghost use Rattle.std.specs.Prelude.{IfErr, IsTrue, true};
 ghost use Rattle.sched_base.specs.declared.rows.Row.{Row};
 ghost use Rattle.sched_base.specs.Rows.{is_of_task};
-ghost use Rattle.sched_base.specs.Tables.{IsTable, rounds_of as rounds_in};
+ghost use Rattle.sched_base.specs.Tables.{rounds_of as rounds_in};
 ghost use Rattle.sched_edges.specs.Jobs.{FaultsAre};
 ghost use Rattle.run_tree.specs.Plans.{IsPlan, rounds_of};
 ghost use Rattle.sched_base.specs.Tables.{row_limit};

@@ -1,5 +1,5 @@
 //! What a book holds until it is dismissed. Each call changes it where it lies.
-ghost use Rattle.std.specs.Prelude.{◌≡◌, ◌≤◌, ◌<◌, ◌+◌, ℕ, None, Some, length, slice_get};
+ghost use Rattle.std.specs.Prelude.{◌≡◌, ◌≤◌, ◌<◌, ◌+◌, None, Some, length, slice_get};
 ghost use Rattle.sched_base.specs.declared.rows.Row.{Row};
 ghost use Rattle.sched_base.specs.declared.rows.Leaf.TheVariants.{Task};
 ghost use Rattle.sched_base.specs.declared.rows.TaskId.{TaskId};

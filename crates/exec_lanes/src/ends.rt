@@ -1,9 +1,9 @@
 //! What the lanes of a run say when it has ended.
-ghost use Rattle.std.specs.Prelude.{◌≡◌, ◌≢◌, ◌<◌, ◌^◌, ◌↔◌, ℕ, Some, None, length, slice_index, slice_set, IfSome, IfNone, IsTrue, true, false};
+ghost use Rattle.std.specs.Prelude.{◌≡◌, ◌≢◌, ◌<◌, ◌^◌, ◌↔◌, ℕ, Some, None, length, slice_set, IfSome, IfNone, IsTrue, true, false};
 ghost use Rattle.sched_base.specs.declared.rows.Row.{Row};
 ghost use Rattle.sched_base.specs.declared.rows.TaskId.{TaskId};
-ghost use Rattle.exec_lanes.specs.Lanes.{lane_in, JobRose, NoneFailed, AllAt};
-ghost use Rattle.exec_lanes.specs.Ends.{posted_by, GateFailed, JobFailed, NoGateBefore, NoJobBefore, NamesLowest, JobsRose, KeepsCounts};
+ghost use Rattle.exec_lanes.specs.Lanes.{lane_in, NoneFailed, AllAt};
+ghost use Rattle.exec_lanes.specs.Ends.{posted_by, NoGateBefore, NoJobBefore, NamesLowest, JobsRose, KeepsCounts};
 
 use crate::answers::FirstFault;
 use crate::causes::Cause;

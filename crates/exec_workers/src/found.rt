@@ -1,5 +1,5 @@
 //! What is tested of a book that is found under the lock.
-ghost use Rattle.std.specs.Prelude.{◌≡◌, ◌+◌, ◌-◌, ℕ, length, false, IsTrue};
+ghost use Rattle.std.specs.Prelude.{◌≡◌, ◌+◌, ◌-◌, length, false, IsTrue};
 ghost use Rattle.sched_edges.specs.Jobs.{FaultsAre};
 ghost use Rattle.run_tree.specs.Plans.{IsPlan};
 ghost use Rattle.book_machine.specs.Reached.{OutRow};

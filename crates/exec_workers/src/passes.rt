@@ -1,6 +1,5 @@
 //! Serving all lanes.
 ghost use Rattle.std.specs.Prelude.{◌≡◌, ◌≢◌, ◌<◌, ◌⊎◌, ℕ, None, length};
-ghost use Rattle.run_tree.specs.Plans.{rounds_of};
 ghost use Rattle.exec_book.specs.PlanRows.{plan_rows};
 ghost use Rattle.exec_lanes.specs.Lanes.{lane_in, AllServed, NoneFailed, AllAt};
 

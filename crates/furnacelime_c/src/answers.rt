@@ -1,5 +1,5 @@
 //! The commands that take no lock, over bytes in memory.
-ghost use Rattle.std.specs.Prelude.{◌≡◌, ◌≢◌, ◌⊎◌, ◌<◌, length, Some, None, IsSome, IfSome};
+ghost use Rattle.std.specs.Prelude.{◌≡◌, ◌≢◌, ◌<◌, length, Some, None, IfSome};
 ghost use Rattle.command_words.specs.Words.{ShowsSome};
 ghost use Rattle.furnacelime_c.specs.Answers.{reading_of, asked_by, Gives, IsNotCalled, IsCopied, IsShort};
 

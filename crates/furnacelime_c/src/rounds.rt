@@ -1,5 +1,5 @@
 //! The schedule of a task set round by round.
-ghost use Rattle.std.specs.Prelude.{◌≡◌, ◌≢◌, ◌<◌, ◌≤◌, ◌⊎◌, length, Some, None, IfOk, IfErr};
+ghost use Rattle.std.specs.Prelude.{◌≡◌, ◌≢◌, ◌<◌, ◌≤◌, ◌⊎◌, length, None, IfOk, IfErr};
 ghost use Rattle.run_tree.specs.Plans.{stop_of};
 ghost use Rattle.round_steps.specs.Refusals.{IsRefusedFor};
 ghost use Rattle.furnacelime_c.specs.Rounds.{Tells, Begins, IsOpened, IsNotOpened, IsRound, IsNext, IsOver, IsShort};

@@ -4,10 +4,10 @@ ghost use Rattle.std.specs.List.{flat_map, range_with_len};
 ghost use Rattle.sched_base.specs.Bytes.{space};
 ghost use Rattle.sched_base.specs.Sets.{task_at};
 ghost use Rattle.sched_edges.specs.Causes.{HasCause};
-ghost use Rattle.sched_edges.specs.Jobs.{JobAt, computed};
+ghost use Rattle.sched_edges.specs.Jobs.{JobAt};
 ghost use Rattle.sched_edges.specs.Streams.{Wrote};
-ghost use Rattle.job_vm.specs.Results.{Told, told_of, told_at, job_line, jobs_text};
-ghost use Rattle.job_vm.specs.Seen.{job_seen, seen};
+ghost use Rattle.job_vm.specs.Results.{told_at, job_line, jobs_text};
+ghost use Rattle.job_vm.specs.Seen.{seen};
 
 use sched_base::TaskSet;
 use sched_edges::{Failed, Job, JobList, Line, Sink, word_line, write_all};

@@ -1,5 +1,5 @@
 //! A job that runs a program.
-ghost use Rattle.std.specs.Prelude.{◌≡◌, ◌+◌, ◌<◌, ◌^◌, [], Some, OnOk, OnErr, IsOk};
+ghost use Rattle.std.specs.Prelude.{◌≡◌, ◌+◌, ◌<◌, ◌^◌, [], Some, IsOk};
 
 use crate::vm::Vm;
 use sched_base::NoMemory;

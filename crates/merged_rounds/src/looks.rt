@@ -1,6 +1,5 @@
 //! What each processor shows in a round, where that may be something else than in the one before.
 ghost use Rattle.std.specs.Prelude.{◌≡◌, ℕ, ◌<◌, ◌≤◌, true, length, Option, None, Some, slice_index_or};
-ghost use Rattle.sched_base.specs.declared.rows.Leaf.{Leaf as DeclaredLeaf};
 ghost use Rattle.sched_base.specs.declared.rows.Leaf.TheVariants.{Wait as waiting_leaf};
 ghost use Rattle.sched_base.specs.declared.rows.NodeId.{NodeId as DeclaredNodeId};
 ghost use Rattle.sched_base.specs.declared.rows.TaskId.{TaskId as DeclaredTaskId};

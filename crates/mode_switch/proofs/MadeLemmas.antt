@@ -1,5 +1,5 @@
 -- Gates and jobs that are made one after the other.
-use Rattle.std.proofs.Common.{◌≡◌, ℕ, ◌+◌, ◌<◌, List, [], ◌∷◌, ◌++◌, Option, Some, length, refl, sym, ap, ◌∙◌, subst, arith, length-append}
+use Rattle.std.proofs.Common.{◌≡◌, ℕ, ◌+◌, List, [], ◌∷◌, ◌++◌, Option, Some, length, refl, sym, ap, ◌∙◌, subst, arith, length-append}
 use Rattle.sched_edges.specs.Gates.{GateHeld}
 use Rattle.exec_lanes.specs.declared.kits.Kit.{Kit}
 use Rattle.exec_lanes.specs.Kits.{AreFilled}

@@ -1,16 +1,14 @@
 -- What one mode does to the gates and to the jobs.
-use Rattle.std.proofs.Common.{◌≡◌, ℕ, zero, suc, ◌+◌, ◌-◌, ◌^◌, ◌<◌, ◌≤◌, min, nat_lt, if◌then◌else◌, true, false, inl, inr, List, [], ◌∷◌, ◌++◌, Option, Some, None, Result, Ok, Err, OnOk, IsOk, length, take, option_map}
+use Rattle.std.proofs.Common.{◌≡◌, ℕ, zero, suc, ◌-◌, ◌<◌, ◌≤◌, nat_lt, if◌then◌else◌, true, false, inl, inr, List, [], ◌∷◌, Option, Some, None, Result, Ok, Err, OnOk, IsOk, length, take, option_map}
 use Rattle.std.proofs.Common.{refl, sym, ap, ◌∙◌, subst, arith, rules, lt-ltb, eq-eqb}
 use Rattle.std.specs.Prelude.{slice_get}
-use Rattle.std.proofs.lemmas.Bool.{cases_Bool}
 use Rattle.sched_base.specs.declared.sets.Task.{Task}
 use Rattle.sched_base.specs.declared.rows.Leaf.TheVariants as leaf
 use Rattle.sched_base.specs.declared.rows.Row.{Row}
 use Rattle.sched_base.specs.Rows.{is_of_task}
-use Rattle.sched_base.specs.Tables.{RowAt, all_rows, lane_of, ticks_in}
+use Rattle.sched_base.specs.Tables.{all_rows, lane_of, ticks_in}
 use Rattle.sched_edges.specs.declared.gates.Gate.{Ghosts as GateTells}
 use Rattle.sched_edges.specs.declared.jobs.Job.{Ghosts as JobTells}
-use Rattle.sched_edges.specs.Causes.{Rose}
 use Rattle.sched_edges.specs.Gates.{grown}
 use Rattle.sched_edges.specs.Jobs.{JobAt}
 use Rattle.job_vm.specs.Seen.{JobSeen, job_seen, jobs_of, seen}
@@ -25,7 +23,6 @@ use Rattle.exec_lanes.specs.declared.answers.ExecFault.TheVariants as exec
 use Rattle.exec_lanes.specs.declared.causes.Cause.{Cause}
 use Rattle.exec_lanes.specs.declared.causes.Cause.TheVariants as cause
 use Rattle.exec_lanes.specs.declared.kits.Kit.{Kit}
-use Rattle.exec_lanes.specs.Ends.{GateFailed, JobFailed}
 use Rattle.exec_lanes.specs.Kits.{KitAt, AreFilled}
 use Rattle.exec_lanes.specs.Lanes.{LaneContents, HasRisen, FailsNext, lane_in}
 use Rattle.exec_workers.specs.Runs.{CountsGate, Ran, Outcome, GatesGrew, AreFresh}

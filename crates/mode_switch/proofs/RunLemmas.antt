@@ -1,24 +1,20 @@
 -- What modes do to the gates and to the jobs, one after the other.
-use Rattle.std.proofs.Common.{◌≡◌, ◌⊎◌, ℕ, zero, suc, ◌+◌, ◌*◌, ◌<◌, ◌≤◌, inl, inr, List, [], ◌∷◌, ◌++◌, Option, Some, None, Result, Ok, Err, OnOk, IfOk, IfErr, length, take, option_map}
+use Rattle.std.proofs.Common.{◌≡◌, ℕ, zero, suc, ◌+◌, ◌*◌, ◌≤◌, inl, inr, List, [], ◌∷◌, ◌++◌, Option, Some, None, Result, Ok, Err, IfOk, IfErr, length, take, option_map}
 use Rattle.std.proofs.Common.{refl, sym, ap, ◌∙◌, subst, arith, append_assoc, take_all, add-one}
 use Rattle.std.specs.Prelude.{slice_get}
 use Rattle.std.specs.List.{AllByRecursion, AllZip}
 use Rattle.std.specs.Result.{IsErrAnd}
 use Rattle.std.proofs.lemmas.List.Sums.{sum_by-cons}
-use Rattle.sched_base.specs.declared.rows.Row.{Row}
 use Rattle.sched_base.specs.Tables.{lane_of, row_limit}
 use Rattle.sched_edges.specs.declared.gates.Gate.{Ghosts as GateTells}
 use Rattle.sched_edges.specs.declared.jobs.Job.{Ghosts as JobTells}
 use Rattle.sched_edges.specs.Gates.{grown}
-use Rattle.sched_edges.specs.Jobs.{JobAt}
 use Rattle.run_tree.specs.Plans.{PlanContents, rounds_of}
 use Rattle.exec_book.specs.PlanRows.{IsCompiled, plan_rows}
 use Rattle.exec_lanes.specs.declared.answers.Executed.{Executed}
 use Rattle.exec_lanes.specs.declared.answers.ExecFault.{ExecFault}
 use Rattle.exec_lanes.specs.declared.answers.ExecFault.TheVariants as exec
-use Rattle.exec_lanes.specs.declared.kits.Kit.{Kit}
-use Rattle.exec_lanes.specs.Kits.{KitAt, AreFilled}
-use Rattle.exec_lanes.specs.Lanes.{HasRisen}
+use Rattle.exec_lanes.specs.Kits.{AreFilled}
 use Rattle.exec_lanes.proofs.ServeLemmas.{grown-grown, grown-nil}
 use Rattle.mode_join.specs.declared.mode.Mode.{Mode}
 use Rattle.mode_switch.specs.declared.answers.ModesFault.{ModesFault}

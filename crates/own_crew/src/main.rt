@@ -4,7 +4,7 @@
 mod bounded_job;
 mod busy_gate;
 
-ghost use Rattle.std.specs.Prelude.{◌≡◌, length, IfOk};
+ghost use Rattle.std.specs.Prelude.{IfOk};
 ghost use Rattle.exec_lanes.specs.Kits.{AreFilled};
 ghost use Rattle.exec_book.specs.PlanRows.{IsCompiled};
 

@@ -5,5 +5,5 @@ mod multiples;
 mod rates;
 mod scales;
 
-pub use rates::{fits, rate, total};
+pub use rates::{fits, rate, rates_of, total};
 pub use scales::{ScaleTooLarge, scale_law, scale_of};

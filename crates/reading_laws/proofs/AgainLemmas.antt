@@ -1,21 +1,18 @@
 -- The lines of a tree text are read again, part by part.
-use Rattle.std.proofs.Common.{◌≡◌, ◌≢◌, ℕ, zero, suc, ◌+◌, ◌-◌, ◌^◌, ◌<◌, ◌≤◌, ◌&&◌, Bool, true, false, cond, eqb, leb, List, [], ◌∷◌, ◌++◌, map, length, Option, Some, None, option_map, option_and_then, Result, Ok, Err, codes, decimal, refl, ap, ap₂, arith, sym, subst, ◌∙◌, append_assoc, append-nil, length-append}
+use Rattle.std.proofs.Common.{◌≡◌, ◌≢◌, ℕ, zero, suc, ◌+◌, ◌-◌, ◌^◌, ◌<◌, ◌≤◌, ◌&&◌, true, false, cond, eqb, leb, List, [], ◌∷◌, ◌++◌, map, length, Some, None, option_map, option_and_then, Ok, codes, decimal, refl, ap, arith, sym, subst, ◌∙◌, append_assoc, append-nil, length-append}
 use Rattle.std.specs.Prelude.{is_some}
 use Rattle.std.specs.List.{AllByRecursion, flat_map, list_all}
 use Rattle.std.proofs.lemmas.Bool.{cond-true, cond-false, ne_eqb, eq-eqb, and_from, and_parts, le-leb}
 use Rattle.sched_base.specs.declared.sets.Task.{Task}
 use Rattle.sched_base.specs.Names.{is_lawful_name, starts_name, continues_name}
-use Rattle.sched_base.specs.Scale.{IsScale}
-use Rattle.sched_base.specs.Sets.{SetContents, IsLawful, IsFree}
-use Rattle.sched_edges.specs.Lines.{line_of, number_line, numbers_line}
-use Rattle.trace_text.specs.Words.{lines_of, onto_first, cut_space, after_word, behind, number_of}
+use Rattle.sched_base.specs.Sets.{IsFree}
+use Rattle.sched_edges.specs.Lines.{number_line, numbers_line}
+use Rattle.trace_text.specs.Words.{onto_first, cut_space, after_word, behind, number_of}
 use Rattle.trace_text.proofs.RoundTrip.{number_of_decimal}
 use Rattle.trace_lines.specs.declared.versions.Version.TheVariants.{One}
 use Rattle.trace_lines.specs.Lines.{task_line}
-use Rattle.trace_lines.specs.Conditions.{AreOnTime}
 use Rattle.trace_check.specs.declared.head_lines.Head.{Head}
-use Rattle.trace_check.specs.Steps.{and_then, step, next_line, number_after, within}
-use Rattle.trace_check.specs.TaskLines.{tasks_from}
+use Rattle.trace_check.specs.Steps.{and_then, step, next_line, within}
 use Rattle.trace_check.proofs.ScaleTest.{is_scale_from}
 use Rattle.trace_check.proofs.TaskTripLemmas.{tasks_again}
 use Rattle.trace_check.proofs.WordLemmas.{IsWord, word_of, name_word, decimal_word, bare, lines_again, line_again, cut_word, word_then, number_again, number_is, next_number, next_any, start_past}
@@ -24,7 +21,7 @@ use Rattle.tree_check.specs.declared.written.Member.TheVariants.{Name, Number}
 use Rattle.tree_check.specs.Written.{Pack, Written}
 use Rattle.tree_reader.specs.Members.{words_of, member_number, member_of, leaf_member, members_from}
 use Rattle.tree_reader.specs.Packs.{pack_from, pack_of, number_behind, second_number}
-use Rattle.tree_reader.specs.Reading.{tree_head, idles_from, packs_from, level_from, levels_from, ended, last_line, is_count, body, reading}
+use Rattle.tree_reader.specs.Reading.{tree_head, idles_from, packs_from, level_from, levels_from, ended, is_count, body, reading}
 use Rattle.tree_reader.proofs.WordLemmas.{words_cut, words_last}
 use Rattle.tree_reader.proofs.ReadingLemmas.{head_is, idles_more, packs_more, levels_more, levels_done, body_levels, reading_tasks, judged}
 use Rattle.reading_laws.proofs.TreeLines.{word_at, line_of_pack, lines_of_levels, lines_of_idles, last_lines, tree_lines, IsWritable, IsPackLine, IsLevelLines, AreLevels, IsText}

@@ -1,11 +1,9 @@
 -- The text of a plan's tree is read as that of a tree that runs as the plan's.
-use Rattle.std.proofs.Common.{◌≡◌, ℕ, ◌^◌, ◌≤◌, Ok, map, length, max, ap, arith, sym, ◌∙◌}
+use Rattle.std.proofs.Common.{ℕ, ◌^◌, ◌≤◌, map, length, ap, arith, sym, ◌∙◌}
 use Rattle.std.proofs.lemmas.List.{length-map}
 use Rattle.sched_base.specs.Scale.{IsScale, Fits, rate_of}
 use Rattle.sched_base.specs.Sets.{SetContents, IsLawful}
 use Rattle.run_tree.specs.Compiled.{tree_of}
-use Rattle.run_tree.specs.Plans.{PlanContents}
-use Rattle.run_tree.specs.Schedule.{schedule, rounds}
 use Rattle.run_tree.specs.Tree.{Tree}
 use Rattle.run_tree.specs.TreeOfSet.{IsTreeOf, idle_count}
 use Rattle.run_tree.proofs.SetBoundaryLemmas.{set_leaves}
@@ -13,8 +11,8 @@ use Rattle.tree_laws.proofs.SetRates.{rates_fit}
 use Rattle.tree_laws.proofs.SetTree.{set_tree, set_tree_scale}
 use Rattle.tree_numbers.proofs.SameSchedule.{schedule_same, rounds_count_same}
 use Rattle.trace_lines.specs.Conditions.{AreOnTime}
-use Rattle.tree_check.specs.Written.{Written, IsWritten, written_of}
-use Rattle.tree_check.specs.TextTree.{text_tree, IsTextOfTree}
+use Rattle.tree_check.specs.Written.{Written, written_of}
+use Rattle.tree_check.specs.TextTree.{text_tree}
 use Rattle.tree_check.proofs.WrittenFaultless.{written_faultless}
 use Rattle.tree_check.proofs.TextLeaves.{text_is_tree_of}
 use Rattle.tree_check.proofs.Again.{written_again}

@@ -1,5 +1,5 @@
 -- What a tree text that is read says of its set.
-use Rattle.std.proofs.Common.{◌≡◌, ℕ, zero, suc, ◌+◌, ◌-◌, ◌^◌, ◌<◌, ◌≤◌, ◌&&◌, Bool, true, false, cond, leb, ltb, List, [], ◌∷◌, ◌++◌, length, Option, Some, None, option_and_then, Result, Ok, Err, codes, refl, ap, arith, sym, subst, ◌∙◌, length-append}
+use Rattle.std.proofs.Common.{◌≡◌, ℕ, zero, suc, ◌+◌, ◌-◌, ◌^◌, ◌<◌, ◌≤◌, ◌&&◌, Bool, true, false, cond, leb, ltb, List, [], ◌∷◌, ◌++◌, length, Option, Some, None, option_and_then, Result, Ok, Err, codes, refl, ap, arith, sym, subst, length-append}
 use Rattle.std.specs.List.{AllByRecursion}
 use Rattle.std.proofs.lemmas.Bool.{and_parts, leb-true, ltb-true}
 use Rattle.sched_base.specs.declared.sets.Task.{Task}
@@ -10,10 +10,10 @@ use Rattle.trace_lines.specs.declared.versions.Version.TheVariants.{One}
 use Rattle.trace_lines.specs.Conditions.{AreOnTime}
 use Rattle.trace_check.specs.declared.head_lines.Head.{Head}
 use Rattle.trace_check.specs.Steps.{and_then, step, next_line, number_after, number_within, within}
-use Rattle.trace_check.specs.TaskLines.{is_new, are_lawful, task_from, task_ending, task_of, tasks_from, is_scale}
+use Rattle.trace_check.specs.TaskLines.{is_new, are_lawful, task_from, task_of, tasks_from, is_scale}
 use Rattle.trace_check.specs.Reading.{set_of}
 use Rattle.trace_check.proofs.TaskLemmas.{new_free}
-use Rattle.tree_check.specs.Written.{Pack, Written}
+use Rattle.tree_check.specs.Written.{Written}
 use Rattle.tree_reader.specs.Reading.{tree_head, idles_from, levels_from, body, reading}
 
 -- ---- steps

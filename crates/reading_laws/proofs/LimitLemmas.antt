@@ -3,14 +3,13 @@ use Rattle.std.proofs.Common.{◌≡◌, ℕ, zero, suc, ◌+◌, ◌-◌, ◌*�
 use Rattle.std.proofs.Math.Nat.{pow-le-pow_right}
 use Rattle.std.specs.List.{AllByRecursion, range_with_len, sum_by}
 use Rattle.std.proofs.lemmas.Bool.{both_ways, cases_Bool, cases_eq, cases_lt, and_from, and_parts, le-leb, leb-true, ne_eqb}
-use Rattle.std.proofs.lemmas.List.{length-map, get_or-map}
+use Rattle.std.proofs.lemmas.List.{length-map}
 use Rattle.std.proofs.lemmas.List.FromFn.{length-map-range_with_len}
 use Rattle.std.proofs.lemmas.List.Sums.{sum_by-cons}
 use Rattle.sched_base.specs.declared.rows.Leaf.{Leaf}
 use Rattle.sched_base.specs.declared.rows.Leaf.TheVariants.{Task, Wait, Idle, Empty}
-use Rattle.sched_base.specs.declared.sets.Task as declared
 use Rattle.sched_base.specs.Counting.{sum_to, bit}
-use Rattle.sched_base.specs.Sets.{SetContents, IsLawful, IsLawfulTask, task_at, no_task}
+use Rattle.sched_base.specs.Sets.{SetContents, IsLawful, IsLawfulTask, no_task}
 use Rattle.sched_base.proofs.CountingLemmas.{bit_at, bit_off, find_below}
 use Rattle.sched_base.proofs.ListLemmas.{length-passing}
 use Rattle.sched_base.proofs.SumLemmas.{sum_to-add, sum_to-alone, sum_to-le, sum_to-mul, sum_to-one, sum_to-ones, sum_to-same, sum_to-swap, sum_to-zero, term-le-sum_to}
@@ -21,8 +20,7 @@ use Rattle.run_tree.specs.TreeOfSet.{IsTreeOf, idle_count, is_idle, is_real}
 use Rattle.run_tree.specs.Compiled.{task_items, tree_of_rates}
 use Rattle.run_tree.specs.Schedule.{packs_at}
 use Rattle.run_tree.specs.Plans.{PlanContents}
-use Rattle.run_tree.proofs.TreeLemmas.{pack_at, at_from}
-use Rattle.sched_laws.specs.LevelCounts.{duals_of, level_rate}
+use Rattle.run_tree.proofs.TreeLemmas.{pack_at}
 use Rattle.sched_laws.proofs.LevelBound.{packs_of, members_pair, duals-le-packs, levels_bound_at}
 use Rattle.sched_laws.proofs.LevelCounts.{first_rate}
 use Rattle.trace_lines.specs.Conditions.{AreOnTime}
@@ -34,10 +32,10 @@ use Rattle.tree_laws.proofs.LastLevel.{length_packed}
 use Rattle.tree_laws.proofs.PackItems.{item_entries}
 use Rattle.tree_laws.proofs.Sizes.{idle_leaves}
 use Rattle.tree_laws.proofs.TasksHeld.{idles_in, idles_counted, idles_in-append, tasks_no_idles, idles_all}
-use Rattle.tree_text.specs.Text.{idle_node, is_idle_leaf, place_in_level}
+use Rattle.tree_text.specs.Text.{idle_node, is_idle_leaf}
 use Rattle.tree_check.specs.declared.written.Member.{Member}
 use Rattle.tree_check.specs.declared.written.Member.TheVariants.{Name, Number}
-use Rattle.tree_check.specs.Written.{Pack, Written, IsMemberAt, IsWrittenPack, IsWrittenLevel, IsWritten, level_at, kind_written, leaf_written, pack_written, written_of}
+use Rattle.tree_check.specs.Written.{Pack, IsMemberAt, IsWrittenPack, IsWrittenLevel, IsWritten, level_at, kind_written, pack_written, written_of}
 use Rattle.tree_check.proofs.LevelLists.{all_at}
 use Rattle.tree_check.proofs.LevelNodes.{pack_in, packs_all, placed}
 use Rattle.tree_check.proofs.WrittenTree.{levels_long, level_is, level_long, rate_some, idle_at, idle_is_leaf, is_idle_true}

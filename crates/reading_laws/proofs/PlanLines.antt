@@ -1,6 +1,6 @@
 -- The text of a plan's tree is made of the lines of what the plan is written as.
-use Rattle.std.proofs.Common.{◌≡◌, ℕ, zero, suc, ◌+◌, ◌<◌, ◌≤◌, List, [], ◌∷◌, ◌++◌, map, length, get_or, codes, decimal, refl, ap, ap₂, arith, sym, subst, ◌∙◌, append_assoc, append-nil}
-use Rattle.std.specs.List.{AllByRecursion, flat_map, range_with_len}
+use Rattle.std.proofs.Common.{◌≡◌, ℕ, zero, suc, ◌+◌, ◌<◌, List, [], ◌∷◌, ◌++◌, map, length, get_or, codes, decimal, refl, ap, ap₂, arith, sym, ◌∙◌, append_assoc, append-nil}
+use Rattle.std.specs.List.{flat_map, range_with_len}
 use Rattle.std.proofs.lemmas.Bool.{both_ways}
 use Rattle.std.proofs.lemmas.Fmt.{decimal_digit}
 use Rattle.std.proofs.lemmas.List.{length-map}
@@ -8,18 +8,18 @@ use Rattle.std.proofs.lemmas.List.FromFn.{length-map-range_with_len}
 use Rattle.sched_base.specs.declared.rows.Leaf.{Leaf}
 use Rattle.sched_base.specs.declared.rows.Leaf.TheVariants.{Task, Wait, Idle, Empty}
 use Rattle.sched_base.specs.declared.sets.Task as declared
-use Rattle.sched_base.specs.Sets.{SetContents, task_at}
+use Rattle.sched_base.specs.Sets.{SetContents}
 use Rattle.sched_edges.specs.Lines.{line_of, word_line, number_line, numbers_line}
 use Rattle.run_tree.specs.declared.kinds.Kind.{Kind}
 use Rattle.run_tree.specs.declared.kinds.Kind.TheVariants as kind
-use Rattle.run_tree.specs.Tree.{Tree, IsTree, IsPack, IsMember, IsLeaf, IsDual, kind_at, is_leaf, is_pack, is_dual, leaf, leaf_of, level, home, rate, member, members}
+use Rattle.run_tree.specs.Tree.{Tree, IsPack, IsMember, kind_at, is_leaf, is_pack, is_dual, leaf, leaf_of, level, home, rate, member, members}
 use Rattle.run_tree.specs.TreeOfSet.{IsTreeOf, idle_count, is_real}
 use Rattle.run_tree.specs.Schedule.{packs_at}
 use Rattle.run_tree.specs.Plans.{PlanContents}
 use Rattle.trace_lines.specs.declared.versions.Version.TheVariants.{One}
 use Rattle.trace_lines.specs.Lines as lines
-use Rattle.tree_text.specs.Text.{head_text, task_line, idle_node, idle_line, idles_text, kind_word, member_word, pack_line, level_text, tree_text}
-use Rattle.tree_check.specs.Written.{Pack, Written, kind_written, pack_written, written_of}
+use Rattle.tree_text.specs.Text.{task_line, idle_node, idle_line, idles_text, kind_word, member_word, pack_line, level_text, tree_text}
+use Rattle.tree_check.specs.Written.{Pack, kind_written, pack_written, written_of}
 use Rattle.tree_check.proofs.LevelNodes.{pack_in}
 use Rattle.reading_laws.proofs.TreeLines.{word_at, line_of_pack, lines_of_levels, lines_of_idles, last_lines, tree_lines}
 

@@ -1,17 +1,16 @@
 -- Two reduction trees of a set that are written alike differ in the numbers of their nodes alone.
-use Rattle.std.proofs.Common.{◌≡◌, ◌≢◌, ℕ, zero, suc, ◌+◌, ◌-◌, ◌<◌, ◌≤◌, Bool, true, false, List, [], ◌∷◌, map, length, get_or, Option, Some, None, option_map, refl, ap, ap₂, arith, inl, inr, sym, subst, ◌∙◌}
+use Rattle.std.proofs.Common.{◌≡◌, ℕ, suc, ◌+◌, ◌-◌, ◌<◌, true, false, map, length, get_or, Option, Some, None, option_map, refl, ap, ap₂, arith, inl, inr, sym, subst, ◌∙◌}
 use Rattle.std.specs.List.{position_from}
 use Rattle.std.specs.Str.{bytes_eq}
 use Rattle.std.proofs.lemmas.Bool.{both_ways}
 use Rattle.std.proofs.lemmas.List.{length-map, get_or-map, ext_get_or}
 use Rattle.sched_base.specs.declared.rows.Leaf.{Leaf}
 use Rattle.sched_base.specs.declared.rows.Leaf.TheVariants.{Task, Wait, Idle, Empty}
-use Rattle.sched_base.specs.declared.rows.TaskId.{TaskId}
 use Rattle.sched_base.specs.declared.sets.Task as declared
 use Rattle.sched_base.specs.Sets.{SetContents, IsLawful, task_at}
 use Rattle.run_tree.specs.declared.kinds.Kind.{Kind}
 use Rattle.run_tree.specs.declared.kinds.Kind.TheVariants as kind
-use Rattle.run_tree.specs.Tree.{Tree, IsTree, IsPack, IsMember, IsLeaf, IsDual, kind_at, is_leaf, is_pack, is_dual, leaf, leaf_of, level, level_of, primal, primal_of, rate, home, place, member, members, dual}
+use Rattle.run_tree.specs.Tree.{Tree, IsPack, IsMember, IsLeaf, IsDual, kind_at, is_leaf, is_pack, is_dual, leaf, leaf_of, level, level_of, primal, primal_of, rate, home, place, member, members, dual}
 use Rattle.run_tree.specs.TreeOfSet.{IsTreeOf, task_id, is_real}
 use Rattle.run_tree.specs.Schedule.{packs_at}
 use Rattle.run_tree.specs.Plans.{PlanContents}
@@ -19,8 +18,7 @@ use Rattle.run_tree.proofs.KindLemmas.{KindOf, kind_of, not_pack, not_pack_leaf}
 use Rattle.run_tree.proofs.TreeLemmas.{leaf_at_level}
 use Rattle.tree_numbers.specs.Renumbered.{renumbered, IsRenumbered}
 use Rattle.tree_text.specs.Text.{place_in_level}
-use Rattle.tree_check.specs.declared.written.Member.{Member}
-use Rattle.tree_check.specs.declared.written.Member.TheVariants.{Name, Number}
+use Rattle.tree_check.specs.declared.written.Member.TheVariants.{Number}
 use Rattle.tree_check.specs.Written.{Pack, Written, level_at, kind_written, leaf_written, pack_written, written_of, no_pack}
 use Rattle.tree_check.specs.Faults.{rate_at, named}
 use Rattle.tree_check.proofs.LevelNodes.{pack_of, pack_in, place_is, placed}

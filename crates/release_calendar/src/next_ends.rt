@@ -1,5 +1,5 @@
 //! Where windows that begin at a unit end, by the ends of the windows below them.
-ghost use Rattle.std.specs.Prelude.{◌≡◌, ℕ, ◌≤◌, length};
+ghost use Rattle.std.specs.Prelude.{◌≡◌, ◌≤◌, length};
 ghost use Rattle.run_tree.specs.Tree.{IsMember, IsPack};
 ghost use Rattle.run_tree.specs.Windows.{window_end};
 ghost use Rattle.run_tree.specs.Plans.{IsPlan, boundary_of};

@@ -1,6 +1,6 @@
 //! Sets into plans.
-ghost use Rattle.std.specs.Prelude.{ℕ, ◌≡◌, ◌≤◌, ◌<◌, ◌+◌, ◌-◌, ◌^◌, ◌⊎◌, map, IfOk, IfErr};
-ghost use Rattle.sched_base.specs.Scale.{IsScale, Fits, rate_of, room_of, total_of};
+ghost use Rattle.std.specs.Prelude.{ℕ, ◌≡◌, ◌≤◌, ◌<◌, ◌+◌, ◌-◌, ◌^◌, ◌⊎◌, IfOk, IfErr};
+ghost use Rattle.sched_base.specs.Scale.{Fits, room_of, total_of};
 ghost use Rattle.run_tree.specs.TreeOfSet.{IsTreeOf};
 ghost use Rattle.run_tree.specs.Compiled.{tree_of};
 ghost use Rattle.run_compile.specs.Answers.{HasScale, IsRefused, IsSmall};
@@ -8,7 +8,7 @@ ghost use Rattle.sched_laws.specs.LevelCounts.{duals_of};
 
 use crate::faults::CompileFault;
 use crate::higher;
-use rate_scale::{fits, rate, scale_of, total};
+use rate_scale::{fits, rates_of, scale_of, total};
 use run_tree::{Plan, Tree};
 use sched_base::{NoMemory, TaskSet};
 use std::alloc::Global;
@@ -65,20 +65,6 @@ fn set_tree(alloc: Global, set: &TaskSet, scale: u128) -> Result<Tree, NoMemory>
 {
     let rates = rates_of(alloc, set, scale)?;
     higher::tree_of(alloc, set.processors(), scale, rates.as_slice())
-}
-
-// The rate of each task, in order.
-fn rates_of(alloc: Global, set: &TaskSet, scale: u128) -> Result<Vec<u128>, NoMemory>
-    requires scale { IsScale set.now.tasks scale }
-    requires scale_fits { scale ≤ 2 ^ 94 }
-    ensures { IfOk result (λ rates. rates.items ≡ map (rate_of scale) set.now.tasks) }
-{
-    let tasks = set.tasks();
-    let mut rates = Vec::with_capacity(alloc, tasks.len())?;
-    for task in tasks {
-        rates.push_reserved(rate(task.work, task.period, scale));
-    }
-    Ok(rates)
 }
 
 /// The number of levels of a plan's tree, level 0 included.

@@ -1,5 +1,5 @@
 //! The home of each item of a packing.
-ghost use Rattle.std.specs.Prelude.{◌≡◌, ◌≢◌, ◌≤◌, ◌<◌, ℕ, List, length, slice_index, All, IfOk};
+ghost use Rattle.std.specs.Prelude.{◌≡◌, ◌≢◌, ◌<◌, ℕ, length, slice_index, All, IfOk};
 ghost use Rattle.sched_base.specs.FirstFit.{packed, homes};
 ghost use Rattle.server_pack.specs.Servers.{server_at, rates_of, items_of};
 

@@ -1,6 +1,6 @@
 //! Events, and the rounds between them.
-ghost use Rattle.std.specs.Prelude.{◌≡◌, ◌≤◌, ◌<◌, ◌+◌, ◌==◌, ◌&&◌, ◌%◌, ◌-◌, not, [], length, slice_index_or};
-ghost use Rattle.std.specs.Prelude.{false, IfOk, suc};
+ghost use Rattle.std.specs.Prelude.{◌≡◌, ◌≤◌, ◌<◌, ◌==◌, ◌&&◌, ◌%◌, ◌-◌, not, [], length, slice_index_or};
+ghost use Rattle.std.specs.Prelude.{false, IfOk};
 ghost use Rattle.std.specs.List.{list_any, range_with_len};
 ghost use Rattle.run_tree.specs.Tree.{kind_at, is_pack};
 ghost use Rattle.run_tree.specs.Boundaries.{set_boundary};

@@ -1,10 +1,9 @@
 //! Which pack of level 0 each processor holds, tick by tick. Packs are known by their numbers in level 0.
-ghost use Rattle.std.specs.Prelude.{◌≡◌, ◌≤◌, ◌<◌, ◌+◌, find, length, map, slice_index_or, None, [], ◌∷◌, false, IfOk};
+ghost use Rattle.std.specs.Prelude.{◌≡◌, ◌<◌, ◌+◌, find, length, map, slice_index_or, None, [], ◌∷◌, false, IfOk};
 ghost use Rattle.std.specs.List.{range_with_len};
 ghost use Rattle.sched_base.specs.Places.{is_running, is_held, kept as kept_at, comes_back as comes_back_to, returned as returned_from};
-ghost use Rattle.sched_base.specs.Places.{waiting as waiting_of, filled as filled_with, filled_up, holder_from, place as place_of};
+ghost use Rattle.sched_base.specs.Places.{waiting as waiting_of, filled as filled_with, holder_from, place as place_of};
 ghost use Rattle.sched_base.specs.Places.{last_next};
-ghost use Rattle.run_tree.specs.Boundaries.{set_boundary};
 ghost use Rattle.run_tree.specs.Schedule.{packs_at};
 ghost use Rattle.run_tree.specs.Plans.{stop_of};
 ghost use Rattle.run_plain.specs.Plain.{IsSmall, past_of, places_of};

@@ -10,7 +10,7 @@ ghost use Rattle.trace_lines.specs.Merging.{merged_lanes};
 ghost use Rattle.trace_check.specs.RoundTrip.{trace_again};
 ghost use Rattle.stat_report.specs.Report.{IsValidTrace};
 ghost use Rattle.run_tool.specs.Drill.{drilled, drill_plan, summary_by};
-ghost use Rattle.run_tool.specs.Executions.{crew_of, IsFreshCrew, AreBack};
+ghost use Rattle.run_tool.specs.Executions.{crew_of, IsFreshCrew};
 ghost use Rattle.run_tool.specs.Executed.{RanDrill, StopsAtDrill, WroteDrill, StopsAtText, EndsPart, may_have_run};
 ghost use Rattle.command_words.specs.declared.command.Command.TheVariants.{Execute};
 ghost use Rattle.command_words.specs.declared.command.Execution.TheVariants.{Drill};

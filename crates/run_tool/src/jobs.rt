@@ -1,11 +1,11 @@
 //! The command `jobs`.
-ghost use Rattle.std.specs.Prelude.{◌≡◌, ◌≤◌, false, length, OnOk, IfErr, IfOk, Ok};
+ghost use Rattle.std.specs.Prelude.{◌≡◌, ◌≤◌, length, IfErr, IfOk, Ok};
 ghost use Rattle.job_vm.specs.Programs.{reading};
 ghost use Rattle.still_commands.specs.Commands.{set_limit};
 ghost use Rattle.run_tree.specs.Compiled.{tree_of};
 ghost use Rattle.still_commands.specs.Ends.{streams_of};
 ghost use Rattle.still_commands.specs.Input.{IsSchedulable};
-ghost use Rattle.run_tool.specs.Executions.{crew_of, IsFreshCrew, AreBack};
+ghost use Rattle.run_tool.specs.Executions.{crew_of, IsFreshCrew};
 ghost use Rattle.run_tool.specs.Executed.{EndsPart, EndsExecution, may_have_run};
 ghost use Rattle.run_tool.specs.JobPrograms.{ReadsJobs};
 ghost use Rattle.run_tool.specs.JobInput.{GaveJobs, GaveNoJobs, RefusesJobText, RanJobs, StopsAtJobs};

@@ -1,5 +1,5 @@
 //! The command `modes`.
-ghost use Rattle.std.specs.Prelude.{◌≡◌, ◌≤◌, [], false, length, map, IfOk, IfErr, OnOk, Ok};
+ghost use Rattle.std.specs.Prelude.{◌≡◌, ◌≤◌, [], length, map, IfOk, IfErr, OnOk, Ok};
 ghost use Rattle.std.specs.List.{All, AllZip, slice_range};
 ghost use Rattle.mode_switch.specs.Runs.{IsRunOf};
 ghost use Rattle.task_reader.specs.Pieces.{pieces_of, bytes_in, IsWithin};

@@ -1,15 +1,14 @@
 //! The top call, with the runtime, the gates and the jobs.
-ghost use Rattle.std.specs.Prelude.{◌≡◌, ◌≢◌, ◌↔◌, true, false, map, string_bytes, None, Some, OnOk, IfErr};
+ghost use Rattle.std.specs.Prelude.{◌≡◌, ◌≢◌, ◌↔◌, true, false, map, string_bytes, None, Some};
 ghost use Rattle.command_words.specs.Words.{command_of, asks_to_execute, HasWindow};
 ghost use Rattle.still_commands.specs.Commands.{of_trace};
-ghost use Rattle.still_commands.specs.Refusals.{status_of};
 ghost use Rattle.still_commands.specs.Ends.{streams_of, error_of, IsDone, IsUsage};
 ghost use Rattle.run_tool.specs.Asked.{EndsAsked};
 ghost use Rattle.run_tool.specs.Ends.{IsCommandDone, IsCommandAnswered};
 ghost use Rattle.run_tool.specs.Executions.{crew_of, IsFreshCrew, AreBack};
 ghost use Rattle.run_tool.specs.Executed.{EndsExecution, EndsWith, NoneFailed, may_have_run};
 ghost use Rattle.command_words.specs.declared.command.Command.{Command};
-ghost use Rattle.command_words.specs.declared.command.Command.TheVariants.{Read, Execute};
+ghost use Rattle.command_words.specs.declared.command.Command.TheVariants.{Read};
 ghost use Rattle.command_words.specs.declared.command.Reading.TheVariants.{Check};
 ghost use Rattle.still_commands.specs.declared.status.Status.TheVariants.{Done, Invalid};
 

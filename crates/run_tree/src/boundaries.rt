@@ -1,6 +1,5 @@
 //! The boundaries of nodes, in units.
-ghost use Rattle.std.specs.Prelude.{◌≡◌, ◌≤◌, ◌<◌, ◌^◌, ℕ, length, true};
-ghost use Rattle.std.specs.List.{AllByRecursion};
+ghost use Rattle.std.specs.Prelude.{◌≡◌, ◌≤◌, ◌<◌, ◌^◌, length};
 ghost use Rattle.sched_base.specs.Sets.{IsLawful, IsLawfulTask};
 ghost use Rattle.run_tree.specs.Windows.{window_end};
 ghost use Rattle.sched_base.specs.Boundaries.{task_boundary};

@@ -1,8 +1,6 @@
 //! Nodes in a row as they are made.
-ghost use Rattle.std.specs.Prelude.{◌≡◌, ◌≤◌, ◌<◌, ◌+◌, ◌-◌, ◌^◌, ℕ, suc, [], ◌∷◌, ◌++◌, length, slice_index};
-ghost use Rattle.std.specs.Prelude.{slice_index_or, slice_set};
-ghost use Rattle.std.specs.Prelude.{vec_capacity, vec_len, OnOk, OnErr, IfOk};
-ghost use Rattle.run_tree.specs.Tree.{Node as SeenNode};
+ghost use Rattle.std.specs.Prelude.{◌≡◌, ◌≤◌, ◌<◌, ◌+◌, ◌-◌, ◌^◌, ℕ, [], ◌∷◌, ◌++◌, length, slice_index};
+ghost use Rattle.std.specs.Prelude.{vec_capacity, OnOk, OnErr, IfOk};
 ghost use Rattle.run_tree.specs.Making.{member_node, pack_node, joined};
 ghost use Rattle.run_tree.specs.Growth.{no_growth, node_in, with_member, grown, IsPrimalBelow, mark_primal, with_duals, with_duals_of};
 

@@ -1,5 +1,5 @@
 //! Whole rounds of rows.
-ghost use Rattle.std.specs.Prelude.{◌≡◌, ◌≤◌, ◌<◌, ◌+◌, [], ◌∷◌, replicate, length, slice_get, Some, IfOk};
+ghost use Rattle.std.specs.Prelude.{◌≡◌, ◌≤◌, ◌<◌, ◌+◌, [], replicate, length, Some, IfOk};
 ghost use Rattle.sched_base.specs.Tables.{lane_of, rounds_of, end_of, RowAt, IsRound, IsTable, with_round, with_row, with_rows, HaveRoom};
 
 use crate::memory::NoMemory;

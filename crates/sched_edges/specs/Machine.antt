@@ -1,6 +1,6 @@
 -- The machine that runs a job's program: a program counter and eight registers, all of 64 bits.
 use Rattle.std.specs.Prelude.{ℕ, zero, suc, ◌+◌, ◌-◌, ◌*◌, ◌/◌, ◌%◌, ◌^◌, ◌==◌, nat_lt, ◌&&◌, if◌then◌else◌}
-use Rattle.std.specs.Prelude.{List, ◌∷◌, replicate, slice_get, slice_index, slice_set, Option, Some, None}
+use Rattle.std.specs.Prelude.{List, ◌∷◌, replicate, slice_get, slice_index, slice_set, Some, None}
 
 -- a state of the machine: the program counter, and the registers 0 to 7
 pub record Machine : Type 0 where

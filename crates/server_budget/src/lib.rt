@@ -3,9 +3,9 @@
 
 mod dues;
 
-ghost use Rattle.std.specs.Prelude.{◌≡◌, ℕ, ◌<◌, ◌≤◌, ◌^◌, ◌*◌, ◌-◌, not, true, length, replicate, slice_index, slice_set, IfOk};
+ghost use Rattle.std.specs.Prelude.{◌≡◌, ℕ, ◌<◌, ◌≤◌, ◌^◌, ◌*◌, ◌-◌, true, length, replicate, slice_index, slice_set, IfOk};
 ghost use Rattle.sched_base.specs.Counting.{bit};
-ghost use Rattle.run_tree.specs.Tree.{kind_at, is_pack, rate, IsMember};
+ghost use Rattle.run_tree.specs.Tree.{rate, IsMember};
 ghost use Rattle.server_budget.specs.Spent.{spends, IsSpent};
 
 pub use dues::Dues;

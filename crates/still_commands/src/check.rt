@@ -1,5 +1,5 @@
 //! The command `check`.
-ghost use Rattle.std.specs.Prelude.{ℕ, List, ◌≡◌, ◌≤◌, IfOk, IfErr};
+ghost use Rattle.std.specs.Prelude.{ℕ, List, ◌≡◌, IfOk, IfErr};
 ghost use Rattle.std.specs.Io.KnownBytes.{Appends};
 ghost use Rattle.still_commands.specs.Commands.{trace_limit};
 ghost use Rattle.still_commands.specs.Checks.{invalid_line, TellsTrace, WritesVerdict, RefusesTrace, StopsAtTrace};

@@ -1,5 +1,5 @@
 //! Refusals, and their lines.
-ghost use Rattle.std.specs.Prelude.{◌≡◌, ◌≤◌, ◌<◌, ◌+◌, ◌++◌, ◌∷◌, [], length, IfOk};
+ghost use Rattle.std.specs.Prelude.{◌≡◌, ◌<◌};
 ghost use Rattle.still_commands.specs.Refusals.{status_of};
 
 use crate::mode_refusal::ModeRefusal;

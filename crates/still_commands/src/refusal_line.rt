@@ -1,5 +1,5 @@
 //! The lines of refusals: `refused`, the status, and why.
-ghost use Rattle.std.specs.Prelude.{◌≡◌, ◌≢◌, ◌≤◌, ◌+◌, ◌++◌, ◌∷◌, [], ℕ, List, length, codes, decimal, map, IfOk};
+ghost use Rattle.std.specs.Prelude.{◌≡◌, ◌≤◌, ◌+◌, ◌++◌, ◌∷◌, [], length, codes, decimal, map};
 ghost use Rattle.std.specs.Fmt.{signed_decimal};
 ghost use Rattle.sched_base.specs.Bytes.{space};
 ghost use Rattle.sched_edges.specs.Causes.{HasCause};

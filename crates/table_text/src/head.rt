@@ -1,5 +1,4 @@
 //! The parts of a table that are the same for each set.
-ghost use Rattle.std.specs.Prelude.{◌++◌};
 ghost use Rattle.sched_edges.specs.Causes.{HasCause};
 ghost use Rattle.sched_edges.specs.Streams.{Wrote};
 ghost use Rattle.table_text.specs.Table.{opening_text, shapes_text, head_text, tasks_end, rows_end, processors_line, processors_end, closing_text};

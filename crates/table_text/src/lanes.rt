@@ -1,5 +1,5 @@
 //! The rows of the processors, and the processors.
-ghost use Rattle.std.specs.Prelude.{◌≡◌, ◌<◌, length};
+ghost use Rattle.std.specs.Prelude.{◌<◌, length};
 ghost use Rattle.std.specs.List.{flat_map};
 ghost use Rattle.sched_base.specs.Tables.{lane_of};
 ghost use Rattle.sched_edges.specs.Causes.{HasCause};

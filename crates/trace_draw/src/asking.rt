@@ -1,6 +1,6 @@
 //! Which window is shown.
 ghost use Rattle.std.specs.Prelude.{◌≡◌, ◌≤◌, ◌<◌, ◌+◌, IfSome, length, filter};
-ghost use Rattle.trace_draw.specs.Windows.{first_unit, most_units, most_rows, reaches, shown_window, has_few, window_of_units, greatest_passing, IsWindow};
+ghost use Rattle.trace_draw.specs.Windows.{first_unit, most_units, most_rows, reaches, shown_window, has_few, greatest_passing, IsWindow};
 
 use crate::windows::Window;
 use sched_base::Row;

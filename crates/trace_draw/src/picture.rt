@@ -1,5 +1,5 @@
 //! The picture of a trace.
-ghost use Rattle.std.specs.Prelude.{◌≡◌, ◌+◌, ◌≤◌, ◌<◌, length};
+ghost use Rattle.std.specs.Prelude.{◌+◌, ◌<◌};
 ghost use Rattle.std.specs.List.{concat};
 ghost use Rattle.sched_edges.specs.Causes.{HasCause};
 ghost use Rattle.sched_edges.specs.Streams.{Wrote};

@@ -1,5 +1,5 @@
 //! The shapes of a picture, each a line of text. Lengths are tenths of a pixel.
-ghost use Rattle.std.specs.Prelude.{◌≡◌, ◌+◌, ◌≤◌, ◌<◌, ◌^◌, [], ◌++◌, length, decimal};
+ghost use Rattle.std.specs.Prelude.{◌≡◌, ◌+◌, ◌≤◌, ◌<◌, ◌^◌, ◌++◌, length, decimal};
 ghost use Rattle.trace_draw.specs.Shapes.{box_line, label_line, grown, roomy_line, grid_line, base_line, arrow_line, ring_line};
 ghost use Rattle.trace_draw.specs.Shapes.{task_look, text_look, lane_top, task_top};
 ghost use Rattle.trace_draw.specs.Rows.{line_if};

@@ -1,5 +1,5 @@
 //! The rows of a trace in the orders of processors and of tasks.
-ghost use Rattle.std.specs.Prelude.{◌≡◌, ◌<◌, ◌≤◌, ◌^◌, ◌++◌, length, IfOk, OnOk, IsSorted};
+ghost use Rattle.std.specs.Prelude.{◌≡◌, ◌<◌, ◌^◌, ◌++◌, length, IfOk, OnOk, IsSorted};
 ghost use Rattle.trace_rows.specs.Orders.{entry_cmp, processor_key, task_key, entry_of, entries_from, places, IsOrder, AreStarts};
 ghost use Rattle.trace_rows.specs.Searches.{IsFront};
 

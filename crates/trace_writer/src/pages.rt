@@ -1,5 +1,5 @@
 //! Lines that go out together.
-ghost use Rattle.std.specs.Prelude.{◌≡◌, ◌≤◌, ◌<◌, ◌+◌, ◌++◌, ◌∷◌, ◌==◌, [], length, decimal};
+ghost use Rattle.std.specs.Prelude.{◌≡◌, ◌≤◌, ◌<◌, ◌+◌, ◌++◌, ◌∷◌, [], length, decimal};
 ghost use Rattle.sched_base.specs.Bytes.{line_feed, space};
 
 use crate::digits::put_number;

@@ -1,5 +1,5 @@
 //! The laws of the compiled tree. Each function runs nothing: its clauses are the law.
-ghost use Rattle.std.specs.Prelude.{◌≡◌, ◌≤◌, ◌<◌, ◌+◌, ◌-◌, ◌*◌, ℕ, suc, List, [], length, map, max, sum, All};
+ghost use Rattle.std.specs.Prelude.{◌≡◌, ◌≤◌, ◌<◌, ◌+◌, ◌-◌, ◌*◌, ℕ, suc, List, length, map, max, sum, All};
 ghost use Rattle.sched_base.specs.Sets.{SetContents, IsLawful};
 ghost use Rattle.sched_base.specs.Scale.{IsScale, Fits, rate_of};
 ghost use Rattle.sched_base.specs.FirstFit.{packed, homes, idles};

@@ -1,8 +1,6 @@
 -- Trees that differ in the numbers of their nodes alone: the same nodes run at each tick.
-use Rattle.std.proofs.Common.{◌≡◌, ℕ, zero, suc, ◌+◌, ◌-◌, ◌*◌, ◌/◌, ◌<◌, ◌≤◌, ◌&&◌, not, Bool, true, false, List, [], ◌∷◌, ◌++◌, map, length, drop, get_or, count_by, cond, Option, Some, None, option_map, refl, ap, ap₂, arith, sym, subst, ◌∙◌}
-use Rattle.std.specs.List.{range_with_len}
-use Rattle.std.proofs.lemmas.Bool.{both_ways}
-use Rattle.std.proofs.lemmas.List.{length-map, get_or-map}
+use Rattle.std.proofs.Common.{◌≡◌, ℕ, zero, suc, ◌+◌, ◌-◌, ◌*◌, ◌/◌, ◌<◌, ◌&&◌, not, Bool, true, false, List, [], ◌∷◌, ◌++◌, map, length, drop, get_or, count_by, cond, Option, Some, None, option_map, refl, ap, ap₂, arith, sym, subst, ◌∙◌}
+use Rattle.std.proofs.lemmas.List.{get_or-map}
 use Rattle.std.proofs.lemmas.List.FromFn.{get_or-map-range_with_len}
 use Rattle.std.proofs.lemmas.List.Sums.{sum_by-cons}
 use Rattle.sched_base.specs.declared.rows.Leaf.{Leaf}
@@ -10,8 +8,7 @@ use Rattle.sched_base.specs.Candidates.{earliest, is_at}
 use Rattle.sched_base.specs.declared.candidates.Candidate.{Candidate}
 use Rattle.run_tree.specs.declared.kinds.Kind.{Kind}
 use Rattle.run_tree.specs.declared.kinds.Kind.TheVariants as kind
-use Rattle.run_tree.specs.Tree.{Tree, IsTree, IsPack, IsMember, IsLeaf, IsDual, kind_at, is_leaf, is_pack, is_dual, leaf, leaf_of, level, level_of, primal, rate, home, place, member, members, dual}
-use Rattle.run_tree.specs.Schedule.{packs_at}
+use Rattle.run_tree.specs.Tree.{Tree, IsTree, IsPack, IsMember, kind_at, is_leaf, is_pack, is_dual, leaf, leaf_of, level, level_of, primal, rate, home, place, member, members, dual}
 use Rattle.run_tree.specs.Windows.{window_begin, window_end}
 use Rattle.run_tree.specs.Boundaries.{any_of, member_boundary, pack_boundary, node_boundary, is_boundary}
 use Rattle.tree_numbers.specs.Renumbered.{renumbered, IsRenumbered}

@@ -1,20 +1,18 @@
 -- Trees that differ in the numbers of their nodes alone have the same schedule.
-use Rattle.std.proofs.Common.{◌≡◌, ℕ, zero, suc, ◌+◌, ◌*◌, ◌%◌, ◌/◌, ◌<◌, ◌≤◌, ◌&&◌, ◌||◌, eqb, not, Bool, true, false, List, [], ◌∷◌, ◌++◌, map, length, filter, get_or, Option, Some, None, refl, ap, ap₂, arith, inl, inr, sym, subst, ◌∙◌, eq-eqb}
+use Rattle.std.proofs.Common.{◌≡◌, ℕ, zero, suc, ◌+◌, ◌%◌, ◌/◌, ◌<◌, ◌≤◌, ◌&&◌, ◌||◌, eqb, not, Bool, true, false, List, [], ◌∷◌, ◌++◌, map, length, filter, get_or, Option, Some, None, refl, ap, ap₂, arith, inl, inr, sym, ◌∙◌, eq-eqb}
 use Rattle.std.specs.List.{range_with_len, list_any}
 use Rattle.std.proofs.lemmas.Bool.{cases_Bool, both_ways}
 use Rattle.std.proofs.lemmas.List.{length-map, get_or-map}
 use Rattle.sched_base.specs.declared.rows.Leaf.{Leaf}
-use Rattle.sched_base.specs.declared.rows.Row.{Row}
 use Rattle.sched_base.specs.declared.sets.Task as declared
-use Rattle.sched_base.specs.Counting.{bit}
 use Rattle.sched_base.specs.Candidates.{is_at}
 use Rattle.sched_base.specs.Places.{Placing, unplaced, place}
 use Rattle.sched_base.proofs.CountingLemmas.{bit_at}
 use Rattle.sched_base.proofs.HeldLemmas.{held}
-use Rattle.run_tree.specs.Tree.{Tree, IsTree, IsPack, kind_at, is_leaf, is_pack, leaf, member, members}
+use Rattle.run_tree.specs.Tree.{Tree, IsTree, kind_at, is_leaf, is_pack, leaf, members}
 use Rattle.run_tree.specs.Boundaries.{HaveBoundaries, set_boundary}
 use Rattle.run_tree.specs.Rounds.{is_task, task_begins, runs_dry, is_event, events_below}
-use Rattle.run_tree.specs.Runs.{runs, due_left, ticks_below}
+use Rattle.run_tree.specs.Runs.{runs, ticks_below}
 use Rattle.run_tree.specs.Schedule.{packs_at, packs_running, places_below, onto_at, leaf_among, leaf_on, shown, rows_from, round_rows, rows_of, rows_of_events, schedule, rounds}
 use Rattle.run_tree.proofs.TreeLemmas.{first_is_pack}
 use Rattle.sched_laws.proofs.PlacedPacks.{onto_within}

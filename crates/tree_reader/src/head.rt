@@ -1,5 +1,5 @@
 //! The first five lines of a tree text.
-ghost use Rattle.std.specs.Prelude.{ℕ, ◌≡◌, ◌<◌, ◌≤◌, ◌^◌, Ok, Err, IfOk, IfErr};
+ghost use Rattle.std.specs.Prelude.{◌≡◌, ◌<◌, ◌≤◌, ◌^◌, Ok, Err, IfOk, IfErr};
 ghost use Rattle.trace_lines.specs.declared.versions.Version.TheVariants.{One};
 ghost use Rattle.trace_text.specs.Words.{lines_of};
 ghost use Rattle.trace_check.specs.declared.head_lines.Head.{Head as Said};

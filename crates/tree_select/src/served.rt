@@ -1,5 +1,5 @@
 //! Selection again by packs that know which of their members runs: two members change at most.
-ghost use Rattle.std.specs.Prelude.{ℕ, List, ◌≡◌, ◌≢◌, ◌<◌, ◌≤◌, ◌&&◌, length, true, false, None, Some, slice_index_or};
+ghost use Rattle.std.specs.Prelude.{ℕ, List, ◌≡◌, ◌≢◌, ◌<◌, ◌≤◌, length, true, false, None, Some, slice_index_or};
 ghost use Rattle.sched_base.specs.Candidates.{is_at};
 ghost use Rattle.run_tree.specs.Tree.{IsTree, IsPack, level, member, members};
 ghost use Rattle.tree_select.specs.Selected.{picked};

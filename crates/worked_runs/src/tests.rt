@@ -1,5 +1,5 @@
 //! Streams, gates and jobs, and the three tasks executed on gates with lists: what the tests of these share.
-ghost use Rattle.std.specs.Prelude.{◌≡◌, ◌<◌, ℕ, length};
+ghost use Rattle.std.specs.Prelude.{◌<◌, ℕ};
 ghost use Rattle.sched_edges.specs.Jobs.{JobAt};
 ghost use Rattle.exec_book.specs.PlanRows.{IsCompiled};
 ghost use Rattle.worked_runs.specs.Ready.{AreUnrun, IsReady};

@@ -3,7 +3,6 @@ use Rattle.std.proofs.Common.{ℕ, zero, suc, ◌+◌, ◌<◌, ◌≡◌, List,
 use Rattle.std.specs.Prelude.{slice_get}
 use Rattle.sched_base.specs.declared.rows.Leaf.TheVariants.{Task}
 use Rattle.sched_base.specs.declared.rows.Row.{Row}
-use Rattle.sched_base.specs.declared.sets.Task as declared
 use Rattle.sched_base.specs.Tables.{IsRound, end_after, row_ticks, ticks_in}
 use Rattle.sched_base.proofs.SetLemmas.{AllByRecursion-push}
 use Rattle.row_totals.specs.Sums.{IsAmong, NamesAmong, totals_of}

@@ -1,13 +1,14 @@
 //! How many rounds a wrapped schedule has.
-ghost use Rattle.std.specs.Prelude.{◌≡◌, ℕ, ◌≤◌, ◌<◌, ◌^◌, ◌*◌, length, IfOk, IfErr, IfSome, IfNone};
+ghost use Rattle.std.specs.Prelude.{◌≡◌, ◌≤◌, ◌<◌, ◌^◌, ◌*◌, length, IfOk, IfErr, IfSome, IfNone};
 ghost use Rattle.sched_base.specs.Scale.{IsScale, Fits};
 ghost use Rattle.sched_base.specs.Tables.{row_limit};
 ghost use Rattle.wrap_sched.specs.Faults.{IsWrapFault};
 ghost use Rattle.wrap_sched.specs.Steps.{points};
 ghost use Rattle.wrap_sched.specs.Wrapped.{wrapped_rounds};
 
-use crate::cuts::{count_cuts, rates_of};
+use crate::cuts::count_cuts;
 use crate::points::next_point;
+use rate_scale::rates_of;
 use sched_base::{NoMemory, ROW_LIMIT, TaskSet};
 use std::alloc::Global;
 use thiserror::Error;

@@ -1,5 +1,5 @@
 //! Points: the units at which slices begin.
-ghost use Rattle.std.specs.Prelude.{ℕ, ◌≡◌, ◌<◌, ◌≤◌, ◌^◌, true, false};
+ghost use Rattle.std.specs.Prelude.{ℕ, ◌≡◌, ◌<◌, ◌^◌, true, false};
 ghost use Rattle.sched_base.specs.Boundaries.{task_boundary};
 ghost use Rattle.sched_base.specs.Sets.{IsLawfulTask};
 ghost use Rattle.wrap_sched.specs.Steps.{IsNext};

@@ -1,5 +1,5 @@
 //! The table of the wrapped schedule.
-ghost use Rattle.std.specs.Prelude.{ℕ, ◌≡◌, ◌<◌, ◌≤◌, ◌+◌, ◌*◌, ◌-◌, ◌^◌, IfOk};
+ghost use Rattle.std.specs.Prelude.{◌≡◌, ◌<◌, ◌≤◌, ◌+◌, ◌*◌, ◌-◌, ◌^◌, IfOk};
 ghost use Rattle.std.specs.Prelude.{List, [], ◌++◌, length, replicate};
 ghost use Rattle.sched_base.specs.Scale.{IsScale, Fits};
 ghost use Rattle.sched_base.specs.Tables.{all_rows, end_of, rounds_of};

@@ -1,4 +1,3 @@
-use Rattle.std.proofs.Common.{◌≡◌}
 use Rattle.reading_laws.proofs.FormLemmas.{set_read}
 use Rattle.reading_laws.proofs.form_law.Goals as goal
 

@@ -1,5 +1,5 @@
 //! One call of the commands: what is outside, and what it leaves.
-ghost use Rattle.std.specs.Prelude.{◌≡◌, ◌≤◌, ◌<◌, ◌+◌, ℕ, []};
+ghost use Rattle.std.specs.Prelude.{◌≡◌, ◌<◌, ◌+◌, ℕ, []};
 ghost use Rattle.sched_edges.specs.Jobs.{JobAt};
 ghost use Rattle.run_tool.specs.Executions.{AreBack, IsFreshCrew, crew_of, gates_of};
 ghost use Rattle.run_tool.specs.Ready.{AreFirstGates};

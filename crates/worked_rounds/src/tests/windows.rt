@@ -1,5 +1,5 @@
 //! The windows of nodes, and what is left at their start.
-ghost use Rattle.std.specs.Prelude.{◌≡◌, ◌<◌, ◌≤◌, ◌^◌, length};
+ghost use Rattle.std.specs.Prelude.{◌<◌, ◌≤◌, ◌^◌, length};
 ghost use Rattle.release_calendar.specs.Calendars.{BelongsTo};
 
 use super::{OFFSET_OF_ONE, THREE_TASKS, plan_with};

@@ -1,6 +1,5 @@
 use Rattle.std.proofs.Common.{map, IfOk, ap, ◌∙◌}
 use Rattle.std.proofs.lemmas.Result.{IfOk-weaker, MatchResult-weaker}
-use Rattle.std.specs.List.{AllZip}
 use Rattle.task_reader.specs.Pieces.{bytes_in}
 use Rattle.batch_compile.specs.Answers.{IsAnswer}
 use Rattle.rayon.proofs.ToStd.{slice-AllZip}

@@ -1,13 +1,8 @@
-use Rattle.std.proofs.Common.{◌≡◌, ◌≢◌, ◌∙◌, ◌<◌, ◌+◌, List, [], length, set, get_or, sym, ap, subst, refl, arith}
+use Rattle.std.proofs.Common.{◌≡◌, ◌∙◌, ◌<◌, List, [], length, set, sym, ap, refl, arith}
 use Rattle.std.proofs.lemmas.List.{get_or_default}
-use Rattle.sched_base.specs.declared.rows.Row.{Row}
-use Rattle.sched_base.specs.declared.rows.Leaf.{Leaf}
 use Rattle.sched_base.specs.declared.rows.Leaf.TheVariants.{Task, Wait, Idle, Empty}
-use Rattle.sched_base.specs.declared.rows.TaskId.{TaskId}
 use Rattle.sched_base.specs.Tables.{RowAt}
 use Rattle.book_machine.specs.declared.links.Link.{Link}
-use Rattle.book_machine.specs.declared.links.Trail.{Trail}
-use Rattle.book_machine.specs.Links.{AreLinked}
 use Rattle.book_machine.proofs.LinkLemmas.{linked_other, linked_task, put}
 use Rattle.book_machine.proofs.links.link_row.Goals.{in-Task, in-Wait, in-Idle, in-Empty}
 use Rattle.book_machine.proofs.links.link_row.Goals as goal

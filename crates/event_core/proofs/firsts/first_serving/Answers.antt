@@ -1,4 +1,4 @@
-use Rattle.std.proofs.Common.{ap, false, length, refl, replicate, ◌∙◌}
+use Rattle.std.proofs.Common.{ap, false, length, replicate, ◌∙◌}
 use Rattle.std.proofs.lemmas.Result.{IfOk-from_err}
 use Rattle.run_tree.specs.Tree.{Tree}
 use Rattle.event_core.proofs.NextCores.{first_left}

@@ -1,6 +1,6 @@
-use Rattle.std.proofs.Common.{ap, arith, sym, true, Bool, List, ◌∙◌}
+use Rattle.std.proofs.Common.{ap, arith, true, Bool, List, ◌∙◌}
 use Rattle.std.proofs.lemmas.List.{length-replicate, with_items_is}
-use Rattle.std.proofs.Common.{length, ◌≡◌, ℕ, get_or, false}
+use Rattle.std.proofs.Common.{length, get_or, false}
 use Rattle.std.proofs.lemmas.Result.{IfOk-from_err}
 use Rattle.event_core.proofs.firsts.packs_run.Goals as goal
 

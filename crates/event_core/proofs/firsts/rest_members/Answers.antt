@@ -1,4 +1,4 @@
-use Rattle.std.proofs.Common.{◌≡◌, ◌≢◌, ◌<◌, ◌∙◌, ℕ, Bool, true, false, not, length, refl, ap, arith, subst, sym, below_more, get_or-set_other, get_or-set_same}
+use Rattle.std.proofs.Common.{◌≡◌, ◌≢◌, ◌<◌, ◌∙◌, Bool, true, false, not, length, refl, ap, arith, subst, sym, below_more, get_or-set_other, get_or-set_same}
 use Rattle.run_tree.specs.Tree.{Tree, is_pack, kind_at}
 use Rattle.event_core.proofs.firsts.rest_members.Goals as goal
 

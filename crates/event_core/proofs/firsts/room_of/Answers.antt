@@ -1,4 +1,4 @@
-use Rattle.std.proofs.Common.{◌≡◌, ◌<◌, ◌∙◌, true, false, not, length, ap, arith, subst, sym}
+use Rattle.std.proofs.Common.{◌≡◌, ◌<◌, ◌∙◌, true, false, not, length, ap, subst, sym}
 use Rattle.std.proofs.lemmas.Bool.{not-false, not-true}
 use Rattle.run_tree.specs.Tree.{Tree, is_pack, kind_at}
 use Rattle.event_core.proofs.firsts.room_of.Goals as goal

@@ -1,7 +1,7 @@
 use Rattle.std.proofs.Common.{Bool, false, get_or, length, refl, ◌≤◌, ◌∙◌}
 use Rattle.std.specs.Prelude.{slice_index}
 use Rattle.sched_base.specs.Counting.{bit}
-use Rattle.std.proofs.Common.{◌+◌, ◌*◌, ◌<◌, ◌≡◌, ap}
+use Rattle.std.proofs.Common.{◌*◌, ◌≡◌, ap}
 use Rattle.std.proofs.Common.{List, ℕ, arith, subst, sym, ◌-◌}
 use Rattle.event_core.specs.Serving.{IsServing, IsDrying}
 use Rattle.event_core.proofs.DryLemmas.{passed}

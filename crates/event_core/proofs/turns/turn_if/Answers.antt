@@ -1,4 +1,4 @@
-use Rattle.std.proofs.Common.{ap, arith, refl, sym, ◌*◌, ◌≡◌, ◌∙◌}
+use Rattle.std.proofs.Common.{ap, arith, refl, sym, ◌*◌, ◌∙◌}
 use Rattle.event_core.proofs.KeptLemmas.{stop_fits}
 use Rattle.event_core.proofs.turns.turn_if.Goals as goal
 

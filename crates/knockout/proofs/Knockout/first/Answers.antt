@@ -1,8 +1,8 @@
 use Rattle.std.proofs.Common.{ap, subst, sym, List, ℕ, ◌∙◌}
 use Rattle.knockout.specs.declared.Entry.{Entry}
 use Rattle.knockout.specs.Knockouts.{IsFirst, IsKnockout, ends_of}
-use Rattle.std.proofs.Common.{rules, ◌≡◌, ℕ, ◌+◌, ◌*◌, ◌^◌, ◌<◌, ◌≤◌, drop, length, replicate, slice_index_or, slice_set, IfOk, ◌-◌, ◌/◌, ◌%◌, Bool, true, false, nat_eq, nat_lt, List, [], ◌∷◌, ◌++◌, bit_and, bit_or, Fits, w8, w32, w64, Bor, MutBor}
-use Rattle.knockout.specs.Knockouts.{IsFirst, IsKnockout, HasLeaves, ends_of, IsRightBut, AreRightFrom, no_entry, first_of, is_first, never}
+use Rattle.std.proofs.Common.{ℕ, ◌-◌, List}
+use Rattle.knockout.specs.Knockouts.{IsFirst, IsKnockout, ends_of}
 use Rattle.knockout.proofs.Knockout.first.Goals as goal
 
 pub winner-requires : goal.winner-requires

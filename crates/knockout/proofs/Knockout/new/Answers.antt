@@ -3,8 +3,8 @@ use Rattle.std.proofs.lemmas.Result.{IfOk-from_err}
 use Rattle.knockout.specs.declared.Entry.{Entry}
 use Rattle.knockout.specs.Knockouts.{ends_of, HasLeaves, IsKnockout}
 use Rattle.knockout.proofs.KnockoutLemmas.{back}
-use Rattle.std.proofs.Common.{rules, ◌≡◌, ℕ, ◌+◌, ◌*◌, ◌^◌, ◌<◌, ◌≤◌, drop, length, replicate, slice_index_or, slice_set, IfOk, ◌-◌, ◌/◌, ◌%◌, Bool, true, false, nat_eq, nat_lt, List, [], ◌∷◌, ◌++◌, bit_and, bit_or, Fits, w8, w32, w64, Bor, MutBor}
-use Rattle.knockout.specs.Knockouts.{IsFirst, IsKnockout, HasLeaves, ends_of, IsRightBut, AreRightFrom, no_entry, first_of, is_first, never}
+use Rattle.std.proofs.Common.{length, IfOk, ◌-◌, List}
+use Rattle.knockout.specs.Knockouts.{IsKnockout, HasLeaves, ends_of}
 use Rattle.knockout.proofs.Knockout.new.Goals as goal
 
 pub blank-requires : goal.blank-requires

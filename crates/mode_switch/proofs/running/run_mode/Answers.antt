@@ -1,4 +1,4 @@
-use Rattle.std.proofs.Common.{◌≡◌, ap, refl, subst, length, ◌<◌}
+use Rattle.std.proofs.Common.{refl, subst, length, ◌<◌}
 use Rattle.sched_base.specs.Sets.{SetContents}
 use Rattle.mode_switch.proofs.RosterLemmas.{fresh_at}
 use Rattle.mode_switch.proofs.running.run_mode.Goals as goal

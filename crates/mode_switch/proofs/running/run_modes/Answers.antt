@@ -1,4 +1,4 @@
-use Rattle.std.proofs.Common.{◌≡◌, ◌+◌, ◌≤◌, ◌<◌, [], ◌∷◌, Err, length, length-append, take, sym, ap, subst, arith}
+use Rattle.std.proofs.Common.{◌≤◌, ◌<◌, [], ◌∷◌, Err, length, length-append, take, sym, ap, subst, arith}
 use Rattle.sched_base.specs.Tables.{row_limit}
 use Rattle.run_tree.specs.Plans.{PlanContents}
 use Rattle.mode_join.proofs.ModeLemmas.{few_modes}

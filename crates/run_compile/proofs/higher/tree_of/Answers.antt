@@ -4,7 +4,7 @@ use Rattle.std.proofs.lemmas.Bool.{eqb-false, eqb-true}
 use Rattle.std.proofs.lemmas.Result.{IfOk-from_err}
 use Rattle.tree_laws.proofs.CompiledTree.{level_0_kept}
 use Rattle.run_compile.proofs.HigherLemmas as higher
-use Rattle.run_compile.proofs.HigherLemmas.{IsClimbing, MayRaise, climb_start, climb_asks, climb_next, climb_end}
+use Rattle.run_compile.proofs.HigherLemmas.{climb_start, climb_asks, climb_next, climb_end}
 use Rattle.run_compile.proofs.higher.tree_of.Goals as goal
 
 pub lower_rates-requires : goal.lower_rates-requires

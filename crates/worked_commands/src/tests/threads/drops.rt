@@ -1,5 +1,5 @@
 //! Jobs that count when they are let go.
-ghost use Rattle.std.specs.Prelude.{◌≡◌, ◌+◌, ◌<◌, ◌^◌, None};
+ghost use Rattle.std.specs.Prelude.{◌≡◌, ◌+◌, ◌<◌, None};
 
 use crate::tests::calls::{Outside, SURE, kits_of, perform};
 use crate::tests::cases::assert_told;

@@ -1,5 +1,5 @@
 //! A gate that waits for the calls of another gate.
-ghost use Rattle.std.specs.Prelude.{◌≡◌, None};
+ghost use Rattle.std.specs.Prelude.{None};
 
 use sched_base::Row;
 use sched_edges::{Failed, Gate};

@@ -1,9 +1,3 @@
-use Rattle.std.proofs.Common.{◌≡◌, ◌∙◌, sym, ap, subst, inr, refl, arith, List, []}
-use Rattle.std.proofs.lemmas.List.{get_or_default}
-use Rattle.sched_base.specs.Tables.{Table}
-use Rattle.book_machine.specs.declared.links.Link.{Link}
-use Rattle.book_machine.specs.declared.links.Link.TheVariants.{Unknown}
-use Rattle.book_machine.specs.Links.{Says, link_at}
 use Rattle.book_machine.proofs.LinkLemmas.{linked_says}
 use Rattle.book_machine.proofs.links.LinkedTable.link.Goals as goal
 

@@ -1,9 +1,5 @@
-use Rattle.std.proofs.Common.{◌≡◌, ◌∙◌, [], replicate, length, sym, ap, subst, arith, List}
+use Rattle.std.proofs.Common.{◌≡◌, ◌∙◌, [], replicate, length, ap, arith}
 use Rattle.std.proofs.lemmas.List.{length-replicate}
-use Rattle.sched_base.specs.declared.rows.Row.{Row}
-use Rattle.book_machine.specs.declared.links.Trail.{Trail}
-use Rattle.book_machine.specs.declared.links.Trail.TheVariants.{NoRow}
-use Rattle.book_machine.specs.Links.{AreLinked}
 use Rattle.book_machine.proofs.LinkLemmas.{linked_none, rounds_of-none}
 use Rattle.book_machine.proofs.links.LinkedTable.new.Goals as goal
 

@@ -1,5 +1,5 @@
-use Rattle.std.proofs.Common.{◌≡◌, ◌∙◌, ◌+◌, ◌<◌, length, sym, ap, subst, arith}
-use Rattle.sched_base.specs.Tables.{Table, rounds_of, with_round}
+use Rattle.std.proofs.Common.{◌≡◌, ◌∙◌, ◌+◌, length, sym, ap, subst, arith}
+use Rattle.sched_base.specs.Tables.{Table, rounds_of}
 use Rattle.sched_base.proofs.TableLemmas.{length-with_round}
 use Rattle.book_machine.specs.Links.{AreLinked}
 use Rattle.book_machine.proofs.LinkLemmas.{linked-with_round, rounds_of-with_round}

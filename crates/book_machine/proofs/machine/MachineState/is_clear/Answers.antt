@@ -1,8 +1,7 @@
-use Rattle.std.proofs.Common.{◌≡◌, ◌≤◌, ◌<◌, ◌∙◌, ◌+◌, sym, ap, subst, arith, Bool, true, false, nat_eq, IsTrue}
+use Rattle.std.proofs.Common.{◌≡◌, ◌<◌, ◌∙◌, ◌+◌, ap, arith, true, false, nat_eq, IsTrue}
 use Rattle.std.proofs.lemmas.Bool.{eqb-true}
-use Rattle.sched_base.specs.declared.rows.Row.{Row}
 use Rattle.sched_base.specs.Tables.{RowAt}
-use Rattle.book_machine.specs.Machine.{State, posted_at, least_posted, HasTakeable, EarlierPosted}
+use Rattle.book_machine.specs.Machine.{posted_at, least_posted, HasTakeable, EarlierPosted}
 use Rattle.book_machine.proofs.Lanes.{least_le}
 use Rattle.book_machine.proofs.LinkLemmas.{earlier_at_least}
 use Rattle.book_machine.proofs.machine.MachineState.is_clear.Goals.{After-row}

@@ -1,10 +1,8 @@
 use Rattle.sched_base.specs.declared.rows.Leaf.TheVariants.{Empty}
-use Rattle.sched_base.specs.declared.rows.NodeId.{NodeId}
 use Rattle.run_tree.specs.Schedule.{shown}
 use Rattle.run_tree.specs.Tree.{leaf}
 use Rattle.event_core.specs.Rounds.{rows_of_round}
-use Rattle.std.proofs.Common.{List, ℕ, ◌≡◌, None, Some, get_or, subst, sym}
-use Rattle.sched_base.specs.declared.rows.Row.{Row}
+use Rattle.std.proofs.Common.{◌≡◌, get_or, subst, sym}
 use Rattle.event_core.specs.Cores.{CoreContents, IsCoreOf}
 use Rattle.event_core.specs.Rounds.{IsRoundUpTo}
 use Rattle.event_core.proofs.cores.Core.node_on.Goals as goal
