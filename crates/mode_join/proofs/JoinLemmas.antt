@@ -13,13 +13,10 @@ use Rattle.run_compile.specs.Answers.{IsOverload}
 use Rattle.event_core.proofs.RoundsInOrder.{more_rounds}
 use Rattle.mode_join.specs.declared.faults.ModeKind.{ModeKind}
 use Rattle.mode_join.specs.declared.faults.ModeKind.TheVariants as kind
-use Rattle.mode_join.specs.Joining.{CanJoin, IsFirstTask, Has, IsFirstOf, rank}
+use Rattle.mode_join.specs.Joining.{CanJoin, Has, IsFirstOf, rank}
+use Rattle.repeat_laws.specs.Repeats.{IsFirstTask}
 
--- what holds of each task by its number holds of all, and the other way round
-pub all_by_number : (P : Task → Type 0) (tasks : List Task) → ((k : ℕ) → k < length tasks → P (task_at tasks k)) → AllByRecursion P tasks
-all_by_number P [] each = tt
-all_by_number P (t ∷ tasks) each = (each 0 (omega arith), all_by_number P tasks (λ k below. each (suc k) (omega (arith, below))))
-
+-- what holds of all tasks holds of each by its number
 pub by_number : (P : Task → Type 0) (tasks : List Task) → AllByRecursion P tasks → (k : ℕ) → k < length tasks → P (task_at tasks k)
 by_number P [] all k below = absurd (omega (arith, below))
 by_number P (t ∷ tasks) all zero below = all.0
@@ -72,8 +69,8 @@ module _ (m : ℕ) (before : List SetContents) (s : SetContents) where
 
   after_period : CanJoin m s → (k : ModeKind) → Has m before s k → 3 ≤ rank k
   after_period can kind.Processors has = absurd (has can.same_processors)
-  after_period can (kind.Offset task) has = absurd (has.holds (by_number (λ t. t.offset ≡ 0) s.tasks can.no_offset task has.within))
-  after_period can (kind.Period task) has = absurd (has.holds (by_number (λ t. t.period ∣ s.horizon) s.tasks can.whole_periods task has.within))
+  after_period can (kind.Offset task) has = absurd (has.holds (by_number (λ t. t.offset ≡ 0) s.tasks can.can_repeat.no_offset task has.within))
+  after_period can (kind.Period task) has = absurd (has.holds (by_number (λ t. t.period ∣ s.horizon) s.tasks can.can_repeat.whole_periods task has.within))
   after_period can (kind.Overload total room) has = omega arith
   after_period can (kind.TooLong rows) has = omega arith
 
@@ -86,8 +83,8 @@ module _ (m : ℕ) (before : List SetContents) (s : SetContents) where
 
   pub after_overload : CanJoin m s → (scale : ℕ) → IsScale s.tasks scale → Fits scale s → (k : ModeKind) → Has m before s k → 4 ≤ rank k
   after_overload can scale is fits kind.Processors has = absurd (has can.same_processors)
-  after_overload can scale is fits (kind.Offset task) has = absurd (has.holds (by_number (λ t. t.offset ≡ 0) s.tasks can.no_offset task has.within))
-  after_overload can scale is fits (kind.Period task) has = absurd (has.holds (by_number (λ t. t.period ∣ s.horizon) s.tasks can.whole_periods task has.within))
+  after_overload can scale is fits (kind.Offset task) has = absurd (has.holds (by_number (λ t. t.offset ≡ 0) s.tasks can.can_repeat.no_offset task has.within))
+  after_overload can scale is fits (kind.Period task) has = absurd (has.holds (by_number (λ t. t.period ∣ s.horizon) s.tasks can.can_repeat.whole_periods task has.within))
   after_overload can scale is fits (kind.Overload total room) has = absurd (no_overload scale is fits total room has)
   after_overload can scale is fits (kind.TooLong rows) has = omega arith
 

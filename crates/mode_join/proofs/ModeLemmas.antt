@@ -85,8 +85,8 @@ period_ends t h k divides before =
 periods_end : (m : ℕ) (mode : Mode) → IsMode m mode → PeriodsEndIn mode
 periods_end m mode is i k within begins =
     let t = task_at mode.plan.set.tasks i in
-    let zero_offset : t.offset ≡ 0 = by_number (λ x. x.offset ≡ 0) mode.plan.set.tasks is.can_join.no_offset i within in
-    let divides : t.period ∣ mode.plan.set.horizon = by_number (λ x. x.period ∣ mode.plan.set.horizon) mode.plan.set.tasks is.can_join.whole_periods i within in
+    let zero_offset : t.offset ≡ 0 = by_number (λ x. x.offset ≡ 0) mode.plan.set.tasks is.can_join.can_repeat.no_offset i within in
+    let divides : t.period ∣ mode.plan.set.horizon = by_number (λ x. x.period ∣ mode.plan.set.horizon) mode.plan.set.tasks is.can_join.can_repeat.whole_periods i within in
     let ends = period_ends t.period mode.plan.set.horizon k divides (omega (arith, begins, zero_offset)) in
     omega (arith, ends, zero_offset)
 

@@ -1,11 +1,11 @@
 -- When a list of sets can be joined: sets that follow each other on the same processors, and switch where no period is open.
-use Rattle.std.specs.Prelude.{ℕ, ◌+◌, ◌*◌, ◌/◌, ◌<◌, ◌≤◌, ◌≡◌, ◌≢◌, List, [], ◌∷◌, Some, length, slice_get, take}
+use Rattle.std.specs.Prelude.{ℕ, ◌+◌, ◌*◌, ◌/◌, ◌<◌, ◌≤◌, ◌≡◌, ◌≢◌, List, [], ◌∷◌, Some, slice_get, take}
 use Rattle.std.specs.Int.{◌∣◌}
-use Rattle.std.specs.List.{AllByRecursion, AllZip, sum_by}
-use Rattle.sched_base.specs.declared.sets.Task.{Task}
-use Rattle.sched_base.specs.Sets.{SetContents, task_at}
-use Rattle.sched_base.specs.Scale.{IsScale, PeriodsDivide}
+use Rattle.std.specs.List.{AllZip, sum_by}
+use Rattle.sched_base.specs.Sets.{SetContents}
+use Rattle.sched_base.specs.Scale.{IsScale}
 use Rattle.sched_base.specs.Tables.{row_limit}
+use Rattle.repeat_laws.specs.Repeats.{CanRepeat, IsFirstTask}
 use Rattle.run_tree.specs.Compiled.{tree_of}
 use Rattle.run_tree.specs.Plans.{PlanContents, rounds_of}
 use Rattle.run_compile.specs.Answers.{IsOverload}
@@ -17,8 +17,7 @@ use Rattle.mode_join.specs.declared.faults.ModeFault.TheVariants as fault
 -- the set may be a mode on these processors: no period is open at its start or at its end
 pub record CanJoin (processors : ℕ) (s : SetContents) : Type 0 where
   pub same_processors : s.processors ≡ processors
-  pub no_offset : AllByRecursion (λ t. t.offset ≡ 0) s.tasks
-  pub whole_periods : PeriodsDivide s.tasks s.horizon
+  pub can_repeat : CanRepeat s
 
 -- the plan that the compiler makes of a set
 pub record IsPlanOf (s : SetContents) (p : PlanContents) : Type 0 where
@@ -29,12 +28,6 @@ pub record IsPlanOf (s : SetContents) (p : PlanContents) : Type 0 where
 -- the rows of a plan's schedule, one for each round and processor
 abbrev pub rows_of : PlanContents → ℕ
 rows_of p = rounds_of p * p.set.processors
-
--- it holds of this task, and of none before it
-pub record IsFirstTask (P : Task → Type 0) (tasks : List Task) (i : ℕ) : Type 0 where
-  pub within : i < length tasks
-  pub holds : P (task_at tasks i)
-  pub first : (k : ℕ) → k < i → P (task_at tasks k) → ⊥
 
 -- this is wrong with a set that would follow these others on so many processors
 abbrev pub Has : ℕ → List SetContents → SetContents → ModeKind → Type 0

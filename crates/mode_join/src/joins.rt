@@ -1,46 +1,18 @@
 //! Whether a set can be a mode, and the rounds of its plan behind other modes.
-ghost use Rattle.std.specs.Prelude.{◌≡◌, ◌≢◌, ◌≤◌, ◌+◌, ◌*◌, List, IfOk, IfErr, IfSome, IfNone};
-ghost use Rattle.std.specs.Int.{◌∣◌};
-ghost use Rattle.std.specs.List.{AllByRecursion};
+ghost use Rattle.std.specs.Prelude.{◌≡◌, ◌≤◌, ◌+◌, ◌*◌, List, IfOk, IfErr, IfSome, IfNone};
 ghost use Rattle.sched_base.specs.Sets.{SetContents};
 ghost use Rattle.sched_base.specs.Scale.{PeriodsDivide, Fits};
 ghost use Rattle.sched_base.specs.Tables.{row_limit};
 ghost use Rattle.run_tree.specs.Plans.{rounds_of};
-ghost use Rattle.mode_join.specs.Joining.{CanJoin, IsPlanOf, IsFirstTask, IsFirstOf, RefusesAs, IsOverloadOf, IsTooLongAfter};
+ghost use Rattle.mode_join.specs.Joining.{CanJoin, IsPlanOf, IsFirstOf, RefusesAs, IsOverloadOf, IsTooLongAfter};
 
 use crate::faults::{ModeFault, ModeKind};
 use event_core::{CountFault, count_rounds};
+use repeat_laws::{first_late, first_open};
 use run_compile::{CompileFault, compile};
 use run_tree::Plan;
-use sched_base::{ROW_LIMIT, Task, TaskSet};
+use sched_base::{ROW_LIMIT, TaskSet};
 use std::alloc::Global;
-
-/// The first task that isn't released at unit 0.
-fn first_late(tasks: &[Task]) -> Option<usize>
-    ensures some { IfSome result (λ i. IsFirstTask (λ t. t.offset ≢ 0) tasks.now i) }
-    ensures none { IfNone result (AllByRecursion (λ t. t.offset ≡ 0) tasks.now) }
-{
-    for (i, task) in tasks.iter().enumerate() {
-        if task.offset != 0 {
-            return Some(i);
-        }
-    }
-    None
-}
-
-/// The first task whose period doesn't divide the horizon.
-fn first_open(tasks: &[Task], horizon: u64) -> Option<usize>
-    requires { AllByRecursion (λ t. 1 ≤ t.period) tasks.now }
-    ensures some { IfSome result (λ i. IsFirstTask (λ t. t.period ∣ horizon → ⊥) tasks.now i) }
-    ensures none { IfNone result (PeriodsDivide tasks.now horizon) }
-{
-    for (i, task) in tasks.iter().enumerate() {
-        if horizon % task.period != 0 {
-            return Some(i);
-        }
-    }
-    None
-}
 
 /// What the set itself says against a mode on so many processors, whatever comes before it.
 pub(crate) fn unfit(processors: u32, set: &TaskSet) -> Option<ModeKind>

@@ -10,3 +10,4 @@ mod PatternLemmas
 mod TableLemmas
 mod RowNames
 mod MergedLemmas
+pub mod Again

@@ -209,7 +209,7 @@ module _ (s : SetContents) (scale : ℕ) (lawful : IsLawful s) (is : IsScale s.t
       (λ slice w. slice_apart slice w.up R after (each slice w.up))
 
   -- what the schedule gives to a task from one of its boundaries to another
-  wrapped_ticks : (j a b : ℕ) → j < length s.tasks → (task_at s.tasks j).offset ≤ a → a ≤ b → is_point s.tasks a ≡ true → is_point s.tasks b ≡ true →
+  pub wrapped_ticks : (j a b : ℕ) → j < length s.tasks → (task_at s.tasks j).offset ≤ a → a ≤ b → is_point s.tasks a ≡ true → is_point s.tasks b ≡ true →
       task_ticks (wrapped scale s) j (a * scale) (b * scale) ≡ rate_of scale (task_at s.tasks j) * overlap 0 s.horizon a b
   unfolding wrapped
   wrapped_ticks j a b l late order at_a at_b =

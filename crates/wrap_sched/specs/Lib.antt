@@ -3,3 +3,4 @@ pub mod Wrapped
 pub mod Steps
 pub mod Faults
 pub mod Merged
+pub mod Offsets

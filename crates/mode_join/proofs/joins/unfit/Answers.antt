@@ -1,7 +1,7 @@
 use Rattle.std.proofs.Common.{◌≡◌, sym, ◌∙◌}
 use Rattle.std.specs.List.{AllByRecursion}
 use Rattle.std.specs.Int.{◌∣◌}
-use Rattle.mode_join.specs.Joining.{IsFirstTask}
+use Rattle.repeat_laws.specs.Repeats.{IsFirstTask}
 use Rattle.mode_join.proofs.JoinLemmas.{period_first}
 use Rattle.mode_join.proofs.joins.unfit.Goals as goal
 

@@ -121,7 +121,7 @@ pub returns-in_err-push-clause-lawful : goal.returns-in_err-push-clause-lawful
 returns-in_err-push-clause-lawful c = IfOk-from_err _ _ c.from_residual-in_err-push.ensures.0
 
 pub plan_of-requires : goal.plan_of-requires
-plan_of-requires c = c.in_default.ensures.none.whole_periods
+plan_of-requires c = c.in_default.ensures.none.can_repeat.whole_periods
 
 pub rounds_after-requires : goal.rounds_after-requires
 rounds_after-requires c =

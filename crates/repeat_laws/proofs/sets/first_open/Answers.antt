@@ -4,8 +4,8 @@ use Rattle.std.proofs.lemmas.List.{get_or_default}
 use Rattle.std.proofs.lemmas.Nat.Gcd.{dvd_of_mod-eq-zero, mod-eq-zero_of_dvd}
 use Rattle.sched_base.specs.declared.sets.Task.{Task}
 use Rattle.sched_base.specs.Sets.{no_task, task_at}
-use Rattle.mode_join.proofs.JoinLemmas.{all_by_number}
-use Rattle.mode_join.proofs.joins.first_open.Goals as goal
+use Rattle.repeat_laws.proofs.Repeating.{all_by_number}
+use Rattle.repeat_laws.proofs.sets.first_open.Goals as goal
 
 pub returns-then-horizon-task-ne0-clause-some : goal.returns-then-horizon-task-ne0-clause-some
 returns-then-horizon-task-ne0-clause-some c =

@@ -1,6 +1,6 @@
 use Rattle.std.proofs.Common.{◌≡◌, arith}
-use Rattle.mode_join.proofs.JoinLemmas.{all_by_number}
-use Rattle.mode_join.proofs.joins.first_late.Goals as goal
+use Rattle.repeat_laws.proofs.Repeating.{all_by_number}
+use Rattle.repeat_laws.proofs.sets.first_late.Goals as goal
 
 pub returns-clause-none : goal.returns-clause-none
 returns-clause-none c = all_by_number (λ t. t.offset ≡ 0) c.args.tasks.now

@@ -1,7 +1,7 @@
 use Rattle.std.proofs.Common.{ℕ, ◌<◌}
 use Rattle.std.specs.Int.{◌∣◌}
 use Rattle.sched_base.specs.Sets.{task_at}
-use Rattle.mode_join.proofs.joins.first_open.Given as goal
+use Rattle.repeat_laws.proofs.sets.first_open.Given as goal
 
 abbrev pub invariant-loop-i : goal.invariant-loop-i
 invariant-loop-i l = (k : ℕ) → k < l.i → (task_at l.tasks k).period ∣ l.horizon

@@ -1,0 +1,9 @@
+pub mod LaterRows
+pub mod Joined
+pub mod Repeating
+pub mod RepeatingFrom
+pub mod RepeatedLanes
+pub mod Multiples
+pub mod CanRepeats
+pub mod Deciding
+pub mod UpTo
