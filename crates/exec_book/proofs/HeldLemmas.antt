@@ -11,10 +11,10 @@ use Rattle.book_machine.specs.Reached.{IsReached, OutRow, counts_of}
 use Rattle.book_machine.specs.Rounds.{AreFirstRounds}
 use Rattle.book_machine.proofs.Lanes.{out_within}
 use Rattle.book_machine.proofs.RoundLemmas.{row_of_all}
-use Rattle.exec_book.specs.PlanRows.{RoundsContents, plan_rows}
+use Rattle.plan_rounds.specs.PlanRows.{RoundsContents, plan_rows}
 use Rattle.exec_book.specs.Jobs.{DeskContents, JobsKept, Made}
-use Rattle.exec_book.specs.Books.{RowsPart}
-use Rattle.exec_book.proofs.RoundLemmas.{first_rounds, plan_count, plan_lanes, plan_table}
+use Rattle.plan_rounds.specs.Parts.{RowsPart}
+use Rattle.plan_rounds.proofs.RoundLemmas.{first_rounds, plan_count, plan_lanes, plan_table}
 use Rattle.exec_book.proofs.PostLemmas.{posts_below}
 use Rattle.exec_book.proofs.JobLemmas.{away_for}
 

@@ -10,15 +10,16 @@ ghost use Rattle.sched_base.specs.Tables.{row_limit};
 ghost use Rattle.book_machine.specs.Machine.{IsOut, lane_at, posted_at, least_posted, start};
 ghost use Rattle.book_machine.specs.Reached.{OutRow};
 ghost use Rattle.book_machine.specs.Rounds.{AreFirstRounds};
-ghost use Rattle.exec_book.specs.PlanRows.{IsCompiled, plan_rows};
-ghost use Rattle.exec_book.specs.Jobs.{AllAtHome, posted_ticks};
+ghost use Rattle.plan_rounds.specs.PlanRows.{IsCompiled, plan_rows};
+ghost use Rattle.plan_rounds.specs.Parts.{posted_ticks};
+ghost use Rattle.exec_book.specs.Jobs.{AllAtHome};
 ghost use Rattle.exec_book.specs.Books.{IsDismissed, AreParts};
-ghost use Rattle.exec_book.specs.Laws.{FollowsPlan};
+ghost use Rattle.plan_rounds.specs.Laws.{FollowsPlan};
 
 use crate::held::Held;
 use crate::jobs::{JobDesk, no_notes};
-use crate::rounds::Rounds;
 use book_machine::{Event, LaneState, MachineState};
+use plan_rounds::Rounds;
 use run_tree::Plan;
 use sched_base::{NoMemory, RowTable};
 use sched_edges::{Job, JobList};
@@ -53,7 +54,8 @@ impl<Q: PostLedger, J: Job> Drop for Book<Q, J> {
 
 impl<Q: PostLedger, J: Job> Model for Book<Q, J> {
     ghost use Rattle.std.specs.Prelude.{◌≡◌, option_map, vec_capacity};
-    ghost use Rattle.exec_book.specs.Books.{BookContents, RowsPart, LogPart, PostsPart, JobsPart, table_in, jobs_in};
+    ghost use Rattle.plan_rounds.specs.Parts.{RowsPart, LogPart};
+    ghost use Rattle.exec_book.specs.Books.{BookContents, PostsPart, JobsPart, table_in, jobs_in};
 
     ghost Value = { BookContents J };
 

@@ -8,13 +8,13 @@ ghost use Rattle.sched_edges.specs.Jobs.{JobAt};
 ghost use Rattle.run_tree.specs.Plans.{rounds_of};
 ghost use Rattle.book_machine.specs.declared.events.Event.TheVariants.{Take};
 ghost use Rattle.book_machine.specs.Machine.{IsLegal, after, posted_at};
-ghost use Rattle.exec_book.specs.PlanRows.{AreRoundsOf};
+ghost use Rattle.plan_rounds.specs.PlanRows.{AreRoundsOf};
 ghost use Rattle.exec_book.specs.Jobs.{WasAt, noted, with_job};
-ghost use Rattle.exec_book.specs.Books.{processor};
+ghost use Rattle.plan_rounds.specs.Parts.{processor};
 
 use crate::jobs::JobDesk;
-use crate::rounds::Rounds;
 use book_machine::{Event, MachineState};
+use plan_rounds::Rounds;
 use run_tree::Plan;
 use sched_base::{ProcId, Row};
 use sched_edges::Job;

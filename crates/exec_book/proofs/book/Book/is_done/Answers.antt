@@ -2,7 +2,7 @@ use Rattle.std.proofs.Common.{◌≡◌, ◌∙◌, true, false, inl, inr, arith
 use Rattle.std.proofs.lemmas.Bool.{eq-eqb}
 use Rattle.run_tree.specs.Plans.{rounds_of}
 use Rattle.book_machine.specs.Machine.{posted_at}
-use Rattle.exec_book.proofs.RoundLemmas.{below_or, plan_count}
+use Rattle.plan_rounds.proofs.RoundLemmas.{below_or, plan_count}
 use Rattle.exec_book.proofs.book.Book.is_done.Goals as goal
 
 pub posted-requires : goal.posted-requires

@@ -1,6 +1,6 @@
 use Rattle.std.proofs.Common.{◌∙◌, subst, sym}
-use Rattle.exec_book.specs.PlanRows.{AreRoundsOf}
-use Rattle.exec_book.proofs.rounds.Rounds.compute_next.Goals as goal
+use Rattle.plan_rounds.specs.PlanRows.{AreRoundsOf}
+use Rattle.plan_rounds.proofs.rounds.Rounds.compute_next.Goals as goal
 
 pub push_next-requires-clause-rounds : goal.push_next-requires-clause-rounds
 push_next-requires-clause-rounds c =

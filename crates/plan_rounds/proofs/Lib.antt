@@ -1,0 +1,4 @@
+pub mod RoundLemmas
+pub mod FrontLemmas
+pub mod RowLemmas
+pub mod LogLemmas
