@@ -6,8 +6,11 @@
  *  - One call at a time: no two threads are inside the library at once, and it isn't called from a signal handler, nor in the child
  *    of a fork of a process with threads.
  *  - malloc, realloc and free come from one allocator, and align a block to each power of two up to 16 that divides its size.
+ *  - A struct fl_exec is treated as a struct fl_plan; the calls of one book may come from several threads, one at a time, with a lock
+ *    around each.
  *  - A struct fl_plan is FL_NO_PLAN before fl_open, and no other part of the program changes or copies it; fl_close gives its memory back.
- *  - A struct fl_text that a call wrote is given back by fl_free, once.
+ *  - A struct fl_text that a call wrote is given back by fl_free, once, at FL_NO_MEMORY too.
+ *  - A call takes up to 128 KiB of the stack of its thread.
  *
  * No call starts a thread or waits, and each returns. Between two calls an open plan and a text hold memory, and nothing else is kept.
  */
@@ -17,6 +20,8 @@
 #include <stddef.h>
 #include <stdint.h>
 #include <stdlib.h>
+
+#define FL_VERSION "1.0.0"
 
 #ifdef __cplusplus
 extern "C" {
@@ -30,13 +35,16 @@ enum fl_status {
     FL_BAD_INPUT = 6,       /* the bytes are no task set, for fl_check and fl_draw no trace text, for fl_follow no tree text */
     FL_OVERLOAD = 7,        /* the tasks ask for more than the processors have */
     FL_SCALE_TOO_LARGE = 8, /* a unit would have more than 2^94 ticks */
-    FL_TOO_LONG = 9,        /* the schedule has more than 2,097,152 rows, one for each processor and round */
+    FL_TOO_LONG = 9,        /* fl_trace, fl_table, fl_exec_open ..: the schedule has more than 2,097,152 rows, one for each processor and round */
     FL_INPUT_TOO_LONG = 12, /* more than 1,048,576 bytes, or for fl_check and fl_draw more than 536,870,912 */
     FL_BAD_TREE = 16,       /* fl_follow: the tree is no reduction tree of its set */
     FL_TOO_WIDE = 17,       /* fl_table: the schedule has 2^64 ticks or more */
     FL_WRONG_CALL = 64,     /* a null pointer beside a length that isn't 0, a length past PTRDIFF_MAX, a plan that is open already or isn't
-                               open, or too little room for the tasks: nothing was done */
-    FL_OVER = 65            /* fl_next: the last round was told before */
+                               open, or too little room for the tasks; of a book a window that isn't from 1 to 1024, a processor that
+                               isn't there, a take while the processor's row is out, a post or halt while none is: nothing was done */
+    FL_OVER = 65,           /* fl_next: the last round was told before; fl_take: all rows of the processor are posted */
+    FL_WAIT = 66,           /* fl_take: an earlier row must be posted first */
+    FL_HALTED = 67          /* fl_take: a row failed before */
 };
 
 /* Whether a pointer and a length can name memory. */
@@ -256,6 +264,131 @@ static inline void fl_close(struct fl_plan *plan)
     if (plan && plan->at) {
         furnacelime_close(*plan);
         plan->at = NULL;
+    }
+}
+
+/* ---- The executive's book: which rows of a task set's schedule are out and which are posted, for threads, gates and jobs of the
+ * program's own. furnacelime_exec.h makes an executive of it.
+ *
+ *     struct fl_exec exec = FL_NO_EXEC;
+ *     if (fl_exec_open(&exec, set, length, FL_WINDOW, &about) == FL_DONE) {
+ *         ... the thread of processor p, in a loop, with one lock around each call:
+ *         status = fl_take(&exec, p, &row);            FL_DONE: run the row, without the lock; then
+ *         status = fl_post_and_take(&exec, p, &row);   or, where it failed, fl_halt(&exec, p, why)
+ *         ... FL_WAIT: come again when processor row.waits_for has posted a row; FL_OVER, FL_HALTED: end
+ *         fl_exec_tell(&exec, posted, FL_PROCESSORS, ticks, FL_TASKS, &end);
+ *         fl_exec_close(&exec);
+ *     }
+ *
+ * Whatever is called, and in whichever order: a row is handed out once and in the order of its processor; no two rows that are out at
+ * once are of one task; a task's row is handed out once its earlier rows, on whatever processors, are posted; no row is `window` rounds or
+ * more ahead of the processor that is furthest behind; the posted rows are a front of the schedule, which is valid. */
+
+/* A book. */
+struct fl_exec {
+    void *at;
+};
+
+#define FL_NO_EXEC {NULL}
+
+/* The most tasks of a set. */
+#define FL_TASKS 256
+
+/* The window of the program's `exec`; a window is from 1 to 1024. */
+#define FL_WINDOW 32
+
+/* As fl_about, with the number of tasks. */
+struct fl_exec_about {
+    struct fl_ticks scale;
+    struct fl_ticks end;
+    uint32_t processors;
+    uint32_t tasks;
+};
+
+/* A row: from `start` up to `end` the processor runs `task`, or FL_NO_TASK. At FL_WAIT `waits_for` is a processor, and the rest is as
+ * it was. */
+struct fl_row {
+    struct fl_ticks start;
+    struct fl_ticks end;
+    uint32_t task;
+    uint32_t waits_for;
+};
+
+/* The failure of the lowest processor that had one: its row, and the number that fl_halt was given. */
+struct fl_exec_end {
+    struct fl_ticks start;
+    struct fl_ticks end;
+    uint32_t task;
+    uint32_t processor;
+    uint32_t why;
+    uint32_t halted; /* 0: there was none, and the rest says nothing */
+};
+
+uint8_t furnacelime_exec_open(const uint8_t *set, size_t length, uint32_t window, struct fl_exec *exec, struct fl_exec_about *about);
+uint8_t furnacelime_take(struct fl_exec exec, struct fl_exec *kept, uint32_t processor, struct fl_row *row);
+uint8_t furnacelime_post(struct fl_exec exec, struct fl_exec *kept, uint32_t processor);
+uint8_t furnacelime_post_and_take(struct fl_exec exec, struct fl_exec *kept, uint32_t processor, struct fl_row *row);
+uint8_t furnacelime_halt(struct fl_exec exec, struct fl_exec *kept, uint32_t processor, uint32_t why);
+uint8_t furnacelime_exec_tell(struct fl_exec exec, struct fl_exec *kept, uint64_t *posted, size_t processors, struct fl_ticks *ticks,
+                              size_t tasks, struct fl_exec_end *end);
+void furnacelime_exec_close(struct fl_exec exec);
+
+/* Opens the book of a task set, before its first row. Where it isn't opened, it stays FL_NO_EXEC. All memory is taken here. */
+static inline int fl_exec_open(struct fl_exec *exec, const void *set, size_t length, uint32_t window, struct fl_exec_about *about)
+{
+    uint8_t none = 0;
+    if (!exec || exec->at || !about || !fl_is_area(set, length))
+        return FL_WRONG_CALL;
+    return furnacelime_exec_open(set ? (const uint8_t *)set : &none, length, window, exec, about);
+}
+
+/* Hands out the next row of a processor. */
+static inline int fl_take(struct fl_exec *exec, uint32_t processor, struct fl_row *row)
+{
+    if (!exec || !exec->at || !row)
+        return FL_WRONG_CALL;
+    return furnacelime_take(*exec, exec, processor, row);
+}
+
+/* Posts the row that is out on a processor: it has run. */
+static inline int fl_post(struct fl_exec *exec, uint32_t processor)
+{
+    if (!exec || !exec->at)
+        return FL_WRONG_CALL;
+    return furnacelime_post(*exec, exec, processor);
+}
+
+/* Both at once. At FL_WRONG_CALL nothing was done; at each other status the row is posted, and the status is that of the take. */
+static inline int fl_post_and_take(struct fl_exec *exec, uint32_t processor, struct fl_row *row)
+{
+    if (!exec || !exec->at || !row)
+        return FL_WRONG_CALL;
+    return furnacelime_post_and_take(*exec, exec, processor, row);
+}
+
+/* The row that is out on a processor failed, for a reason of the program's own number. It isn't posted, and no further row is handed out. */
+static inline int fl_halt(struct fl_exec *exec, uint32_t processor, uint32_t why)
+{
+    if (!exec || !exec->at)
+        return FL_WRONG_CALL;
+    return furnacelime_halt(*exec, exec, processor, why);
+}
+
+/* Tells how many rows each processor has posted, of each task the ticks of its posted rows, and the first failure. */
+static inline int fl_exec_tell(struct fl_exec *exec, uint64_t *posted, size_t processors, struct fl_ticks *ticks, size_t tasks,
+                               struct fl_exec_end *end)
+{
+    if (!exec || !exec->at || !posted || !ticks || !end || processors > PTRDIFF_MAX / sizeof *posted || tasks > PTRDIFF_MAX / sizeof *ticks)
+        return FL_WRONG_CALL;
+    return furnacelime_exec_tell(*exec, exec, posted, processors, ticks, tasks, end);
+}
+
+/* Gives the memory of a book back. It may be opened again. */
+static inline void fl_exec_close(struct fl_exec *exec)
+{
+    if (exec && exec->at) {
+        furnacelime_exec_close(*exec);
+        exec->at = NULL;
     }
 }
 

@@ -3,8 +3,8 @@ ghost use Rattle.std.specs.Prelude.{◌≡◌, ◌≢◌, ◌<◌, length, Some,
 ghost use Rattle.command_words.specs.Words.{ShowsSome};
 ghost use Rattle.furnacelime_c.specs.Answers.{reading_of, asked_by, Gives, IsNotCalled, IsCopied, IsShort};
 
-use answer_handle::Handle;
 use byte_calls::call;
+use c_handles::AnswerHandle;
 use std::alloc::Global;
 use still_commands::Reading;
 use trace_lines::Asked;
@@ -31,7 +31,7 @@ pub extern "C" fn furnacelime_ask(
     alloc: Global,
     question: &Question,
     bytes: &[u8],
-    kept: &mut Handle,
+    kept: &mut AnswerHandle,
     text_length: &mut usize,
 ) -> u8
     requires empty { kept.old.answer ≡ None }
@@ -48,7 +48,7 @@ pub extern "C" fn furnacelime_ask(
     match Box::new(alloc, answer) {
         Ok(boxed) => {
             *text_length = length;
-            *kept = Handle::of(boxed);
+            *kept = AnswerHandle::of(boxed);
             status
         }
         Err(_) => NO_MEMORY,
@@ -58,7 +58,7 @@ pub extern "C" fn furnacelime_ask(
 /// Copies the text of an answer to the front of `text`, and gives the memory of the answer back. With too little room the number is 64, and
 /// nothing is copied.
 #[unsafe(no_mangle)]
-pub extern "C" fn furnacelime_tell(alloc: Global, answer: Handle, text: &mut [u8]) -> u8
+pub extern "C" fn furnacelime_tell(alloc: Global, answer: AnswerHandle, text: &mut [u8]) -> u8
     requires open { answer.answer ≢ None }
     ensures copied { result ≡ 0 → IsCopied answer.answer text.old text.new }
     ensures short { result ≢ 0 → IsShort answer.answer text.old text.new result }

@@ -1,10 +1,11 @@
 //! The schedule of a task set round by round.
-ghost use Rattle.std.specs.Prelude.{◌≡◌, ◌≢◌, ◌<◌, ◌≤◌, ◌⊎◌, length, None, IfOk, IfErr};
+ghost use Rattle.std.specs.Prelude.{◌≡◌, ◌≢◌, ◌<◌, ◌≤◌, ◌⊎◌, ℕ, length, slice_index, Some, None, IfOk, IfErr};
 ghost use Rattle.run_tree.specs.Plans.{stop_of};
 ghost use Rattle.round_steps.specs.Refusals.{IsRefusedFor};
+ghost use Rattle.round_steps.specs.Steps.{StepsHeld};
 ghost use Rattle.furnacelime_c.specs.Rounds.{Tells, Begins, IsOpened, IsNotOpened, IsRound, IsNext, IsOver, IsShort};
 
-use round_handle::Handle;
+use c_handles::StepsHandle;
 use round_steps::{Halves, OpenFault, Steps, halves_of};
 use std::alloc::Global;
 
@@ -36,17 +37,18 @@ pub struct Round {
 pub extern "C" fn furnacelime_open(
     alloc: Global,
     set: &[u8],
-    plan: &mut Handle,
+    plan: &mut StepsHandle,
     about: &mut About,
 ) -> u8
     requires closed { plan.old.steps ≡ None }
     ensures opened { result ≡ 0 → IsOpened set.now plan.new.steps about.new }
     ensures refused { result ≢ 0 → IsNotOpened set.now plan.new.steps result }
+    ensures untold { result ≢ 0 → about.new ≡ about.old }
 {
     match open_boxed(alloc, set) {
         Ok(steps) => {
             *about = about_of(&steps);
-            *plan = Handle::of(steps);
+            *plan = StepsHandle::of(steps);
             0
         }
         Err(fault) => fault.code(),
@@ -58,27 +60,30 @@ pub extern "C" fn furnacelime_open(
 #[unsafe(no_mangle)]
 pub extern "C" fn furnacelime_next(
     alloc: Global,
-    plan: Handle,
-    kept: &mut Handle,
+    plan: StepsHandle,
+    kept: &mut StepsHandle,
     tasks: &mut [u32],
     round: &mut Round,
 ) -> u8
     requires open { plan.steps ≢ None }
     requires empty { kept.old.steps ≡ None }
     ensures next { result ≡ 0 → IsNext plan.steps kept.new.steps round.new tasks.new }
+    ensures rest { result ≡ 0 → (s : StepsHeld) × (plan.steps ≡ Some s)
+        × ((q : ℕ) → s.plan.tree.processors ≤ q → slice_index tasks.new q ≡ slice_index tasks.old q) }
     ensures over { result ≡ 65 → IsOver plan.steps kept.new.steps }
     ensures short { result ≡ 64 → IsShort plan.steps kept.new.steps (length tasks.old) }
+    ensures untold { result ≢ 0 → (round.new ≡ round.old) × (tasks.new ≡ tasks.old) }
     ensures status { (result ≡ 0) ⊎ ((result ≡ 64) ⊎ (result ≡ 65)) }
 {
     let mut steps = plan.into_box(alloc);
     let status = tell_next(&mut steps, tasks, round);
-    *kept = Handle::of(steps);
+    *kept = StepsHandle::of(steps);
     status
 }
 
 /// Gives the memory of a plan back.
 #[unsafe(no_mangle)]
-pub extern "C" fn furnacelime_close(alloc: Global, plan: Handle)
+pub extern "C" fn furnacelime_close(alloc: Global, plan: StepsHandle)
     requires open { plan.steps ≢ None }
 {
     let _steps = plan.into_box(alloc);
@@ -110,8 +115,10 @@ fn about_of(steps: &Steps) -> About
 // Goes on by the next round, and tells it.
 fn tell_next(steps: &mut Steps, tasks: &mut [u32], round: &mut Round) -> u8
     ensures next { result ≡ 0 → IsRound steps.old steps.new round.new tasks.new }
+    ensures rest { result ≡ 0 → (q : ℕ) → steps.old.plan.tree.processors ≤ q → slice_index tasks.new q ≡ slice_index tasks.old q }
     ensures over { result ≡ 65 → (steps.new ≡ steps.old) × (stop_of steps.old.plan ≤ steps.old.core.tick) }
     ensures short { result ≡ 64 → (steps.new ≡ steps.old) × (length tasks.old < steps.old.plan.tree.processors) }
+    ensures untold { result ≢ 0 → (round.new ≡ round.old) × (tasks.new ≡ tasks.old) }
     ensures status { (result ≡ 0) ⊎ ((result ≡ 64) ⊎ (result ≡ 65)) }
 {
     if tasks.len() < steps.processors() as usize {
