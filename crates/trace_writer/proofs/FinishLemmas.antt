@@ -1,27 +1,26 @@
--- When a period was done: by merged rows as by the rows themselves, and by the ends of the rows.
-use Rattle.std.proofs.Common.{ℕ, ◌+◌, ◌<◌, ◌≤◌, ◌≡◌, inl, inr, min, max, eqb, ltb, Bool, true, false, ◌&&◌, List, [], ◌∷◌, ◌++◌, cond, sym, refl, ap, ◌∙◌, arith}
-use Rattle.std.proofs.lemmas.Bool.{cases_Bool, cases_lt, and_parts, cond-true, cond-false, eqb-true, lt-ltb, le-ltb, ltb-false}
+-- When a period was done, while rows go by.
+use Rattle.std.proofs.Common.{ℕ, zero, suc, ◌+◌, ◌-◌, ◌*◌, ◌/◌, ◌^◌, ◌<◌, ◌≤◌, ◌≡◌, ◌≢◌, inl, inr, min, max, ltb, Bool, true, false, ◌&&◌, List, [], ◌∷◌, ◌++◌, length, get_or, set, map, cond, sym, refl, subst, ap, ◌∙◌, arith, get_or-set_same, get_or-set_other}
+use Rattle.std.proofs.lemmas.Bool.{cases_Bool, cases_lt, cases_order, cond-true, cond-false, lt-ltb, le-ltb, ne_eqb}
+use Rattle.std.proofs.lemmas.List.{length-set, length-map, get_or_default}
+use Rattle.std.proofs.Math.Nat.{mul-le-mul_right, le-div_iff_mul-le}
 use Rattle.std.specs.List.{AllByRecursion}
+use Rattle.sched_base.specs.declared.rows.Leaf.{Leaf}
+use Rattle.sched_base.specs.declared.rows.Leaf.TheVariants as leaves
 use Rattle.sched_base.specs.declared.rows.Row.{Row}
-use Rattle.sched_base.specs.Tables.{IsTable, all_rows}
+use Rattle.sched_base.specs.declared.rows.TaskId.{TaskId}
 use Rattle.sched_base.specs.declared.sets.Task.{Task}
 use Rattle.sched_base.specs.Rows.{is_of_task}
-use Rattle.sched_base.specs.Sets.{SetContents, task_at}
+use Rattle.sched_base.specs.Sets.{SetContents, IsLawful, IsLawfulTask, no_task, task_at}
 use Rattle.sched_base.specs.Valid.{period_start}
-use Rattle.trace_lines.specs.Finishes.{finish, finish_between}
-use Rattle.trace_lines.specs.Merging.{shown, lengthened, merge_onto, merged, merged_lanes}
-use Rattle.row_totals.specs.Sums.{AreForward}
-use Rattle.trace_lines.proofs.PeriodLemmas.{starts_rise}
-use Rattle.trace_lines.proofs.MergeLemmas.{goes_on, shown_same, forward_merged, forward_lanes}
-use Rattle.trace_writer.specs.Ends.{own_end, last_end_before}
-use Rattle.trace_writer.proofs.EndLemmas.{last_end_before-append}
+use Rattle.trace_lines.specs.Finishes.{ended_count, finish_between}
+use Rattle.trace_writer.specs.Finishes.{HaveRoom, ends_of, IsDoneBy, AreDoneBy}
 
 -- whether a row gives task j a tick from a up to b
-abbrev serves : ℕ → ℕ → ℕ → Row → Bool
+abbrev pub serves : ℕ → ℕ → ℕ → Row → Bool
 serves j a b r = is_of_task j r.leaf && (ltb r.start b && ltb a r.end)
 
 -- how far a row reaches into the ticks from a up to b for task j, or a
-abbrev reach : Row → ℕ → ℕ → ℕ → ℕ
+abbrev pub reach : Row → ℕ → ℕ → ℕ → ℕ
 reach r j a b = cond (serves j a b r) (min r.end b) a
 
 pub finish_least : (rows : List Row) (j a b : ℕ) → a ≤ finish_between rows j a b
@@ -47,7 +46,7 @@ finish_cons r rows j a b =
           omega (arith, e, f, rest))
     ]
 
-pub finish-append : (xs ys : List Row) (j a b : ℕ) → finish_between (xs ++ ys) j a b ≡ max (finish_between xs j a b) (finish_between ys j a b)
+finish-append : (xs ys : List Row) (j a b : ℕ) → finish_between (xs ++ ys) j a b ≡ max (finish_between xs j a b) (finish_between ys j a b)
 finish-append [] ys j a b = let rest = finish_least ys j a b in omega (arith, rest)
 finish-append (x ∷ xs) ys j a b =
     let one = finish_cons x (xs ++ ys) j a b in
@@ -55,136 +54,246 @@ finish-append (x ∷ xs) ys j a b =
     let rest = finish-append xs ys j a b in
     omega (arith, one, two, rest)
 
--- ---- merging
-
--- of a row of the task that starts before b only the end counts
-reach_early : (r : Row) (j a b most : ℕ) → is_of_task j r.leaf ≡ true → r.start < b → a ≤ most → max (reach r j a b) most ≡ max (min r.end b) most
-reach_early r j a b most own early above =
-    let step : reach r j a b ≡ cond (ltb a r.end) (min r.end b) a =
-    ap (λ t. cond (t && (ltb r.start b && ltb a r.end)) (min r.end b) a) own ∙ ap (λ t. cond (t && ltb a r.end) (min r.end b) a) (lt-ltb r.start b early) in
-    elim (cases_Bool (ltb a r.end)) [
-      | inl t ↦ (let e = cond-true (ltb a r.end) (min r.end b) a t in omega (arith, step, e))
-      | inr f ↦ (let e = cond-false (ltb a r.end) (min r.end b) a f in let low = ltb-false a r.end f in omega (arith, step, e, low, above))
-    ]
-
-reach_late : (r : Row) (j a b most : ℕ) → is_of_task j r.leaf ≡ true → b ≤ r.start → a ≤ most → max (reach r j a b) most ≡ most
-reach_late r j a b most own late above =
-    let step : reach r j a b ≡ a =
-    ap (λ t. cond (t && (ltb r.start b && ltb a r.end)) (min r.end b) a) own ∙ ap (λ t. cond (t && ltb a r.end) (min r.end b) a) (le-ltb r.start b late) in
-    omega (arith, step, above)
-
-reach_other : (r : Row) (j a b : ℕ) → is_of_task j r.leaf ≡ false → reach r j a b ≡ a
-reach_other r j a b other = ap (λ t. cond (t && (ltb r.start b && ltb a r.end)) (min r.end b) a) other
-
-reach_joined : (r q : Row) (j a b most : ℕ) → is_of_task j r.leaf ≡ is_of_task j q.leaf → r.end ≡ q.start → r.start ≤ r.end → q.start ≤ q.end → a ≤ most
-    → max (reach (lengthened r q.end) j a b) most ≡ max (reach r j a b) (max (reach q j a b) most)
-reach_joined r q j a b most same joint own next above =
-    elim (cases_Bool (is_of_task j r.leaf)) [
-      | inl t ↦ (
-          let t' : is_of_task j q.leaf ≡ true = sym same ∙ t in
-          let above' : a ≤ max (reach q j a b) most = omega (arith, above) in
-          elim (cases_lt r.start b) [
-            | inl early ↦ (
-                let whole = reach_early (lengthened r q.end) j a b most t early above in
-                let first = reach_early r j a b (max (reach q j a b) most) t early above' in
-                elim (cases_lt q.start b) [
-                  | inl soon ↦ (let second = reach_early q j a b most t' soon above in omega (arith, whole, first, second, joint, next))
-                  | inr late ↦ (let second = reach_late q j a b most t' late above in omega (arith, whole, first, second, joint, next, late))
-                ])
-            | inr late ↦ (
-                let after : b ≤ q.start = omega (arith, late, own, joint) in
-                let whole = reach_late (lengthened r q.end) j a b most t late above in
-                let first = reach_late r j a b (max (reach q j a b) most) t late above' in
-                let second = reach_late q j a b most t' after above in
-                omega (arith, whole, first, second))
-          ])
-      | inr f ↦ (
-          let whole = reach_other (lengthened r q.end) j a b f in
-          let first = reach_other r j a b f in
-          let second = reach_other q j a b (sym same ∙ f) in
-          omega (arith, whole, first, second, above))
-    ]
-
-finish_onto : (r : Row) (rows : List Row) (j a b : ℕ) → r.start ≤ r.end → AreForward rows → finish_between (merge_onto r rows) j a b ≡ max (reach r j a b) (finish_between rows j a b)
-finish_onto r [] j a b own rest = finish_cons r [] j a b
-finish_onto r (q ∷ rows) j a b own rest =
-    elim (cases_Bool (goes_on r q)) [
-      | inl t ↦ (
-          let parts = and_parts (eqb r.end q.start) (eqb (shown r.leaf) (shown q.leaf)) t in
-          let joint : r.end ≡ q.start = eqb-true _ _ parts.0 in
-          let same = shown_same j r.leaf q.leaf (eqb-true _ _ parts.1) in
-          let e : finish_between (merge_onto r (q ∷ rows)) j a b ≡ finish_between (lengthened r q.end ∷ rows) j a b =
-          ap (λ l. finish_between l j a b) (cond-true _ (lengthened r q.end ∷ rows) (r ∷ (q ∷ rows)) t) in
-          let whole = finish_cons (lengthened r q.end) rows j a b in
-          let second = finish_cons q rows j a b in
-          let joined = reach_joined r q j a b (finish_between rows j a b) same joint own rest.0 (finish_least rows j a b) in
-          omega (arith, e, whole, second, joined))
-      | inr f ↦ ap (λ l. finish_between l j a b) (cond-false _ (lengthened r q.end ∷ rows) (r ∷ (q ∷ rows)) f) ∙ finish_cons r (q ∷ rows) j a b
-    ]
-
--- merged rows finish a period when the rows do
-pub finish_merged : (rows : List Row) (j a b : ℕ) → AreForward rows → finish_between (merged rows) j a b ≡ finish_between rows j a b
-finish_merged [] j a b f = refl
-finish_merged (r ∷ rows) j a b f =
-    let one = finish_onto r (merged rows) j a b f.0 (forward_merged rows f.1) in
-    let rest = finish_merged rows j a b f.1 in
-    let two = finish_cons r rows j a b in
-    omega (arith, one, rest, two)
-
--- ---- by the ends of the rows
-
--- a period's finish lies between its ends, and else is the greatest end of the rows that start before it ends
-finish_by_end : (rows : List Row) (j a b : ℕ) → a ≤ b → finish_between rows j a b ≡ max a (min b (last_end_before b rows j))
-finish_by_end [] j a b h = omega (arith, h)
-finish_by_end (r ∷ rows) j a b h =
-    let whole = finish_cons r rows j a b in
-    let rest = finish_by_end rows j a b h in
+-- one row more
+finish_next : (r : Row) (rows : List Row) (j a b : ℕ) → finish_between (rows ++ r ∷ []) j a b ≡ max (finish_between rows j a b) (reach r j a b)
+finish_next r rows j a b =
+    let both = finish-append rows (r ∷ []) j a b in
+    let one = finish_cons r [] j a b in
     let least = finish_least rows j a b in
-    elim (cases_Bool (is_of_task j r.leaf)) [
-      | inl own ↦ (
-          let mine : own_end j r ≡ r.end = cond-true _ _ _ own in
-          elim (cases_lt r.start b) [
-            | inl early ↦ (
-                let one = reach_early r j a b (finish_between rows j a b) own early least in
-                let two : last_end_before b (r ∷ rows) j ≡ max (own_end j r) (last_end_before b rows j) = ap (λ n. max n (last_end_before b rows j)) (cond-true _ _ _ (lt-ltb r.start b early)) in
-                omega (arith, whole, rest, one, two, mine))
-            | inr late ↦ (
-                let one = reach_late r j a b (finish_between rows j a b) own late least in
-                let two : last_end_before b (r ∷ rows) j ≡ max 0 (last_end_before b rows j) = ap (λ n. max n (last_end_before b rows j)) (cond-false _ _ _ (le-ltb r.start b late)) in
-                omega (arith, whole, rest, one, two))
-          ])
-      | inr other ↦ (
-          let one = reach_other r j a b other in
-          let none : own_end j r ≡ 0 = cond-false _ _ _ other in
-          let two : last_end_before b (r ∷ rows) j ≡ max (cond (ltb r.start b) 0 0) (last_end_before b rows j) = ap (λ n. max (cond (ltb r.start b) n 0) (last_end_before b rows j)) none in
-          let zero : ◌≡◌ {A = ℕ} (cond (ltb r.start b) 0 0) 0 = cond_same (ltb r.start b) in
-          omega (arith, whole, rest, one, two, zero, least))
+    omega (arith, both, one, least)
+
+and_false : (t : Bool) → (t && false) ≡ false
+and_false true = refl
+and_false false = refl
+
+unserved : (r : Row) (rows : List Row) (j a b : ℕ) → serves j a b r ≡ false → finish_between (rows ++ r ∷ []) j a b ≡ finish_between rows j a b
+unserved r rows j a b none =
+    let next = finish_next r rows j a b in
+    let e : reach r j a b ≡ a = cond-false _ _ _ none in
+    let least = finish_least rows j a b in
+    omega (arith, next, e, least)
+
+-- a row of another task changes nothing
+pub finish_other : (r : Row) (rows : List Row) (j a b : ℕ) → is_of_task j r.leaf ≡ false → finish_between (rows ++ r ∷ []) j a b ≡ finish_between rows j a b
+finish_other r rows j a b other = unserved r rows j a b (ap (λ t. t && (ltb r.start b && ltb a r.end)) other)
+
+-- nor does a row that starts after the period
+pub finish_after : (r : Row) (rows : List Row) (j a b : ℕ) → b ≤ r.start → finish_between (rows ++ r ∷ []) j a b ≡ finish_between rows j a b
+finish_after r rows j a b late =
+    unserved r rows j a b (ap (λ t. is_of_task j r.leaf && (t && ltb a r.end)) (le-ltb r.start b late) ∙ and_false (is_of_task j r.leaf))
+
+-- or ends before it
+pub finish_before : (r : Row) (rows : List Row) (j a b : ℕ) → r.end ≤ a → finish_between (rows ++ r ∷ []) j a b ≡ finish_between rows j a b
+finish_before r rows j a b early =
+    unserved r rows j a b
+    (ap (λ t. is_of_task j r.leaf && (ltb r.start b && t)) (le-ltb a r.end early) ∙ ap (λ t. is_of_task j r.leaf && t) (and_false (ltb r.start b)) ∙ and_false (is_of_task j r.leaf))
+
+-- a row of the task within the period
+pub finish_within : (r : Row) (rows : List Row) (j a b : ℕ) → is_of_task j r.leaf ≡ true → r.start < b → a < r.end → finish_between (rows ++ r ∷ []) j a b ≡ max (finish_between rows j a b) (min r.end b)
+finish_within r rows j a b own early late =
+    let is : serves j a b r ≡ true =
+    ap (λ t. t && (ltb r.start b && ltb a r.end)) own ∙ ap (λ t. t && ltb a r.end) (lt-ltb r.start b early) ∙ lt-ltb a r.end late in
+    let next = finish_next r rows j a b in
+    let e : reach r j a b ≡ min r.end b = cond-true _ _ _ is in
+    omega (arith, next, e)
+
+-- a later period begins no earlier
+pub begins_later : (scale : ℕ) (t : Task) (k i : ℕ) → k ≤ i → period_start scale t k ≤ period_start scale t i
+begins_later scale t k i later =
+    let step : k * t.period ≤ i * t.period = mul-le-mul_right t.period later in
+    mul-le-mul_right scale (omega (arith, step))
+
+-- a period that doesn't end past the last one fits as the last one does
+pub begins_within : (t : Task) (k n most : ℕ) → k ≤ n → t.offset + n * t.period < most → t.offset + k * t.period < most
+begins_within t k n most within fits =
+    let step : k * t.period ≤ n * t.period = mul-le-mul_right t.period within in
+    omega (arith, step, fits)
+
+-- a task's first periods fit into 33 bits, if all of them do
+pub ended_fits : (s : SetContents) (t : Task) → 1 ≤ t.period → t.offset < 2 ^ 32 → s.horizon < 2 ^ 32 → t.offset + ended_count s t * t.period < 2 ^ 33
+ended_fits s t some offset horizon =
+    let v : ended_count s t * t.period ≤ s.horizon - t.offset = (le-div_iff_mul-le some).0 (omega arith) in
+    omega (arith, v, offset, horizon)
+
+-- a tick lies at or after the start of the period that a division gives
+pub period_before : (scale tick n : ℕ) (t : Task) → 1 ≤ t.period → 1 ≤ scale → n ≡ (tick / scale - t.offset) / t.period → 1 ≤ n → period_start scale t n ≤ tick
+period_before scale tick n t some whole is first =
+    let v : n * t.period ≤ tick / scale - t.offset = (le-div_iff_mul-le some).0 (omega (arith, is)) in
+    let w : 1 * t.period ≤ n * t.period = mul-le-mul_right t.period first in
+    (le-div_iff_mul-le whole).0 (omega (arith, v, w, some))
+
+-- ---- one row more
+
+-- a row of task j was noted in its first k periods, and not in the others
+pub record IsNoted (scale : ℕ) (t : Task) (j : ℕ) (rows : List Row) (r : Row) (k : ℕ) (ends : List ℕ) : Type 0 where
+  pub noted : (i : ℕ) → i < length ends → i < k → get_or ends i 0 ≡ finish_between (rows ++ r ∷ []) j (period_start scale t i) (period_start scale t (i + 1))
+  pub left : (i : ℕ) → i < length ends → k ≤ i → get_or ends i 0 ≡ finish_between rows j (period_start scale t i) (period_start scale t (i + 1))
+
+pub noted_first : (scale : ℕ) (t : Task) (j : ℕ) (rows : List Row) (r : Row) (k : ℕ) (ends : List ℕ)
+    → ((i : ℕ) → i < k → period_start scale t (i + 1) ≤ r.start) → IsDoneBy scale t j rows ends → IsNoted scale t j rows r k ends
+noted_first scale t j rows r k ends past done = record {
+  noted = λ i within below. done i within ∙ sym (finish_after r rows j (period_start scale t i) (period_start scale t (i + 1)) (past i below));
+  left = λ i within from. done i within;
+}
+
+pub noted_next : (scale : ℕ) (t : Task) (j : ℕ) (rows : List Row) (r : Row) (k v : ℕ) (ends : List ℕ) → is_of_task j r.leaf ≡ true → k < length ends → period_start scale t k < r.end
+    → (r.start < period_start scale t (k + 1) → v ≡ max (get_or ends k 0) (min r.end (period_start scale t (k + 1)))) → (period_start scale t (k + 1) ≤ r.start → v ≡ get_or ends k 0)
+    → IsNoted scale t j rows r k ends → IsNoted scale t j rows r (k + 1) (set ends k v)
+noted_next scale t j rows r k v ends own within begun early late h = record {
+  noted = λ i inside below. elim (cases_order i k) [
+    | inl same ↦ (
+        let here : get_or (set ends k v) i 0 ≡ v = ap (λ n. get_or (set ends k v) n 0) same ∙ get_or-set_same ends k v 0 within in
+        let before : get_or ends k 0 ≡ finish_between rows j (period_start scale t k) (period_start scale t (k + 1)) = h.left k within (omega arith) in
+        let now : v ≡ finish_between (rows ++ r ∷ []) j (period_start scale t k) (period_start scale t (k + 1)) =
+        elim (cases_lt r.start (period_start scale t (k + 1))) [
+          | inl starts ↦ (let e = early starts in let f = finish_within r rows j (period_start scale t k) (period_start scale t (k + 1)) own starts begun in omega (arith, e, f, before))
+          | inr after ↦ late after ∙ before ∙ sym (finish_after r rows j (period_start scale t k) (period_start scale t (k + 1)) after)
+        ] in
+        here ∙ now ∙ ap (λ n. finish_between (rows ++ r ∷ []) j (period_start scale t n) (period_start scale t (n + 1))) (sym same))
+    | inr other ↦ elim other [
+      | inl less ↦ get_or-set_other ends k i v 0 (λ e. omega (arith, e, less)) ∙ h.noted i (omega (arith, inside, length-set ends k v)) less
+      | inr more ↦ absurd (omega (arith, more, below))
     ]
-  where
-    cond_same : (t : Bool) → ◌≡◌ {A = ℕ} (cond t 0 0) 0
-    cond_same true = refl
-    cond_same false = refl
+  ];
+  left = λ i inside from. get_or-set_other ends k i v 0 (λ e. omega (arith, e, from)) ∙ h.left i (omega (arith, inside, length-set ends k v)) (omega (arith, from));
+}
 
--- the same of merged lanes by the table's rows
-pub finish_lanes : (lanes : List (List Row)) (j a b : ℕ) → a ≤ b → AllByRecursion AreForward lanes → finish_between (merged_lanes lanes) j a b ≡ max a (min b (last_end_before b (all_rows lanes) j))
-finish_lanes [] j a b h forward = omega (arith, h)
-finish_lanes (lane ∷ lanes) j a b h forward =
-    let split = finish-append (merged lane) (merged_lanes lanes) j a b in
-    let first = finish_merged lane j a b forward.0 in
-    let one = finish_by_end lane j a b h in
-    let rest = finish_lanes lanes j a b h forward.1 in
-    let both = last_end_before-append b lane (all_rows lanes) j in
-    omega (arith, split, first, one, rest, both)
+-- the other periods begin when the row has ended
+pub noted_stop : (scale : ℕ) (t : Task) (j : ℕ) (rows : List Row) (r : Row) (k : ℕ) (ends : List ℕ) → r.end ≤ period_start scale t k → IsNoted scale t j rows r k ends → IsDoneBy scale t j (rows ++ r ∷ []) ends
+noted_stop scale t j rows r k ends stopped h = λ i within.
+    elim (cases_lt i k) [
+      | inl below ↦ h.noted i within below
+      | inr from ↦ h.left i within from ∙ sym (finish_before r rows j (period_start scale t i) (period_start scale t (i + 1)) (let later = begins_later scale t k i from in omega (arith, later, stopped)))
+    ]
 
--- ---- periods
+-- there are no others
+pub noted_all : (scale : ℕ) (t : Task) (j : ℕ) (rows : List Row) (r : Row) (k : ℕ) (ends : List ℕ) → length ends ≤ k → IsNoted scale t j rows r k ends → IsDoneBy scale t j (rows ++ r ∷ []) ends
+noted_all scale t j rows r k ends all h = λ i within. h.noted i within (omega (arith, within, all))
 
--- when period k was done, found from its first tick, the one after its last, and the ends of the rows that start before that
-pub finish_is : (s : SetContents) (lanes : List (List Row)) (t : Task) (j scale k begin end reached cut result : ℕ) → IsTable lanes → task_at s.tasks j ≡ t → begin ≡ period_start scale t k → end ≡ period_start scale t (k + 1)
-    → reached ≡ last_end_before end (all_rows lanes) j → cut ≡ min end reached → result ≡ max begin cut → result ≡ finish scale s (merged_lanes lanes) j k
-finish_is s lanes t j scale k begin end reached cut result table place first last far low most =
-    let rows = merged_lanes lanes in
-    let rise : begin ≤ end = omega (arith, first, last, starts_rise scale t k) in
-    let by_end = finish_lanes lanes j begin end rise (forward_lanes lanes table) in
-    let is : result ≡ finish_between rows j begin end = omega (arith, by_end, far, low, most) in
-    is ∙ ap (λ x. finish_between rows j x end) first ∙ ap (λ x. finish_between rows j (period_start scale t k) x) last
-    ∙ ap (λ u. finish_between rows j (period_start scale u k) (period_start scale u (k + 1))) (sym place)
+-- ---- room
+
+pub room_long : (s : SetContents) (f : List (List ℕ)) → HaveRoom s f → length f ≡ length s.tasks
+room_long s f room = sym (length-map f length) ∙ ap length room ∙ length-map s.tasks (ended_count s)
+
+lengths_at : (g : Task → ℕ) (f : List (List ℕ)) (tasks : List Task) (j : ℕ) → map length f ≡ map g tasks → j < length tasks → length (ends_of f j) ≡ g (task_at tasks j)
+lengths_at g [] [] j same within = absurd (omega (arith, within))
+lengths_at g [] (t ∷ tasks) j same within = absurd (let e : [] ≡ g t ∷ map g tasks = same in cc)
+lengths_at g (x ∷ f) [] j same within = absurd (omega (arith, within))
+lengths_at g (x ∷ f) (t ∷ tasks) zero same within = let e : length x ∷ map length f ≡ g t ∷ map g tasks = same in cc
+lengths_at g (x ∷ f) (t ∷ tasks) (suc j) same within =
+    let e : length x ∷ map length f ≡ g t ∷ map g tasks = same in
+    let rest : map length f ≡ map g tasks = cc in
+    lengths_at g f tasks j rest (omega (arith, within))
+
+-- task j has a place for each of its periods
+pub room_at : (s : SetContents) (f : List (List ℕ)) (j : ℕ) → HaveRoom s f → j < length s.tasks → length (ends_of f j) ≡ ended_count s (task_at s.tasks j)
+room_at s f j room within = lengths_at (ended_count s) f s.tasks j room within
+
+same_lengths : (f : List (List ℕ)) (j : ℕ) (v : List ℕ) → length v ≡ length (ends_of f j) → map length (set f j v) ≡ map length f
+same_lengths [] j v same = refl
+same_lengths (x ∷ f) zero v same = ap (λ n. n ∷ map length f) same
+same_lengths (x ∷ f) (suc j) v same = ap (λ ns. length x ∷ ns) (same_lengths f j v same)
+
+-- other ticks for task j
+pub room_set : (s : SetContents) (f : List (List ℕ)) (j : ℕ) (v : List ℕ) → length v ≡ length (ends_of f j) → HaveRoom s f → HaveRoom s (set f j v)
+room_set s f j v same room = same_lengths f j v same ∙ room
+
+-- what task j got is told of it, and nothing else of the others
+pub ends_here : (f : List (List ℕ)) (j : ℕ) (v : List ℕ) → j < length f → ends_of (set f j v) j ≡ v
+ends_here f j v within = get_or-set_same f j v [] within
+
+pub ends_there : (f : List (List ℕ)) (j i : ℕ) (v : List ℕ) → i ≢ j → ends_of (set f j v) i ≡ ends_of f i
+ends_there f j i v other = get_or-set_other f j i v [] other
+
+-- a row of task j was noted there
+pub AreDoneBy-next : (scale : ℕ) (tasks : List Task) (rows : List Row) (r : Row) (f : List (List ℕ)) (j : ℕ) (v : List ℕ) → ((i : ℕ) → i ≢ j → is_of_task i r.leaf ≡ false) → j < length f
+    → AreDoneBy scale tasks rows f → IsDoneBy scale (task_at tasks j) j (rows ++ r ∷ []) v → AreDoneBy scale tasks (rows ++ r ∷ []) (set f j v)
+AreDoneBy-next scale tasks rows r f j v none within before now = λ i inside.
+    elim (cases_order i j) [
+      | inl same ↦ subst (λ n. IsDoneBy scale (task_at tasks n) n (rows ++ r ∷ []) (ends_of (set f j v) n)) (sym same)
+          (subst (IsDoneBy scale (task_at tasks j) j (rows ++ r ∷ [])) (sym (ends_here f j v within)) now)
+      | inr away ↦ (
+          let other : i ≢ j = λ e. elim away [
+            | inl less ↦ omega (arith, e, less)
+            | inr more ↦ omega (arith, e, more)
+          ] in
+          subst (IsDoneBy scale (task_at tasks i) i (rows ++ r ∷ [])) (sym (ends_there f j i v other))
+          (λ k there. before i inside k there ∙ sym (finish_other r rows i (period_start scale (task_at tasks i) k) (period_start scale (task_at tasks i) (k + 1)) (none i other))))
+    ]
+
+-- a row of no task was noted nowhere
+pub AreDoneBy-none : (scale : ℕ) (tasks : List Task) (rows : List Row) (r : Row) (f : List (List ℕ)) → ((i : ℕ) → is_of_task i r.leaf ≡ false)
+    → AreDoneBy scale tasks rows f → AreDoneBy scale tasks (rows ++ r ∷ []) f
+AreDoneBy-none scale tasks rows r f none before = λ i inside k there. before i inside k there ∙ sym (finish_other r rows i (period_start scale (task_at tasks i) k) (period_start scale (task_at tasks i) (k + 1)) (none i))
+
+-- of a set within the limits each task is
+pub lawful_at : (tasks : List Task) (j : ℕ) → j < length tasks → AllByRecursion IsLawfulTask tasks → IsLawfulTask (task_at tasks j)
+lawful_at [] j within each = absurd (omega (arith, within))
+lawful_at (t ∷ tasks) zero within each = each.0
+lawful_at (t ∷ tasks) (suc j) within each = lawful_at tasks j (omega (arith, within)) each.1
+
+-- the periods of task j that have a place fit into 33 bits
+pub room_fits : (s : SetContents) (f : List (List ℕ)) (j : ℕ) → IsLawful s → HaveRoom s f → j < length s.tasks
+    → (task_at s.tasks j).offset + length (ends_of f j) * (task_at s.tasks j).period < 2 ^ 33
+room_fits s f j lawful room within =
+    let t = task_at s.tasks j in
+    let own = lawful_at s.tasks j within lawful.each in
+    let work = own.some_work in
+    let fit = own.work_fits in
+    let count = room_at s f j room within in
+    rw count (ended_fits s t (omega (arith, work, fit)) own.offset_fits lawful.horizon_fits)
+
+-- so for a task that was looked up
+pub item_fits : (s : SetContents) (f : List (List ℕ)) (j : ℕ) (t : Task) (d : List ℕ) → IsLawful s → HaveRoom s f → j < length s.tasks → t ≡ get_or s.tasks j t
+    → t.offset + length (get_or f j d) * t.period < 2 ^ 33
+item_fits s f j t d lawful room within at =
+    let place : task_at s.tasks j ≡ t = get_or_default s.tasks j no_task t within ∙ sym at in
+    let there : j < length f = omega (arith, within, room_long s f room) in
+    let same : ends_of f j ≡ get_or f j d = get_or_default f j [] d there in
+    let fits = room_fits s f j lawful room within in
+    subst (λ (u : Task). u.offset + length (get_or f j d) * u.period < 2 ^ 33) place
+    (subst (λ (xs : List ℕ). (task_at s.tasks j).offset + length xs * (task_at s.tasks j).period < 2 ^ 33) same fits)
+
+pub room_put : (s : SetContents) (f : List (List ℕ)) (j : ℕ) (v d : List ℕ) → HaveRoom s f → j < length s.tasks → length v ≡ length (get_or f j d) → HaveRoom s (set f j v)
+room_put s f j v d room within same =
+    let there : j < length f = omega (arith, within, room_long s f room) in
+    room_set s f j v (same ∙ ap length (get_or_default f j d [] there)) room
+
+-- one task more has its periods told to be done when they begin
+pub begun_next : (scale : ℕ) (s : SetContents) (f : List (List ℕ)) (j : ℕ) (v : List ℕ) (t : Task) → HaveRoom s f → j < length s.tasks → t ≡ get_or s.tasks j t
+    → ((i : ℕ) → i < j → IsDoneBy scale (task_at s.tasks i) i [] (ends_of f i)) → IsDoneBy scale t j [] v → (i : ℕ) → i < j + 1 → IsDoneBy scale (task_at s.tasks i) i [] (ends_of (set f j v) i)
+begun_next scale s f j v t room within at before now i below =
+    let place : task_at s.tasks j ≡ t = get_or_default s.tasks j no_task t within ∙ sym at in
+    let there : j < length f = omega (arith, within, room_long s f room) in
+    elim (cases_order i j) [
+      | inl same ↦ subst (λ n. IsDoneBy scale (task_at s.tasks n) n [] (ends_of (set f j v) n)) (sym same)
+          (subst (IsDoneBy scale (task_at s.tasks j) j []) (sym (ends_here f j v there)) (subst (λ (u : Task). IsDoneBy scale u j [] v) (sym place) now))
+      | inr away ↦ elim away [
+        | inl less ↦ subst (IsDoneBy scale (task_at s.tasks i) i []) (sym (ends_there f j i v (λ e. omega (arith, e, less)))) (before i less)
+        | inr more ↦ absurd (omega (arith, more, below))
+      ]
+    ]
+
+-- a row of a task was noted for it
+pub note_done : (scale : ℕ) (s : SetContents) (rows : List Row) (r : Row) (id : TaskId) (f : List (List ℕ)) (v : List ℕ) (t : Task) (d : List ℕ) → HaveRoom s f → id.0 < length s.tasks
+    → t ≡ get_or s.tasks id.0 t → r.leaf ≡ leaves.Task id → (IsDoneBy scale t id.0 rows (get_or f id.0 d) → IsDoneBy scale t id.0 (rows ++ r ∷ []) v)
+    → AreDoneBy scale s.tasks rows f → AreDoneBy scale s.tasks (rows ++ r ∷ []) (set f id.0 v)
+note_done scale s rows r id f v t d room within at is noted before =
+    let j = id.0 in
+    let place : task_at s.tasks j ≡ t = get_or_default s.tasks j no_task t within ∙ sym at in
+    let there : j < length f = omega (arith, within, room_long s f room) in
+    let same : ends_of f j ≡ get_or f j d = get_or_default f j [] d there in
+    let none : (i : ℕ) → i ≢ j → is_of_task i r.leaf ≡ false = λ i other. ap (is_of_task i) is ∙ ne_eqb j i (λ e. other (sym e)) in
+    let own : IsDoneBy scale t j rows (get_or f j d) = subst (IsDoneBy scale t j rows) same (subst (λ (u : Task). IsDoneBy scale u j rows (ends_of f j)) place (before j within)) in
+    AreDoneBy-next scale s.tasks rows r f j v none there before (subst (λ (u : Task). IsDoneBy scale u j (rows ++ r ∷ []) v) (sym place) (noted own))
+
+of_none : (leaf : Leaf) → ((id : TaskId) → leaf ≢ leaves.Task id) → (i : ℕ) → is_of_task i leaf ≡ false
+of_none (leaves.Task id) other i = absurd (other id refl)
+of_none (leaves.Wait id) other i = refl
+of_none (leaves.Idle number) other i = refl
+of_none leaves.Empty other i = refl
+
+-- a row of no task needs none
+pub note_none : (scale : ℕ) (s : SetContents) (rows : List Row) (r : Row) (f : List (List ℕ)) → ((id : TaskId) → r.leaf ≢ leaves.Task id)
+    → AreDoneBy scale s.tasks rows f → AreDoneBy scale s.tasks (rows ++ r ∷ []) f
+note_none scale s rows r f other before = AreDoneBy-none scale s.tasks rows r f (of_none r.leaf other) before

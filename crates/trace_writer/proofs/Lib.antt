@@ -2,10 +2,11 @@ pub mod TotalLemmas
 pub mod LaneLemmas
 pub mod TextLemmas
 pub mod FinishLemmas
-pub mod EndLemmas
-pub mod ReachLemmas
+pub mod MetLemmas
+pub mod NotedLemmas
 pub mod MergedLemmas
 pub mod DigitLemmas
+pub mod HeldLemmas
 pub mod PageLemmas
 pub mod RowLemmas
 pub mod CauseLemmas

@@ -1,4 +1,3 @@
 pub mod Parts
-pub mod Ends
-pub mod Reaches
+pub mod Finishes
 pub mod Digits

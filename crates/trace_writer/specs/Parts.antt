@@ -6,7 +6,7 @@ use Rattle.sched_base.specs.declared.sets.Task.{Task}
 use Rattle.sched_base.specs.Sets.{SetContents}
 use Rattle.sched_edges.specs.Lines.{named_line}
 use Rattle.trace_lines.specs.declared.versions.Version.{Version}
-use Rattle.trace_lines.specs.Lines.{task_line, row_line}
+use Rattle.trace_lines.specs.Lines.{task_line, row_line, met_line}
 use Rattle.trace_lines.specs.Text.{head_lines, total_lines}
 
 -- these lines, one after the other
@@ -21,3 +21,7 @@ body_text version s scale rows =
 -- the lines of these totals, one for each task in order
 abbrev pub lines_of_totals : List Task → List ℕ → List (List ℕ)
 lines_of_totals tasks totals = map (λ p. named_line (codes "total") p.1.name (slice_index totals p.0)) (enumerate_from 0 tasks)
+
+-- the line of a numbered period of the task of this name, which was done at this tick
+abbrev pub line_of_met : List ℕ → ℕ × ℕ → List ℕ
+line_of_met name p = met_line name p.0 p.1

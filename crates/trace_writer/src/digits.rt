@@ -1,6 +1,6 @@
 //! Decimal digits, written where they are to stand.
-ghost use Rattle.std.specs.Prelude.{◌≡◌, ◌≤◌, ◌<◌, ◌+◌, ◌^◌, ◌++◌, length, take, replicate, decimal};
-ghost use Rattle.trace_writer.specs.Digits.{low_digits};
+ghost use Rattle.std.specs.Prelude.{◌≡◌, ◌≤◌, ◌<◌, ◌+◌, ◌*◌, ◌/◌, ◌%◌, ◌^◌, ◌++◌, length, take, replicate, decimal};
+ghost use Rattle.trace_writer.specs.Digits.{low_digits, worth_of_four};
 
 use itoa::write_digits;
 
@@ -51,8 +51,8 @@ fn put_high(bytes: &mut [u8], at: usize, high: u128) -> usize
     end + CUT
 }
 
-// The same of a number within 64 bits.
-fn put_short(bytes: &mut [u8], at: usize, number: u64) -> usize
+/// The same of a number within 64 bits.
+pub(crate) fn put_short(bytes: &mut [u8], at: usize, number: u64) -> usize
     requires room { at + length (decimal number) ≤ length bytes.old }
     ensures end { result ≡ at + length (decimal number) }
     ensures text { take result bytes.new ≡ take at bytes.old ++ decimal number }
@@ -103,4 +103,44 @@ fn digit_count_of_short(number: u64) -> usize
         100..=999 => 3,
         _ => 4,
     }
+}
+
+/// Writes the first bytes of a block at a place, and says where they end. The whole block is written, since that many bytes are copied
+/// faster than a number of them that isn't known.
+pub(crate) fn put_block(bytes: &mut [u8], at: usize, block: &[u8], len: usize) -> usize
+    requires room { at + length block.now ≤ length bytes.old }
+    requires within { len ≤ length block.now }
+    ensures end { result ≡ at + len }
+    ensures text { take result bytes.new ≡ take at bytes.old ++ take len block.now }
+{
+    let end = at + block.len();
+    bytes[at..end].copy_from_slice(block);
+    at + len
+}
+
+/// The last eight digits of a number, those in front that are 0 too.
+pub(crate) fn eight_digits(low: u32) -> [u8; 8]
+    requires { low < 100_000_000 }
+    ensures { result ≡ low_digits 8 low }
+{
+    let front = four_digits(low / 10_000);
+    let back = four_digits(low % 10_000);
+    (front + back * 4_294_967_296).to_le_bytes()
+}
+
+// Four digits as the bytes of a number, the first digit lowest.
+fn four_digits(number: u32) -> u64
+    requires { number < 10_000 }
+    ensures { result ≡ worth_of_four number }
+{
+    two_digits(number / 100) + two_digits(number % 100) * 65_536
+}
+
+// The same of two digits.
+fn two_digits(number: u32) -> u64
+    requires { number < 100 }
+    ensures { result ≡ 48 + number / 10 + 256 * (48 + number % 10) }
+{
+    let tens = number / 10;
+    u64::from(12_336 + 256 * number - 2_559 * tens)
 }

@@ -3,12 +3,15 @@
 
 mod body;
 mod digits;
+mod finishes;
 mod lines;
 mod merged;
 mod mets;
+mod noting;
 mod pages;
-mod reaches;
+mod pens;
 mod rows;
 mod text;
 
-pub use text::{write_merged, write_met, write_trace};
+pub use finishes::Finishes;
+pub use text::{write_merged, write_merged_met, write_met, write_trace};

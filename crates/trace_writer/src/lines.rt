@@ -2,9 +2,10 @@
 ghost use Rattle.std.specs.Prelude.{◌≡◌, ◌≤◌, ◌++◌, ◌∷◌, codes, decimal, length};
 ghost use Rattle.sched_base.specs.Bytes.{space};
 ghost use Rattle.row_totals.specs.Sums.{IsAmong};
-ghost use Rattle.trace_lines.specs.Lines.{leaf_name, task_line, row_line};
+ghost use Rattle.trace_lines.specs.Lines.{leaf_name, task_line, row_line, met_line};
 
 use crate::pages::Page;
+use crate::pens::{Count, Pen};
 use sched_base::{Leaf, Row, Task, TaskSet};
 use sched_edges::Line;
 use trace_lines::Version;
@@ -46,19 +47,45 @@ fn start_of_task(task: &Task) -> Line
 
 /// Adds the line of a row to a page that has room for any.
 #[tactic(auto, unfolding(trace_lines::specs::Lines::row_line, sched_edges::specs::Lines::line_of))]
-pub(crate) fn add_row(page: &mut Page, set: &TaskSet, row: &Row)
+pub(crate) fn add_row(page: &mut Page, pen: &mut Pen, set: &TaskSet, row: &Row)
     requires among { IsAmong (length set.now.tasks) row.now.leaf }
     requires room { length page.old ≤ 3840 }
     ensures { page.new ≡ page.old ++ row_line set.now.tasks row.now }
 {
-    page.text(b"row ");
-    page.number(u128::from(row.processor));
+    pen.lead.set(row.processor);
+    page.lead(&pen.lead);
+    pen.tick.set(row.start);
+    page.count(&pen.tick);
     page.space();
-    page.number(row.start);
-    page.space();
-    page.number(row.end);
+    pen.tick.set(row.end);
+    page.count(&pen.tick);
     page.space();
     page.text(name_of(set, row.leaf));
+    page.end();
+}
+
+/// Adds the line of a period to a page that has room for any.
+#[tactic(auto, unfolding(trace_lines::specs::Lines::met_line, sched_edges::specs::Lines::line_of))]
+pub(crate) fn add_met(
+    page: &mut Page,
+    period: &mut Count,
+    tick: &mut Count,
+    name: &[u8],
+    k: u64,
+    finish: u128,
+)
+    requires name { length name.now ≤ 32 }
+    requires room { length page.old ≤ 3840 }
+    ensures { page.new ≡ page.old ++ met_line name.now k finish }
+{
+    page.text(b"met ");
+    page.text(name);
+    page.space();
+    period.set(u128::from(k));
+    page.count(period);
+    page.space();
+    tick.set(finish);
+    page.count(tick);
     page.end();
 }
 

@@ -8,13 +8,11 @@ ghost use Rattle.row_totals.specs.Sums.{NamesAmong};
 ghost use Rattle.trace_lines.specs.Lines.{row_line};
 
 use crate::lines::add_row;
-use crate::pages::Page;
+use crate::pages::{FULL, Page};
+use crate::pens::Pen;
 use merged_rows::MergedRows;
 use sched_base::TaskSet;
 use sched_edges::{Failed, Sink, write_all};
-
-/// A page with more bytes than these may have no room for another line.
-const FULL: usize = 3840;
 
 /// Writes the rows of all processors, and says how many lines these are.
 pub(crate) fn write_merged_rows<W: Sink>(
@@ -50,16 +48,24 @@ fn write_merged_lane<W: Sink>(
 {
     let count = rows.count(p);
     let mut page = Page::new();
+    let mut pen = Pen::new();
     let mut next = 0;
     while next < count {
-        next = fill(&mut page, set, rows, p, next);
+        next = fill(&mut page, &mut pen, set, rows, p, next);
         write_all(sink, page.as_slice())?;
     }
     Ok(count as u64)
 }
 
 // The page holds lines of processor p alone, from row `first` on, as many as it has room for. Says which row comes after them.
-fn fill(page: &mut Page, set: &TaskSet, rows: &MergedRows, p: u32, first: usize) -> usize
+fn fill(
+    page: &mut Page,
+    pen: &mut Pen,
+    set: &TaskSet,
+    rows: &MergedRows,
+    p: u32,
+    first: usize,
+) -> usize
     requires processor { p < length rows.now.lanes }
     requires some { first < length (lane_of rows.now.lanes p) }
     requires names { NamesAmong (length set.now.tasks) (lane_of rows.now.lanes p) }
@@ -74,7 +80,7 @@ fn fill(page: &mut Page, set: &TaskSet, rows: &MergedRows, p: u32, first: usize)
         if page.len() > FULL {
             return i;
         }
-        add_row(page, set, &rows.row(p, i));
+        add_row(page, pen, set, &rows.row(p, i));
     }
     count
 }

@@ -1,12 +1,15 @@
 //! Lines that go out together.
-ghost use Rattle.std.specs.Prelude.{◌≡◌, ◌≤◌, ◌<◌, ◌+◌, ◌++◌, ◌∷◌, [], length, decimal};
+ghost use Rattle.std.specs.Prelude.{◌≡◌, ◌≤◌, ◌<◌, ◌+◌, ◌++◌, ◌∷◌, [], codes, length, decimal};
 ghost use Rattle.sched_base.specs.Bytes.{line_feed, space};
 
-use crate::digits::put_number;
+use crate::pens::{Count, Lead};
 use std::marker::Model;
 
 /// The most bytes of a page.
 const ROOM: usize = 4096;
+
+/// A page with more bytes than these may have no room for another line.
+pub(crate) const FULL: usize = 3840;
 
 /// Lines that aren't handed on yet, of at most 4096 bytes. It is seen as these bytes.
 #[derive(Drop)]
@@ -67,13 +70,22 @@ impl Page {
         self.len = end;
     }
 
-    /// Adds a number, in decimal digits.
-    pub(crate) fn number(&mut self, number: u128)
+    /// Adds a number whose digits are kept.
+    pub(crate) fn count(&mut self, count: &Count)
         requires { length self.old + 40 ≤ 4096 }
-        ensures text { self.new ≡ self.old ++ decimal number }
+        ensures text { self.new ≡ self.old ++ decimal count.now }
         ensures short { length self.new ≤ length self.old + 40 }
     {
-        self.len = put_number(&mut self.bytes, self.len, number);
+        self.len = count.put(&mut self.bytes, self.len);
+    }
+
+    /// Adds the first words of a row's line.
+    pub(crate) fn lead(&mut self, lead: &Lead)
+        requires { length self.old + 16 ≤ 4096 }
+        ensures text { self.new ≡ self.old ++ (codes "row " ++ (decimal lead.now ++ space ∷ [])) }
+        ensures short { length self.new ≤ length self.old + 16 }
+    {
+        self.len = lead.put(&mut self.bytes, self.len);
     }
 
     /// Adds the space between two words.

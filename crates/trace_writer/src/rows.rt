@@ -10,6 +10,7 @@ ghost use Rattle.trace_lines.specs.Merging.{merged, merged_lanes};
 
 use crate::lines::add_row;
 use crate::pages::Page;
+use crate::pens::Pen;
 use sched_base::{Row, RowTable, TaskSet};
 use sched_edges::{Failed, Sink, write_all};
 use trace_lines::first_merged;
@@ -43,11 +44,12 @@ fn write_lane<W: Sink>(sink: &mut W, set: &TaskSet, lane: &[Row]) -> Result<u64,
     ensures cause { HasCause (W.faults sink.old) (W.faults sink.new) result }
 {
     let mut page = Page::new();
+    let mut pen = Pen::new();
     let mut count = 0;
     let mut left = lane;
     while let Some((row, later)) = first_merged(left) {
         page.clear();
-        add_row(&mut page, set, &row);
+        add_row(&mut page, &mut pen, set, &row);
         write_all(sink, page.as_slice())?;
         count += 1;
         left = later;

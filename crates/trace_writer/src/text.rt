@@ -9,9 +9,12 @@ ghost use Rattle.row_totals.specs.Sums.{NamesAmong, totals_of};
 ghost use Rattle.trace_lines.specs.Conditions.{AreOnTime};
 ghost use Rattle.trace_lines.specs.Merging.{merged_lanes};
 ghost use Rattle.trace_lines.specs.Text.{trace_text};
+ghost use Rattle.trace_writer.specs.Finishes.{HaveRoom};
 
 use crate::body::{write_body, write_merged_body};
+use crate::finishes::Finishes;
 use crate::mets::write_mets;
+use crate::noting::{note_merged, note_table};
 use merged_rows::MergedRows;
 use sched_base::{RowTable, TaskSet};
 use sched_edges::{Failed, Sink, number_line, write_all};
@@ -65,24 +68,53 @@ pub fn write_merged<W: Sink>(
 /// The text of a table's rows in version 2: each task's line has its offset, and after the totals stands for each period that ends by the
 /// horizon when it was done.
 ///
-/// It takes no memory: for each task it goes once through the table's rows and through the task's periods.
+/// It takes no memory: `finishes` has the room for these ticks. Each line of rows goes out as one piece, those of a task's periods in pieces of up
+/// to 4096 bytes.
 pub fn write_met<W: Sink>(
     sink: &mut W,
     set: &TaskSet,
     scale: u128,
     table: &RowTable,
     totals: &[u128],
+    finishes: &mut Finishes,
 ) -> Result<(), Failed>
     requires scale { scale ≤ 2 ^ 94 }
     requires processors { length table.now.lanes ≡ set.now.processors }
     requires names { AllByRecursion (NamesAmong (length set.now.tasks)) table.now.lanes }
     requires few { length table.now.lanes * rounds_of table.now.lanes ≤ row_limit }
     requires totals { totals.now ≡ totals_of (length set.now.tasks) table.now.lanes }
+    requires room { HaveRoom set.now finishes.old }
     ensures wrote { Wrote (W.taken sink.old) (W.taken sink.new) (trace_text Two set.now scale (merged_lanes table.now.lanes)) result }
     ensures cause { HasCause (W.faults sink.old) (W.faults sink.new) result }
 {
+    note_table(finishes, set, scale, table);
     let rows = write_body(sink, Version::Two, set, scale, table, totals)?;
-    write_mets(sink, set, scale, table)?;
+    write_mets(sink, set, finishes)?;
     let line = number_line(b"rows", u128::from(rows));
+    write_all(sink, line.as_slice())
+}
+
+/// The same of rows that are merged already. Their lines too go out in pieces of up to 4096 bytes.
+pub fn write_merged_met<W: Sink>(
+    sink: &mut W,
+    set: &TaskSet,
+    scale: u128,
+    rows: &MergedRows,
+    totals: &[u128],
+    finishes: &mut Finishes,
+) -> Result<(), Failed>
+    requires scale { scale ≤ 2 ^ 94 }
+    requires processors { length rows.now.lanes ≡ set.now.processors }
+    requires names { AllByRecursion (NamesAmong (length set.now.tasks)) rows.now.lanes }
+    requires few { length (all_rows rows.now.lanes) ≤ row_limit }
+    requires totals { totals.now ≡ totals_of (length set.now.tasks) rows.now.lanes }
+    requires room { HaveRoom set.now finishes.old }
+    ensures wrote { Wrote (W.taken sink.old) (W.taken sink.new) (trace_text Two set.now scale (all_rows rows.now.lanes)) result }
+    ensures cause { HasCause (W.faults sink.old) (W.faults sink.new) result }
+{
+    note_merged(finishes, set, scale, rows);
+    let count = write_merged_body(sink, Version::Two, set, scale, rows, totals)?;
+    write_mets(sink, set, finishes)?;
+    let line = number_line(b"rows", u128::from(count));
     write_all(sink, line.as_slice())
 }

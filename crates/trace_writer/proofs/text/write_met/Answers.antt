@@ -15,14 +15,14 @@ pub returns-in_err-write_mets-clause-wrote : goal.returns-in_err-write_mets-clau
 returns-in_err-write_mets-clause-wrote g c =
     rw (trace_parts Two c.args.set.now c.args.scale (merged_lanes c.args.table.now.lanes))
     (wrote_then _ _ _ _ _ _ _ c.in_ok-rows.ensures.wrote
-    (wrote_cut _ _ _ _ _ _ c.in_err-write_mets.ensures.wrote c.from_residual-in_err-write_mets.ensures.0))
+    (wrote_cut _ _ _ _ _ _ (c.in_err-write_mets.ensures.wrote c.args.scale (merged_lanes c.args.table.now.lanes) c.note_table.ensures.done) c.from_residual-in_err-write_mets.ensures.0))
 
 pub returns-clause-wrote : goal.returns-clause-wrote
 returns-clause-wrote g c =
     let end = rw (c.as_slice.ensures.bytes, c.number_line-line.ensures, c.from.ensures, c.in_ok-rows.ensures.count) at c.write_all.ensures.wrote in
     rw (trace_parts Two c.args.set.now c.args.scale (merged_lanes c.args.table.now.lanes))
     (wrote_then _ _ _ _ _ _ _ c.in_ok-rows.ensures.wrote
-    (wrote_then _ _ _ _ _ _ _ c.in_ok-write_mets.ensures.wrote end))
+    (wrote_then _ _ _ _ _ _ _ (c.in_ok-write_mets.ensures.wrote c.args.scale (merged_lanes c.args.table.now.lanes) c.note_table.ensures.done) end))
 
 pub returns-in_err-rows-clause-cause : goal.returns-in_err-rows-clause-cause
 returns-in_err-rows-clause-cause g c = cause_cut _ _ _ _ _ (le_refl _) c.in_err-rows.ensures.cause
@@ -43,4 +43,4 @@ pub write_body-requires-clause-totals : goal.write_body-requires-clause-totals
 write_body-requires-clause-totals g c = c.requires.totals
 
 pub write_mets-requires : goal.write_mets-requires
-write_mets-requires g c = record { scale = c.requires.scale }
+write_mets-requires g c = record { room = c.note_table.ensures.room }

@@ -1,0 +1,200 @@
+//! What is kept from one line to the next.
+ghost use Rattle.std.specs.Prelude.{◌≡◌, ◌≤◌, ◌<◌, ◌+◌, ◌-◌, ◌/◌, ◌^◌, ◌++◌, ◌∷◌, ◌==◌, [], codes, length, take, decimal};
+ghost use Rattle.sched_base.specs.Bytes.{space};
+ghost use Rattle.trace_writer.specs.Digits.{front_digits, last_digits};
+
+use crate::digits::{eight_digits, put_block, put_number, put_short};
+use std::marker::Model;
+
+/// The last eight digits of a number have as many values.
+const SPLIT: u128 = 100_000_000;
+
+/// A number whose decimal digits are kept: as long as those before the last eight stay, these alone are made anew for the next one.
+///
+/// It is seen as the number.
+#[derive(Drop)]
+pub(crate) struct Count {
+    number: u128,
+    /// The number, with 0 in place of its last eight digits.
+    base: u128,
+    /// The digits before the last eight, where there are any.
+    front: [u8; 40],
+    front_len: usize,
+    /// The other digits.
+    last: [u8; 8],
+    last_len: usize,
+}
+
+impl Model for Count {
+    ghost use Rattle.std.specs.Prelude.{ℕ};
+    ghost use Rattle.trace_writer.specs.Digits.{AreHeld};
+
+    ghost Value = { ℕ };
+
+    ghost view = { λ c. c.number };
+
+    ghost invariant = { λ c. AreHeld c.number c.base c.front c.front_len c.last c.last_len };
+}
+
+impl Count {
+    /// 0.
+    pub(crate) fn zero() -> Count
+        ensures { result ≡ 0 }
+    {
+        Count {
+            number: 0,
+            base: 0,
+            front: [0; 40],
+            front_len: 0,
+            last: [48; 8],
+            last_len: 1,
+        }
+    }
+
+    /// Another number.
+    pub(crate) fn set(&mut self, number: u128)
+        ensures { self.new ≡ number }
+    {
+        if number == self.number {
+            return;
+        }
+        if number < self.base || number - self.base >= SPLIT {
+            self.turn(number);
+        } else {
+            self.go_on(number);
+        }
+    }
+
+    // Another number with any digits.
+    fn turn(&mut self, number: u128)
+        ensures { self.new ≡ number }
+    {
+        let high = number / SPLIT;
+        let base = high * SPLIT;
+        self.front_len = put_front(&mut self.front, high);
+        let (last, last_len) = last_of((number - base) as u32, base == 0);
+        self.base = base;
+        self.last = last;
+        self.last_len = last_len;
+        self.number = number;
+    }
+
+    // Another number that has the same digits before the last eight.
+    fn go_on(&mut self, number: u128)
+        requires { number / 10 ^ 8 ≡ self.old / 10 ^ 8 }
+        ensures { self.new ≡ number }
+    {
+        let (last, last_len) = last_of((number - self.base) as u32, self.base == 0);
+        self.last = last;
+        self.last_len = last_len;
+        self.number = number;
+    }
+
+    /// Writes the digits from place `at` on, and says where they end.
+    pub(crate) fn put(&self, bytes: &mut [u8], at: usize) -> usize
+        requires room { at + 40 ≤ length bytes.old }
+        ensures end { result ≤ at + 40 }
+        ensures text { take result bytes.new ≡ take at bytes.old ++ decimal self.now }
+    {
+        let end = put_block(bytes, at, &self.front[..32], self.front_len);
+        put_block(bytes, end, &self.last, self.last_len)
+    }
+}
+
+// Writes the digits of a number, none where it is 0, and says how many these are.
+fn put_front(bytes: &mut [u8], high: u128) -> usize
+    requires room { 40 ≤ length bytes.old }
+    requires small { high < 10 ^ 31 }
+    ensures few { result ≤ 32 }
+    ensures text { take result bytes.new ≡ front_digits high }
+{
+    if high == 0 {
+        return 0;
+    }
+    put_number(bytes, 0, high)
+}
+
+// The last digits of a number and how many these are: all of them where it has no others, else eight.
+fn last_of(low: u32, alone: bool) -> ([u8; 8], usize)
+    requires { low < 10 ^ 8 }
+    ensures few { result.1 ≤ 8 }
+    ensures text { take result.1 result.0 ≡ last_digits alone low }
+{
+    if alone {
+        let mut bytes = [0; 8];
+        let len = put_short(&mut bytes, 0, u64::from(low));
+        (bytes, len)
+    } else {
+        (eight_digits(low), 8)
+    }
+}
+
+/// The first word of a row's line and its processor, with a space after each. It is seen as the processor.
+#[derive(Drop)]
+pub(crate) struct Lead {
+    processor: u32,
+    bytes: [u8; 16],
+    len: usize,
+}
+
+impl Model for Lead {
+    ghost use Rattle.std.specs.Prelude.{◌≡◌, ◌≤◌, ◌++◌, ◌∷◌, [], ℕ, codes, take, decimal};
+    ghost use Rattle.sched_base.specs.Bytes.{space};
+
+    ghost Value = { ℕ };
+
+    ghost view = { λ l. l.processor };
+
+    ghost invariant = { λ l. (l.len ≤ 16) × (take l.len l.bytes ≡ codes "row " ++ (decimal l.processor ++ space ∷ [])) };
+}
+
+impl Lead {
+    /// Of this processor.
+    pub(crate) fn of(processor: u32) -> Lead
+        ensures { result ≡ processor }
+    {
+        let mut bytes = [b'r', b'o', b'w', b' ', 0, 0, 0, 0, 0, 0, 0, 0, 0, 0, 0, 0];
+        let end = put_short(&mut bytes, 4, u64::from(processor));
+        bytes[end] = b' ';
+        Lead {
+            processor,
+            bytes,
+            len: end + 1,
+        }
+    }
+
+    /// Of another processor.
+    pub(crate) fn set(&mut self, processor: u32)
+        ensures { self.new ≡ processor }
+    {
+        if processor != self.processor {
+            *self = Lead::of(processor);
+        }
+    }
+
+    /// Writes it from place `at` on, and says where it ends.
+    pub(crate) fn put(&self, bytes: &mut [u8], at: usize) -> usize
+        requires room { at + 16 ≤ length bytes.old }
+        ensures end { result ≤ at + 16 }
+        ensures text { take result bytes.new ≡ take at bytes.old ++ (codes "row " ++ (decimal self.now ++ space ∷ [])) }
+    {
+        put_block(bytes, at, &self.bytes, self.len)
+    }
+}
+
+/// What is kept from one row's line to the next: the end of a row is mostly the start of the next one.
+#[derive(Drop)]
+pub(crate) struct Pen {
+    pub lead: Lead,
+    pub tick: Count,
+}
+
+impl Pen {
+    /// Before the first row.
+    pub(crate) fn new() -> Pen {
+        Pen {
+            lead: Lead::of(0),
+            tick: Count::zero(),
+        }
+    }
+}
