@@ -1,6 +1,7 @@
 //! Reads a trace text that anybody wrote, of either version, and tells whether its rows are a valid schedule of its set.
 #![tactic(auto)]
 
+mod checked;
 mod faults;
 mod head_lines;
 mod laws;
@@ -14,10 +15,11 @@ mod tail_lines;
 mod task_lines;
 mod traces;
 
+pub use checked::CheckedTrace;
 pub use faults::{BadLine, TraceFault};
 pub use head_lines::{Head, next_number, next_scale, number_after};
 pub use laws::{merged_law, reads_lawful_law, round_trip_law};
-pub use reading::read_trace;
+pub use reading::{read_checked, read_trace};
 pub use task_lines::{is_scale, read_tasks};
 pub use trace_rows::{FaultKind, Verdict};
 pub use traces::{ReadTrace, check_trace};

@@ -15,3 +15,5 @@ mod SuppliedLemmas
 mod StackLemmas
 pub mod TallyLemmas
 mod ToldLemmas
+mod TimedLemmas
+mod FoundLemmas

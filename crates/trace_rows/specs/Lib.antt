@@ -9,3 +9,4 @@ pub mod Supplied
 pub mod Findings
 pub mod Tally
 pub mod TaskOrders
+pub mod Timed

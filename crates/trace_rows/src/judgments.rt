@@ -1,5 +1,5 @@
 //! The verdict on the rows of a trace, with the orders that are made for it.
-ghost use Rattle.std.specs.Prelude.{◌≡◌, ◌*◌, ◌≤◌, ◌^◌, length, not, nat_lt, nat_le, IfOk, ◌↔◌};
+ghost use Rattle.std.specs.Prelude.{◌≡◌, ◌*◌, ◌≤◌, ◌^◌, length, not, nat_lt, nat_le, IfOk, IfSome, ◌↔◌};
 ghost use Rattle.sched_base.specs.Valid.{IsValid};
 ghost use Rattle.trace_rows.specs.Orders.{processor_key, task_key, IsOrder, IsProcessorOrder, IsTaskOrder};
 ghost use Rattle.trace_rows.specs.Faults.{IsTrace, IsVerdict};
@@ -8,11 +8,14 @@ ghost use Rattle.trace_rows.specs.Searches.{kind_of, IsFirstHit, IsFirstUnfit};
 
 use crate::entries::Entry;
 use crate::faults::{FIRST_TASK_LINE, FaultKind, Verdict};
-use crate::findings::Findings;
-use crate::orders::{order_by_processor, order_by_task, places_of, starts_of};
-use crate::searches::{first_processor_hit, first_task_hit, first_unfit, first_unsupplied};
+use crate::findings::{Findings, findings_at};
+use crate::orders::{front_len, order_by_processor, order_by_task, places_of, starts_of};
+use crate::searches::{
+    first_processor_hit, first_task_hit, first_unfit, first_unsupplied, task_periods,
+};
 use crate::standing::{all_places, stand};
 use crate::supplied::{TaskOrder, supplied_order};
+use crate::timed::timed_findings;
 use sched_base::{NoMemory, Row, TaskSet};
 use std::alloc::Global;
 
@@ -25,7 +28,15 @@ pub struct Judgment {
     pub by_task: Vec<u32>,
     /// Where each task's part of `by_task` begins, and at its end where the last one ends.
     pub task_starts: Vec<u32>,
-    /// For each task what its rows tell of its jobs; for none where entries were made of them.
+    /// For each task what its rows tell of its jobs, where none is at fault.
+    pub found: Vec<Findings>,
+    pub verdict: Verdict,
+}
+
+/// What is told of the rows of a trace where nobody asks for their orders.
+#[derive(Drop)]
+pub struct Judged {
+    /// For each task what its rows tell of its jobs, where none is at fault.
     pub found: Vec<Findings>,
     pub verdict: Verdict,
 }
@@ -126,6 +137,7 @@ fn judge_tasks(
     requires hit { IsFirstHit processor_key rows.now hit }
     ensures order { IfOk result (λ j. IsTaskOrder (length set.now.tasks) rows.now j.0.places.items j.0.starts.items) }
     ensures found { IfOk result (λ j. AreTold set.now scale rows.now j.0.found.items) }
+    ensures all { IfOk result (λ j. j.1 ≡ Verdict.Valid → length j.0.found.items ≡ length set.now.tasks) }
     ensures verdict { IfOk result (λ j. IsVerdict set.now scale rows.now j.1) }
 {
     if unfit.min(hit) as usize == rows.len() {
@@ -138,9 +150,56 @@ fn judge_tasks(
     let order = TaskOrder {
         places: places_of(alloc, &entries)?,
         starts: starts_of(alloc, &entries, set.count())?,
-        found: Vec::new(alloc),
+        found: found_by(alloc, set, scale, rows, &entries, verdict)?,
     };
     Ok((order, verdict))
+}
+
+// What the rows of each task tell, by their entries, where none is at fault.
+fn found_by(
+    alloc: Global,
+    set: &TaskSet,
+    scale: u128,
+    rows: &[Row],
+    by_task: &[Entry],
+    verdict: Verdict,
+) -> Result<Vec<Findings>, NoMemory>
+    requires trace { IsTrace set.now scale rows.now }
+    requires by_task { IsOrder task_key rows.now by_task.now }
+    requires verdict { IsVerdict set.now scale rows.now verdict }
+    ensures told { IfOk result (λ v. AreTold set.now scale rows.now v.items) }
+    ensures all { IfOk result (λ v. verdict ≡ Verdict.Valid → length v.items ≡ length set.now.tasks) }
+{
+    match verdict {
+        Verdict::Valid => found_in(alloc, set, scale, rows, by_task),
+        Verdict::Fault { .. } => Ok(Vec::new(alloc)),
+    }
+}
+
+// What the rows of each task tell, by their entries.
+fn found_in(
+    alloc: Global,
+    set: &TaskSet,
+    scale: u128,
+    rows: &[Row],
+    by_task: &[Entry],
+) -> Result<Vec<Findings>, NoMemory>
+    requires trace { IsTrace set.now scale rows.now }
+    requires by_task { IsOrder task_key rows.now by_task.now }
+    requires valid { IsVerdict set.now scale rows.now Verdict.Valid }
+    ensures told { IfOk result (λ v. AreTold set.now scale rows.now v.items) }
+    ensures all { IfOk result (λ v. length v.items ≡ length set.now.tasks) }
+{
+    let mut found = Vec::new(alloc);
+    let mut left = by_task;
+    for task in 0..set.count() {
+        let (mine, later) = left.split_at(front_len(left, task));
+        let places = places_of(alloc, mine)?;
+        let periods = task_periods(set, scale, task);
+        found.push(findings_at(&periods, rows, &places))?;
+        left = later;
+    }
+    Ok(found)
 }
 
 /// The orders of the rows of a trace and the verdict on them.
@@ -149,6 +208,7 @@ pub fn judge(alloc: Global, set: &TaskSet, scale: u128, rows: &[Row]) -> Result<
     ensures by_processor { IfOk result (λ j. IsProcessorOrder rows.now j.by_processor.items) }
     ensures by_task { IfOk result (λ j. IsTaskOrder (length set.now.tasks) rows.now j.by_task.items j.task_starts.items) }
     ensures found { IfOk result (λ j. AreTold set.now scale rows.now j.found.items) }
+    ensures all { IfOk result (λ j. j.verdict ≡ Verdict.Valid → length j.found.items ≡ length set.now.tasks) }
     ensures verdict { IfOk result (λ j. IsVerdict set.now scale rows.now j.verdict) }
     ensures valid { IfOk result (λ j. (j.verdict ≡ Verdict.Valid) ↔ IsValid set.now scale (set.now.horizon * scale) (set.now.horizon * scale) rows.now) }
 {
@@ -162,4 +222,52 @@ pub fn judge(alloc: Global, set: &TaskSet, scale: u128, rows: &[Row]) -> Result<
         found: order.found,
         verdict,
     })
+}
+
+/// The verdict on the rows of a trace, and what they tell, without their orders. Rows that stand by processor, and those of one in
+/// the order of time, as those of a valid schedule mostly do, are gone through once; else their orders are made.
+pub fn judge_rows(
+    alloc: Global,
+    set: &TaskSet,
+    scale: u128,
+    rows: &[Row],
+) -> Result<Judged, NoMemory>
+    requires trace { IsTrace set.now scale rows.now }
+    ensures found { IfOk result (λ j. AreTold set.now scale rows.now j.found.items) }
+    ensures all { IfOk result (λ j. j.verdict ≡ Verdict.Valid → length j.found.items ≡ length set.now.tasks) }
+    ensures verdict { IfOk result (λ j. IsVerdict set.now scale rows.now j.verdict) }
+{
+    if let Some(found) = found_in_time(alloc, set, scale, rows)? {
+        return Ok(Judged {
+            found,
+            verdict: Verdict::Valid,
+        });
+    }
+    let judgment = judge(alloc, set, scale, rows)?;
+    Ok(Judged {
+        found: judgment.found,
+        verdict: judgment.verdict,
+    })
+}
+
+// What the rows of each task tell, where they stand by processor, those of one in the order of time, and none is at fault. Where
+// it finds nothing, that says nothing.
+fn found_in_time(
+    alloc: Global,
+    set: &TaskSet,
+    scale: u128,
+    rows: &[Row],
+) -> Result<Option<Vec<Findings>>, NoMemory>
+    requires trace { IsTrace set.now scale rows.now }
+    ensures found { IfOk result (λ o. IfSome o (λ v. AreTold set.now scale rows.now v.items)) }
+    ensures all { IfOk result (λ o. IfSome o (λ v. length v.items ≡ length set.now.tasks)) }
+    ensures valid { IfOk result (λ o. IfSome o (λ _. IsVerdict set.now scale rows.now Verdict.Valid)) }
+{
+    if !stand(rows) {
+        return Ok(None);
+    }
+    if (first_unfit(set, scale, rows) as usize) < rows.len() {
+        return Ok(None);
+    }
+    timed_findings(alloc, set, scale, rows)
 }

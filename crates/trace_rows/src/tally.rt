@@ -1,15 +1,17 @@
 //! A tally of what the rows of a task tell of its jobs, in the order of time.
-ghost use Rattle.std.specs.Prelude.{◌≡◌, ◌+◌, ◌-◌, ◌<◌, ◌≤◌, ◌^◌, ◌&&◌, ◌==◌, [], ◌∷◌, length};
+ghost use Rattle.std.specs.Prelude.{◌≡◌, ◌+◌, ◌-◌, ◌<◌, ◌≤◌, ◌^◌, true, false, ◌&&◌, ◌==◌, [], ◌∷◌, length};
 ghost use Rattle.std.specs.List.{AllByRecursion};
 ghost use Rattle.sched_base.specs.Counting.{bit};
 ghost use Rattle.trace_rows.specs.Supply.{bound_at, ended_by};
-ghost use Rattle.trace_rows.specs.Findings.{is_preemption, is_migration, row_response, IsRowIn};
+ghost use Rattle.trace_rows.specs.declared.supply.Periods.{Periods};
+ghost use Rattle.trace_rows.specs.Findings.{is_preemption, is_migration, row_response, IsRowIn, IsTold};
 ghost use Rattle.trace_rows.specs.Tally.{KeepsPace, Goes};
+ghost use Rattle.trace_rows.specs.Timed.{Tallied};
 
 use crate::clock::Clock;
 use crate::findings::Findings;
 use crate::supply::Periods;
-use sched_base::Row;
+use sched_base::{Leaf, Row};
 
 /// What was found of the rows gone through, the last of them, the number of the period of its last tick, and how many periods
 /// end by the end of the schedule.
@@ -93,6 +95,42 @@ fn see(clock: &mut Clock, periods: &Periods, ended: u128, row: &Row) -> Seen
 }
 
 impl Tally {
+    /// A tally of no row yet.
+    pub(crate) fn none(periods: &Periods) -> Tally
+        requires { 0 < periods.now.period }
+        ensures { (p : Periods) → IsTold p [] result.found }
+    {
+        Tally {
+            clock: Clock::new(periods.base, periods.period),
+            before: Row {
+                processor: 0,
+                start: 0,
+                end: 0,
+                leaf: Leaf::Empty,
+            },
+            last: 0,
+            ended: 0,
+            found: Findings::none(),
+        }
+    }
+
+    /// Goes through a row, which may be the first.
+    pub(crate) fn go(&mut self, periods: &Periods, row: &Row, is_first: bool)
+        requires some { 0 < periods.now.period }
+        requires row { IsRowIn periods.now row.now }
+        requires pace { is_first ≡ false → KeepsPace periods.now self.old }
+        requires few_preempted { is_first ≡ false → self.old.found.preemptions < 2 ^ 63 }
+        requires few_moved { is_first ≡ false → self.old.found.migrations < 2 ^ 63 }
+        ensures first { is_first ≡ true → Tallied periods.now (row.now ∷ []) self.new }
+        ensures later { is_first ≡ false → Goes periods.now (row.now ∷ []) self.old self.new }
+    {
+        if is_first {
+            *self = Tally::new(periods, row);
+        } else {
+            self.step(periods, row);
+        }
+    }
+
     /// A tally that begins with this row.
     pub(crate) fn new(periods: &Periods, row: &Row) -> Tally
         requires some { 0 < periods.now.period }

@@ -30,8 +30,7 @@ impl Walk {
     // A walk at the first tick of the first period.
     pub(crate) fn new(periods: &Periods) -> Walk
         requires lawful { AreLawful periods.now }
-        requires begun { periods.now.base ≤ periods.now.stop }
-        ensures stands { StandsAt periods.now result }
+        ensures stands { periods.now.base ≤ periods.now.stop → StandsAt periods.now result }
         ensures tick { result.tick ≡ periods.now.base }
         ensures done { result.done ≡ 0 }
     {
@@ -80,8 +79,8 @@ impl Walk {
         true
     }
 
-    // Goes past a row, where it is one of the task, begins no sooner than the last one has ended, and keeps to what is due.
-    fn step(&mut self, periods: &Periods, task: u32, row: &Row) -> bool
+    /// Goes past a row, where it is one of the task, begins no sooner than the last one has ended, and keeps to what is due.
+    pub(crate) fn step(&mut self, periods: &Periods, task: u32, row: &Row) -> bool
         requires lawful { AreLawful periods.now }
         requires stands { StandsAt periods.now self.old }
         ensures key { IsTrue result → task_key row.now ≡ Some task }

@@ -23,7 +23,7 @@ loop-left-init c =
     let own : AllByRecursion (IsPlaceOf rows j) (first ∷ []) = (record { within = within; key = key }, tt) in
     let past : GoesPast p (entries_at rows j (first ∷ [])) c.new-walk.result c.step.new.self
     = subst (λ (r : Row). GoesPast p (entry_for j r first ∷ []) c.new-walk.result c.step.new.self) row (c.step.ensures.past c.if-not-step.false first) in
-    let all = leaves_all p rows j (first ∷ places) c.new-walk.result c.new-walk.ensures.stands c.new-walk.ensures.tick c.new-walk.ensures.done in (
+    let all = leaves_all p rows j (first ∷ places) c.new-walk.result (c.new-walk.ensures.stands c.requires.begun) c.new-walk.ensures.tick c.new-walk.ensures.done in (
       leaves_less p rows j (first ∷ places) (first ∷ places) (first ∷ []) places c.new-walk.result c.step.new.self refl all own past,
       tells_first p (row_at rows first) (map (row_at rows) places) c.new-tally.result c.new-tally.ensures.pace (c.new-tally.ensures.before ∙ row)
           c.new-tally.ensures.preemptions c.new-tally.ensures.migrations (c.new-tally.ensures.response ∙ ap (row_response p) row),
@@ -74,17 +74,14 @@ returns-then-ends c =
     let tells : Tells p (map (row_at rows) all) [] c.loop-left.tally = subst (λ left. Tells p (map (row_at rows) all) (map (row_at rows) left) c.loop-left.tally) none c.loop-left.invariant.1 in
     went_all p rows j all c.loop-left.walk c.loop-left.tally.found leaves (holds_end p c.loop-left.walk c.ends.result leaves.stands c.ends.ensures c.if-ends.true) (tells_all p (map (row_at rows) all) c.loop-left.tally tells)
 
-pub new-walk-requires-clause-lawful : goal.new-walk-requires-clause-lawful
-new-walk-requires-clause-lawful c = c.requires.lawful
-
-pub new-walk-requires-clause-begun : goal.new-walk-requires-clause-begun
-new-walk-requires-clause-begun c = c.requires.begun
+pub new-walk-requires : goal.new-walk-requires
+new-walk-requires c = record { lawful = c.requires.lawful }
 
 pub step-requires-clause-lawful : goal.step-requires-clause-lawful
 step-requires-clause-lawful c = c.requires.lawful
 
 pub step-requires-clause-stands : goal.step-requires-clause-stands
-step-requires-clause-stands c = c.new-walk.ensures.stands
+step-requires-clause-stands c = (c.new-walk.ensures.stands c.requires.begun)
 
 pub new-tally-requires-clause-some : goal.new-tally-requires-clause-some
 new-tally-requires-clause-some c = c.requires.lawful.some_period

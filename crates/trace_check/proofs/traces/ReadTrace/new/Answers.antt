@@ -1,14 +1,23 @@
 use Rattle.std.proofs.lemmas.Result.{IfOk-from_err}
 use Rattle.trace_check.proofs.traces.ReadTrace.new.Goals as goal
 
+pub of-requires-clause-trace : goal.of-requires-clause-trace
+of-requires-clause-trace c = c.requires
+
+pub of-requires-clause-told : goal.of-requires-clause-told
+of-requires-clause-told c = rw c.deref.ensures.value at c.in_ok-judgment.ensures.found
+
+pub of-requires-clause-all : goal.of-requires-clause-all
+of-requires-clause-all c = c.in_ok-judgment.ensures.all
+
+pub of-requires-clause-verdict : goal.of-requires-clause-verdict
+of-requires-clause-verdict c = rw c.deref.ensures.value at c.in_ok-judgment.ensures.verdict
+
 pub invariant_of-result : goal.invariant_of-result
-invariant_of-result c = record {
-  trace = c.requires;
+invariant_of-result c = rw c.of.ensures (record {
   processors = rw c.deref.ensures.value at c.in_ok-judgment.ensures.by_processor;
   tasks = rw c.deref.ensures.value at c.in_ok-judgment.ensures.by_task;
-  told = rw c.deref.ensures.value at c.in_ok-judgment.ensures.found;
-  judged = rw c.deref.ensures.value at c.in_ok-judgment.ensures.verdict;
-}
+})
 
 pub returns-in_err-judgment : goal.returns-in_err-judgment
 returns-in_err-judgment c = IfOk-from_err _ _ c.from_residual.ensures.0
