@@ -1,5 +1,5 @@
 -- The periods that are shown begin by the end of the window.
-use Rattle.std.proofs.Common.{ℕ, ◌+◌, ◌-◌, ◌*◌, ◌^◌, ◌<◌, ◌≤◌, ◌≡◌, inl, inr, min, ◌&&◌, cond, not, eqb, leb, ltb, sym, ap, ◌∙◌, arith, [], ◌∷◌, Fits}
+use Rattle.std.proofs.Common.{ℕ, ◌+◌, ◌-◌, ◌*◌, ◌^◌, ◌<◌, ◌≤◌, ◌≡◌, inl, inr, min, ◌&&◌, cond, not, eqb, leb, ltb, sym, ap, ◌∙◌, arith, [], ◌∷◌, codes, Fits}
 use Rattle.std.specs.Int.{w128}
 use Rattle.std.proofs.lemmas.Nat.{mul-le}
 use Rattle.sched_base.specs.Valid.{period_start}
@@ -57,7 +57,7 @@ pub lines_capped : (w : Window) (horizon y a b due given done : ℕ) → due < 2
     → period_lines w horizon y a b due (min given (2 ^ 128 - 1)) done ≡ period_lines w horizon y a b due given done
 lines_capped w horizon y a b due given done small =
     ap (λ t. line_if (leb (first_tick w) a) (arrow_line (place w a) y)
-    ∷ cond t (box_line (119 ∷ []) (place w a) (y - 20) (place w b - place w a) 40) (line_if (leb b horizon && (has_tick w done && ltb (first_tick w) done)) (ring_line (place w done) y)) ∷ [])
+    ∷ cond t (box_line (codes " class='w'") (place w a) (y - 20) (place w b - place w a) 40) (line_if (leb b horizon && (has_tick w done && ltb (first_tick w) done)) (ring_line (place w done) y)) ∷ [])
     (wrong_capped horizon b due given small)
 
 -- ---- ticks of a lawful task and of the schedule

@@ -11,7 +11,7 @@ use Rattle.trace_rows.specs.declared.faults.Verdict.{Verdict}
 use Rattle.trace_rows.specs.declared.faults.Verdict.TheVariants.{Valid, Fault}
 use Rattle.trace_draw.specs.declared.windows.Window.{Window}
 use Rattle.trace_draw.specs.Windows.{plot_left, plot_width, place}
-use Rattle.trace_draw.specs.Shapes.{box_line, label_line, roomy_line, grid_line, lane_top, task_top}
+use Rattle.trace_draw.specs.Shapes.{box_line, label_line, grown, roomy_line, grid_line, lane_top, task_top}
 
 -- how far from the top the plot ends
 abbrev pub bottom : SetContents → ℕ
@@ -19,7 +19,7 @@ bottom s = task_top s.processors (length s.tasks)
 
 -- how high the picture is
 abbrev pub height : SetContents → ℕ
-height s = bottom s + 400
+height s = bottom s + 600
 
 -- what follows the name of a thing, where there are so many
 abbrev pub plural : ℕ → List ℕ
@@ -85,8 +85,8 @@ style_lines =
     ∷ word_line (codes ".m{dominant-baseline:central;stroke:currentColor;stroke-width:.2em;paint-order:stroke}.m.c0,.m.c7{fill:#fff}")
     ∷ word_line (codes ".v0,.v1,.v2,.v3{fill:currentColor}.v1,.v2,.v3{stroke:#000;stroke-width:12}")
     ∷ word_line (codes ".v2{stroke-dasharray:40}.v3{stroke-dasharray:160 60}")
-    ∷ word_line (codes "@media(max-width:900px){.h{font-size:300px}.n,.u{font-size:190px}.ok,.bad{font-size:260px}")
-    ∷ word_line (codes ".x{font-size:230px}.y{font-size:165px}.s.x{font-size:185px}.s.y{font-size:145px}}</style>") ∷ []
+    ∷ word_line (codes "@media(max-width:900px){.h{font-size:300px}.ok,.bad{font-size:260px}.l,.e{transform:translateY(-30px)}")
+    ∷ word_line (codes ".s{transform:translateY(15px)}.x{font-size:230px}.y{font-size:165px}.s.x{font-size:220px}}</style>") ∷ []
 
 -- what comes before the lanes
 abbrev pub opening_lines : SetContents → Window → Verdict → List (List ℕ)
@@ -94,20 +94,25 @@ opening_lines s w v =
     word_line (codes "<svg xmlns='http://www.w3.org/2000/svg' role='img' aria-labelledby='t d'") ∷ size_line s ∷ title_line s
     ∷ word_line (codes "<desc id='d'>A lane for each processor, and below them one for each task;") ∷ description_line s w v ∷ []
 
--- the words above the plot
-abbrev pub caption_lines : SetContents → Window → Verdict → List (List ℕ)
-caption_lines s w v =
-    paper_line s ∷ label_line (codes "h") 250 330 (size_text s) ∷ label_line (codes "n") 250 560 (units_text s w)
-    ∷ label_line (codes "u") 11600 560 (scale_text w.scale) ∷ label_line (verdict_look v) 11600 330 (verdict_text v) ∷ []
+-- how large the second line of words may be on a narrow page: what is shown, with this behind it, and the scale share its room
+abbrev pub second_size : SetContents → Window → List ℕ → List ℕ
+second_size s w hint = grown (length (units_text s w) + length hint + length (scale_text w.scale)) 11300
+
+-- the words above the plot, with what is said of what isn't shown
+abbrev pub caption_lines : SetContents → Window → Verdict → List ℕ → List (List ℕ)
+caption_lines s w v hint =
+    paper_line s ∷ label_line (codes "h") 250 330 (size_text s)
+    ∷ label_line (codes "n" ++ second_size s w hint) 250 560 (units_text s w ++ hint)
+    ∷ label_line (codes "u" ++ second_size s w hint) 11600 560 (scale_text w.scale) ∷ label_line (verdict_look v) 11600 330 (verdict_text v) ∷ []
 
 -- the whole head
-abbrev pub head_text : SetContents → Window → Verdict → List ℕ
-head_text s w v = concat (opening_lines s w v) ++ (concat style_lines ++ concat (caption_lines s w v))
+abbrev pub head_text : SetContents → Window → Verdict → List ℕ → List ℕ
+head_text s w v hint = concat (opening_lines s w v) ++ (concat style_lines ++ concat (caption_lines s w v hint))
 
 -- the lane of processor p, with nothing on it
 abbrev pub lane_lines : ℕ → List (List ℕ)
 lane_lines p =
-    roomy_line (codes "l") 1760 1780 (lane_top p + 215) (codes "cpu " ++ decimal p) ∷ box_line (codes "p") plot_left (lane_top p) plot_width 340 ∷ []
+    roomy_line (codes "l") 1760 1780 (lane_top p + 215) (codes "cpu " ++ decimal p) ∷ box_line (codes " class='p'") plot_left (lane_top p) plot_width 340 ∷ []
 
 -- the lanes of all processors
 abbrev pub lanes_text : SetContents → List ℕ

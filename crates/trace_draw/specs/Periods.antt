@@ -40,7 +40,7 @@ is_wrong horizon end due given = if nat_le end horizon then not (given == due) e
 abbrev pub period_lines : Window → ℕ → ℕ → ℕ → ℕ → ℕ → ℕ → ℕ → List (List ℕ)
 period_lines w horizon y a b due given done =
     line_if (nat_le (first_tick w) a) (arrow_line (place w a) y)
-    ∷ (if is_wrong horizon b due given then box_line (119 ∷ []) (place w a) (y - 20) (place w b - place w a) 40
+    ∷ (if is_wrong horizon b due given then box_line (codes " class='w'") (place w a) (y - 20) (place w b - place w a) 40
     else line_if (nat_le b horizon && (has_tick w done && nat_lt (first_tick w) done)) (ring_line (place w done) y)) ∷ []
 
 -- what is drawn of period k of task j

@@ -1,5 +1,5 @@
 -- The picture of a trace. Names are lawful ones, in which nothing needs escaping.
-use Rattle.std.specs.Prelude.{ℕ, ◌+◌, ◌-◌, nat_le, nat_lt, ◌&&◌, if◌then◌else◌, List, [], ◌∷◌, ◌++◌, length, codes}
+use Rattle.std.specs.Prelude.{ℕ, ◌+◌, ◌-◌, nat_le, nat_lt, ◌&&◌, if◌then◌else◌, List, [], ◌∷◌, ◌++◌, length, codes, decimal}
 use Rattle.std.specs.List.{concat}
 use Rattle.sched_edges.specs.Lines.{word_line}
 use Rattle.sched_base.specs.Sets.{SetContents}
@@ -9,8 +9,8 @@ use Rattle.trace_rows.specs.Faults.{first_task_line, row_at}
 use Rattle.trace_check.specs.Traces.{Trace}
 use Rattle.trace_draw.specs.declared.rows.Part.TheVariants.{Boxes, Words}
 use Rattle.trace_draw.specs.declared.windows.Window.{Window}
-use Rattle.trace_draw.specs.Windows.{reaches, place, span}
-use Rattle.trace_draw.specs.Shapes.{label_line}
+use Rattle.trace_draw.specs.Windows.{most_drawn, count_reaching, reaches, place, span}
+use Rattle.trace_draw.specs.Shapes.{roomy_line}
 use Rattle.trace_draw.specs.Head.{bottom, head_text, lanes_text, axis_text}
 use Rattle.trace_draw.specs.Rows.{rows_text, frame_lines}
 use Rattle.trace_draw.specs.Periods.{tasks_text}
@@ -30,12 +30,20 @@ fault_text t w (Fault line kind) =
 -- what the marks mean, and the end
 abbrev pub closing_lines : SetContents → List (List ℕ)
 closing_lines s =
-    label_line (codes "n") 250 (bottom s + 200) (codes "arrow: release, and deadline of the job before; ring: the period has its work; red: at fault")
-    ∷ word_line (codes "</svg>") ∷ []
+    roomy_line (codes "n") 11300 250 (bottom s + 210) (codes "arrow: release, and deadline of the job before")
+    ∷ roomy_line (codes "n") 11300 250 (bottom s + 470) (codes "ring: the period has its work; red: at fault") ∷ word_line (codes "</svg>") ∷ []
+
+-- what the head says of what isn't shown: how many of the rows are drawn, where not all are, and else how the whole schedule is seen, or what comes next
+unfoldable pub hint_text : Trace → Window → List ℕ
+hint_text t w =
+    if nat_lt most_drawn (count_reaching w t.rows) then codes "; 20000 of " ++ (decimal (count_reaching w t.rows) ++ codes " rows")
+    else (if nat_le t.set.horizon w.units then []
+    else (if nat_le (length t.rows) most_drawn then codes "; all: draw --units " ++ decimal t.set.horizon
+    else (if nat_lt (w.from + w.units) t.set.horizon then codes "; more: draw --from " ++ decimal (w.from + w.units) else [])))
 
 -- what lies below the rows: the head, the empty lanes and the axis
 abbrev pub base_text : Trace → Window → Verdict → List ℕ
-base_text t w v = head_text t.set w v ++ (lanes_text t.set ++ axis_text t.set w)
+base_text t w v = head_text t.set w v (hint_text t w) ++ (lanes_text t.set ++ axis_text t.set w)
 
 -- what comes last: the words of rows lie above all else
 abbrev pub end_text : Trace → Window → Verdict → List ℕ

@@ -1,16 +1,17 @@
 -- The rows of a picture: each is a box in the lane of its processor and one in the lane of its task, with words where they have room. The words of
--- all rows lie above all boxes.
-use Rattle.std.specs.Prelude.{ℕ, ◌+◌, ◌*◌, ◌/◌, nat_le, nat_lt, Bool, if◌then◌else◌, List, [], ◌∷◌, length, decimal}
+-- all rows lie above all boxes. Of very many rows in one place the first ones are drawn.
+use Rattle.std.specs.Prelude.{ℕ, ◌+◌, ◌*◌, ◌/◌, nat_le, nat_lt, Bool, if◌then◌else◌, List, [], ◌∷◌, length, take, filter, codes, decimal}
 use Rattle.std.specs.List.{flat_map, concat}
 use Rattle.sched_base.specs.declared.rows.Leaf.{Leaf}
 use Rattle.sched_base.specs.declared.rows.Leaf.TheVariants as leaves
 use Rattle.sched_base.specs.declared.rows.Row.{Row}
 use Rattle.sched_base.specs.Sets.{SetContents, task_at}
+use Rattle.sched_edges.specs.Lines.{word_line}
 use Rattle.trace_draw.specs.declared.rows.Part.{Part}
 use Rattle.trace_draw.specs.declared.rows.Part.TheVariants.{Boxes, Words}
 use Rattle.trace_draw.specs.declared.windows.Window.{Window}
-use Rattle.trace_draw.specs.Windows.{reaches, place, span}
-use Rattle.trace_draw.specs.Shapes.{box_line, roomy_line, task_look, text_look, lane_top, task_top}
+use Rattle.trace_draw.specs.Windows.{reaches, place, span, most_drawn}
+use Rattle.trace_draw.specs.Shapes.{box_line, group_line, roomy_line, task_look, text_look, lane_top, task_top}
 
 -- the line, where it is to be shown
 abbrev pub line_if : Bool → List ℕ → List ℕ
@@ -24,19 +25,23 @@ has_room text width = nat_le (76 * length text + 60) width
 abbrev pub words_line : ℕ → ℕ → ℕ → ℕ → List ℕ → List ℕ
 words_line j x width y text = line_if (has_room text width) (roomy_line (text_look j) width (x + width / 2) y text)
 
--- the boxes of a row of task j, x from the left and so wide, and the words on them: the name of the task, and the number of the processor.
--- A processor that the set hasn't has no lane.
-abbrev pub row_lines : Part → SetContents → ℕ → Row → ℕ → ℕ → List (List ℕ)
-row_lines Boxes s j r x width =
-    line_if (nat_lt r.processor s.processors) (box_line (task_look j) x (lane_top r.processor) width 340)
-    ∷ box_line (task_look j) x (task_top s.processors j + 70) width 230 ∷ []
-row_lines Words s j r x width =
+-- the boxes of a row of task j, x from the left and so wide, in a group that has the task's name. A processor that the set hasn't has no lane.
+abbrev pub boxes_lines : SetContents → ℕ → Row → ℕ → ℕ → List (List ℕ)
+boxes_lines s j r x width =
+    group_line (task_look j width) (task_at s.tasks j).name
+    ∷ line_if (nat_lt r.processor s.processors) (box_line [] x (lane_top r.processor) width 340)
+    ∷ box_line [] x (task_top s.processors j + 70) width 230 ∷ word_line (codes "</g>") ∷ []
+
+-- the words on them: the name of the task, and the number of the processor
+abbrev pub words_lines : SetContents → ℕ → Row → ℕ → ℕ → List (List ℕ)
+words_lines s j r x width =
     line_if (nat_lt r.processor s.processors) (words_line j x width (lane_top r.processor + 170) (task_at s.tasks j).name)
     ∷ words_line j x width (task_top s.processors j + 185) (decimal r.processor) ∷ []
 
 -- this part of what is drawn of a row of task j
 abbrev pub task_row_text : Part → SetContents → Window → ℕ → Row → List ℕ
-task_row_text part s w j r = if reaches w r then concat (row_lines part s j r (place w r.start) (span w r.start r.end)) else []
+task_row_text Boxes s w j r = concat (boxes_lines s j r (place w r.start) (span w r.start r.end))
+task_row_text Words s w j r = concat (words_lines s j r (place w r.start) (span w r.start r.end))
 
 -- this part of what is drawn of a row with this leaf: idle time is left blank
 abbrev pub leaf_text : Part → SetContents → Window → Row → Leaf → List ℕ
@@ -49,13 +54,17 @@ leaf_text part s w r leaves.Empty = []
 abbrev pub row_text : Part → SetContents → Window → Row → List ℕ
 row_text part s w r = leaf_text part s w r r.leaf
 
--- this part of what is drawn of all rows, in the order of their lines
+-- the rows that are drawn, in the order of their lines: the first ones that reach into the window
+abbrev pub drawn_rows : Window → List Row → List Row
+drawn_rows w rows = take most_drawn (filter (reaches w) rows)
+
+-- this part of what is drawn of all rows
 abbrev pub rows_text : Part → SetContents → Window → List Row → List ℕ
-rows_text part s w rows = flat_map (row_text part s w) rows
+rows_text part s w rows = flat_map (row_text part s w) (drawn_rows w rows)
 
 -- the red frame of a row with this leaf, in the lane of its task
 abbrev pub task_frame : SetContents → Leaf → ℕ → ℕ → List ℕ
-task_frame s (leaves.Task id) x width = box_line (102 ∷ []) x (task_top s.processors id.0 + 70) width 230
+task_frame s (leaves.Task id) x width = box_line (codes " class='f'") x (task_top s.processors id.0 + 70) width 230
 task_frame s (leaves.Wait id) x width = []
 task_frame s (leaves.Idle number) x width = []
 task_frame s leaves.Empty x width = []
@@ -63,4 +72,4 @@ task_frame s leaves.Empty x width = []
 -- the red frames of a row, in the lane of its processor and in that of its task
 abbrev pub frame_lines : SetContents → Row → ℕ → ℕ → List (List ℕ)
 frame_lines s r x width =
-    line_if (nat_lt r.processor s.processors) (box_line (102 ∷ []) x (lane_top r.processor) width 340) ∷ task_frame s r.leaf x width ∷ []
+    line_if (nat_lt r.processor s.processors) (box_line (codes " class='f'") x (lane_top r.processor) width 340) ∷ task_frame s r.leaf x width ∷ []

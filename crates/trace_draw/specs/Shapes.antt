@@ -1,12 +1,16 @@
 -- The shapes of a picture, each a line of text. Lengths are tenths of a pixel.
-use Rattle.std.specs.Prelude.{ℕ, ◌+◌, ◌*◌, ◌/◌, ◌%◌, nat_le, if◌then◌else◌, List, [], ◌∷◌, ◌++◌, length, codes, decimal}
+use Rattle.std.specs.Prelude.{ℕ, ◌+◌, ◌*◌, ◌/◌, ◌%◌, nat_le, nat_lt, if◌then◌else◌, List, [], ◌∷◌, ◌++◌, length, codes, decimal}
 use Rattle.sched_base.specs.Bytes.{line_feed, space}
 
--- a filled box
+-- a filled box, with this attribute if any
 unfoldable pub box_line : List ℕ → ℕ → ℕ → ℕ → ℕ → List ℕ
 box_line look x y width height =
-    codes "<rect class='" ++ (look ++ (codes "' x='" ++ (decimal x ++ (codes "' y='" ++ (decimal y
+    codes "<rect" ++ (look ++ (codes " x='" ++ (decimal x ++ (codes "' y='" ++ (decimal y
     ++ (codes "' width='" ++ (decimal width ++ (codes "' height='" ++ (decimal height ++ (codes "'/>" ++ line_feed ∷ []))))))))))
+
+-- the begin of a group of shapes that look so, with a text that is shown where the mouse rests on them
+unfoldable pub group_line : List ℕ → List ℕ → List ℕ
+group_line look tip = codes "<g class='" ++ (look ++ (codes "'><title>" ++ (tip ++ (codes "</title>" ++ line_feed ∷ []))))
 
 -- a text
 unfoldable pub label_line : List ℕ → ℕ → ℕ → List ℕ → List ℕ
@@ -39,9 +43,13 @@ arrow_line x y = codes "<path class='r' d='M" ++ (decimal x ++ (space ∷ (decim
 unfoldable pub ring_line : ℕ → ℕ → List ℕ
 ring_line x y = codes "<circle class='o' cx='" ++ (decimal x ++ (codes "' cy='" ++ (decimal y ++ (codes "' r='40'/>" ++ line_feed ∷ []))))
 
--- the look of the boxes of task j: one of eight colours, and one of four borders
-abbrev pub task_look : ℕ → List ℕ
-task_look j = 99 ∷ (48 + j % 8) ∷ space ∷ 118 ∷ (48 + j / 8 % 4) ∷ []
+-- the border of a box of task j: one of four, and none where the box is narrow
+abbrev pub border : ℕ → ℕ → ℕ
+border j width = if nat_lt width 60 then 0 else j / 8 % 4
+
+-- the look of a box of task j that is so wide: one of eight colours, and its border
+abbrev pub task_look : ℕ → ℕ → List ℕ
+task_look j width = 99 ∷ (48 + j % 8) ∷ space ∷ 118 ∷ (48 + border j width) ∷ []
 
 -- the look of a text on them, which is edged with their colour
 abbrev pub text_look : ℕ → List ℕ

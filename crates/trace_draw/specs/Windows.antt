@@ -1,6 +1,6 @@
 -- The stretch of time that a picture shows, and where its ticks lie. Lengths are tenths of a pixel.
 use Rattle.std.specs.Prelude.{ℕ, zero, suc, ◌+◌, ◌-◌, ◌*◌, ◌/◌, ◌^◌, ◌<◌, ◌≤◌, nat_le, nat_lt, min, max}
-use Rattle.std.specs.Prelude.{Bool, ◌&&◌, if◌then◌else◌, Option, Some, None, filter, length}
+use Rattle.std.specs.Prelude.{Bool, ◌&&◌, if◌then◌else◌, Option, Some, None, List, filter, length}
 use Rattle.sched_base.specs.declared.rows.Row.{Row}
 use Rattle.sched_base.specs.Sets.{SetContents}
 use Rattle.trace_check.specs.Traces.{Trace}
@@ -55,10 +55,18 @@ abbrev pub most_units : ℕ → Option ℕ → ℕ
 most_units left None = left
 most_units left (Some asked) = min asked left
 
--- the most rows that reach into a window
+-- the most rows that are drawn
+abbrev pub most_drawn : ℕ
+most_drawn = 20_000
+
+-- the most rows that reach into a window of some units
 abbrev pub most_rows : Option ℕ → ℕ
 most_rows None = 200
-most_rows (Some asked) = 20_000
+most_rows (Some asked) = most_drawn
+
+-- how many rows reach into it
+abbrev pub count_reaching : Window → List Row → ℕ
+count_reaching w rows = length (filter (reaches w) rows)
 
 -- the window of so many units
 abbrev pub window_of_units : Trace → Asked → ℕ → Window
@@ -66,7 +74,7 @@ window_of_units t a n = record { scale = t.scale; from = first_unit t.set a; uni
 
 -- whether no more rows than that reach into it
 abbrev pub has_few : Trace → Asked → ℕ → Bool
-has_few t a n = nat_le (length (filter (reaches (window_of_units t a n)) t.rows)) (most_rows a.units)
+has_few t a n = nat_le (count_reaching (window_of_units t a n) t.rows) (most_rows a.units)
 
 -- the greatest positive number up to n that passes the test, and 1 where none does
 abbrev pub greatest_passing : (ℕ → Bool) → ℕ → ℕ

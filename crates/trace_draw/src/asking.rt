@@ -1,17 +1,13 @@
 //! Which window is shown.
-ghost use Rattle.std.specs.Prelude.{◌≡◌, ◌≤◌, ◌<◌, ◌+◌, IfSome, length, filter};
-ghost use Rattle.trace_draw.specs.Windows.{first_unit, most_units, most_rows, reaches, shown_window, has_few, greatest_passing, IsWindow};
+ghost use Rattle.std.specs.Prelude.{◌≡◌, ◌≤◌, ◌<◌, ◌+◌, IfSome};
+ghost use Rattle.trace_draw.specs.Windows.{first_unit, most_units, most_rows, shown_window, has_few, greatest_passing, IsWindow};
 
-use crate::windows::Window;
-use sched_base::Row;
+use crate::windows::{MOST_DRAWN, Window};
 use trace_check::ReadTrace;
 use trace_lines::Asked;
 
 /// The most rows in a window, where the number of units isn't asked for.
 const FEW: usize = 200;
-
-/// The most rows in a window.
-const MANY: usize = 20_000;
 
 /// The window that is shown. It is found by halving, and each half counts the rows once.
 #[tactic(auto, unfolding(crate::specs::Windows::shown_window))]
@@ -46,23 +42,9 @@ fn most_rows(asked: Option<u64>) -> usize
     ensures { result ≡ most_rows asked }
 {
     match asked {
-        Some(_) => MANY,
+        Some(_) => MOST_DRAWN,
         None => FEW,
     }
-}
-
-// The rows that reach into a window.
-fn count_rows(rows: &[Row], window: &Window) -> usize
-    requires { IsWindow window.now }
-    ensures { result ≡ length (filter (reaches window.now) rows.now) }
-{
-    let mut count = 0;
-    for row in rows {
-        if window.reaches(row) {
-            count += 1;
-        }
-    }
-    count
 }
 
 fn has_few(trace: &ReadTrace, asked: &Asked, from: u64, units: u64) -> bool
@@ -78,7 +60,7 @@ fn has_few(trace: &ReadTrace, asked: &Asked, from: u64, units: u64) -> bool
         from,
         units,
     };
-    count_rows(rows, &window) <= most_rows(asked.units)
+    window.count_reaching(rows) <= most_rows(asked.units)
 }
 
 // The most units up to `most` into which few rows reach. Fewer rows reach into fewer units.

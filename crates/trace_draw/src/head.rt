@@ -4,12 +4,13 @@ ghost use Rattle.std.specs.List.{concat};
 ghost use Rattle.sched_edges.specs.Causes.{HasCause};
 ghost use Rattle.sched_edges.specs.Streams.{Wrote};
 ghost use Rattle.trace_draw.specs.Windows.{IsWindow};
-ghost use Rattle.trace_draw.specs.Head.{bottom, height, plural, size_text, units_text, scale_text, kind_text, verdict_text, verdict_look, size_line};
+ghost use Rattle.trace_draw.specs.Shapes.{label_line};
+ghost use Rattle.trace_draw.specs.Head.{bottom, height, plural, size_text, units_text, scale_text, second_size, kind_text, verdict_text, verdict_look, size_line};
 ghost use Rattle.trace_draw.specs.Head.{title_line, description_line, paper_line, style_lines, opening_lines, caption_lines, head_text};
 ghost use Rattle.trace_draw.specs.Head.{lane_lines, lanes_text, axis_step, first_mark, mark_count, mark_lines, axis_text};
 
 use crate::shapes::{
-    add_number, box_line, grid_line, label_line, lane_top, number_text, roomy_line, task_top,
+    add_number, box_line, grid_line, grown, label_line, lane_top, number_text, roomy_line, task_top,
 };
 use crate::windows::{LEFT, WIDTH, Window};
 use sched_base::TaskSet;
@@ -43,6 +44,16 @@ fn add_count(line: &mut Line, count: u128, name: &[u8])
     line.text(plural(count));
 }
 
+// Adds a text, and a number of units after it.
+fn add_units(line: &mut Line, text: &[u8], units: u64)
+    requires room { length line.old + length text.now ≤ 216 }
+    requires units { units < 2 ^ 33 }
+    ensures text { line.new ≡ line.old ++ (text.now ++ decimal units) }
+    ensures short { length line.new ≤ length line.old + length text.now + 10 }
+{
+    add_number(line, text, units);
+}
+
 // How many tasks and processors there are.
 #[tactic(auto, unfolding(crate::specs::Head::size_text))]
 fn size_text(set: &TaskSet) -> Line
@@ -61,12 +72,24 @@ fn size_text(set: &TaskSet) -> Line
 fn units_text(set: &TaskSet, window: &Window) -> Line
     requires { IsWindow window.now }
     ensures text { result ≡ units_text set.now window.now }
-    ensures short { length result ≤ 136 }
+    ensures short { length result ≤ 56 }
 {
     let mut text = Line::new();
-    add_number(&mut text, b"units ", window.from);
-    add_number(&mut text, b" to ", window.from + window.units);
-    add_number(&mut text, b" of ", set.horizon());
+    add_units(&mut text, b"units ", window.from);
+    add_units(&mut text, b" to ", window.from + window.units);
+    add_units(&mut text, b" of ", set.horizon());
+    text
+}
+
+// Which units of the schedule are shown, and what is said of the others.
+fn shown_text(set: &TaskSet, window: &Window, hint: &[u8]) -> Line
+    requires window { IsWindow window.now }
+    requires hint { length hint.now ≤ 80 }
+    ensures text { result ≡ units_text set.now window.now ++ hint.now }
+    ensures short { length result ≤ 136 }
+{
+    let mut text = units_text(set, window);
+    text.text(hint);
     text
 }
 
@@ -133,7 +156,7 @@ fn size_line(set: &TaskSet) -> Line
     ensures { result ≡ size_line set.now }
 {
     let mut line = Line::new();
-    add_number(&mut line, b" viewBox='0 0 12000 ", bottom(set) + 400);
+    add_number(&mut line, b" viewBox='0 0 12000 ", bottom(set) + 600);
     line.text(b"'>");
     line.end();
     line
@@ -173,7 +196,7 @@ fn paper_line(set: &TaskSet) -> Line
     add_number(
         &mut line,
         b"<rect width='12000' height='",
-        bottom(set) + 400,
+        bottom(set) + 600,
     );
     line.text(b"' fill='#fff'/>");
     line.end();
@@ -186,14 +209,16 @@ pub(crate) fn write_head<W: Sink>(
     set: &TaskSet,
     window: &Window,
     verdict: Verdict,
+    hint: &[u8],
 ) -> Result<(), Failed>
-    requires { IsWindow window.now }
-    ensures wrote { Wrote (W.taken sink.old) (W.taken sink.new) (head_text set.now window.now verdict) result }
+    requires window { IsWindow window.now }
+    requires hint { length hint.now ≤ 80 }
+    ensures wrote { Wrote (W.taken sink.old) (W.taken sink.new) (head_text set.now window.now verdict hint.now) result }
     ensures cause { HasCause (W.faults sink.old) (W.faults sink.new) result }
 {
     write_opening(sink, set, window, verdict)?;
     write_style(sink)?;
-    write_caption(sink, set, window, verdict)
+    write_caption(sink, set, window, verdict, hint)
 }
 
 fn write_opening<W: Sink>(
@@ -244,13 +269,26 @@ fn write_style<W: Sink>(sink: &mut W) -> Result<(), Failed>
         word_line(b".v0,.v1,.v2,.v3{fill:currentColor}.v1,.v2,.v3{stroke:#000;stroke-width:12}"),
         word_line(b".v2{stroke-dasharray:40}.v3{stroke-dasharray:160 60}"),
         word_line(
-            b"@media(max-width:900px){.h{font-size:300px}.n,.u{font-size:190px}.ok,.bad{font-size:260px}",
+            b"@media(max-width:900px){.h{font-size:300px}.ok,.bad{font-size:260px}.l,.e{transform:translateY(-30px)}",
         ),
         word_line(
-            b".x{font-size:230px}.y{font-size:165px}.s.x{font-size:185px}.s.y{font-size:145px}}</style>",
+            b".s{transform:translateY(15px)}.x{font-size:230px}.y{font-size:165px}.s.x{font-size:220px}}</style>",
         ),
     ];
     write_lines(sink, &lines)
+}
+
+// A text of the second line of words, of this size.
+fn sized_line(look: &[u8], size: &[u8], x: u64, text: &[u8]) -> Line
+    requires look { length look.now ≤ 5 }
+    requires size { length size.now ≤ 2 }
+    requires text { length text.now ≤ 136 }
+    ensures { result ≡ label_line (look.now ++ size.now) x 560 text.now }
+{
+    let mut whole = Line::new();
+    whole.text(look);
+    whole.text(size);
+    label_line(whole.as_slice(), x, 560, text)
 }
 
 fn write_caption<W: Sink>(
@@ -258,16 +296,21 @@ fn write_caption<W: Sink>(
     set: &TaskSet,
     window: &Window,
     verdict: Verdict,
+    hint: &[u8],
 ) -> Result<(), Failed>
-    requires { IsWindow window.now }
-    ensures wrote { Wrote (W.taken sink.old) (W.taken sink.new) (concat (caption_lines set.now window.now verdict)) result }
+    requires window { IsWindow window.now }
+    requires hint { length hint.now ≤ 80 }
+    ensures wrote { Wrote (W.taken sink.old) (W.taken sink.new) (concat (caption_lines set.now window.now verdict hint.now)) result }
     ensures cause { HasCause (W.faults sink.old) (W.faults sink.new) result }
 {
+    let shown = shown_text(set, window, hint);
+    let scale = scale_text(window.scale);
+    let size = grown(shown.as_slice().len() + scale.as_slice().len(), 11300);
     let lines = [
         paper_line(set),
         label_line(b"h", 250, 330, size_text(set).as_slice()),
-        label_line(b"n", 250, 560, units_text(set, window).as_slice()),
-        label_line(b"u", 11600, 560, scale_text(window.scale).as_slice()),
+        sized_line(b"n", size, 250, shown.as_slice()),
+        sized_line(b"u", size, 11600, scale.as_slice()),
         label_line(
             verdict_look(verdict),
             11600,
@@ -287,7 +330,7 @@ fn lane_lines(processor: u32) -> [Line; 2]
     add_number(&mut name, b"cpu ", u64::from(processor));
     [
         roomy_line(b"l", 1760, 1780, top + 215, name.as_slice()),
-        box_line(b"p", LEFT, top, WIDTH, 340),
+        box_line(b" class='p'", LEFT, top, WIDTH, 340),
     ]
 }
 

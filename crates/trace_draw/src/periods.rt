@@ -82,7 +82,7 @@ fn period_lines(window: &Window, y: u64, period: &Period, served: &Served) -> [L
     let first = window.first_tick();
     let mark = if is_wrong(period, served.given) {
         let width = window.place(period.end).saturating_sub(left);
-        box_line(b"w", left, y - 20, width, 40)
+        box_line(b" class='w'", left, y - 20, width, 40)
     } else {
         let shown = period.end <= period.horizon
             && window.has_tick(served.done)

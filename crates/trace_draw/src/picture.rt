@@ -1,18 +1,18 @@
 //! The picture of a trace.
-ghost use Rattle.std.specs.Prelude.{◌+◌, ◌<◌};
+ghost use Rattle.std.specs.Prelude.{◌≡◌, ◌+◌, ◌<◌, ◌≤◌, length};
 ghost use Rattle.std.specs.List.{concat};
 ghost use Rattle.sched_edges.specs.Causes.{HasCause};
 ghost use Rattle.sched_edges.specs.Streams.{Wrote};
 ghost use Rattle.trace_draw.specs.Windows.{IsWindow};
-ghost use Rattle.trace_draw.specs.Picture.{framed_row, fault_text, closing_lines, base_text, end_text, picture};
+ghost use Rattle.trace_draw.specs.Picture.{framed_row, fault_text, closing_lines, hint_text, base_text, end_text, picture};
 
 use crate::head::{bottom, write_axis, write_head, write_lanes};
 use crate::periods::write_tasks;
 use crate::rows::{Part, frame_lines, write_rows};
-use crate::shapes::label_line;
-use crate::windows::Window;
+use crate::shapes::{add_number, roomy_line};
+use crate::windows::{MOST_DRAWN, Window};
 use sched_base::TaskSet;
-use sched_edges::{Failed, Sink, word_line, write_lines};
+use sched_edges::{Failed, Line, Sink, word_line, write_lines};
 use trace_check::ReadTrace;
 use trace_rows::{FIRST_TASK_LINE, Verdict};
 
@@ -37,6 +37,31 @@ pub fn write_picture<W: Sink>(
     write_end(sink, trace, window, verdict)
 }
 
+// What the head says of what isn't shown.
+#[tactic(auto, unfolding(crate::specs::Picture::hint_text))]
+fn hint_text(trace: &ReadTrace, window: &Window) -> Line
+    requires { IsWindow window.now }
+    ensures text { result ≡ hint_text trace.now window.now }
+    ensures short { length result ≤ 80 }
+{
+    let horizon = trace.set().horizon();
+    let rows = trace.rows();
+    let reaching = window.count_reaching(rows);
+    let end = window.from + window.units;
+    let mut text = Line::new();
+    if MOST_DRAWN < reaching {
+        add_number(&mut text, b"; 20000 of ", reaching as u64);
+        text.text(b" rows");
+    } else if window.units < horizon {
+        if rows.len() <= MOST_DRAWN {
+            add_number(&mut text, b"; all: draw --units ", horizon);
+        } else if end < horizon {
+            add_number(&mut text, b"; more: draw --from ", end);
+        }
+    }
+    text
+}
+
 // Writes what lies below the rows.
 fn write_base<W: Sink>(
     sink: &mut W,
@@ -49,7 +74,8 @@ fn write_base<W: Sink>(
     ensures cause { HasCause (W.faults sink.old) (W.faults sink.new) result }
 {
     let set = trace.set();
-    write_head(sink, set, window, verdict)?;
+    let hint = hint_text(trace, window);
+    write_head(sink, set, window, verdict, hint.as_slice())?;
     write_lanes(sink, set)?;
     write_axis(sink, set, window)
 }
@@ -103,12 +129,21 @@ fn write_closing<W: Sink>(sink: &mut W, set: &TaskSet) -> Result<(), Failed>
     ensures wrote { Wrote (W.taken sink.old) (W.taken sink.new) (concat (closing_lines set.now)) result }
     ensures cause { HasCause (W.faults sink.old) (W.faults sink.new) result }
 {
+    let end = bottom(set);
     let lines = [
-        label_line(
+        roomy_line(
             b"n",
+            11300,
             250,
-            bottom(set) + 200,
-            b"arrow: release, and deadline of the job before; ring: the period has its work; red: at fault",
+            end + 210,
+            b"arrow: release, and deadline of the job before",
+        ),
+        roomy_line(
+            b"n",
+            11300,
+            250,
+            end + 470,
+            b"ring: the period has its work; red: at fault",
         ),
         word_line(b"</svg>"),
     ];

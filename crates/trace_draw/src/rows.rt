@@ -6,14 +6,15 @@ ghost use Rattle.sched_edges.specs.Causes.{HasCause};
 ghost use Rattle.sched_edges.specs.Streams.{Wrote};
 ghost use Rattle.trace_rows.specs.Faults.{IsTraceRow};
 ghost use Rattle.trace_draw.specs.Windows.{IsWindow};
-ghost use Rattle.trace_draw.specs.Rows.{has_room, words_line, row_lines, task_row_text, row_text, rows_text, task_frame, frame_lines};
+ghost use Rattle.trace_draw.specs.Rows.{has_room, words_line, boxes_lines, words_lines, task_row_text, row_text, rows_text, task_frame, frame_lines};
 
 use crate::shapes::{
-    box_line, lane_top, line_if, number_text, roomy_line, task_look, task_top, text_look,
+    box_line, group_line, lane_top, line_if, number_text, roomy_line, task_look, task_top,
+    text_look,
 };
-use crate::windows::Window;
+use crate::windows::{MOST_DRAWN, Window};
 use sched_base::{Leaf, Row, Task, TaskSet};
-use sched_edges::{Failed, Line, Sink, write_lines};
+use sched_edges::{Failed, Line, Sink, word_line, write_lines};
 
 /// What of the rows is drawn: the words of all lie above the boxes of all.
 #[derive(Clone, Copy)]
@@ -53,12 +54,29 @@ fn words_line(task: u32, x: u64, width: u64, y: u64, text: &[u8]) -> Line
     )
 }
 
-// A part of a row of a task, x from the left and so wide.
-fn row_lines(part: Part, set: &TaskSet, task: u32, row: &Row, x: u64, width: u64) -> [Line; 2]
+// The boxes of a row of a task, x from the left and so wide, in a group that has the task's name.
+fn boxes_lines(set: &TaskSet, task: u32, row: &Row, x: u64, width: u64) -> [Line; 4]
+    requires { task < length set.now.tasks }
+    ensures { result ≡ boxes_lines set.now task row.now x width }
+{
+    let processors = set.processors();
+    let in_lane = row.processor < processors;
+    let lane = lane_top(row.processor);
+    let top = task_top(processors, task);
+    [
+        group_line(&task_look(task, width), task_of(set, task).name.as_slice()),
+        line_if(in_lane, box_line(b"", x, lane, width, 340)),
+        box_line(b"", x, top + 70, width, 230),
+        word_line(b"</g>"),
+    ]
+}
+
+// The words on them: the name of the task, and the number of the processor.
+fn words_lines(set: &TaskSet, task: u32, row: &Row, x: u64, width: u64) -> [Line; 2]
     requires task { task < length set.now.tasks }
     requires x { x ≤ 11600 }
     requires width { width ≤ 11600 }
-    ensures { result ≡ row_lines part set.now task row.now x width }
+    ensures { result ≡ words_lines set.now task row.now x width }
 {
     let processors = set.processors();
     let name = task_of(set, task).name.as_slice();
@@ -66,16 +84,10 @@ fn row_lines(part: Part, set: &TaskSet, task: u32, row: &Row, x: u64, width: u64
     let in_lane = row.processor < processors;
     let lane = lane_top(row.processor);
     let top = task_top(processors, task);
-    match part {
-        Part::Boxes => [
-            line_if(in_lane, box_line(&task_look(task), x, lane, width, 340)),
-            box_line(&task_look(task), x, top + 70, width, 230),
-        ],
-        Part::Words => [
-            line_if(in_lane, words_line(task, x, width, lane + 170, name)),
-            words_line(task, x, width, top + 185, number.as_slice()),
-        ],
-    }
+    [
+        line_if(in_lane, words_line(task, x, width, lane + 170, name)),
+        words_line(task, x, width, top + 185, number.as_slice()),
+    ]
 }
 
 // Writes a part of a row of a task.
@@ -92,12 +104,12 @@ fn write_row_of<W: Sink>(
     ensures wrote { Wrote (W.taken sink.old) (W.taken sink.new) (task_row_text part set.now window.now task row.now) result }
     ensures cause { HasCause (W.faults sink.old) (W.faults sink.new) result }
 {
-    if !window.reaches(row) {
-        return Ok(());
-    }
     let x = window.place(row.start);
     let width = window.span(row.start, row.end);
-    write_lines(sink, &row_lines(part, set, task, row, x, width))
+    match part {
+        Part::Boxes => write_lines(sink, &boxes_lines(set, task, row, x, width)),
+        Part::Words => write_lines(sink, &words_lines(set, task, row, x, width)),
+    }
 }
 
 // Writes a part of a row.
@@ -119,7 +131,7 @@ fn write_row<W: Sink>(
     }
 }
 
-/// Writes a part of each row, in the order of their lines.
+/// Writes a part of each row that is drawn, in the order of their lines.
 pub(crate) fn write_rows<W: Sink>(
     sink: &mut W,
     part: Part,
@@ -132,8 +144,12 @@ pub(crate) fn write_rows<W: Sink>(
     ensures wrote { Wrote (W.taken sink.old) (W.taken sink.new) (rows_text part set.now window.now rows.now) result }
     ensures cause { HasCause (W.faults sink.old) (W.faults sink.new) result }
 {
+    let mut drawn = 0;
     for row in rows {
-        write_row(sink, part, set, window, row)?;
+        if drawn < MOST_DRAWN && window.reaches(row) {
+            write_row(sink, part, set, window, row)?;
+            drawn += 1;
+        }
     }
     Ok(())
 }
@@ -143,7 +159,13 @@ fn task_frame(set: &TaskSet, leaf: Leaf, x: u64, width: u64) -> Line
     ensures { result ≡ task_frame set.now leaf x width }
 {
     match leaf {
-        Leaf::Task(id) => box_line(b"f", x, task_top(set.processors(), id.0) + 70, width, 230),
+        Leaf::Task(id) => box_line(
+            b" class='f'",
+            x,
+            task_top(set.processors(), id.0) + 70,
+            width,
+            230,
+        ),
         Leaf::Idle(_) | Leaf::Wait(_) | Leaf::Empty => Line::new(),
     }
 }
@@ -156,7 +178,7 @@ pub(crate) fn frame_lines(set: &TaskSet, row: &Row, x: u64, width: u64) -> [Line
     [
         line_if(
             in_lane,
-            box_line(b"f", x, lane_top(row.processor), width, 340),
+            box_line(b" class='f'", x, lane_top(row.processor), width, 340),
         ),
         task_frame(set, row.leaf, x, width),
     ]

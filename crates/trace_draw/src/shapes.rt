@@ -1,7 +1,7 @@
 //! The shapes of a picture, each a line of text. Lengths are tenths of a pixel.
 ghost use Rattle.std.specs.Prelude.{◌≡◌, ◌+◌, ◌≤◌, ◌<◌, ◌^◌, ◌++◌, length, decimal};
-ghost use Rattle.trace_draw.specs.Shapes.{box_line, label_line, grown, roomy_line, grid_line, base_line, arrow_line, ring_line};
-ghost use Rattle.trace_draw.specs.Shapes.{task_look, text_look, lane_top, task_top};
+ghost use Rattle.trace_draw.specs.Shapes.{box_line, group_line, label_line, grown, roomy_line, grid_line, base_line, arrow_line, ring_line};
+ghost use Rattle.trace_draw.specs.Shapes.{border, task_look, text_look, lane_top, task_top};
 ghost use Rattle.trace_draw.specs.Rows.{line_if};
 
 use sched_edges::Line;
@@ -33,20 +33,37 @@ pub(crate) fn line_if(shown: bool, line: Line) -> Line
     if shown { line } else { Line::new() }
 }
 
-/// A filled box.
+/// A filled box, with an attribute if any.
 #[tactic(auto, unfolding(crate::specs::Shapes::box_line))]
 pub(crate) fn box_line(look: &[u8], x: u64, y: u64, width: u64, height: u64) -> Line
-    requires { length look.now ≤ 8 }
+    requires { length look.now ≤ 16 }
     ensures { result ≡ box_line look.now x y width height }
 {
     let mut line = Line::new();
-    line.text(b"<rect class='");
+    line.text(b"<rect");
     line.text(look);
-    add_number(&mut line, b"' x='", x);
+    add_number(&mut line, b" x='", x);
     add_number(&mut line, b"' y='", y);
     add_number(&mut line, b"' width='", width);
     add_number(&mut line, b"' height='", height);
     line.text(b"'/>");
+    line.end();
+    line
+}
+
+/// The begin of a group of shapes that look so, with a text that is shown where the mouse rests on them.
+#[tactic(auto, unfolding(crate::specs::Shapes::group_line))]
+pub(crate) fn group_line(look: &[u8], tip: &[u8]) -> Line
+    requires look { length look.now ≤ 8 }
+    requires tip { length tip.now ≤ 64 }
+    ensures { result ≡ group_line look.now tip.now }
+{
+    let mut line = Line::new();
+    line.text(b"<g class='");
+    line.text(look);
+    line.text(b"'><title>");
+    line.text(tip);
+    line.text(b"</title>");
     line.end();
     line
 }
@@ -70,9 +87,9 @@ pub(crate) fn label_line(look: &[u8], x: u64, y: u64, text: &[u8]) -> Line
     line
 }
 
-// How large so many letters with this room may be on a narrow page.
-fn grown(letters: usize, room: u64) -> &'static [u8]
-    requires { letters ≤ 256 }
+/// How large so many letters with this room may be on a narrow page.
+pub(crate) fn grown(letters: usize, room: u64) -> &'static [u8]
+    requires { letters ≤ 512 }
     ensures look { result.now ≡ grown letters room }
     ensures short { length result.now ≤ 2 }
 {
@@ -157,12 +174,26 @@ fn digit(number: u32) -> u8
     b'0' + number as u8
 }
 
-/// The look of a task's boxes: one of eight colours, and one of four borders.
-pub(crate) fn task_look(task: u32) -> [u8; 5]
-    ensures look { result ≡ task_look task }
+// The border of a task's box: one of four, and none where the box is narrow.
+fn border(task: u32, width: u64) -> u32
+    ensures value { result ≡ border task width }
+    ensures small { result < 10 }
+{
+    if width < 60 { 0 } else { task / 8 % 4 }
+}
+
+/// The look of a task's box that is so wide: one of eight colours, and its border.
+pub(crate) fn task_look(task: u32, width: u64) -> [u8; 5]
+    ensures look { result ≡ task_look task width }
     ensures short { length result ≤ 5 }
 {
-    [b'c', digit(task % 8), b' ', b'v', digit(task / 8 % 4)]
+    [
+        b'c',
+        digit(task % 8),
+        b' ',
+        b'v',
+        digit(border(task, width)),
+    ]
 }
 
 /// The look of a text on them.

@@ -1,6 +1,6 @@
 //! The stretch of time that a picture shows.
 ghost use Rattle.std.specs.Prelude.{◌≡◌, ◌+◌, ◌*◌, ◌≤◌, ◌<◌, ◌^◌};
-ghost use Rattle.trace_draw.specs.Windows.{first_tick, end_tick, reaches, has_tick, place, span, IsWindow};
+ghost use Rattle.trace_draw.specs.Windows.{first_tick, end_tick, count_reaching, reaches, has_tick, place, span, IsWindow};
 
 use sched_base::Row;
 
@@ -9,6 +9,9 @@ pub(crate) const LEFT: u64 = 1900;
 
 /// The width of the plot.
 pub(crate) const WIDTH: u64 = 9700;
+
+/// The most rows that are drawn.
+pub(crate) const MOST_DRAWN: usize = 20_000;
 
 /// The least width of what is drawn of a row.
 const LEAST: u64 = 6;
@@ -49,6 +52,20 @@ impl Window {
         ensures { result ≡ reaches self.now row.now }
     {
         row.start < self.end_tick() && self.first_tick() < row.end
+    }
+
+    /// How many of the rows have a tick in it.
+    pub(crate) fn count_reaching(&self, rows: &[Row]) -> usize
+        requires { IsWindow self.now }
+        ensures { result ≡ count_reaching self.now rows.now }
+    {
+        let mut count = 0;
+        for row in rows {
+            if self.reaches(row) {
+                count += 1;
+            }
+        }
+        count
     }
 
     /// Whether it begins or ends at the tick, or has it between.

@@ -11,6 +11,6 @@ pieces a b c d e f g h i look start x y w t m n o p q r e0 e1 e2 e3 e4 e5 e6 e7 
 pub returns : goal.returns
 unfolding box_line
 returns c =
-    pieces _ _ _ _ _ _ _ _ _ c.args.look.now (codes "<rect class='") (codes "' x='") (codes "' y='") (codes "' width='") (codes "' height='")
+    pieces _ _ _ _ _ _ _ _ _ c.args.look.now (codes "<rect") (codes " x='") (codes "' y='") (codes "' width='") (codes "' height='")
     (decimal c.args.x) (decimal c.args.y) (decimal c.args.width) (decimal c.args.height) (codes "'/>") (line_feed ∷ [])
     c.new-line.ensures c.text.ensures c.text-2.ensures c.add_number.ensures.text c.add_number-2.ensures.text c.add_number-3.ensures.text c.add_number-4.ensures.text c.text-3.ensures c.end.ensures
