@@ -31,8 +31,17 @@ const PAUSE: u32 = 256;
 /// Then it gives way to others this often, and tries again, before it sleeps until the lock is its own.
 const TURNS: u32 = 400;
 
+/// A worker alone gives up after so many waits in a row.
+const PATIENCE: u32 = 10_000;
+
 /// No worker sleeps longer than this many nanoseconds before it looks again.
 const NAP: u64 = 1_000_000;
+
+/// So long it sleeps until each lane has had a worker.
+const SHORT_NAP: u64 = 100_000;
+
+/// After so many short naps in a row a worker gives up: a thread may have been refused. It is longer than many threads take to begin.
+const SHORT_NAPS: u32 = 20;
 
 /// The count for which a lane waits that doesn't sleep.
 const AWAKE: u64 = u64::MAX;
@@ -43,8 +52,10 @@ pub struct Waiters {
     least: AtomicU64,
     /// The least of the counts for which lanes sleep.
     first: AtomicU64,
-    /// How many lanes have a worker.
-    served: AtomicU64,
+    /// How many lanes have had a worker in this pass.
+    begun: AtomicU64,
+    /// 1 where some lane has no worker, as far as is known: then whoever must wait gives up.
+    short: AtomicU64,
     /// Whether each lane has a processor.
     has_processors: bool,
     beds: Vec<Bed>,
@@ -75,7 +86,8 @@ impl Drop for Waiters {
         let Self {
             least: _,
             first: _,
-            served: _,
+            begun: _,
+            short: _,
             has_processors: _,
             beds,
         } = self;
@@ -101,20 +113,40 @@ impl Waiters {
         Ok(Waiters {
             least: AtomicU64::new(0),
             first: AtomicU64::new(AWAKE),
-            served: AtomicU64::new(0),
+            begun: AtomicU64::new(0),
+            short: AtomicU64::new(0),
             has_processors: has_processors(rt, lanes),
             beds,
         })
     }
 
-    /// Tells that a lane has a worker.
-    pub fn begin(&self) {
-        self.served.fetch_add(1, Ordering::SeqCst);
+    /// Tells that a pass over the lanes begins, in so many threads at most. Where lanes share one, whoever must wait gives up at once.
+    pub fn begin_pass(&self, threads: usize) {
+        self.begun.store(0, Ordering::SeqCst);
+        let short = if threads < self.beds.len() { 1 } else { 0 };
+        self.short.store(short, Ordering::SeqCst);
     }
 
-    /// Tells that a lane has a worker no more. All that sleep are woken: they may wait for this lane.
+    /// Tells that a lane has a worker.
+    pub fn begin(&self) {
+        self.begun.fetch_add(1, Ordering::SeqCst);
+    }
+
+    /// Tells that a lane's worker has ended. All that sleep are woken: it may have halted the book.
     pub fn end(&self) {
-        self.served.fetch_sub(1, Ordering::SeqCst);
+        if !self.is_short() {
+            self.wake_up_to(AWAKE - 1);
+        }
+    }
+
+    // Whether some lane has no worker, as far as is known.
+    fn is_short(&self) -> bool {
+        self.short.load(Ordering::SeqCst) != 0
+    }
+
+    // Tells that some lane has no worker.
+    fn give_up(&self) {
+        self.short.store(1, Ordering::SeqCst);
         self.wake_up_to(AWAKE - 1);
     }
 
@@ -152,21 +184,39 @@ impl Waiters {
         false
     }
 
-    // Waits until the least posted count is this one, or for a while: looks for it, and then sleeps. Where some lane has no worker it
-    // doesn't sleep: it may wait for that lane.
-    fn sleep<R: Wait>(&self, rt: &R, bed: &Bed, count: u64) {
+    // Waits until the least posted count is this one, or for a while: looks for it, and then sleeps. False where it gives up, since some
+    // lane seems to have no worker.
+    fn sleep<R: Wait>(&self, rt: &R, bed: &Bed, count: u64, waits: &mut u32) -> bool {
+        if self.is_short() {
+            return false;
+        }
         if self.is_soon(bed, count) {
-            return;
+            return true;
         }
-        if self.served.load(Ordering::SeqCst) < self.beds.len() as u64 {
-            thread::yield_now();
-            return;
+        if self.begun.load(Ordering::SeqCst) >= self.beds.len() as u64 {
+            self.sleep_till(rt, bed, count, NAP);
+            return true;
         }
+        self.sleep_till(rt, bed, count, SHORT_NAP);
+        *waits = waits.saturating_add(1);
+        if *waits < SHORT_NAPS {
+            return true;
+        }
+        self.give_up();
+        false
+    }
+
+    // Sleeps until the least posted count is this one, or for so many nanoseconds.
+    fn sleep_till<R: Wait>(&self, rt: &R, bed: &Bed, count: u64, long: u64) {
         let calls = bed.calls.load(Ordering::SeqCst);
         bed.count.store(count, Ordering::SeqCst);
         self.first.fetch_min(count, Ordering::SeqCst);
         if self.least.load(Ordering::SeqCst) < count {
-            nap(rt, &bed.calls, calls);
+            nap(rt, &bed.calls, calls, long);
+            if bed.calls.load(Ordering::SeqCst) == calls {
+                // Nobody woke it: where sleeps end at once, others get on at least.
+                thread::yield_now();
+            }
         }
         bed.count.store(AWAKE, Ordering::SeqCst);
     }
@@ -192,15 +242,28 @@ pub fn wake(waiters: Option<&Waiters>) {
 }
 
 /// Gives way until the least posted count is this one, or for a while: then all rows of earlier rounds are posted, and the lane may
-/// take a whole window of rows.
-pub fn wait<R: Wait>(rt: &R, waiters: Option<&Waiters>, lane: u32, count: u64) {
+/// take a whole window of rows. `waits` counts waits in a row.
+///
+/// False where it gives up: beside other workers where some lane seems to have no worker, since that may be the one that it waits for,
+/// and alone after 10,000 waits in a row.
+pub fn wait<R: Wait>(
+    rt: &R,
+    waiters: Option<&Waiters>,
+    lane: u32,
+    count: u64,
+    waits: &mut u32,
+) -> bool {
     if let Some(waiters) = waiters {
         if let Some(bed) = waiters.beds.get(lane as usize) {
-            waiters.sleep(rt, bed, count);
-            return;
+            return waiters.sleep(rt, bed, count, waits);
         }
     }
+    *waits = waits.saturating_add(1);
+    if *waits >= PATIENCE {
+        return false;
+    }
     thread::yield_now();
+    true
 }
 
 /// Takes the lock of a book. Whoever holds it holds it for a moment, and a sleep costs as much as many rows: so a worker tries for a
@@ -233,7 +296,7 @@ fn has_processors<X: Threads>(rt: &X, lanes: u32) -> bool {
     }
 }
 
-// Sleeps while the word is this number, for a while at most.
-fn nap<R: Wait>(rt: &R, word: &AtomicU64, seen: u64) {
-    word.park_timeout(rt, (seen & 0xffff_ffff) as u32, Duration::from_nanos(NAP));
+// Sleeps while the word is this number, for so many nanoseconds at most.
+fn nap<R: Wait>(rt: &R, word: &AtomicU64, seen: u64, long: u64) {
+    word.park_timeout(rt, (seen & 0xffff_ffff) as u32, Duration::from_nanos(long));
 }

@@ -1,13 +1,15 @@
 -- What is known of a book that was found under the lock and passed a test.
-use Rattle.std.specs.Prelude.{ℕ, ◌≡◌, ◌<◌, ◌+◌, List, Option, false, length}
+use Rattle.std.specs.Prelude.{ℕ, ◌≡◌, ◌≢◌, ◌<◌, ◌+◌, List, Option, None, false, length}
 use Rattle.sched_base.specs.declared.rows.Row.{Row}
 use Rattle.sched_edges.specs.Jobs.{FaultsAre}
 use Rattle.run_tree.specs.Plans.{PlanContents}
 use Rattle.unit_ledger.specs.Seats.{Seat}
-use Rattle.book_machine.specs.Machine.{IsOut, lane_at, posted_at}
+use Rattle.exec_lanes.specs.Lanes.{LaneContents, lane_in}
+use Rattle.book_machine.specs.Machine.{State, IsOut, HasTakeable, lane_at, posted_at}
 use Rattle.book_machine.specs.Reached.{OutRow, counts_of}
-use Rattle.exec_book.specs.PlanRows.{plan_rows}
-use Rattle.exec_book.specs.Jobs.{Made, IsJobOf, posted_ticks}
+use Rattle.plan_rounds.specs.PlanRows.{plan_rows}
+use Rattle.plan_rounds.specs.Parts.{posted_ticks}
+use Rattle.exec_book.specs.Jobs.{Made, IsJobOf}
 use Rattle.exec_book.specs.Books.{BookContents, IsDismissed}
 
 -- the book is one of the plan that isn't dismissed, and stands at the seat's count with no row out on the seat's lane
@@ -47,3 +49,14 @@ pub record IsWholeAt {J : Type 0} (p : PlanContents) (b : BookContents J) (poste
 pub record IsClosable {J : Type 0} (faults : J → ℕ) (p : PlanContents) (b : BookContents J) (posted counts : List ℕ) : Type 0 where
   pub whole : IsWholeAt p b posted
   pub told : FaultsAre faults b.jobs.places counts
+
+-- the next row of each lane that failed could be taken, were the book not halted
+abbrev pub AreDue : List (List Row) → ℕ → State → List LaneContents → Type 0
+AreDue rows window s lanes = (q : ℕ) → q < length lanes → (lane_in lanes q).cause ≢ None → HasTakeable rows window s q
+
+-- the book is closable, has this window, and what failed on these lanes could be taken
+pub record IsClosableAfter {J : Type 0} (faults : J → ℕ) (p : PlanContents) (window : ℕ) (b : BookContents J) (lanes : List LaneContents)
+    (posted counts : List ℕ) : Type 0 where
+  pub closable : IsClosable faults p b posted counts
+  pub window_is : b.window ≡ window
+  pub due : AreDue (plan_rows b.plan) b.window b.state lanes

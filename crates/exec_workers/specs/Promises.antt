@@ -9,7 +9,7 @@ use Rattle.run_tree.specs.Plans.{PlanContents, rounds_of}
 use Rattle.unit_ledger.specs.Seats.{Seat}
 use Rattle.exec_book.specs.declared.looks.Look.{Look}
 use Rattle.exec_book.specs.declared.looks.Look.TheVariants.{Ready, NotYet, Done, Halted}
-use Rattle.exec_book.specs.PlanRows.{plan_rows}
+use Rattle.plan_rounds.specs.PlanRows.{plan_rows}
 use Rattle.exec_book.specs.Jobs.{Made, IsJobOf}
 
 -- the job that goes with a row of this leaf was made of what the ledger's list says

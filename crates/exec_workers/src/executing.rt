@@ -31,7 +31,7 @@ pub fn execute<G: Gate + Send, X: Threads + Wait + Sync>(
     requires kits { AreFilled plan.now.tree.processors kits.old.items }
     requires empty { AreEmpty G.ran plan.now kits.old.items }
     requires jobs { AreFresh ⟦<BoxedJob as Job>⟧.id ⟦<BoxedJob as Job>⟧.used (length plan.now.set.tasks) jobs.old.places }
-    ensures outcome { OutcomeOf G.Gate ⟦<BoxedJob as Job>⟧ plan.now kits.old kits.new jobs.old jobs.new result }
+    ensures outcome { OutcomeOf G.Gate ⟦<BoxedJob as Job>⟧ plan.now window kits.old kits.new jobs.old jobs.new result }
     ensures gates { OnOk result (GatesList G.ran plan.now kits.new.items) }
     ensures first { GatesListFirst G.ran plan.now kits.new.items }
     ensures jobs { OnOk result (JobsUsedAll ⟦<BoxedJob as Job>⟧.id ⟦<BoxedJob as Job>⟧.used plan.now jobs.new.places) }
@@ -60,7 +60,7 @@ pub fn execute_on<G: Gate + Send, X: Threads + Wait + Sync>(
     requires executable { IsExecutable plan.now rounds window }
     requires kits { AreFilled plan.now.tree.processors kits.old.items }
     requires jobs { AreFresh ⟦<BoxedJob as Job>⟧.id ⟦<BoxedJob as Job>⟧.used (length plan.now.set.tasks) jobs.old.places }
-    ensures outcome { OutcomeOf G.Gate ⟦<BoxedJob as Job>⟧ plan.now kits.old kits.new jobs.old jobs.new result }
+    ensures outcome { OutcomeOf G.Gate ⟦<BoxedJob as Job>⟧ plan.now window kits.old kits.new jobs.old jobs.new result }
     ensures gates { OnOk result (GatesGrew G.ran plan.now kits.old.items kits.new.items) }
     ensures jobs { OnOk result (JobsUsedAll ⟦<BoxedJob as Job>⟧.id ⟦<BoxedJob as Job>⟧.used plan.now jobs.new.places) }
     ensures posts { IfOk result (λ executed. executed.posts ≡ rounds * plan.now.tree.processors) }
@@ -97,7 +97,7 @@ fn execute_in<G: Gate + Send, Q: PostLedger + Send + Sync, J: Job + Send, X: Thr
     requires kits { AreFilled plan.now.tree.processors kits.old.items }
     requires jobs { AreFresh J.id J.used (length plan.now.set.tasks) jobs.old.places }
     requires made { (t : ℕ) (job : J) → t < length plan.now.set.tasks → JobAt jobs.old.places t job → J.made job ≡ slice_index_or Q.made t None }
-    ensures { OutcomeOf G.Gate J.Job plan.now kits.old kits.new jobs.old jobs.new result }
+    ensures { OutcomeOf G.Gate J.Job plan.now window kits.old kits.new jobs.old jobs.new result }
 {
     let n = plan.set().count();
     let room = Room::of_plan(rt, alloc, plan, jobs)?;
@@ -119,6 +119,7 @@ fn execute_in<G: Gate + Send, Q: PostLedger + Send + Sync, J: Job + Send, X: Thr
         book,
         plan,
         rounds,
+        window,
         seats,
         kits.as_mut_slice(),
         lanes,

@@ -3,17 +3,18 @@ ghost use Rattle.std.specs.Prelude.{◌≡◌, ◌+◌, ◌-◌, length, false, 
 ghost use Rattle.sched_edges.specs.Jobs.{FaultsAre};
 ghost use Rattle.run_tree.specs.Plans.{IsPlan};
 ghost use Rattle.book_machine.specs.Reached.{OutRow};
-ghost use Rattle.exec_book.specs.PlanRows.{IsCompiled, plan_rows};
-ghost use Rattle.exec_book.specs.Jobs.{IsJobOf, posted_ticks};
+ghost use Rattle.plan_rounds.specs.PlanRows.{IsCompiled, plan_rows};
+ghost use Rattle.plan_rounds.specs.Parts.{posted_ticks};
+ghost use Rattle.exec_book.specs.Jobs.{IsJobOf};
 ghost use Rattle.exec_book.specs.Books.{IsDismissed};
-ghost use Rattle.exec_workers.specs.Found.{IsFreeAt, IsOutAt, IsWholeAt};
+ghost use Rattle.exec_workers.specs.Found.{AreDue, IsFreeAt, IsOutAt, IsWholeAt};
 ghost use Rattle.exec_workers.specs.Promises.{Agrees};
 
 use exec_book::Book;
-use exec_lanes::is_same_plan;
+use exec_lanes::{Lane, is_same_plan};
 use run_tree::Plan;
 use sched_base::{Leaf, Row};
-use sched_edges::Job;
+use sched_edges::{Gate, Job};
 use unit_ledger::{LaneSeat, PostLedger};
 
 /// The ticks of a row.
@@ -119,6 +120,30 @@ pub(crate) fn is_job_of<Q: PostLedger, J: Job>(
         },
         Leaf::Wait(_) | Leaf::Idle(_) | Leaf::Empty => job.is_none(),
     }
+}
+
+/// Whether the book has this window, and the next row of each lane that failed could be taken, were the book not halted.
+pub(crate) fn are_due<G: Gate, Q: PostLedger, J: Job>(
+    book: &Book<Q, J>,
+    window: u32,
+    lanes: &[Lane<G, Q>],
+    processors: u32,
+) -> bool
+    requires open { ¬ (IsDismissed book.now) }
+    requires width { length lanes.now ≡ processors }
+    requires lanes { length book.now.state.lanes ≡ processors }
+    ensures window { IsTrue result → book.now.window ≡ window }
+    ensures due { IsTrue result → AreDue (plan_rows book.now.plan) book.now.window book.now.state lanes.now }
+{
+    if book.window() != window {
+        return false;
+    }
+    for p in 0..processors {
+        if lanes[p as usize].cause().is_some() && !book.is_due(p) {
+            return false;
+        }
+    }
+    true
 }
 
 /// Whether the book is not dismissed, no row is out, and these are the posted counts.

@@ -1,8 +1,9 @@
 //! Serving all lanes.
 ghost use Rattle.std.specs.Prelude.{◌≡◌, ◌≢◌, ◌<◌, ◌⊎◌, ℕ, None, length};
-ghost use Rattle.exec_book.specs.PlanRows.{plan_rows};
+ghost use Rattle.plan_rounds.specs.PlanRows.{IsCompiled, plan_rows};
 ghost use Rattle.exec_lanes.specs.Lanes.{lane_in, AllServed, NoneFailed, AllAt};
 
+use crate::rows::agree;
 use crate::serving::serve_beside;
 use crate::turns::{TURNS, wait_for_good};
 use exec_book::Book;
@@ -14,7 +15,12 @@ use std::thread;
 use std::thread::Threads;
 use unit_ledger::PostLedger;
 
-/// Serves the lanes in passes, one worker for each lane, until all have posted that many rows or one has failed.
+/// Serves the lanes in passes until all have posted that many rows or one has failed.
+///
+/// The first pass asks for a thread for each lane, and where it gets them it is the last one. Where threads are refused, a lane that
+/// must wait gives up, since it may wait for one that isn't served. Most passes after that ask for no thread: in each of them every
+/// lane goes on until it must wait, so each posts a round at least. A few ask again, for threads that were only late: the second, and
+/// those whose number is a power of 16.
 pub(crate) fn serve_passes<
     G: Gate + Send,
     Q: PostLedger + Send + Sync,
@@ -34,8 +40,10 @@ pub(crate) fn serve_passes<
     ensures served { AllServed (plan_rows plan.now) counts.now lanes.old lanes.new }
     ensures ended { (NoneFailed lanes.new × AllAt rounds lanes.new) ⊎ ((p : ℕ) × (p < length lanes.new) × ((lane_in lanes.new p).cause ≢ None)) }
 {
-    for _ in 0..TURNS {
-        serve_all(rt, book, plan, lanes, counts, waiters);
+    agree(rt, book, plan);
+    for pass in 1..TURNS {
+        let threads = threads_of(pass, plan, lanes.len());
+        serve_all(rt, book, plan, lanes, counts, waiters, threads);
         if any_failed(lanes) || all_at(lanes, rounds) {
             return;
         }
@@ -43,7 +51,17 @@ pub(crate) fn serve_passes<
     wait_for_good(rt)
 }
 
-// Serves each lane once, in a thread of its own where one can be made.
+// How many threads a pass asks for. Where there is no task there is no work to share.
+fn threads_of(pass: u64, plan: &Plan, lanes: usize) -> usize {
+    let asks = pass <= 2 || pass.is_power_of_two() && pass.trailing_zeros() % 4 == 0;
+    if asks && plan.set().count() > 0 {
+        lanes
+    } else {
+        1
+    }
+}
+
+// Serves each lane once, in so many threads, where they can be made.
 fn serve_all<G: Gate + Send, Q: PostLedger + Send + Sync, J: Job + Send, R: Threads + Wait + Sync>(
     rt: &R,
     book: &Mutex<Book<Q, J>>,
@@ -51,19 +69,19 @@ fn serve_all<G: Gate + Send, Q: PostLedger + Send + Sync, J: Job + Send, R: Thre
     lanes: &mut [Lane<G, Q>],
     counts: &[u64],
     waiters: &Waiters,
+    threads: usize,
 )
+    requires compiled { IsCompiled plan.now }
+    requires set { plan.now.set ≡ Q.set }
     requires counts { length counts.now ≡ length plan.now.set.tasks }
     requires fresh { NoneFailed lanes.old }
     ensures { AllServed (plan_rows plan.now) counts.now lanes.old lanes.new }
 {
-    let workers = lanes.len();
-    if workers == 0 {
-        return;
-    }
+    waiters.begin_pass(threads);
     thread::for_each_mut(
         rt,
         lanes,
-        workers,
-        &|_, lane: &mut Lane<G, Q>| serve_beside(rt, book, plan, lane, counts, Some(waiters)),
+        threads.max(1),
+        &|_, lane: &mut Lane<G, Q>| serve_beside(rt, waiters, book, plan, lane, counts),
     );
 }

@@ -1,7 +1,12 @@
 //! Taking a row from the book, and putting it back.
 ghost use Rattle.std.specs.Prelude.{◌≡◌, ◌+◌, length};
 ghost use Rattle.std.specs.Sync.Mutex.{mutex_guard_value};
-ghost use Rattle.exec_book.specs.PlanRows.{IsCompiled};
+ghost use Rattle.plan_rounds.specs.PlanRows.{IsCompiled};
+ghost use Rattle.sched_base.specs.declared.rows.Row.{Row as DeclaredRow};
+ghost use Rattle.run_tree.specs.Plans.{PlanContents};
+ghost use Rattle.book_machine.specs.declared.events.Event.TheVariants.{Halt};
+ghost use Rattle.plan_rounds.specs.Parts.{processor};
+ghost use Rattle.exec_book.specs.Books.{PutsBack};
 ghost use Rattle.exec_workers.specs.Found.{IsFreeAt, IsOutWith, IsToldAt};
 ghost use Rattle.exec_workers.specs.Promises.{Agrees, Gives, GivesRow};
 
@@ -98,6 +103,15 @@ pub fn halt_row<Q: PostLedger, J: Job, R: Wait>(
     agree(rt, book, plan);
     let mut guard = lock_out_at(rt, book, plan, seat, row, &job, 0);
     let held = &mut *guard;
+    halt_found(held, seat, job);
+}
+
+// Puts the row back that is out on the seat's lane in the book that was found, with its job, which hasn't worked for it, and halts
+// the book.
+fn halt_found<Q: PostLedger, J: Job>(held: &mut Book<Q, J>, seat: &LaneSeat<Q>, job: Option<J>)
+    requires { (p : PlanContents) × (row : DeclaredRow) × IsOutWith J.id J.used J.made Q.made p held.old seat.now row job 0 }
+    ensures halts { PutsBack held.old held.new seat.now.lane job (Halt (processor seat.now.lane)) held.old.side }
+{
     held.halt(seat.lane(), job);
 }
 

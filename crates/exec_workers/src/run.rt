@@ -4,16 +4,16 @@ ghost use Rattle.sched_base.specs.Tables.{rounds_of as rounds_in, ticks_of};
 ghost use Rattle.sched_edges.specs.Jobs.{FaultsAre};
 ghost use Rattle.run_tree.specs.Plans.{rounds_of};
 ghost use Rattle.book_machine.specs.Rounds.{AreFirstRounds};
-ghost use Rattle.exec_book.specs.PlanRows.{plan_rows};
+ghost use Rattle.plan_rounds.specs.PlanRows.{plan_rows};
 ghost use Rattle.exec_book.specs.Jobs.{AllAtHome};
 ghost use Rattle.unit_ledger.specs.Seats.{seats_at_start};
 ghost use Rattle.exec_lanes.specs.Lanes.{LaneContents, AllServed, NoneFailed, AllAt};
 ghost use Rattle.exec_lanes.specs.Kits.{AreFilled};
 ghost use Rattle.exec_lanes.specs.Ends.{NamesLowest, KeepsCounts, posted_by};
-ghost use Rattle.exec_workers.specs.Fronts.{IsFrontAt};
-ghost use Rattle.exec_workers.specs.Runs.{GatesRan, HandedOut, NamesFirst, ClosedAt};
+ghost use Rattle.exec_workers.specs.Fronts.{IsFrontAt, StaysWithin};
+ghost use Rattle.exec_workers.specs.Runs.{GatesRan, HandedOut, FailedWereDue, NamesFirst, ClosedAt};
 
-use crate::close::close_book;
+use crate::close::close_after;
 use crate::passes::serve_passes;
 use exec_book::{Book, Closing};
 use exec_lanes::{
@@ -48,6 +48,7 @@ pub(crate) fn run_gates<
     book: Book<Q, J>,
     plan: &Plan,
     rounds: u64,
+    window: u32,
     seats: Seats<Q>,
     kits: &mut [Kit<G>],
     lanes: Vec<Lane<G, Q>>,
@@ -63,7 +64,7 @@ pub(crate) fn run_gates<
     requires room { plan.now.tree.processors ≤ vec_capacity lanes }
     requires places { length posted.old ≡ plan.now.tree.processors }
     ensures { (ends : List LaneContents) × GatesRan G.ran G.faults plan.now counts.old counts.new kits.old kits.new ends ×
-        HandedOut J.id J.used J.made J.faults Q.made plan.now counts.new ends result.jobs.places result.table ×
+        HandedOut J.id J.used J.made J.faults Q.made plan.now window counts.new ends result.jobs.places result.table ×
         NamesFirst (rounds_of plan.now) ends result.fault × ClosedAt ends result.posts }
 {
     let m = plan.tree().processors();
@@ -75,6 +76,7 @@ pub(crate) fn run_gates<
         &Mutex::new(book),
         plan,
         rounds,
+        window,
         lanes.as_mut_slice(),
         counts,
         posted,
@@ -103,6 +105,7 @@ pub(crate) fn serve_book<
     book: &Mutex<Book<Q, J>>,
     plan: &Plan,
     rounds: u64,
+    window: u32,
     lanes: &mut [Lane<G, Q>],
     counts: &mut [u64],
     posted: &mut [u64],
@@ -122,6 +125,8 @@ pub(crate) fn serve_book<
     ensures table { AreFirstRounds result.0.table.lanes (plan_rows plan.now) }
     ensures held { (p : ℕ) → slice_index (posted_by lanes.new) p ≤ rounds_in result.0.table.lanes }
     ensures front { IsFrontAt plan.now (posted_by lanes.new) }
+    ensures within { StaysWithin window (posted_by lanes.new) }
+    ensures due { FailedWereDue (plan_rows plan.now) window lanes.new }
     ensures some { IfSome result.1 (λ fault. NamesLowest lanes.new fault) }
     ensures none { IfNone result.1 (NoneFailed lanes.new × AllAt (rounds_of plan.now) lanes.new) }
 {
@@ -130,6 +135,6 @@ pub(crate) fn serve_book<
     note_posted(lanes, posted);
     note_faults(lanes, counts);
     let fault = first_fault(lanes);
-    let closing = close_book(rt, book, plan, posted, counts);
+    let closing = close_after(rt, book, plan, window, lanes, posted, counts);
     (closing, fault)
 }

@@ -1,6 +1,6 @@
 //! Serving one lane.
-ghost use Rattle.std.specs.Prelude.{◌≡◌, ◌≤◌, None, length, IfSome};
-ghost use Rattle.exec_book.specs.PlanRows.{IsCompiled, plan_rows};
+ghost use Rattle.std.specs.Prelude.{◌≡◌, None, length, IfSome};
+ghost use Rattle.plan_rounds.specs.PlanRows.{IsCompiled, plan_rows};
 ghost use Rattle.exec_lanes.specs.Lanes.{Served};
 ghost use Rattle.exec_workers.specs.Promises.{IsNextRow, GivesRow};
 
@@ -14,9 +14,6 @@ use sched_base::Row;
 use sched_edges::{Failed, Gate, Job};
 use std::sync::{Mutex, Wait};
 use unit_ledger::PostLedger;
-
-/// A worker ends after this many looks in a row that found its lane waiting.
-const PATIENCE: u32 = 10_000;
 
 /// Serves a lane on which nothing has failed: takes its next row, has the gate run it and the task's job work for its ticks,
 /// and posts it. Where the gate or the job fails it halts the book and keeps the cause.
@@ -34,30 +31,28 @@ pub fn serve<G: Gate, Q: PostLedger, J: Job, R: Wait>(
     requires fresh { lane.old.cause ≡ None }
     ensures { Served (plan_rows plan.now) counts.now lane.old lane.new }
 {
-    serve_beside(rt, book, plan, lane, counts, None);
+    agree(rt, book, plan);
+    serve_rows(rt, None, book, plan, lane, counts);
 }
 
-/// Serves a lane, as `serve` does, beside other workers: a worker that waits sleeps until it is woken.
+/// Serves a lane of a plan with the ledger's set, as `serve` does, beside other workers: a worker that waits sleeps until it is woken.
 pub(crate) fn serve_beside<G: Gate, Q: PostLedger, J: Job, R: Wait>(
     rt: &R,
+    waiters: &Waiters,
     book: &Mutex<Book<Q, J>>,
     plan: &Plan,
     lane: &mut Lane<G, Q>,
     counts: &[u64],
-    waiters: Option<&Waiters>,
 )
+    requires compiled { IsCompiled plan.now }
+    requires set { plan.now.set ≡ Q.set }
     requires counts { length counts.now ≡ length plan.now.set.tasks }
     requires fresh { lane.old.cause ≡ None }
     ensures { Served (plan_rows plan.now) counts.now lane.old lane.new }
 {
-    agree(rt, book, plan);
-    if let Some(waiters) = waiters {
-        waiters.begin();
-    }
-    serve_rows(rt, waiters, book, plan, lane, counts);
-    if let Some(waiters) = waiters {
-        waiters.end();
-    }
+    waiters.begin();
+    serve_rows(rt, Some(waiters), book, plan, lane, counts);
+    waiters.end();
 }
 
 // Serves a lane of a plan with the ledger's set.
@@ -103,10 +98,8 @@ fn follow<G: Gate, Q: PostLedger, J: Job, R: Wait>(
     requires set { plan.now.set ≡ Q.set }
     requires counts { length counts.now ≡ length plan.now.set.tasks }
     requires fresh { lane.old.cause ≡ None }
-    requires waits { waits.old ≤ 10000 }
     requires look { GivesRow J.id J.used J.made Q.made plan.now lane.old.seat look }
     ensures served { Served (plan_rows plan.now) counts.now lane.old lane.new }
-    ensures waits { IfSome result (λ look. waits.new ≤ 10000) }
     ensures more { IfSome result (λ look. lane.new.cause ≡ None) }
     ensures look { IfSome result (λ look. GivesRow J.id J.used J.made Q.made plan.now lane.new.seat look) }
 {
@@ -116,11 +109,9 @@ fn follow<G: Gate, Q: PostLedger, J: Job, R: Wait>(
             run_row(rt, waiters, book, plan, lane, counts, row, job)
         }
         Look::NotYet { lane: _, posted: _ } => {
-            *waits += 1;
-            if *waits >= PATIENCE {
+            if !wait(rt, waiters, lane.seat.lane(), lane.seat.posted(), waits) {
                 return None;
             }
-            wait(rt, waiters, lane.seat.lane(), lane.seat.posted());
             Some(take_next(rt, book, plan, &lane.seat))
         }
         Look::Done | Look::Halted => None,

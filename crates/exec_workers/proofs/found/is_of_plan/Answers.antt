@@ -1,6 +1,6 @@
 use Rattle.std.proofs.Common.{ap, sym, subst, ◌∙◌}
 use Rattle.run_tree.specs.Plans.{PlanContents}
-use Rattle.exec_book.specs.PlanRows.{IsCompiled}
+use Rattle.plan_rounds.specs.PlanRows.{IsCompiled}
 use Rattle.exec_workers.proofs.found.is_of_plan.Goals as goal
 
 pub returns-clause-same : goal.returns-clause-same

@@ -6,7 +6,7 @@ use Rattle.std.specs.Prelude.{slice_get}
 use Rattle.sched_base.specs.Sets.{SetContents}
 use Rattle.sched_edges.specs.Jobs.{JobAt, JobPlaces}
 use Rattle.run_tree.specs.Plans.{PlanContents}
-use Rattle.exec_book.proofs.RoundLemmas.{below_or}
+use Rattle.plan_rounds.proofs.RoundLemmas.{below_or}
 use Rattle.exec_workers.proofs.WholeLemmas.{same_places}
 use Rattle.exec_workers.proofs.opening.open_book.Goals as goal
 use Rattle.exec_workers.proofs.opening.open_book.Goals.{After-count-n}

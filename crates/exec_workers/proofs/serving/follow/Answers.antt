@@ -1,5 +1,4 @@
-use Rattle.std.specs.Prelude.{IfSome}
-use Rattle.std.proofs.Common.{◌≤◌, Option, Some, None, arith, refl, subst}
+use Rattle.std.proofs.Common.{refl, subst}
 use Rattle.exec_workers.specs.Promises.{GivesRow}
 use Rattle.exec_lanes.proofs.ServeLemmas.{served_none}
 use Rattle.exec_workers.proofs.serving.follow.Goals as goal
@@ -34,30 +33,17 @@ returns-in-Ready-clause-more g c = c.run_row.ensures.more
 pub returns-in-Ready-clause-look : goal.returns-in-Ready-clause-look
 returns-in-Ready-clause-look g c = c.run_row.ensures.look
 
-always : {X : Type 0} (P : Type 0) (o : Option X) → P → IfSome o (λ x. P)
-always P None h = tt
-always P (Some x) h = h
+pub returns-then-not-wait-clause-served : goal.returns-then-not-wait-clause-served
+returns-then-not-wait-clause-served g c = served_none _ _ _ c.requires.fresh
 
-pub overflow_add-waits : goal.overflow_add-waits
-overflow_add-waits g c = let few = c.requires.waits in omega (arith, few)
+pub returns-else-not-wait-clause-served : goal.returns-else-not-wait-clause-served
+returns-else-not-wait-clause-served g c = served_none _ _ _ c.requires.fresh
 
-pub returns-in-Ready-clause-waits : goal.returns-in-Ready-clause-waits
-returns-in-Ready-clause-waits g c = always (0 ≤ 10000) c.run_row.result (omega arith)
+pub returns-else-not-wait-clause-more : goal.returns-else-not-wait-clause-more
+returns-else-not-wait-clause-more g c = c.requires.fresh
 
-pub returns-then-waits-ge-PATIENCE-clause-served : goal.returns-then-waits-ge-PATIENCE-clause-served
-returns-then-waits-ge-PATIENCE-clause-served g c = served_none _ _ _ c.requires.fresh
-
-pub returns-else-waits-ge-PATIENCE-clause-served : goal.returns-else-waits-ge-PATIENCE-clause-served
-returns-else-waits-ge-PATIENCE-clause-served g c = served_none _ _ _ c.requires.fresh
-
-pub returns-else-waits-ge-PATIENCE-clause-waits : goal.returns-else-waits-ge-PATIENCE-clause-waits
-returns-else-waits-ge-PATIENCE-clause-waits g c = let below = c.if-waits-ge-PATIENCE.false in omega (arith, below)
-
-pub returns-else-waits-ge-PATIENCE-clause-more : goal.returns-else-waits-ge-PATIENCE-clause-more
-returns-else-waits-ge-PATIENCE-clause-more g c = c.requires.fresh
-
-pub returns-else-waits-ge-PATIENCE-clause-look : goal.returns-else-waits-ge-PATIENCE-clause-look
-returns-else-waits-ge-PATIENCE-clause-look g c = rw (← c.lane.view_is) c.take_next.ensures
+pub returns-else-not-wait-clause-look : goal.returns-else-not-wait-clause-look
+returns-else-not-wait-clause-look g c = rw (← c.lane.view_is) c.take_next.ensures
 
 pub returns-in-Done-clause-served : goal.returns-in-Done-clause-served
 returns-in-Done-clause-served g c = served_none _ _ _ c.requires.fresh
