@@ -1,2 +1,4 @@
 pub mod Lines
+pub mod Steps
+pub mod Given
 pub mod Table

@@ -1,5 +1,5 @@
 -- The lines of a table in C, each with its line feed. Names are lawful ones, in which nothing needs escaping.
-use Rattle.std.specs.Prelude.{ℕ, ◌^◌, nat_lt, if◌then◌else◌, List, ◌++◌, codes, decimal}
+use Rattle.std.specs.Prelude.{ℕ, ◌^◌, ◌/◌, nat_lt, if◌then◌else◌, List, ◌++◌, codes, decimal}
 use Rattle.sched_base.specs.declared.rows.Leaf.{Leaf}
 use Rattle.sched_base.specs.declared.rows.Leaf.TheVariants as leaves
 use Rattle.sched_base.specs.declared.rows.Row.{Row}
@@ -9,7 +9,7 @@ use Rattle.sched_base.specs.declared.sets.Task.{Task}
 abbrev pub width_of : ℕ → ℕ
 width_of n = if nat_lt n (2 ^ 8) then 8 else (if nat_lt n (2 ^ 16) then 16 else (if nat_lt n (2 ^ 32) then 32 else 64))
 
--- the start and the end of a row, of so many bits each
+-- the start and the end of a row, numbers of so many bits each
 unfoldable pub ticks_line : ℕ → List ℕ
 ticks_line width = codes "  uint" ++ (decimal width ++ codes "_t start, end;\n")
 
@@ -26,9 +26,10 @@ task_number (leaves.Wait id) = codes "-1"
 task_number (leaves.Idle number) = codes "-1"
 task_number leaves.Empty = codes "-1"
 
--- a row: its start, its end and its task
-unfoldable pub row_line : Row → List ℕ
-row_line r = codes "  {" ++ (decimal r.start ++ (codes "u, " ++ (decimal r.end ++ (codes "u, " ++ (task_number r.leaf ++ codes "},\n")))))
+-- a row: its start and its end, in steps of so many ticks, and its task
+unfoldable pub row_line : ℕ → Row → List ℕ
+row_line step r =
+    codes "  {" ++ (decimal (r.start / step) ++ (codes "u, " ++ (decimal (r.end / step) ++ (codes "u, " ++ (task_number r.leaf ++ codes "},\n")))))
 
 -- the line before the rows of processor p
 unfoldable pub lane_line : ℕ → List ℕ
@@ -38,6 +39,6 @@ lane_line p = codes "static const struct furnacelime_row furnacelime_rows_" ++ (
 unfoldable pub processor_line : ℕ → ℕ → List ℕ
 processor_line p count = codes "  {" ++ (decimal count ++ (codes "u, furnacelime_rows_" ++ (decimal p ++ codes "},\n")))
 
--- a number under its name
+-- a number, and its name as a comment
 unfoldable pub field_line : List ℕ → ℕ → List ℕ
-field_line name n = codes "  ." ++ (name ++ (codes " = " ++ (decimal n ++ codes "u,\n")))
+field_line name n = codes "  " ++ (decimal n ++ (codes "u, /* " ++ (name ++ codes " */\n")))

@@ -1,10 +1,11 @@
--- The schedule of a set as a file of C99 that includes nothing but stdint.h, and that a compiler takes without a warning.
-use Rattle.std.specs.Prelude.{ℕ, ◌*◌, List, [], ◌∷◌, ◌++◌, length, codes}
+-- The schedule of a set as a file of C99 that includes nothing but stdint.h, and that a compiler of C or C++ takes without a warning.
+use Rattle.std.specs.Prelude.{ℕ, ◌*◌, ◌/◌, List, [], ◌∷◌, ◌++◌, length, codes}
 use Rattle.std.specs.List.{flat_map, concat, range_with_len}
 use Rattle.sched_base.specs.Bytes.{line_feed}
 use Rattle.sched_base.specs.declared.rows.Row.{Row}
 use Rattle.sched_base.specs.Sets.{SetContents}
-use Rattle.sched_base.specs.Tables.{lane_of}
+use Rattle.sched_base.specs.Tables.{all_rows, lane_of}
+use Rattle.table_text.specs.Steps.{step_of}
 use Rattle.table_text.specs.Lines.{width_of, ticks_line, task_line, row_line, lane_line, processor_line, field_line}
 
 -- these lines, each with its line feed
@@ -16,9 +17,10 @@ unfoldable pub opening_text : List ℕ
 opening_text =
     lines_text (codes "/* The schedule of a set of periodic tasks, written by furnacelime."
     ∷ codes "   A row {start, end, task}: the processor runs this task of the table, or"
-    ∷ codes "   none where it is -1, from tick start up to tick end. The first row begins"
-    ∷ codes "   at 0, each other where the one before ends, and the last ends at ticks."
-    ∷ codes "   Each array of tasks or rows has one element more, which is not counted. */"
+    ∷ codes "   none where it is -1, from tick start * step up to tick end * step. The"
+    ∷ codes "   first row begins at 0, each other where the one before ends, and the last"
+    ∷ codes "   ends at ticks. Each array of tasks or rows has one element more, which is"
+    ∷ codes "   not counted. */"
     ∷ codes "#include <stdint.h>"
     ∷ []
     ∷ codes "struct furnacelime_task {"
@@ -40,8 +42,11 @@ shapes_text =
     ∷ codes "};"
     ∷ []
     ∷ codes "struct furnacelime_table {"
-    ∷ codes "  uint64_t scale;   /* the ticks of a unit */"
-    ∷ codes "  uint64_t ticks;   /* the ticks up to the horizon */"
+    ∷ codes "  uint64_t scale; /* the ticks of a unit */"
+    ∷ codes "  uint64_t step;  /* the ticks of a step, in which rows are told */"
+    ∷ codes "  uint64_t ticks; /* the ticks up to the horizon */"
+    ∷ codes "  uint64_t repeat_from; /* the tick from which the rows come again, for ever,"
+    ∷ codes "                           once ticks have passed; ticks where they don't */"
     ∷ codes "  uint32_t horizon; /* in units */"
     ∷ codes "  uint32_t processor_count, task_count;"
     ∷ codes "  const struct furnacelime_processor *processors;"
@@ -64,19 +69,24 @@ processors_line = lines_text (codes "static const struct furnacelime_processor f
 
 -- the end of the processors, and the line before the table itself
 unfoldable pub processors_end : List ℕ
-processors_end = lines_text (codes "};" ∷ [] ∷ codes "const struct furnacelime_table furnacelime_table = {" ∷ [])
+processors_end =
+    lines_text (codes "};"
+    ∷ []
+    ∷ codes "extern const struct furnacelime_table furnacelime_table;"
+    ∷ codes "const struct furnacelime_table furnacelime_table = {" ∷ [])
 
--- the numbers of the table
-abbrev pub field_lines : SetContents → ℕ → List (List ℕ)
-field_lines s scale =
-    field_line (codes "scale") scale ∷ field_line (codes "ticks") (s.horizon * scale) ∷ field_line (codes "horizon") s.horizon
+-- the numbers of the table, with so many ticks in a step, and the tick from which its rows come again
+abbrev pub field_lines : SetContents → ℕ → ℕ → ℕ → List (List ℕ)
+field_lines s scale step repeat_from =
+    field_line (codes "scale") scale ∷ field_line (codes "step") step ∷ field_line (codes "ticks") (s.horizon * scale)
+    ∷ field_line (codes "repeat_from") repeat_from ∷ field_line (codes "horizon") s.horizon
     ∷ field_line (codes "processor_count") s.processors ∷ field_line (codes "task_count") (length s.tasks) ∷ []
 
 -- where its arrays are
 unfoldable pub closing_text : List ℕ
-closing_text = lines_text (codes "  .processors = furnacelime_processors," ∷ codes "  .tasks = furnacelime_tasks" ∷ codes "};" ∷ [])
+closing_text = lines_text (codes "  furnacelime_processors," ∷ codes "  furnacelime_tasks" ∷ codes "};" ∷ [])
 
--- the shapes of what the table has, whose ticks are of so many bits
+-- the shapes of what the table has, whose starts and ends are of so many bits
 abbrev pub head_text : ℕ → List ℕ
 head_text width = opening_text ++ (ticks_line width ++ shapes_text)
 
@@ -85,12 +95,12 @@ abbrev pub tasks_text : SetContents → List ℕ
 tasks_text s = flat_map task_line s.tasks ++ tasks_end
 
 -- the rows of processor p
-abbrev pub lane_text : ℕ → List Row → List ℕ
-lane_text p rows = lane_line p ++ (flat_map row_line rows ++ rows_end)
+abbrev pub lane_text : ℕ → ℕ → List Row → List ℕ
+lane_text step p rows = lane_line p ++ (flat_map (row_line step) rows ++ rows_end)
 
 -- the rows of all processors
-abbrev pub lanes_text : List (List Row) → List ℕ
-lanes_text lanes = flat_map (λ p. lane_text p (lane_of lanes p)) (range_with_len 0 (length lanes))
+abbrev pub lanes_text : ℕ → List (List Row) → List ℕ
+lanes_text step lanes = flat_map (λ p. lane_text step p (lane_of lanes p)) (range_with_len 0 (length lanes))
 
 -- the lines of the processors, each with the number of its rows
 abbrev pub processor_lines : List (List Row) → List ℕ
@@ -101,10 +111,15 @@ abbrev pub processors_text : List (List Row) → List ℕ
 processors_text lanes = processors_line ++ (processor_lines lanes ++ processors_end)
 
 -- the numbers of the table, and where its arrays are
-abbrev pub fields_text : SetContents → ℕ → List ℕ
-fields_text s scale = concat (field_lines s scale) ++ closing_text
+abbrev pub fields_text : SetContents → ℕ → ℕ → ℕ → List ℕ
+fields_text s scale step repeat_from = concat (field_lines s scale step repeat_from) ++ closing_text
 
--- the table of a set and of the rows of its processors
-unfoldable pub table_text : SetContents → ℕ → List (List Row) → List ℕ
-table_text s scale lanes =
-    head_text (width_of (s.horizon * scale)) ++ (tasks_text s ++ (lanes_text lanes ++ (processors_text lanes ++ fields_text s scale)))
+-- the table of a set and of the rows of its processors, which are told in steps of so many ticks and come again from this tick on
+unfoldable pub table_with : SetContents → ℕ → List (List Row) → ℕ → ℕ → List ℕ
+table_with s scale lanes step repeat_from =
+    head_text (width_of (s.horizon * scale / step))
+    ++ (tasks_text s ++ (lanes_text step lanes ++ (processors_text lanes ++ fields_text s scale step repeat_from)))
+
+-- the table of a set and of the rows of its processors, which come again from this unit on
+unfoldable pub table_text : SetContents → ℕ → List (List Row) → ℕ → List ℕ
+table_text s scale lanes from = table_with s scale lanes (step_of (s.horizon * scale) (all_rows lanes)) (from * scale)

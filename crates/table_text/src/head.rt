@@ -6,7 +6,7 @@ ghost use Rattle.table_text.specs.Table.{opening_text, shapes_text, head_text, t
 use crate::lines::ticks_line;
 use sched_edges::{Failed, Sink, write_all};
 
-/// Writes the shapes of what the table has, whose ticks are of so many bits.
+/// Writes the shapes of what the table has, whose starts and ends are of so many bits.
 pub(crate) fn write_head<W: Sink>(sink: &mut W, width: u128) -> Result<(), Failed>
     ensures wrote { Wrote (W.taken sink.old) (W.taken sink.new) (head_text width) result }
     ensures cause { HasCause (W.faults sink.old) (W.faults sink.new) result }
@@ -23,9 +23,10 @@ fn write_opening<W: Sink>(sink: &mut W) -> Result<(), Failed>
 {
     let text = b"/* The schedule of a set of periodic tasks, written by furnacelime.
    A row {start, end, task}: the processor runs this task of the table, or
-   none where it is -1, from tick start up to tick end. The first row begins
-   at 0, each other where the one before ends, and the last ends at ticks.
-   Each array of tasks or rows has one element more, which is not counted. */
+   none where it is -1, from tick start * step up to tick end * step. The
+   first row begins at 0, each other where the one before ends, and the last
+   ends at ticks. Each array of tasks or rows has one element more, which is
+   not counted. */
 #include <stdint.h>
 
 struct furnacelime_task {
@@ -52,8 +53,11 @@ struct furnacelime_processor {
 };
 
 struct furnacelime_table {
-  uint64_t scale;   /* the ticks of a unit */
-  uint64_t ticks;   /* the ticks up to the horizon */
+  uint64_t scale; /* the ticks of a unit */
+  uint64_t step;  /* the ticks of a step, in which rows are told */
+  uint64_t ticks; /* the ticks up to the horizon */
+  uint64_t repeat_from; /* the tick from which the rows come again, for ever,
+                           once ticks have passed; ticks where they don't */
   uint32_t horizon; /* in units */
   uint32_t processor_count, task_count;
   const struct furnacelime_processor *processors;
@@ -103,7 +107,7 @@ pub(crate) fn write_processors_end<W: Sink>(sink: &mut W) -> Result<(), Failed>
 {
     write_all(
         sink,
-        b"};\n\nconst struct furnacelime_table furnacelime_table = {\n",
+        b"};\n\nextern const struct furnacelime_table furnacelime_table;\nconst struct furnacelime_table furnacelime_table = {\n",
     )
 }
 
@@ -115,6 +119,6 @@ pub(crate) fn write_closing<W: Sink>(sink: &mut W) -> Result<(), Failed>
 {
     write_all(
         sink,
-        b"  .processors = furnacelime_processors,\n  .tasks = furnacelime_tasks\n};\n",
+        b"  furnacelime_processors,\n  furnacelime_tasks\n};\n",
     )
 }

@@ -1,5 +1,5 @@
 //! The rows of the processors, and the processors.
-ghost use Rattle.std.specs.Prelude.{◌<◌, length};
+ghost use Rattle.std.specs.Prelude.{◌<◌, ◌≤◌, length};
 ghost use Rattle.std.specs.List.{flat_map};
 ghost use Rattle.sched_base.specs.Tables.{lane_of};
 ghost use Rattle.sched_edges.specs.Causes.{HasCause};
@@ -12,37 +12,44 @@ use crate::lines::{lane_line, processor_line, row_line};
 use merged_rows::MergedRows;
 use sched_edges::{Failed, Sink, write_all};
 
-/// Writes the rows of all processors.
-pub(crate) fn write_lanes<W: Sink>(sink: &mut W, rows: &MergedRows) -> Result<(), Failed>
-    ensures wrote { Wrote (W.taken sink.old) (W.taken sink.new) (lanes_text rows.now.lanes) result }
+/// Writes the rows of all processors, in steps of so many ticks.
+pub(crate) fn write_lanes<W: Sink>(
+    sink: &mut W,
+    rows: &MergedRows,
+    step: u128,
+) -> Result<(), Failed>
+    requires { 1 ≤ step }
+    ensures wrote { Wrote (W.taken sink.old) (W.taken sink.new) (lanes_text step rows.now.lanes) result }
     ensures cause { HasCause (W.faults sink.old) (W.faults sink.new) result }
 {
     for p in 0..rows.processors() {
-        write_lane(sink, rows, p)?;
+        write_lane(sink, rows, p, step)?;
     }
     Ok(())
 }
 
 // Writes the array of the rows of processor p.
-fn write_lane<W: Sink>(sink: &mut W, rows: &MergedRows, p: u32) -> Result<(), Failed>
-    requires { p < length rows.now.lanes }
-    ensures wrote { Wrote (W.taken sink.old) (W.taken sink.new) (lane_text p (lane_of rows.now.lanes p)) result }
+fn write_lane<W: Sink>(sink: &mut W, rows: &MergedRows, p: u32, step: u128) -> Result<(), Failed>
+    requires processor { p < length rows.now.lanes }
+    requires some { 1 ≤ step }
+    ensures wrote { Wrote (W.taken sink.old) (W.taken sink.new) (lane_text step p (lane_of rows.now.lanes p)) result }
     ensures cause { HasCause (W.faults sink.old) (W.faults sink.new) result }
 {
     write_all(sink, lane_line(p).as_slice())?;
-    write_rows(sink, rows, p)?;
+    write_rows(sink, rows, p, step)?;
     write_rows_end(sink)
 }
 
 // Writes the rows of processor p.
-fn write_rows<W: Sink>(sink: &mut W, rows: &MergedRows, p: u32) -> Result<(), Failed>
-    requires { p < length rows.now.lanes }
-    ensures wrote { Wrote (W.taken sink.old) (W.taken sink.new) (flat_map row_line (lane_of rows.now.lanes p)) result }
+fn write_rows<W: Sink>(sink: &mut W, rows: &MergedRows, p: u32, step: u128) -> Result<(), Failed>
+    requires processor { p < length rows.now.lanes }
+    requires some { 1 ≤ step }
+    ensures wrote { Wrote (W.taken sink.old) (W.taken sink.new) (flat_map (row_line step) (lane_of rows.now.lanes p)) result }
     ensures cause { HasCause (W.faults sink.old) (W.faults sink.new) result }
 {
     for i in 0..rows.count(p) {
         let row = rows.row(p, i);
-        write_all(sink, row_line(&row).as_slice())?;
+        write_all(sink, row_line(&row, step).as_slice())?;
     }
     Ok(())
 }

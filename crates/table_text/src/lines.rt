@@ -33,7 +33,7 @@ fn add_number(line: &mut Line, text: &[u8], number: u128)
     line.number(number);
 }
 
-/// The start and the end of a row, of so many bits each.
+/// The start and the end of a row, numbers of so many bits each.
 #[tactic(auto, unfolding(crate::specs::Lines::ticks_line))]
 pub(crate) fn ticks_line(width: u128) -> Line
     ensures { result ≡ ticks_line width }
@@ -72,14 +72,15 @@ fn task_number(leaf: Leaf) -> Line
     text
 }
 
-/// A row: its start, its end and its task.
+/// A row: its start and its end, in steps of so many ticks, and its task.
 #[tactic(auto, unfolding(crate::specs::Lines::row_line))]
-pub(crate) fn row_line(row: &Row) -> Line
-    ensures { result ≡ row_line row.now }
+pub(crate) fn row_line(row: &Row, step: u128) -> Line
+    requires { 1 ≤ step }
+    ensures { result ≡ row_line step row.now }
 {
     let mut line = Line::new();
-    add_number(&mut line, b"  {", row.start);
-    add_number(&mut line, b"u, ", row.end);
+    add_number(&mut line, b"  {", row.start / step);
+    add_number(&mut line, b"u, ", row.end / step);
     line.text(b"u, ");
     line.text(task_number(row.leaf).as_slice());
     line.text(b"},\n");
@@ -113,16 +114,16 @@ pub(crate) fn processor_line(p: u32, count: usize) -> Line
     line
 }
 
-/// A number under its name.
+/// A number, and its name as a comment.
 #[tactic(auto, unfolding(crate::specs::Lines::field_line))]
 pub(crate) fn field_line(name: &[u8], number: u128) -> Line
     requires { length name.now ≤ 32 }
     ensures { result ≡ field_line name.now number }
 {
     let mut line = Line::new();
-    line.text(b"  .");
+    add_number(&mut line, b"  ", number);
+    line.text(b"u, /* ");
     line.text(name);
-    add_number(&mut line, b" = ", number);
-    line.text(b"u,\n");
+    line.text(b" */\n");
     line
 }

@@ -19,7 +19,7 @@ returns-in_err-write_all-clause-wrote g c =
     let within : i < length lane = omega (arith, many, c.loop-i-test.true) in
     let at = sym (get_or_from_slice_get lane i r r c.row-row.ensures) in
     let wrote = rw (c.as_slice.ensures.bytes, c.row_line.ensures) at c.in_err-write_all.ensures.wrote in
-    wrote_item row_line lane i r _ _ _ _ _ within at c.loop-i.invariant.0 wrote c.from_residual.ensures.0
+    wrote_item (row_line c.args.step) lane i r _ _ _ _ _ within at c.loop-i.invariant.0 wrote c.from_residual.ensures.0
 
 pub loop-i-preserved : goal.loop-i-preserved
 loop-i-preserved g c =
@@ -30,7 +30,7 @@ loop-i-preserved g c =
     let within : i < length lane = omega (arith, many, c.loop-i-test.true) in
     let at = sym (get_or_from_slice_get lane i r r c.row-row.ensures) in
     let wrote = rw (c.as_slice.ensures.bytes, c.row_line.ensures) at c.in_ok-write_all.ensures.wrote in
-    (item_written row_line lane i r _ _ _ within at c.loop-i.invariant.0 wrote.ok, le_trans c.loop-i.invariant.1 c.write_all.ensures.cause.later)
+    (item_written (row_line c.args.step) lane i r _ _ _ within at c.loop-i.invariant.0 wrote.ok, le_trans c.loop-i.invariant.1 c.write_all.ensures.cause.later)
 
 pub returns-clause-wrote : goal.returns-clause-wrote
 returns-clause-wrote g c =
