@@ -11,7 +11,7 @@ use Rattle.trace_lines.specs.declared.asking.Asked.{Asked}
 use Rattle.command_words.specs.declared.command.Command.{Command}
 use Rattle.command_words.specs.declared.command.Command.TheVariants.{Read, Batch, Execute}
 use Rattle.command_words.specs.declared.command.Reading.{Reading}
-use Rattle.command_words.specs.declared.command.Reading.TheVariants.{Rate, Tree, Trace, TraceMet, TraceWrap, Table, Check, Follow, Draw}
+use Rattle.command_words.specs.declared.command.Reading.TheVariants.{Rate, Tree, Trace, TraceMet, TraceWrap, TraceRepeat, Table, TableRepeat, Check, Follow, Draw}
 use Rattle.command_words.specs.declared.command.Execution.{Execution}
 use Rattle.command_words.specs.declared.command.Execution.TheVariants.{Exec, ExecMet, Drill, Jobs, Modes}
 use Rattle.command_words.specs.Words.{window_of, exec_with, drill_of, drill_with}
@@ -92,7 +92,9 @@ taken (Read Tree) words e = ap (takes parser) e
 taken (Read Trace) words e = ap (takes parser) e
 taken (Read TraceMet) words e = ap (takes parser) e
 taken (Read TraceWrap) words e = taken_wrap words e
+taken (Read TraceRepeat) words e = ap (takes parser) e
 taken (Read Table) words e = ap (takes parser) e
+taken (Read TableRepeat) words e = ap (takes parser) e
 taken (Read Check) words e = ap (takes parser) e
 taken (Read Follow) words e = ap (takes parser) e
 taken (Read (Draw asked)) words e = (reads_draw asked words e).reads.3.taken
@@ -110,7 +112,9 @@ name_of (Read Tree) = codes "tree"
 name_of (Read Trace) = codes "trace"
 name_of (Read TraceMet) = codes "trace"
 name_of (Read TraceWrap) = codes "trace"
+name_of (Read TraceRepeat) = codes "trace"
 name_of (Read Table) = codes "table"
+name_of (Read TableRepeat) = codes "table"
 name_of (Read Check) = codes "check"
 name_of (Read Follow) = codes "follow"
 name_of (Read (Draw asked)) = codes "draw"
@@ -130,8 +134,8 @@ abbrev pub IsCalled : Text → Command → Type 0
 IsCalled name c =
     Either (bytes_eq name (codes "rate")) (c ≡ Read Rate)
     (Either (bytes_eq name (codes "tree")) (c ≡ Read Tree)
-    (Either (bytes_eq name (codes "trace")) ((c ≡ Read Trace) ⊎ ((c ≡ Read TraceMet) ⊎ (c ≡ Read TraceWrap)))
-    (Either (bytes_eq name (codes "table")) (c ≡ Read Table)
+    (Either (bytes_eq name (codes "trace")) ((c ≡ Read Trace) ⊎ ((c ≡ Read TraceMet) ⊎ ((c ≡ Read TraceWrap) ⊎ (c ≡ Read TraceRepeat))))
+    (Either (bytes_eq name (codes "table")) ((c ≡ Read Table) ⊎ (c ≡ Read TableRepeat))
     (Either (bytes_eq name (codes "check")) (c ≡ Read Check)
     (Either (bytes_eq name (codes "follow")) (c ≡ Read Follow)
     (Either (bytes_eq name (codes "draw")) ((asked : Asked) × (c ≡ Read (Draw asked)))
@@ -146,8 +150,10 @@ called (Read Rate) = refl
 called (Read Tree) = refl
 called (Read Trace) = inl refl
 called (Read TraceMet) = inr (inl refl)
-called (Read TraceWrap) = inr (inr refl)
-called (Read Table) = refl
+called (Read TraceWrap) = inr (inr (inl refl))
+called (Read TraceRepeat) = inr (inr (inr refl))
+called (Read Table) = inl refl
+called (Read TableRepeat) = inr refl
 called (Read Check) = refl
 called (Read Follow) = refl
 called (Read (Draw asked)) = (asked, refl)
@@ -162,23 +168,25 @@ pub called_as : (c : Command) (name : Text) → name ≡ name_of c → IsCalled 
 called_as c name e = subst (λ (n : Text). IsCalled n c) (sym e) (called c)
 
 -- a word that names a command, and none of those with options or threads, is its whole line
-pub plainly_named : (c : Command) (name : Text) → name ≡ name_of c → name ≢ codes "trace" → name ≢ codes "draw" → name ≢ codes "batch" → name ≢ codes "exec" → name ≢ codes "drill" → name ≢ codes "jobs" → name ≢ codes "modes"
+pub plainly_named : (c : Command) (name : Text) → name ≡ name_of c → name ≢ codes "trace" → name ≢ codes "table" → name ≢ codes "draw" → name ≢ codes "batch" → name ≢ codes "exec" → name ≢ codes "drill" → name ≢ codes "jobs" → name ≢ codes "modes"
     → option_map Read (reading_named name) ≡ Some c
-plainly_named (Read Rate) name e trace draw batch exec drill jobs modes = ap (λ n. option_map Read (reading_named n)) e
-plainly_named (Read Tree) name e trace draw batch exec drill jobs modes = ap (λ n. option_map Read (reading_named n)) e
-plainly_named (Read Trace) name e trace draw batch exec drill jobs modes = absurd (trace e)
-plainly_named (Read TraceMet) name e trace draw batch exec drill jobs modes = absurd (trace e)
-plainly_named (Read TraceWrap) name e trace draw batch exec drill jobs modes = absurd (trace e)
-plainly_named (Read Table) name e trace draw batch exec drill jobs modes = ap (λ n. option_map Read (reading_named n)) e
-plainly_named (Read Check) name e trace draw batch exec drill jobs modes = ap (λ n. option_map Read (reading_named n)) e
-plainly_named (Read Follow) name e trace draw batch exec drill jobs modes = ap (λ n. option_map Read (reading_named n)) e
-plainly_named (Read (Draw asked)) name e trace draw batch exec drill jobs modes = absurd (draw e)
-plainly_named Batch name e trace draw batch exec drill jobs modes = absurd (batch e)
-plainly_named (Execute (Exec window)) name e trace draw batch exec drill jobs modes = absurd (exec e)
-plainly_named (Execute ExecMet) name e trace draw batch exec drill jobs modes = absurd (exec e)
-plainly_named (Execute (Drill number)) name e trace draw batch exec drill jobs modes = absurd (drill e)
-plainly_named (Execute Jobs) name e trace draw batch exec drill jobs modes = absurd (jobs e)
-plainly_named (Execute Modes) name e trace draw batch exec drill jobs modes = absurd (modes e)
+plainly_named (Read Rate) name e trace table draw batch exec drill jobs modes = ap (λ n. option_map Read (reading_named n)) e
+plainly_named (Read Tree) name e trace table draw batch exec drill jobs modes = ap (λ n. option_map Read (reading_named n)) e
+plainly_named (Read Trace) name e trace table draw batch exec drill jobs modes = absurd (trace e)
+plainly_named (Read TraceMet) name e trace table draw batch exec drill jobs modes = absurd (trace e)
+plainly_named (Read TraceWrap) name e trace table draw batch exec drill jobs modes = absurd (trace e)
+plainly_named (Read TraceRepeat) name e trace table draw batch exec drill jobs modes = absurd (trace e)
+plainly_named (Read Table) name e trace table draw batch exec drill jobs modes = absurd (table e)
+plainly_named (Read TableRepeat) name e trace table draw batch exec drill jobs modes = absurd (table e)
+plainly_named (Read Check) name e trace table draw batch exec drill jobs modes = ap (λ n. option_map Read (reading_named n)) e
+plainly_named (Read Follow) name e trace table draw batch exec drill jobs modes = ap (λ n. option_map Read (reading_named n)) e
+plainly_named (Read (Draw asked)) name e trace table draw batch exec drill jobs modes = absurd (draw e)
+plainly_named Batch name e trace table draw batch exec drill jobs modes = absurd (batch e)
+plainly_named (Execute (Exec window)) name e trace table draw batch exec drill jobs modes = absurd (exec e)
+plainly_named (Execute ExecMet) name e trace table draw batch exec drill jobs modes = absurd (exec e)
+plainly_named (Execute (Drill number)) name e trace table draw batch exec drill jobs modes = absurd (drill e)
+plainly_named (Execute Jobs) name e trace table draw batch exec drill jobs modes = absurd (jobs e)
+plainly_named (Execute Modes) name e trace table draw batch exec drill jobs modes = absurd (modes e)
 
 -- the name of the subcommand that the words name
 abbrev named_by : List Text → Option Text
@@ -213,7 +221,9 @@ named (Read Tree) words e = ap named_by e
 named (Read Trace) words e = ap named_by e
 named (Read TraceMet) words e = ap named_by e
 named (Read TraceWrap) words e = named_wrap words e
+named (Read TraceRepeat) words e = ap named_by e
 named (Read Table) words e = ap named_by e
+named (Read TableRepeat) words e = ap named_by e
 named (Read Check) words e = ap named_by e
 named (Read Follow) words e = ap named_by e
 named (Read (Draw asked)) words e = (reads_draw asked words e).reads.3.named
@@ -233,6 +243,9 @@ by_in = option_and_then (first_of (codes "by"))
 
 abbrev window_in : Option (List Row) → Option Text
 window_in = option_and_then (first_of (codes "window"))
+
+abbrev repeat_in : Option (List Row) → Option Text
+repeat_in = option_and_then (one_of (codes "repeat"))
 
 -- the matches of the subcommand that the words name
 abbrev matches_by : List Text → Option (List Row)
@@ -266,6 +279,34 @@ joined_wrap : by_in (matches_by (codes "trace" ∷ codes "--by=wrap" ∷ [])) �
 unfolding clap_on_literals
 joined_wrap = refl
 
+unrepeated : repeat_in (matches_by (codes "trace" ∷ [])) ≡ Some (codes "false")
+unfolding clap_on_literals
+unrepeated = refl
+
+wrap_unrepeated : repeat_in (matches_by (codes "trace" ∷ codes "--by" ∷ codes "wrap" ∷ [])) ≡ Some (codes "false")
+unfolding clap_on_literals
+wrap_unrepeated = refl
+
+joined_wrap_unrepeated : repeat_in (matches_by (codes "trace" ∷ codes "--by=wrap" ∷ [])) ≡ Some (codes "false")
+unfolding clap_on_literals
+joined_wrap_unrepeated = refl
+
+repeat_unmet : met_in (matches_by (codes "trace" ∷ codes "--repeat" ∷ [])) ≡ Some (codes "false")
+unfolding clap_on_literals
+repeat_unmet = refl
+
+trace_repeat : repeat_in (matches_by (codes "trace" ∷ codes "--repeat" ∷ [])) ≡ Some (codes "true")
+unfolding clap_on_literals
+trace_repeat = refl
+
+table_unrepeated : repeat_in (matches_by (codes "table" ∷ [])) ≡ Some (codes "false")
+unfolding clap_on_literals
+table_unrepeated = refl
+
+table_repeat : repeat_in (matches_by (codes "table" ∷ codes "--repeat" ∷ [])) ≡ Some (codes "true")
+unfolding clap_on_literals
+table_repeat = refl
+
 exec_met : met_in (matches_by (codes "exec" ∷ codes "--met" ∷ [])) ≡ Some (codes "true")
 unfolding clap_on_literals
 exec_met = refl
@@ -298,15 +339,32 @@ names m c words spells e =
 
 -- what the matches of `trace` say of its options
 abbrev pub TellsOptions : Reading → List Row → Type 0
-TellsOptions Trace rows = (one_of (codes "met") rows ≡ Some (codes "false")) × (first_of (codes "by") rows ≡ None)
+TellsOptions Trace rows =
+    (one_of (codes "met") rows ≡ Some (codes "false")) × (one_of (codes "repeat") rows ≡ Some (codes "false")) × (first_of (codes "by") rows ≡ None)
 TellsOptions TraceMet rows = one_of (codes "met") rows ≡ Some (codes "true")
-TellsOptions TraceWrap rows = (one_of (codes "met") rows ≡ Some (codes "false")) × (first_of (codes "by") rows ≡ Some (codes "wrap"))
+TellsOptions TraceWrap rows =
+    (one_of (codes "met") rows ≡ Some (codes "false")) × (one_of (codes "repeat") rows ≡ Some (codes "false")) × (first_of (codes "by") rows ≡ Some (codes "wrap"))
+TellsOptions TraceRepeat rows = (one_of (codes "met") rows ≡ Some (codes "false")) × (one_of (codes "repeat") rows ≡ Some (codes "true"))
 TellsOptions _ rows = ⊥
+
+-- what those of `table` say of them
+abbrev pub TellsTable : Reading → List Row → Type 0
+TellsTable Table rows = one_of (codes "repeat") rows ≡ Some (codes "false")
+TellsTable TableRepeat rows = one_of (codes "repeat") rows ≡ Some (codes "true")
+TellsTable _ rows = ⊥
 
 tells_wrap : (words : List Text) (rows : List Row) → SpellsWrap words → Some rows ≡ matches_by words → TellsOptions TraceWrap rows
 tells_wrap words rows spells is = elim spells [
-  | inl own ↦ (ap met_in (is ∙ ap matches_by own) ∙ wrap_unmet, ap by_in (is ∙ ap matches_by own) ∙ by_wrap)
-  | inr behind ↦ (ap met_in (is ∙ ap matches_by behind) ∙ joined_wrap_unmet, ap by_in (is ∙ ap matches_by behind) ∙ joined_wrap)
+  | inl own ↦ (
+    ap met_in (is ∙ ap matches_by own) ∙ wrap_unmet,
+    ap repeat_in (is ∙ ap matches_by own) ∙ wrap_unrepeated,
+    ap by_in (is ∙ ap matches_by own) ∙ by_wrap,
+  )
+  | inr behind ↦ (
+    ap met_in (is ∙ ap matches_by behind) ∙ joined_wrap_unmet,
+    ap repeat_in (is ∙ ap matches_by behind) ∙ joined_wrap_unrepeated,
+    ap by_in (is ∙ ap matches_by behind) ∙ joined_wrap,
+  )
 ]
 
 -- the options tell the commands of this name apart
@@ -314,26 +372,63 @@ pub trace_used : (c : Command) (words : List Text) (rows : List Row) → Spells 
     → (x : Reading) × (c ≡ Read x) × TellsOptions x rows
 trace_used c words rows spells name is = elim name [
   | inl plain ↦
-      let spelled : words ≡ codes "trace" ∷ [] = subst (λ (x : Command). Spells x words) plain spells in
-      (Trace, plain, (ap met_in (is ∙ ap matches_by spelled) ∙ unmet, ap by_in (is ∙ ap matches_by spelled) ∙ by_none))
+      let spelled : words ≡ codes "trace" ∷ [] = subst (λ (x : Command). Spells x words) plain spells in (
+        Trace,
+        plain,
+        (
+          ap met_in (is ∙ ap matches_by spelled) ∙ unmet,
+          ap repeat_in (is ∙ ap matches_by spelled) ∙ unrepeated,
+          ap by_in (is ∙ ap matches_by spelled) ∙ by_none,
+        ),
+      )
   | inr other ↦ elim other [
     | inl told ↦
         let spelled : words ≡ codes "trace" ∷ codes "--met" ∷ [] = subst (λ (x : Command). Spells x words) told spells in
         (TraceMet, told, ap met_in (is ∙ ap matches_by spelled) ∙ met)
-    | inr wrap ↦ (TraceWrap, wrap, tells_wrap words rows (subst (λ (x : Command). Spells x words) wrap spells) is)
+    | inr third ↦ elim third [
+      | inl wrap ↦ (TraceWrap, wrap, tells_wrap words rows (subst (λ (x : Command). Spells x words) wrap spells) is)
+      | inr repeated ↦
+          let spelled : words ≡ codes "trace" ∷ codes "--repeat" ∷ [] = subst (λ (x : Command). Spells x words) repeated spells in
+          (TraceRepeat, repeated, (ap met_in (is ∙ ap matches_by spelled) ∙ repeat_unmet, ap repeat_in (is ∙ ap matches_by spelled) ∙ trace_repeat))
+    ]
   ]
+]
+
+-- so those of `table` do
+pub table_used : (c : Command) (words : List Text) (rows : List Row) → Spells c words → IsCalled (codes "table") c → Some rows ≡ matches_by words
+    → (x : Reading) × (c ≡ Read x) × TellsTable x rows
+table_used c words rows spells name is = elim name [
+  | inl plain ↦
+      let spelled : words ≡ codes "table" ∷ [] = subst (λ (x : Command). Spells x words) plain spells in
+      (Table, plain, ap repeat_in (is ∙ ap matches_by spelled) ∙ table_unrepeated)
+  | inr repeated ↦
+      let spelled : words ≡ codes "table" ∷ codes "--repeat" ∷ [] = subst (λ (x : Command). Spells x words) repeated spells in
+      (TableRepeat, repeated, ap repeat_in (is ∙ ap matches_by spelled) ∙ table_repeat)
 ]
 
 -- what `trace` is read as, by what is made of its options
 pub trace_told : (x : Reading) (rows : List Row) (result : Option Reading) → TellsOptions x rows
     → (one_of (codes "met") rows ≡ Some (codes "true") → result ≡ Some TraceMet)
-    → (one_of (codes "met") rows ≡ Some (codes "false") → first_of (codes "by") rows ≡ None → result ≡ Some Trace)
-    → (one_of (codes "met") rows ≡ Some (codes "false") → first_of (codes "by") rows ≡ Some (codes "wrap") → result ≡ Some TraceWrap)
+    → (one_of (codes "met") rows ≡ Some (codes "false") → one_of (codes "repeat") rows ≡ Some (codes "true") → result ≡ Some TraceRepeat)
+    → (one_of (codes "met") rows ≡ Some (codes "false") → one_of (codes "repeat") rows ≡ Some (codes "false") → first_of (codes "by") rows ≡ None
+    → result ≡ Some Trace)
+    → (one_of (codes "met") rows ≡ Some (codes "false") → one_of (codes "repeat") rows ≡ Some (codes "false") → first_of (codes "by") rows ≡ Some (codes "wrap")
+    → result ≡ Some TraceWrap)
     → result ≡ Some x
-trace_told Trace rows result tells told plain wrapped = plain tells.0 tells.1
-trace_told TraceMet rows result tells told plain wrapped = told tells
-trace_told TraceWrap rows result tells told plain wrapped = wrapped tells.0 tells.1
-trace_told _ rows result tells told plain wrapped = absurd tells
+trace_told Trace rows result tells told again plain wrapped = plain tells.0 tells.1 tells.2
+trace_told TraceMet rows result tells told again plain wrapped = told tells
+trace_told TraceWrap rows result tells told again plain wrapped = wrapped tells.0 tells.1 tells.2
+trace_told TraceRepeat rows result tells told again plain wrapped = again tells.0 tells.1
+trace_told _ rows result tells told again plain wrapped = absurd tells
+
+-- the same of `table`
+pub table_told : (x : Reading) (rows : List Row) (result : Option Reading) → TellsTable x rows
+    → (one_of (codes "repeat") rows ≡ Some (codes "true") → result ≡ Some TableRepeat)
+    → (one_of (codes "repeat") rows ≡ Some (codes "false") → result ≡ Some Table)
+    → result ≡ Some x
+table_told Table rows result tells again plain = plain tells
+table_told TableRepeat rows result tells again plain = again tells
+table_told _ rows result tells again plain = absurd tells
 
 -- what the matches of `exec` say of its options
 abbrev pub TellsExec : Execution → List Row → Type 0

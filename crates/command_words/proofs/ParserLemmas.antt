@@ -6,7 +6,7 @@ use Rattle.clap.specs.declared.builder.arg.Arg.{Arg}
 use Rattle.clap.specs.declared.builder.command.Command.{Command as CommandOfClap}
 use Rattle.clap.specs.declared.builder.command.Command.TheViews.{out-Command}
 use Rattle.command_words.specs.declared.parser.Part.{Part}
-use Rattle.command_words.specs.declared.parser.Part.TheVariants.{Met, By, From, Units, Window, Number}
+use Rattle.command_words.specs.declared.parser.Part.TheVariants.{Met, By, Repeat, From, Units, Window, Number}
 use Rattle.command_words.specs.declared.parser.Word.{Word}
 use Rattle.command_words.specs.CommandLine.{program, parser, with_command}
 use Rattle.command_words.specs.Parts.{name_of, action_of, stands_in_place, rule_of_part, words_in_order, app_of_word, with_parts, with_words}
@@ -16,6 +16,7 @@ use Rattle.command_words.specs.Parts.{name_of, action_of, stands_in_place, rule_
 pub option_rule : (p : Part) → stands_in_place p ≡ false → record (new_rule (name_of p)) { action = Some (action_of p); long = Some (name_of p) } ≡ rule_of_part p
 option_rule Met e = refl
 option_rule By e = refl
+option_rule Repeat e = refl
 option_rule From e = refl
 option_rule Units e = refl
 option_rule Window e = refl
@@ -24,6 +25,7 @@ option_rule Number e = absurd cc
 pub value_rule : (p : Part) → stands_in_place p ≡ true → record (new_rule (name_of p)) { action = Some (action_of p) } ≡ rule_of_part p
 value_rule Met e = absurd cc
 value_rule By e = absurd cc
+value_rule Repeat e = absurd cc
 value_rule From e = absurd cc
 value_rule Units e = absurd cc
 value_rule Window e = absurd cc

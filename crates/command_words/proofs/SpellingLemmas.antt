@@ -7,7 +7,7 @@ use Rattle.clap.specs.Words.{Text}
 use Rattle.command_words.specs.declared.command.Command.{Command}
 use Rattle.command_words.specs.declared.command.Command.TheVariants.{Read, Batch, Execute}
 use Rattle.command_words.specs.declared.command.Reading.{Reading}
-use Rattle.command_words.specs.declared.command.Reading.TheVariants.{Rate, Tree, Trace, TraceMet, TraceWrap, Table, Check, Follow, Draw}
+use Rattle.command_words.specs.declared.command.Reading.TheVariants.{Rate, Tree, Trace, TraceMet, TraceWrap, TraceRepeat, Table, TableRepeat, Check, Follow, Draw}
 use Rattle.command_words.specs.declared.command.Execution.{Execution}
 use Rattle.command_words.specs.declared.command.Execution.TheVariants.{Exec, ExecMet, Drill, Jobs, Modes}
 use Rattle.command_words.specs.Words.{window_of, exec_with, exec_by, drill_of, drill_with, after_text, HasWindow}
@@ -101,7 +101,19 @@ reading_with_spelled w o x e = elim (if_is (bytes_eq w (codes "trace") && bytes_
         let (we, oe) = both (bytes_eq w (codes "trace")) (bytes_eq o (codes "--by=wrap")) is.0 in
         subst (λ (y : Reading). Spells (Read y) (w ∷ o ∷ [])) (some_is TraceWrap x is.1)
         (inr (ap₂ (λ a b. a ∷ b ∷ []) (same_text w _ we) (same_text o _ oe)))
-    | inr other ↦ absurd (no_some x other.1)
+    | inr other ↦ elim (if_is (bytes_eq w (codes "trace") && bytes_eq o (codes "--repeat")) _ _ _ other.1) [
+      | inl is ↦
+          let (we, oe) = both (bytes_eq w (codes "trace")) (bytes_eq o (codes "--repeat")) is.0 in
+          subst (λ (y : Reading). Spells (Read y) (w ∷ o ∷ [])) (some_is TraceRepeat x is.1)
+          (ap₂ (λ a b. a ∷ b ∷ []) (same_text w _ we) (same_text o _ oe))
+      | inr other ↦ elim (if_is (bytes_eq w (codes "table") && bytes_eq o (codes "--repeat")) _ _ _ other.1) [
+        | inl is ↦
+            let (we, oe) = both (bytes_eq w (codes "table")) (bytes_eq o (codes "--repeat")) is.0 in
+            subst (λ (y : Reading). Spells (Read y) (w ∷ o ∷ [])) (some_is TableRepeat x is.1)
+            (ap₂ (λ a b. a ∷ b ∷ []) (same_text w _ we) (same_text o _ oe))
+        | inr other ↦ absurd (no_some x other.1)
+      ]
+    ]
   ]
 ]
 
@@ -190,7 +202,9 @@ some_by Tree words spells = tt
 some_by Trace words spells = tt
 some_by TraceMet words spells = tt
 some_by TraceWrap words spells = tt
+some_by TraceRepeat words spells = tt
 some_by Table words spells = tt
+some_by TableRepeat words spells = tt
 some_by Check words spells = tt
 some_by Follow words spells = tt
 

@@ -7,7 +7,7 @@ use Rattle.clap.specs.declared.builder.command.Command.{Command as CommandOfClap
 use Rattle.clap.specs.declared.builder.action.ArgAction.TheVariants.{Set, SetTrue}
 use Rattle.command_words.specs.declared.command.Command.{Command}
 use Rattle.command_words.specs.declared.command.Command.TheVariants.{Read, Batch, Execute}
-use Rattle.command_words.specs.declared.command.Reading.TheVariants.{Rate, Tree, Trace, TraceMet, TraceWrap, Table, Check, Follow, Draw}
+use Rattle.command_words.specs.declared.command.Reading.TheVariants.{Rate, Tree, Trace, TraceMet, TraceWrap, TraceRepeat, Table, TableRepeat, Check, Follow, Draw}
 use Rattle.command_words.specs.declared.command.Execution.TheVariants.{Exec, ExecMet, Drill, Jobs, Modes}
 use Rattle.command_words.specs.Words.{drawn, window_of, drill_of}
 
@@ -45,7 +45,9 @@ Spells (Read Tree) words = words ≡ codes "tree" ∷ []
 Spells (Read Trace) words = words ≡ codes "trace" ∷ []
 Spells (Read TraceMet) words = words ≡ codes "trace" ∷ codes "--met" ∷ []
 Spells (Read TraceWrap) words = SpellsWrap words
+Spells (Read TraceRepeat) words = words ≡ codes "trace" ∷ codes "--repeat" ∷ []
 Spells (Read Table) words = words ≡ codes "table" ∷ []
+Spells (Read TableRepeat) words = words ≡ codes "table" ∷ codes "--repeat" ∷ []
 Spells (Read Check) words = words ≡ codes "check" ∷ []
 Spells (Read Follow) words = words ≡ codes "follow" ∷ []
 Spells (Read (Draw asked)) words = SpellsDraw asked words
@@ -63,6 +65,10 @@ met = record (new_rule (codes "met")) { long = Some (codes "met"); action = Some
 -- the option `--by`, with a value
 abbrev pub by : Rule
 by = record (new_rule (codes "by")) { long = Some (codes "by"); action = Some Set }
+
+-- the option `--repeat`
+abbrev pub repeat : Rule
+repeat = record (new_rule (codes "repeat")) { long = Some (codes "repeat"); action = Some SetTrue }
 
 -- the option `--from`, with a value
 abbrev pub from_option : Rule
@@ -106,10 +112,10 @@ abbrev pub with_tree : App
 with_tree = with_command with_rate (new_app (codes "tree"))
 
 abbrev pub with_trace : App
-with_trace = with_command with_tree (with_rule (with_rule (new_app (codes "trace")) met) by)
+with_trace = with_command with_tree (with_rule (with_rule (with_rule (new_app (codes "trace")) met) by) repeat)
 
 abbrev pub with_table : App
-with_table = with_command with_trace (new_app (codes "table"))
+with_table = with_command with_trace (with_rule (new_app (codes "table")) repeat)
 
 abbrev pub with_check : App
 with_check = with_command with_table (new_app (codes "check"))

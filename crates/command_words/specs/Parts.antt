@@ -4,24 +4,26 @@ use Rattle.clap.specs.Words.{App, Rule, new_app, with_rule}
 use Rattle.clap.specs.declared.builder.action.ArgAction.{ArgAction}
 use Rattle.clap.specs.declared.builder.action.ArgAction.TheVariants.{Set, SetTrue}
 use Rattle.command_words.specs.declared.parser.Part.{Part}
-use Rattle.command_words.specs.declared.parser.Part.TheVariants.{Met, By, From, Units, Window, Number}
+use Rattle.command_words.specs.declared.parser.Part.TheVariants.{Met, By, Repeat, From, Units, Window, Number}
 use Rattle.command_words.specs.declared.parser.Word.{Word}
 use Rattle.command_words.specs.declared.parser.Word.TheVariants.{Rate, Tree, Trace, Table, Check, Follow, Draw, Batch, Exec, Drill, Jobs, Modes}
-use Rattle.command_words.specs.CommandLine.{met, by, from_option, units_option, window, number, with_command}
+use Rattle.command_words.specs.CommandLine.{met, by, repeat, from_option, units_option, window, number, with_command}
 
 -- the name of an option, without its hyphens, or of a value
 abbrev pub name_of : Part → List ℕ
 name_of Met = codes "met"
 name_of By = codes "by"
+name_of Repeat = codes "repeat"
 name_of From = codes "from"
 name_of Units = codes "units"
 name_of Window = codes "window"
 name_of Number = codes "number"
 
--- `--met` alone takes no value
+-- `--met` and `--repeat` alone take no value
 abbrev pub action_of : Part → ArgAction
 action_of Met = SetTrue
 action_of By = Set
+action_of Repeat = SetTrue
 action_of From = Set
 action_of Units = Set
 action_of Window = Set
@@ -31,6 +33,7 @@ action_of Number = Set
 abbrev pub stands_in_place : Part → Bool
 stands_in_place Met = false
 stands_in_place By = false
+stands_in_place Repeat = false
 stands_in_place From = false
 stands_in_place Units = false
 stands_in_place Window = false
@@ -40,6 +43,7 @@ stands_in_place Number = true
 abbrev pub rule_of_part : Part → Rule
 rule_of_part Met = met
 rule_of_part By = by
+rule_of_part Repeat = repeat
 rule_of_part From = from_option
 rule_of_part Units = units_option
 rule_of_part Window = window
@@ -66,7 +70,8 @@ text_of Modes = codes "modes"
 
 -- the options of a command
 abbrev pub parts_of : Word → List Part
-parts_of Trace = Met ∷ By ∷ []
+parts_of Trace = Met ∷ By ∷ Repeat ∷ []
+parts_of Table = Repeat ∷ []
 parts_of Draw = From ∷ Units ∷ []
 parts_of Exec = Met ∷ Window ∷ []
 parts_of Drill = Number ∷ []

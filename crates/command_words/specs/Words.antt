@@ -7,7 +7,7 @@ use Rattle.trace_text.specs.Words.{number_of}
 use Rattle.command_words.specs.declared.command.Command.{Command}
 use Rattle.command_words.specs.declared.command.Command.TheVariants.{Read, Batch, Execute}
 use Rattle.command_words.specs.declared.command.Reading.{Reading}
-use Rattle.command_words.specs.declared.command.Reading.TheVariants.{Rate, Tree, Trace, TraceMet, TraceWrap, Table, Check, Follow, Draw}
+use Rattle.command_words.specs.declared.command.Reading.TheVariants.{Rate, Tree, Trace, TraceMet, TraceWrap, TraceRepeat, Table, TableRepeat, Check, Follow, Draw}
 use Rattle.command_words.specs.declared.command.Execution.{Execution}
 use Rattle.command_words.specs.declared.command.Execution.TheVariants.{Exec, ExecMet, Drill, Jobs, Modes}
 
@@ -104,6 +104,8 @@ abbrev pub reading_with : List ℕ → List ℕ → Option Reading
 reading_with word option =
     if bytes_eq word (codes "trace") && bytes_eq option (codes "--met") then Some TraceMet
     else if bytes_eq word (codes "trace") && bytes_eq option (codes "--by=wrap") then Some TraceWrap
+    else if bytes_eq word (codes "trace") && bytes_eq option (codes "--repeat") then Some TraceRepeat
+    else if bytes_eq word (codes "table") && bytes_eq option (codes "--repeat") then Some TableRepeat
     else None
 
 -- the command of this name with this option and its value, if there is one

@@ -26,8 +26,12 @@ pub enum Reading {
     TraceMet,
     /// `trace --by wrap`: read a task set, and tell its wrapped schedule.
     TraceWrap,
+    /// `trace --repeat`: read a task set, and tell its schedule up to the least horizon at which it repeats.
+    TraceRepeat,
     /// `table`: read a task set, and tell its schedule as C99 source.
     Table,
+    /// `table --repeat`: read a task set, and tell its schedule up to the least horizon at which it repeats as C99 source.
+    TableRepeat,
     /// `check`: read a trace text, and tell whether its rows are a valid schedule of its set.
     Check,
     /// `follow`: read a tree text, and tell the schedule of its tree.

@@ -7,7 +7,7 @@ ghost use Rattle.command_words.specs.Words.{command_of, drawn, exec_with, drill_
 ghost use Rattle.command_words.specs.CommandLine.{Spells, parser};
 ghost use Rattle.command_words.specs.declared.command.Command.{Command};
 ghost use Rattle.command_words.specs.declared.command.Command.TheVariants.{Read, Execute};
-ghost use Rattle.command_words.specs.declared.command.Reading.TheVariants.{Trace, TraceMet, TraceWrap};
+ghost use Rattle.command_words.specs.declared.command.Reading.TheVariants.{Trace, TraceMet, TraceWrap, TraceRepeat, Table, TableRepeat};
 ghost use Rattle.command_words.specs.declared.command.Execution.TheVariants.{Exec, ExecMet};
 
 use crate::command::{Command, Execution, Reading};
@@ -48,6 +48,7 @@ fn command_in(matches: &ArgMatches<'_>) -> Option<Command>
     let (name, options) = matches.subcommand()?;
     match name {
         "trace" => read(trace_in(options)),
+        "table" => read(table_in(options)),
         "draw" => read(draw_in(options)),
         "batch" => Some(Command::Batch),
         "exec" => executed(exec_in(options)),
@@ -68,13 +69,31 @@ fn read(reading: Option<Reading>) -> Option<Command>
 // `trace` with its options.
 fn trace_in(options: &ArgMatches<'_>) -> Option<Reading>
     ensures met { one_of (codes "met") (rows_of (found_of options.now)) ≡ Some (codes "true") → result ≡ Some TraceMet }
+    ensures repeat { one_of (codes "met") (rows_of (found_of options.now)) ≡ Some (codes "false")
+        → one_of (codes "repeat") (rows_of (found_of options.now)) ≡ Some (codes "true") → result ≡ Some TraceRepeat }
     ensures plain { one_of (codes "met") (rows_of (found_of options.now)) ≡ Some (codes "false")
+        → one_of (codes "repeat") (rows_of (found_of options.now)) ≡ Some (codes "false")
         → first_of (codes "by") (rows_of (found_of options.now)) ≡ None → result ≡ Some Trace }
     ensures wrap { one_of (codes "met") (rows_of (found_of options.now)) ≡ Some (codes "false")
+        → one_of (codes "repeat") (rows_of (found_of options.now)) ≡ Some (codes "false")
         → first_of (codes "by") (rows_of (found_of options.now)) ≡ Some (codes "wrap") → result ≡ Some TraceWrap }
 {
     if options.get_flag("met") {
         return Some(Reading::TraceMet);
+    }
+    trace_unmet(options)
+}
+
+// The same without `--met`.
+fn trace_unmet(options: &ArgMatches<'_>) -> Option<Reading>
+    ensures repeat { one_of (codes "repeat") (rows_of (found_of options.now)) ≡ Some (codes "true") → result ≡ Some TraceRepeat }
+    ensures plain { one_of (codes "repeat") (rows_of (found_of options.now)) ≡ Some (codes "false")
+        → first_of (codes "by") (rows_of (found_of options.now)) ≡ None → result ≡ Some Trace }
+    ensures wrap { one_of (codes "repeat") (rows_of (found_of options.now)) ≡ Some (codes "false")
+        → first_of (codes "by") (rows_of (found_of options.now)) ≡ Some (codes "wrap") → result ≡ Some TraceWrap }
+{
+    if options.get_flag("repeat") {
+        return Some(Reading::TraceRepeat);
     }
     match options.get_str("by") {
         Some(value) => by_with(value),
@@ -90,6 +109,18 @@ fn by_with(word: &str) -> Option<Reading>
         Some(Reading::TraceWrap)
     } else {
         None
+    }
+}
+
+// `table` with its options.
+fn table_in(options: &ArgMatches<'_>) -> Option<Reading>
+    ensures repeat { one_of (codes "repeat") (rows_of (found_of options.now)) ≡ Some (codes "true") → result ≡ Some TableRepeat }
+    ensures plain { one_of (codes "repeat") (rows_of (found_of options.now)) ≡ Some (codes "false") → result ≡ Some Table }
+{
+    if options.get_flag("repeat") {
+        Some(Reading::TableRepeat)
+    } else {
+        Some(Reading::Table)
     }
 }
 

@@ -12,6 +12,7 @@ use std::alloc::{AllocError, Global};
 pub(crate) enum Part {
     Met,
     By,
+    Repeat,
     From,
     Units,
     Window,
@@ -91,6 +92,7 @@ fn name_of<'a>(part: Part) -> &'a str
     match part {
         Part::Met => "met",
         Part::By => "by",
+        Part::Repeat => "repeat",
         Part::From => "from",
         Part::Units => "units",
         Part::Window => "window",
@@ -98,12 +100,12 @@ fn name_of<'a>(part: Part) -> &'a str
     }
 }
 
-// `--met` alone takes no value.
+// `--met` and `--repeat` alone take no value.
 fn action_of(part: Part) -> ArgAction
     ensures { result ≡ action_of part }
 {
     match part {
-        Part::Met => ArgAction::SetTrue,
+        Part::Met | Part::Repeat => ArgAction::SetTrue,
         Part::By | Part::From | Part::Units | Part::Window | Part::Number => ArgAction::Set,
     }
 }
@@ -114,7 +116,7 @@ fn stands_in_place(part: Part) -> bool
 {
     match part {
         Part::Number => true,
-        Part::Met | Part::By | Part::From | Part::Units | Part::Window => false,
+        Part::Met | Part::By | Part::Repeat | Part::From | Part::Units | Part::Window => false,
     }
 }
 
@@ -163,11 +165,12 @@ fn parts_of(word: Word) -> &'static [Part]
     ensures { result.now ≡ parts_of word }
 {
     match word {
-        Word::Trace => &[Part::Met, Part::By],
+        Word::Trace => &[Part::Met, Part::By, Part::Repeat],
+        Word::Table => &[Part::Repeat],
         Word::Draw => &[Part::From, Part::Units],
         Word::Exec => &[Part::Met, Part::Window],
         Word::Drill => &[Part::Number],
-        Word::Rate | Word::Tree | Word::Table | Word::Check | Word::Follow => &[],
+        Word::Rate | Word::Tree | Word::Check | Word::Follow => &[],
         Word::Batch | Word::Jobs | Word::Modes => &[],
     }
 }

@@ -144,6 +144,8 @@ fn is_reading_with(reading: Reading, word: &str, option: &str) -> bool
     match reading {
         Reading::TraceMet => word == "trace" && option == "--met",
         Reading::TraceWrap => word == "trace" && option == "--by=wrap",
+        Reading::TraceRepeat => word == "trace" && option == "--repeat",
+        Reading::TableRepeat => word == "table" && option == "--repeat",
         _ => false,
     }
 }

@@ -2,17 +2,22 @@
 //! with its status.
 #![tactic(auto)]
 
-ghost use Rattle.std.specs.Prelude.{None, IfOk};
+ghost use Rattle.std.specs.Prelude.{◌≡◌, ◌≢◌, ◌↔◌, [], None, Some, map, drop, string_bytes, IfOk, OnErr};
+ghost use Rattle.command_words.specs.Words.{command_of};
+ghost use Rattle.sched_edges.specs.StdStreams.{kept_back};
+ghost use Rattle.still_commands.specs.Ends.{streams_of, error_of, IsUsage};
+ghost use Rattle.run_tool.specs.Alone.{EndsAlone, IsDoneWithOwn};
 ghost use Rattle.run_tool.specs.Executions.{gates_of};
 ghost use Rattle.run_tool.specs.Ready.{AreFirstGates};
 
+use command_words::asks_to_execute;
 use exec_workers::Kit;
 use job_vm::VmJob;
-use run_tool::{Status, close_run, run};
+use run_tool::{Refusal, Status, close_run, refuse, run, run_without_crew};
 use sched_base::NoMemory;
 use sched_edges::{Jobs, Sink, Source, StdSink, StdSource, SureGate};
 use std::alloc::Global;
-use std::io::BufWriter;
+use std::io::{BufWriter, Write};
 use std::process::ExitCode;
 use std::sync::Wait;
 use std::thread::Threads;
@@ -27,13 +32,27 @@ const GATES: u32 = 32;
 /// How many tasks a set may have, each of which has a job.
 const JOBS: u32 = 256;
 
-// The words after the program's name.
-fn words(rt: &HostRuntime) -> io::Result<Vec<String>> {
+// The words that the process was called with: the program's name, and those behind it.
+fn called_with(rt: &HostRuntime) -> Result<Vec<String>, NoMemory> {
     let mut words = Vec::new(rt.alloc());
-    for word in env::args(rt)?.skip(1) {
-        words.push(word)?;
+    match env::args(rt) {
+        Ok(args) => {
+            for word in args {
+                words.push(word)?;
+            }
+        }
+        Err(error) if error.kind() == io::ErrorKind::OutOfMemory => return Err(NoMemory),
+        // A word that isn't text is in no command line, as no words are.
+        Err(_) => {}
     }
     Ok(words)
+}
+
+// The words behind the program's name.
+fn behind_name(words: &[String]) -> &[String]
+    ensures { result.now ≡ drop 1 words.now }
+{
+    &words[words.len().min(1)..]
 }
 
 // A kit with a gate for each processor.
@@ -48,14 +67,22 @@ fn all_kits(alloc: Global) -> Result<Vec<Kit<SureGate>>, NoMemory>
 }
 
 // Does what the words ask for, with gates and jobs that are made for it.
-fn run_words<R: Source, W: Sink, E: Sink, X: Threads + Wait + Sync>(
+fn run_with_crew<R: Source, W: Sink, E: Sink, X: Threads + Wait + Sync>(
     rt: &X,
     alloc: Global,
     words: &[String],
     source: &mut R,
     out: &mut W,
     err: &mut E,
-) -> Result<Status, NoMemory> {
+) -> Result<Status, NoMemory>
+    ensures ends { IfOk result (EndsAlone (map string_bytes words.now)
+        (streams_of R.Source W.Sink source.old out.old) (streams_of R.Source W.Sink source.new out.new)
+        (error_of E.Sink err.old) (error_of E.Sink err.new)) }
+    ensures unread { IfOk result (λ status. command_of (map string_bytes words.now) ≡ None → IsUsage
+        (streams_of R.Source W.Sink source.old out.old) (streams_of R.Source W.Sink source.new out.new)
+        (error_of E.Sink err.old) (error_of E.Sink err.new) status) }
+    ensures same { OnErr result ((source.new ≡ source.old) × (out.new ≡ out.old) × (err.new ≡ err.old)) }
+{
     let mut kits = all_kits(alloc)?;
     let mut jobs = Jobs::with_room(alloc, JOBS)?;
     for id in 0..JOBS {
@@ -64,24 +91,67 @@ fn run_words<R: Source, W: Sink, E: Sink, X: Threads + Wait + Sync>(
     Ok(run(rt, alloc, words, source, out, err, &mut kits, &mut jobs))
 }
 
+// Does what the words behind the program's name ask for. Gates and jobs are made for an execution alone.
+fn run_words<R: Source, W: Sink, E: Sink, X: Threads + Wait + Sync>(
+    rt: &X,
+    alloc: Global,
+    called_with: &[String],
+    source: &mut R,
+    out: &mut W,
+    err: &mut E,
+) -> Status
+    ensures ends { EndsAlone (map string_bytes (drop 1 called_with.now))
+        (streams_of R.Source W.Sink source.old out.old) (streams_of R.Source W.Sink source.new out.new)
+        (error_of E.Sink err.old) (error_of E.Sink err.new) result }
+    ensures unread { command_of (map string_bytes (drop 1 called_with.now)) ≡ None → IsUsage
+        (streams_of R.Source W.Sink source.old out.old) (streams_of R.Source W.Sink source.new out.new)
+        (error_of E.Sink err.old) (error_of E.Sink err.new) result }
+{
+    let words = behind_name(called_with);
+    if !asks_to_execute(words) {
+        return run_without_crew(rt, alloc, words, source, out, err);
+    }
+    match run_with_crew(rt, alloc, words, source, out, err) {
+        Ok(status) => status,
+        Err(NoMemory) => refuse(&Refusal::NoMemory, err),
+    }
+}
+
+// Does what the words ask for, and hands the text on.
+fn run_and_close<R: Source, W: Write + Drop, E: Sink, X: Threads + Wait + Sync>(
+    rt: &X,
+    alloc: Global,
+    called_with: &[String],
+    source: &mut R,
+    out: &mut StdSink<BufWriter<W>>,
+    err: &mut E,
+) -> Status
+    ensures usage { result ≢ Status.NoMemory →
+        ((result ≡ Status.Usage) ↔ (command_of (map string_bytes (drop 1 called_with.now)) ≡ None)) }
+
+    // Done: `out` took exactly the text that the command writes, and keeps none of it back.
+    ensures done { result ≡ Status.Done →
+        IsDoneWithOwn (map string_bytes (drop 1 called_with.now))
+        (streams_of R.Source ⟦<StdSink<BufWriter<W>> as Sink>⟧ source.old out.old)
+        (streams_of R.Source ⟦<StdSink<BufWriter<W>> as Sink>⟧ source.new out.new) }
+    ensures handed_on { result ≡ Status.Done → kept_back out.new ≡ [] }
+    ensures judged { result ≡ Status.Invalid → kept_back out.new ≡ [] }
+{
+    let status = run_words(rt, alloc, called_with, source, out, err);
+    close_run(status, out, err)
+}
+
 fn main(rt: HostRuntime) -> ExitCode {
-    let words = match words(&rt) {
-        Ok(words) => words,
-        Err(error) if error.kind() == io::ErrorKind::OutOfMemory => {
-            return ExitCode::from(Status::NoMemory.code());
-        }
-        // A word that isn't text is in no command line, as no words are.
-        Err(_) => Vec::new(rt.alloc()),
-    };
-    let mut out = match BufWriter::with_capacity(rt.alloc(), BUFFER, rt.stdout()) {
-        Ok(writer) => StdSink::new(writer),
-        Err(_) => return ExitCode::from(Status::NoMemory.code()),
-    };
     let mut source = StdSource::new(rt.reader());
     let mut err = StdSink::new(rt.stderr());
-    let status = run_words(&rt, rt.alloc(), &words, &mut source, &mut out, &mut err).unwrap_or(
-        Status::NoMemory,
-    );
-    let status = close_run(status, &mut out, &mut err);
+    let writer = BufWriter::with_capacity(rt.alloc(), BUFFER, rt.stdout());
+    let status = match (called_with(&rt), writer) {
+        (Ok(words), Ok(writer)) => {
+            let mut out = StdSink::new(writer);
+            run_and_close(&rt, rt.alloc(), &words, &mut source, &mut out, &mut err)
+        }
+        // There is no memory for the words, or for what the text is kept in.
+        _ => refuse(&Refusal::NoMemory, &mut err),
+    };
     ExitCode::from(status.code())
 }

@@ -20,7 +20,7 @@ use Rattle.run_tool.specs.Asked.{EndsAsked}
 use Rattle.run_tool.specs.Executed.{ToldRun, StopsRun, may_have_run}
 use Rattle.run_tool.specs.Executions.{Crew, AreBack}
 use Rattle.run_tool.proofs.ExecutionAnswerLemmas.{done_answered, stops_answered, wanting_answered, none_asked, execution_soundly}
-use Rattle.run_tool.proofs.RunLemmas.{back_same, stopped_fault, done_is, stop_is, none_failed, ends_unread, ends_done, ends_stopped, uncalled_by}
+use Rattle.run_tool.proofs.RunLemmas.{back_same, stopped_fault, done_is, own_told, stop_is, none_failed, ends_unread, ends_done, ends_stopped, uncalled_by}
 
 module _ (words : List (List ℕ)) (old new : Streams) (err err' : ErrorStream) (Uncalled : Type 0) where
   -- there was no memory to read the words
@@ -59,7 +59,7 @@ module _ (words : List (List ℕ)) (old new : Streams) (err err' : ErrorStream) 
       record {
         usage = λ wanted. (λ is. absurd (let bad : Done ≡ Usage = is in cc), λ none. absurd (no_none (command_of words) (Execute e) (sym asked) none));
         unread = λ none. absurd (no_none (command_of words) (Execute e) (sym asked) none);
-        done = λ is. (Execute e, sym asked, execution_soundly truth follows e Done old new told);
+        done = λ is. (Execute e, sym asked, execution_soundly truth follows e Done old new b told (own_told e old new b n ran));
         valid = λ is. let bad : Done ≡ Invalid = is in cc;
         ends = λ k is. ends_done e k old new err err' b n (some_is _ k (asked ∙ is)) ran quiet;
         uncalled = λ called. untrue (sym called);

@@ -1,5 +1,5 @@
 -- How a run ends, as the crew shows it.
-use Rattle.std.proofs.Common.{◌≡◌, inl, inr, ℕ, zero, suc, ◌+◌, ◌*◌, ◌-◌, ◌≤◌, ◌<◌, false, List, [], ◌∷◌, ◌++◌, Option, Some, None, Result, Ok, Err}
+use Rattle.std.proofs.Common.{◌≡◌, ◌≢◌, inl, inr, ℕ, zero, suc, ◌+◌, ◌*◌, ◌-◌, ◌≤◌, ◌<◌, false, List, [], ◌∷◌, ◌++◌, Option, Some, None, Result, Ok, Err}
 use Rattle.std.proofs.Common.{length, take, map, refl, sym, ◌∙◌, ap, subst, arith, append-nil, mul_comm}
 use Rattle.std.specs.Prelude.{slice_get, slice_index, option_map, IfSome}
 use Rattle.std.specs.List.{AllByRecursion}
@@ -19,9 +19,9 @@ use Rattle.run_tree.specs.Plans.{PlanContents, IsPlan, rounds_of}
 use Rattle.sched_base.specs.Tables.{row_limit}
 use Rattle.sched_base.specs.Lanes.{NamesOneOf}
 use Rattle.row_totals.specs.Sums.{totals_of}
-use Rattle.exec_book.specs.PlanRows.{plan_rows}
+use Rattle.plan_rounds.specs.PlanRows.{plan_rows}
 use Rattle.exec_book.specs.Jobs.{Made}
-use Rattle.exec_book.proofs.RoundLemmas.{plan_table, plan_count, plan_lanes, in_lane}
+use Rattle.plan_rounds.proofs.RoundLemmas.{plan_table, plan_count, plan_lanes, in_lane}
 use Rattle.exec_lanes.specs.declared.answers.Executed.{Executed}
 use Rattle.exec_lanes.specs.declared.answers.ExecFault.{ExecFault}
 use Rattle.exec_lanes.specs.declared.answers.ExecFault.TheVariants as fault
@@ -31,13 +31,14 @@ use Rattle.exec_lanes.specs.declared.kits.Kit.{Kit}
 use Rattle.exec_lanes.specs.Kits.{KitAt, AreFilled}
 use Rattle.exec_lanes.specs.Lanes.{LaneContents, HasRisen, FailsNext, IsOfTask, lane_in, no_lane, unposted}
 use Rattle.exec_lanes.specs.Ends.{posted_by, GateFailed, JobFailed, NoGateBefore, NoJobBefore}
+use Rattle.exec_workers.specs.Fronts.{IsDue, least_count}
 use Rattle.exec_workers.specs.Runs.{CountsGate, Ran, RanWhole, Outcome, AreFresh}
 use Rattle.exec_lanes.proofs.StageLemmas.{same_job}
 use Rattle.exec_workers.proofs.HeadlineLemmas.{take_next}
 use Rattle.exec_workers.proofs.WholeLemmas.{ticks_at_end, posted_at_end}
 use Rattle.run_tool.specs.Executions.{GateSeen, JobSeen, Crew, crew, gates_of, jobs_of, Holds, IsFreshCrew, AreBack, RanAll, RanPart, GateRose, GateKept}
 use Rattle.run_tool.specs.Executions.{JobRose, JobKept, ShowsFailed, next_leaf, GateStopped, JobStopped}
-use Rattle.run_tool.proofs.CrewLemmas.{below_or, grown_none, seen_gate, seen_job, gate_in_kit, kit_shown, job_in_place, place_shown, gates_ran_all}
+use Rattle.run_tool.proofs.CrewLemmas.{below_or, grown_none, same_shown, seen_gate, seen_job, gate_in_kit, kit_shown, job_in_place, place_shown, gates_ran_all}
 use Rattle.run_tool.proofs.CrewLemmas.{back_after, back_kept}
 
 -- ---- rows of tasks past the set
@@ -102,6 +103,17 @@ at_most_one : (o : Option Cause) → length (unposted o) ≤ 1
 at_most_one None = omega arith
 at_most_one (Some (cause.Gate r)) = omega arith
 at_most_one (Some (cause.Job r n)) = omega arith
+
+-- a lane that posted up to a limit ran no row past it, where one that failed posted less
+within_by : (o : Option Cause) (posted limit : ℕ) → posted ≤ limit → (o ≢ None → posted < limit) → posted + length (unposted o) ≤ limit
+within_by None posted limit below due = (let none : length (unposted None) ≡ 0 = refl in omega (arith, none, below))
+within_by (Some c) posted limit below due =
+    let less = due (λ e. (let bad : ◌≡◌ {A = Option Cause} (Some c) None = e in cc)) in
+    let few = at_most_one (Some c) in
+    omega (arith, less, few)
+
+some_cause : (o : Option Cause) (c : Cause) → o ≡ Some c → o ≢ None
+some_cause o c is none = let bad : ◌≡◌ {A = Option Cause} (Some c) None = sym is ∙ none in cc
 
 beside_one : (posted n : ℕ) → n ≤ 1 → (posted ≤ posted + n) × (posted + n ≤ posted + 1)
 beside_one posted n few = (omega arith, omega (arith, few))
@@ -184,7 +196,7 @@ few_rows p h rows is n rounds few =
 -- ---- a run that ended with these lanes
 
 module _ {G J : Type 0} (ran : G → Option (List Row)) (gate_faults : G → ℕ) (id used : J → ℕ) (made : J → Made) (job_faults : J → ℕ)
-    (p : PlanContents) (h : IsPlan p)
+    (p : PlanContents) (window : ℕ) (h : IsPlan p)
     (kits kits' : List (Kit G)) (places places' : List (Option J)) (filled : AreFilled p.tree.processors kits)
     (fresh : AreFresh id used (length p.set.tasks) places)
     (names : AllByRecursion (λ rows. AllByRecursion (λ x. NamesOneOf p.set.tasks x.leaf) rows) (plan_rows p)) where
@@ -194,7 +206,7 @@ module _ {G J : Type 0} (ran : G → Option (List Row)) (gate_faults : G → ℕ
   abbrev after : Crew
   after = crew (gates_of ran gate_faults kits') (jobs_of id used job_faults made places')
 
-  module _ (lanes : List LaneContents) (r : Ran ran gate_faults id used made job_faults p kits kits' places places' lanes) where
+  module _ (lanes : List LaneContents) (r : Ran ran gate_faults id used made job_faults p window kits kits' places places' lanes) where
     inside : (q : ℕ) → q < p.tree.processors → q < length lanes
     inside q within = let width = r.width in omega (arith, within, width)
 
@@ -348,15 +360,32 @@ module _ {G J : Type 0} (ran : G → Option (List Row)) (gate_faults : G → ℕ
         ap (λ (x : JobSeen). x.faults) (same_seen (slice_get (jobs_of id used job_faults made places') i) k now back there)
         ∙ kept (λ q x n failed. none q (job_out q i n x failed) (job_leaf q i n x failed))
 
+    -- no gate ran a row past the window
+    ran_within : (q : ℕ) → slice_index (ran_by lanes) q ≤ least_count (posted_by lanes) + window
+    ran_within q = elim (below_or q (length lanes)) [
+      | inl here ↦
+          let posted = posted_at_end lanes q here in
+          let all = ran_at lanes q here in
+          let below : (lane_in lanes q).seat.posted ≤ least_count (posted_by lanes) + window = (let w = r.within q in omega (arith, w, posted)) in
+          let due : (lane_in lanes q).cause ≢ None → (lane_in lanes q).seat.posted < least_count (posted_by lanes) + window =
+          λ failed. (let w = (r.due q here failed).within in omega (arith, w, posted)) in
+          let so = within_by (lane_in lanes q).cause (lane_in lanes q).seat.posted (least_count (posted_by lanes) + window) below due in
+          omega (arith, so, all)
+      | inr past ↦ (let none = ran_past lanes q past in omega (arith, none))
+    ]
+
     -- what was posted, and what was run
-    part : RanPart p before after (posted_by lanes) (ran_by lanes)
+    part : RanPart p window before after (posted_by lanes) (ran_by lanes)
     part = record {
+      width = (let many = length-map lanes (λ (l : LaneContents). l.seat.posted) in let width = r.width in omega (arith, many, width));
       beside = beside_by lanes;
       gates = λ q g at. let (k, back, list, kept) = gate_now q g at in (k, back, list);
       jobs = λ i j at. let (k, back, own, worked, kept, programmed) = job_now i j at in (k, back, worked, programmed);
       failed = out_failed;
       kept = job_kept;
       front = r.front;
+      within = ran_within;
+      others = λ q past. same_shown ran gate_faults kits kits' q (r.other_kits q past);
     }
 
     module _ (q : ℕ) (x : Row) (failed : GateFailed lanes q x) where
@@ -385,7 +414,7 @@ module _ {G J : Type 0} (ran : G → Option (List Row)) (gate_faults : G → ℕ
             risen.rose,
           )
 
-      pub gate_stopped : NoGateBefore lanes q → GateStopped p before after x
+      pub gate_stopped : NoGateBefore lanes q → GateStopped p window before after x
       gate_stopped lowest =
           let own : x.processor ≡ q = (plan_table p h).own q (lane_in lanes q).seat.posted x gate_row in
           let none : (lane_in lanes q).seat.posted + 0 ≡ (lane_in lanes q).seat.posted = omega arith in
@@ -395,11 +424,19 @@ module _ {G J : Type 0} (ran : G → Option (List Row)) (gate_faults : G → ℕ
           record {
             rose = subst (λ n. GateRose before after n) (sym own) gate_rose;
             lowest = λ n below. gate_kept n (λ y other. lowest n y (omega (arith, own, below)) other);
-            at = (posted_by lanes, ran_by lanes, part, subst (λ n. RowAt (plan_rows p) n (slice_index (ran_by lanes) n) x) (sym own) at);
+            at = (
+              posted_by lanes,
+              ran_by lanes,
+              part,
+              subst (λ n. RowAt (plan_rows p) n (slice_index (ran_by lanes) n) x) (sym own) at,
+              subst (λ n. slice_index (posted_by lanes) n ≡ slice_index (ran_by lanes) n) (sym own) (posted_at_end lanes q failed.0 ∙ sym run),
+              subst (λ n. IsDue (plan_rows p) window (posted_by lanes) n) (sym own)
+                  (r.due q failed.0 (some_cause (lane_in lanes q).cause (cause.Gate x) failed.1)),
+            );
           }
 
     module _ (q t n : ℕ) (x : Row) (failed : JobFailed lanes q t x n) where
-      pub job_stopped : NoGateBefore lanes (length lanes) → NoJobBefore lanes q → JobStopped p before after x
+      pub job_stopped : NoGateBefore lanes (length lanes) → NoJobBefore lanes q → JobStopped p window before after x
       job_stopped no_gate lowest =
           let row = job_row q t n x failed in
           let own : x.processor ≡ q = (plan_table p h).own q (lane_in lanes q).seat.posted x row in
@@ -425,13 +462,15 @@ module _ {G J : Type 0} (ran : G → Option (List Row)) (gate_faults : G → ℕ
                   not_job (lane_in lanes m).cause (lane_task m within)
                   (λ u y k is of. lowest m u y k (omega (arith, own, below)) (record { lane = inside m within; cause = is; of_task = of })) in
                   omega (arith, first, all, none),
+              subst (λ m. IsDue (plan_rows p) window (posted_by lanes) m) (sym own)
+                  (r.due q failed.lane (some_cause (lane_in lanes q).cause (cause.Job x n) failed.cause)),
             );
           }
 
     -- nothing failed, and all was posted
     pub ran_to_end : (e : Executed) → RanWhole p lanes e → RanAll p before after
     ran_to_end e all = record {
-      gates = gates_ran_all ran gate_faults id used made job_faults p kits kits' places places' lanes r h all.none_failed all.all_posted;
+      gates = gates_ran_all ran gate_faults id used made job_faults p window kits kits' places places' lanes r h all.none_failed all.all_posted;
       jobs = λ i j at.
           let (k, back, own, worked, kept, programmed) = job_now i j at in
           let same =
@@ -445,19 +484,19 @@ module _ {G J : Type 0} (ran : G → Option (List Row)) (gate_faults : G → ℕ
 -- ---- by what a run answers
 
 module _ {G J : Type 0} (ran : G → Option (List Row)) (gate_faults : G → ℕ) (id used : J → ℕ) (made : J → Made) (job_faults : J → ℕ)
-    (p : PlanContents) (kits kits' : List (Kit G)) (places places' : List (Option J)) where
+    (p : PlanContents) (window : ℕ) (kits kits' : List (Kit G)) (places places' : List (Option J)) where
   -- whatever is answered, all are back
-  pub back_by : (result : Result Executed ExecFault) → Outcome ran gate_faults id used made job_faults p kits kits' places places' result
+  pub back_by : (result : Result Executed ExecFault) → Outcome ran gate_faults id used made job_faults p window kits kits' places places' result
       → AreBack (crew (gates_of ran gate_faults kits) (jobs_of id used job_faults made places))
       (crew (gates_of ran gate_faults kits') (jobs_of id used job_faults made places'))
-  back_by (Ok e) o = back_after ran gate_faults id used made job_faults p kits kits' places places' o.0 o.1
-  back_by (Err (fault.Gate q x n)) o = back_after ran gate_faults id used made job_faults p kits kits' places places' o.0 o.1
-  back_by (Err (fault.Job t q x n)) o = back_after ran gate_faults id used made job_faults p kits kits' places places' o.0 o.1
+  back_by (Ok e) o = back_after ran gate_faults id used made job_faults p window kits kits' places places' o.0 o.1
+  back_by (Err (fault.Gate q x n)) o = back_after ran gate_faults id used made job_faults p window kits kits' places places' o.0 o.1
+  back_by (Err (fault.Job t q x n)) o = back_after ran gate_faults id used made job_faults p window kits kits' places places' o.0 o.1
   back_by (Err fault.NoMemory) o = back_kept ran gate_faults id used made job_faults kits kits' places places' o
 
   module _ (h : IsPlan p) (ready : IsFreshCrew (crew (gates_of ran gate_faults kits) (jobs_of id used job_faults made places)))
       (names : AllByRecursion (λ rows. AllByRecursion (λ x. NamesOneOf p.set.tasks x.leaf) rows) (plan_rows p))
-      (result : Result Executed ExecFault) (o : Outcome ran gate_faults id used made job_faults p kits kits' places places' result) where
+      (result : Result Executed ExecFault) (o : Outcome ran gate_faults id used made job_faults p window kits kits' places places' result) where
     filled : AreFilled p.tree.processors kits
     filled = kits_filled ran gate_faults id used job_faults made kits places ready p.tree.processors h.sized.few_processors
 
@@ -472,49 +511,49 @@ module _ {G J : Type 0} (ran : G → Option (List Row)) (gate_faults : G → ℕ
 
     pub all_by : (e : Executed) → result ≡ Ok e → RanAll p old new
     all_by e is =
-        let here : Outcome ran gate_faults id used made job_faults p kits kits' places places' (Ok e) =
-        subst (λ x. Outcome ran gate_faults id used made job_faults p kits kits' places places' x) is o in
-        ran_to_end ran gate_faults id used made job_faults p h kits kits' places places' filled fresh names here.0 here.1 e here.2
+        let here : Outcome ran gate_faults id used made job_faults p window kits kits' places places' (Ok e) =
+        subst (λ x. Outcome ran gate_faults id used made job_faults p window kits kits' places places' x) is o in
+        ran_to_end ran gate_faults id used made job_faults p window h kits kits' places places' filled fresh names here.0 here.1 e here.2
 
     pub rows_by : (e : Executed) → result ≡ Ok e → e.table.lanes ≡ plan_rows p
     rows_by e is =
-        let here : Outcome ran gate_faults id used made job_faults p kits kits' places places' (Ok e) =
-        subst (λ x. Outcome ran gate_faults id used made job_faults p kits kits' places places' x) is o in
+        let here : Outcome ran gate_faults id used made job_faults p window kits kits' places places' (Ok e) =
+        subst (λ x. Outcome ran gate_faults id used made job_faults p window kits kits' places places' x) is o in
         here.2.table
 
     pub totals_by : (e : Executed) → result ≡ Ok e → e.totals.ticks ≡ totals_of (length p.set.tasks) (plan_rows p)
     totals_by e is =
-        let here : Outcome ran gate_faults id used made job_faults p kits kits' places places' (Ok e) =
-        subst (λ x. Outcome ran gate_faults id used made job_faults p kits kits' places places' x) is o in
+        let here : Outcome ran gate_faults id used made job_faults p window kits kits' places places' (Ok e) =
+        subst (λ x. Outcome ran gate_faults id used made job_faults p window kits kits' places places' x) is o in
         here.2.totals
 
     pub left_by : result ≡ Err fault.NoMemory → (kits' ≡ kits) × (places' ≡ places)
-    left_by is = subst (λ x. Outcome ran gate_faults id used made job_faults p kits kits' places places' x) is o
+    left_by is = subst (λ x. Outcome ran gate_faults id used made job_faults p window kits kits' places places' x) is o
 
     module _ (q : ℕ) (x : Row) (n : ℕ) (is : result ≡ Err (fault.Gate q x n)) where
-      at_gate : Outcome ran gate_faults id used made job_faults p kits kits' places places' (Err (fault.Gate q x n))
-      at_gate = subst (λ y. Outcome ran gate_faults id used made job_faults p kits kits' places places' y) is o
+      at_gate : Outcome ran gate_faults id used made job_faults p window kits kits' places places' (Err (fault.Gate q x n))
+      at_gate = subst (λ y. Outcome ran gate_faults id used made job_faults p window kits kits' places places' y) is o
 
-      pub gate_by : GateStopped p old new x
+      pub gate_by : GateStopped p window old new x
       gate_by =
           let here =
-          at_gate in gate_stopped ran gate_faults id used made job_faults p h kits kits' places places' filled fresh names here.0 here.1 q x here.2.0 here.2.1
+          at_gate in gate_stopped ran gate_faults id used made job_faults p window h kits kits' places places' filled fresh names here.0 here.1 q x here.2.0 here.2.1
 
       pub gate_named : NamesOneOf p.set.tasks x.leaf
       gate_named =
-          let here = at_gate in gate_names ran gate_faults id used made job_faults p h kits kits' places places' filled fresh names here.0 here.1 q x here.2.0
+          let here = at_gate in gate_names ran gate_faults id used made job_faults p window h kits kits' places places' filled fresh names here.0 here.1 q x here.2.0
 
     module _ (t q : ℕ) (x : Row) (n : ℕ) (is : result ≡ Err (fault.Job t q x n)) where
-      at_job : Outcome ran gate_faults id used made job_faults p kits kits' places places' (Err (fault.Job t q x n))
-      at_job = subst (λ y. Outcome ran gate_faults id used made job_faults p kits kits' places places' y) is o
+      at_job : Outcome ran gate_faults id used made job_faults p window kits kits' places places' (Err (fault.Job t q x n))
+      at_job = subst (λ y. Outcome ran gate_faults id used made job_faults p window kits kits' places places' y) is o
 
-      pub job_by : JobStopped p old new x
+      pub job_by : JobStopped p window old new x
       job_by =
           let here =
-          at_job in job_stopped ran gate_faults id used made job_faults p h kits kits' places places' filled fresh names
+          at_job in job_stopped ran gate_faults id used made job_faults p window h kits kits' places places' filled fresh names
           here.0 here.1 q t here.2.1.0 x here.2.1.1 here.2.0 here.2.2
 
       pub job_named : NamesOneOf p.set.tasks x.leaf
       job_named =
           let here =
-          at_job in job_names ran gate_faults id used made job_faults p h kits kits' places places' filled fresh names here.0 here.1 q t here.2.1.0 x here.2.1.1
+          at_job in job_names ran gate_faults id used made job_faults p window h kits kits' places places' filled fresh names here.0 here.1 q t here.2.1.0 x here.2.1.1

@@ -8,9 +8,9 @@ use Rattle.sched_base.specs.Tables.{lane_of}
 use Rattle.sched_edges.specs.Gates.{grown}
 use Rattle.sched_edges.specs.Jobs.{JobAt}
 use Rattle.run_tree.specs.Plans.{PlanContents, IsPlan, rounds_of}
-use Rattle.exec_book.specs.PlanRows.{plan_rows}
+use Rattle.plan_rounds.specs.PlanRows.{plan_rows}
 use Rattle.exec_book.specs.Jobs.{Made}
-use Rattle.exec_book.proofs.RoundLemmas.{plan_table, plan_count, plan_lanes}
+use Rattle.plan_rounds.proofs.RoundLemmas.{plan_table, plan_count, plan_lanes}
 use Rattle.exec_lanes.specs.declared.causes.Cause.{Cause}
 use Rattle.exec_lanes.specs.declared.causes.Cause.TheVariants as cause
 use Rattle.exec_lanes.specs.declared.kits.Kit.{Kit}
@@ -50,6 +50,14 @@ module _ {G : Type 0} (ran : G → Option (List Row)) (faults : G → ℕ) where
   in_kit (Some kit) g e =
       let (gate, is, same) = shown (λ (x : G). seen_gate x) kit.gate g e in
       (gate, (λ i. Some (record { gate = is i })), same)
+
+  -- kits that hold the same show the same
+  pub same_shown : (kits kits' : List (Kit G)) (q : ℕ) → slice_get kits' q ≡ slice_get kits q
+      → slice_get (gates_of ran faults kits') q ≡ slice_get (gates_of ran faults kits) q
+  same_shown kits kits' q same =
+      slice_get-map (λ kit. option_map (λ gate. record { ran = ran gate; faults = faults gate }) kit.gate) kits' q
+      ∙ ap (option_map (λ kit. option_map (λ gate. record { ran = ran gate; faults = faults gate }) kit.gate)) same
+      ∙ sym (slice_get-map (λ kit. option_map (λ gate. record { ran = ran gate; faults = faults gate }) kit.gate) kits q)
 
   -- a gate that the crew shows is in its kit
   pub gate_in_kit : (kits : List (Kit G)) (q : ℕ) (g : GateSeen) → Holds (gates_of ran faults kits) q g → (gate : G) × KitAt kits q gate × (seen_gate gate ≡ g)
@@ -91,9 +99,9 @@ later_gate None before now e = omega (arith, e)
 later_gate (Some (cause.Gate r)) before now e = e.later
 later_gate (Some (cause.Job r faults)) before now e = omega (arith, e)
 
-module _ {G J : Type 0} (ran : G → Option (List Row)) (gate_faults : G → ℕ) (id used : J → ℕ) (made : J → Made) (job_faults : J → ℕ) (p : PlanContents)
+module _ {G J : Type 0} (ran : G → Option (List Row)) (gate_faults : G → ℕ) (id used : J → ℕ) (made : J → Made) (job_faults : J → ℕ) (p : PlanContents) (window : ℕ)
     (kits kits' : List (Kit G)) (places places' : List (Option J)) (lanes : List LaneContents)
-    (r : Ran ran gate_faults id used made job_faults p kits kits' places places' lanes) where
+    (r : Ran ran gate_faults id used made job_faults p window kits kits' places places' lanes) where
   -- each gate is back in its kit, and each job in its place
   pub back_after : AreBack (crew (gates_of ran gate_faults kits) (jobs_of id used job_faults made places))
       (crew (gates_of ran gate_faults kits') (jobs_of id used job_faults made places'))

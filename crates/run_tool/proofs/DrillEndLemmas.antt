@@ -11,7 +11,7 @@ use Rattle.still_commands.specs.declared.refusal.Refusal.{Refusal}
 use Rattle.still_commands.specs.declared.refusal.Refusal.TheVariants as why
 use Rattle.still_commands.proofs.EndLemmas.{keeps_same}
 use Rattle.run_tool.specs.Drill.{drilled, drill_plan, IsDrill, drill_text}
-use Rattle.run_tool.specs.Executions.{Crew, RanAll}
+use Rattle.run_tool.specs.Executions.{Crew, RanAll, usual_window}
 use Rattle.run_tool.specs.Executed.{RanDrill, StopsAtDrill, StopsInRun, WroteDrill, StopsAtText}
 
 -- the text was written
@@ -47,11 +47,11 @@ module _ (number : ℕ) (p : PlanContents) (plan : p ≡ drill_plan number p.tre
       IfErr-weaker result _ _ (λ r why. untold old new out out' faults faults' r is_scale ran why) stops
 
   -- not all was run
-  pub unrun : (old new : Crew) (out : Option (List ℕ)) (faults : ℕ) (r : Refusal) → IsScale (drilled number).tasks p.tree.scale → StopsInRun p old new r
+  pub unrun : (old new : Crew) (out : Option (List ℕ)) (faults : ℕ) (r : Refusal) → IsScale (drilled number).tasks p.tree.scale → StopsInRun p usual_window old new r
       → (r ≡ why.NoMemory → new ≡ old) → StopsAtDrill number out out faults faults old new r
   unrun old new out faults (why.GateFault row name) is_scale stops left =
-      ((p.tree.scale, is_scale, subst (λ (q : PlanContents). StopsInRun q old new (why.GateFault row name)) plan stops), keeps_same out)
+      ((p.tree.scale, is_scale, subst (λ (q : PlanContents). StopsInRun q usual_window old new (why.GateFault row name)) plan stops), keeps_same out)
   unrun old new out faults (why.JobFault row name) is_scale stops left =
-      ((p.tree.scale, is_scale, subst (λ (q : PlanContents). StopsInRun q old new (why.JobFault row name)) plan stops), keeps_same out)
+      ((p.tree.scale, is_scale, subst (λ (q : PlanContents). StopsInRun q usual_window old new (why.JobFault row name)) plan stops), keeps_same out)
   unrun old new out faults why.NoMemory is_scale stops left = (inl (left refl), keeps_same out)
   unrun old new out faults _ is_scale stops left = absurd stops

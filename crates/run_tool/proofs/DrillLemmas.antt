@@ -15,7 +15,7 @@ use Rattle.sched_base.specs.Tables.{row_limit}
 use Rattle.event_core.proofs.RoundsInOrder.{rounds_is}
 use Rattle.rate_scale.proofs.ScaleLemmas.{some_scale, PassesAt-whole}
 use Rattle.run_compile.specs.Answers.{IsOverload}
-use Rattle.exec_book.specs.PlanRows.{plan_rows}
+use Rattle.plan_rounds.specs.PlanRows.{plan_rows}
 use Rattle.trace_lines.specs.Merging.{merged_lanes}
 use Rattle.trace_check.specs.Traces.{Trace}
 use Rattle.trace_check.specs.RoundTrip.{trace_again}

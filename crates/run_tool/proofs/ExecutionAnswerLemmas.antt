@@ -23,6 +23,8 @@ use Rattle.still_commands.proofs.OneAnswerLemmas.{HaveOneAnswer, wanting_asked, 
 use Rattle.still_commands.proofs.SoundLemmas.{done_soundly}
 use Rattle.run_tool.specs.Commands.{WritesExecution, CallsForExecution, RefusesExecution}
 use Rattle.run_tool.specs.Drill.{WritesDrill}
+use Rattle.run_tool.specs.JobPrograms.{WritesResult}
+use Rattle.run_tool.specs.Executions.{Crew}
 use Rattle.run_tool.specs.Ends.{IsDrilled, IsExecutionDone, ExecutionAnswers, IsCommandAnswered}
 use Rattle.run_tool.proofs.JobTextLemmas.{jobs_or_refused, one_jobs_status}
 use Rattle.run_tool.proofs.ModeTextLemmas.{modes_or_refused, one_modes_status}
@@ -168,11 +170,17 @@ still_answered words left old new status asks answered = still_by words (command
 
 -- ---- what is sound
 
+-- what `jobs` told is what the jobs of this crew computed
+abbrev pub IsOwnTold : Execution → Status → Streams → Streams → Crew → Type 0
+IsOwnTold Jobs status old new before = IsTold set_limit (WritesResult before.jobs) status old new
+IsOwnTold e status old new before = Unit {0}
+
 module _ (truth : (what : SetText) → IsAlwaysSound what) (follows : FollowsTrees) where
-  -- what an execution told is sound
-  pub execution_soundly : (e : Execution) (status : Status) (old new : Streams) → IsToldBy e status old new → IsExecutionDone e status old new
-  execution_soundly (Exec window) status old new told = done_soundly truth follows (of_set (schedule_rows false)) status old new told
-  execution_soundly ExecMet status old new told = done_soundly truth follows (of_set (schedule_rows true)) status old new told
-  execution_soundly Jobs status old new told = told
-  execution_soundly Modes status old new told = told
-  execution_soundly (Drill number) status old new drilled = drilled
+  -- what an execution told is sound. What `jobs` told is what its own jobs computed
+  pub execution_soundly : (e : Execution) (status : Status) (old new : Streams) (before : Crew) → IsToldBy e status old new → IsOwnTold e status old new before
+      → IsExecutionDone e status old new before
+  execution_soundly (Exec window) status old new before told own = done_soundly truth follows (of_set (schedule_rows false)) status old new told
+  execution_soundly ExecMet status old new before told own = done_soundly truth follows (of_set (schedule_rows true)) status old new told
+  execution_soundly Jobs status old new before told own = own
+  execution_soundly Modes status old new before told own = told
+  execution_soundly (Drill number) status old new before drilled own = drilled

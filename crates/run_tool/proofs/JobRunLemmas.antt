@@ -32,7 +32,7 @@ use Rattle.still_commands.specs.Input.{IsSchedulable, IsRefusedSet}
 use Rattle.still_commands.proofs.EndLemmas.{keeps_same}
 use Rattle.run_tool.specs.JobPrograms.{ReadsJobs, IsJobsToRun, set_bytes, result_text}
 use Rattle.still_commands.specs.Ends.{Streams}
-use Rattle.run_tool.specs.Executions.{GateSeen, JobSeen, Crew, crew, IsFreshCrew, RanAll}
+use Rattle.run_tool.specs.Executions.{GateSeen, JobSeen, Crew, crew, IsFreshCrew, RanAll, usual_window}
 use Rattle.run_tool.proofs.LoadedLemmas.{results_are}
 use Rattle.run_tool.specs.Executed.{StopsInRun, loaded_crew, ToldRun, StopsRun, may_have_run}
 use Rattle.still_commands.specs.Refusals.{status_of}
@@ -89,7 +89,7 @@ pub loading_stops : (text : JobTextHeld) (out : Option (List ℕ)) (faults scale
 loading_stops text out faults scale n old new s run is = (inr (scale, n, run, is), keeps_same out)
 
 -- where a gate or a job failed, or memory was refused, something may have been done
-pub jobs_called : {P : Type 0} (p : PlanContents) (old new : Crew) (r : Refusal) → StopsInRun p old new r → may_have_run (Some (Execute Jobs)) (status_of r) ≡ false → P
+pub jobs_called : {P : Type 0} (p : PlanContents) (old new : Crew) (r : Refusal) → StopsInRun p usual_window old new r → may_have_run (Some (Execute Jobs)) (status_of r) ≡ false → P
 jobs_called p old new (why.GateFault row name) stops quiet = absurd (let bad : true ≡ false = quiet in cc)
 jobs_called p old new (why.JobFault row name) stops quiet = absurd (let bad : true ≡ false = quiet in cc)
 jobs_called p old new why.NoMemory stops quiet = absurd (let bad : true ≡ false = quiet in cc)
@@ -118,22 +118,22 @@ module _ (text : JobTextHeld) (s : SetContents) (p : PlanContents) (is_set : p.s
 
   -- a gate or a job failed, or memory was refused once all programs were loaded
   pub running_stops : (out : Option (List ℕ)) (faults count : ℕ) (old held new : Crew) (r : Refusal) → IsSchedulable s p.tree.scale → count ≡ rounds_of p
-      → count * p.tree.processors ≤ row_limit → held ≡ loaded_crew text p.tree.scale s.tasks old → StopsInRun p held new r
+      → count * p.tree.processors ≤ row_limit → held ≡ loaded_crew text p.tree.scale s.tasks old → StopsInRun p usual_window held new r
       → (r ≡ why.NoMemory → new ≡ held) → StopsAtJobs text out out faults faults old new s r
   running_stops out faults count old held new (why.GateFault row name) run is few held_is stops left = (
     p.tree.scale,
     run,
     room count is few,
-    subst (λ (q : PlanContents). StopsInRun q (loaded_crew text p.tree.scale s.tasks old) new (why.GateFault row name)) same
-        (subst (λ (x : Crew). StopsInRun p x new (why.GateFault row name)) held_is stops),
+    subst (λ (q : PlanContents). StopsInRun q usual_window (loaded_crew text p.tree.scale s.tasks old) new (why.GateFault row name)) same
+        (subst (λ (x : Crew). StopsInRun p usual_window x new (why.GateFault row name)) held_is stops),
     keeps_same out,
   )
   running_stops out faults count old held new (why.JobFault row name) run is few held_is stops left = (
     p.tree.scale,
     run,
     room count is few,
-    subst (λ (q : PlanContents). StopsInRun q (loaded_crew text p.tree.scale s.tasks old) new (why.JobFault row name)) same
-        (subst (λ (x : Crew). StopsInRun p x new (why.JobFault row name)) held_is stops),
+    subst (λ (q : PlanContents). StopsInRun q usual_window (loaded_crew text p.tree.scale s.tasks old) new (why.JobFault row name)) same
+        (subst (λ (x : Crew). StopsInRun p usual_window x new (why.JobFault row name)) held_is stops),
     keeps_same out,
   )
   running_stops out faults count old held new why.NoMemory run is few held_is stops left =

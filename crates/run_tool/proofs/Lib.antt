@@ -6,6 +6,7 @@ pub mod LoadedLemmas
 pub mod JobRunLemmas
 pub mod RunLemmas
 pub mod AskedLemmas
+pub mod AloneLemmas
 pub mod CrewLemmas
 pub mod CrewEndLemmas
 pub mod PartLemmas
@@ -14,6 +15,7 @@ pub mod DrillLemmas
 pub mod DrillEndLemmas
 pub mod StopLemmas
 pub mod ClosingLemmas
+pub mod ClosedLemmas
 pub mod ModeRunLemmas
 pub mod ModeEndLemmas
 pub mod ModeRowLemmas

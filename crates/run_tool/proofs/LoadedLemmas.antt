@@ -11,7 +11,7 @@ use Rattle.sched_base.specs.Tables.{all_rows, ticks_in}
 use Rattle.sched_edges.specs.Jobs.{JobAt, reloaded, computed}
 use Rattle.exec_book.specs.Jobs.{Made}
 use Rattle.run_tree.specs.Plans.{PlanContents}
-use Rattle.exec_book.specs.PlanRows.{plan_rows}
+use Rattle.plan_rounds.specs.PlanRows.{plan_rows}
 use Rattle.job_vm.specs.Programs.{Program, JobTextHeld}
 use Rattle.job_vm.specs.Loading.{code_of, anew, loaded}
 use Rattle.job_vm.specs.Results.{Told, told_at, told_of, job_line, jobs_text}

@@ -4,7 +4,7 @@ use Rattle.std.specs.Prelude.{slice_get}
 use Rattle.std.specs.List.{AllZip}
 use Rattle.sched_base.specs.Tables.{Table, row_limit}
 use Rattle.run_tree.specs.Plans.{PlanContents, rounds_of}
-use Rattle.exec_book.specs.PlanRows.{plan_rows}
+use Rattle.plan_rounds.specs.PlanRows.{plan_rows}
 use Rattle.exec_lanes.specs.declared.answers.Executed.{Executed}
 use Rattle.mode_join.specs.declared.mode.Mode.{Mode}
 use Rattle.mode_join.specs.Modes.{ModesContents, AreModes}
@@ -37,7 +37,7 @@ module _ (modes : ModesContents) (are : AreModes modes) (j : ℕ) (p : PlanConte
       (m.rounds, next_mode modes are j p m.rounds plan (ap (option_map (λ (x : Mode). x.rounds)) at))
 
   pub mode_on_time : AreOnTime p.set.tasks
-  mode_on_time = subst (λ (q : PlanContents). AreOnTime q.set.tasks) next.1.plan next.1.is.can_join.no_offset
+  mode_on_time = subst (λ (q : PlanContents). AreOnTime q.set.tasks) next.1.plan next.1.is.can_join.can_repeat.no_offset
 
   pub mode_is_short : rounds_of p * p.tree.processors ≤ row_limit
   mode_is_short = subst (λ (n : ℕ). n * p.tree.processors ≤ row_limit) next.1.count next.1.few

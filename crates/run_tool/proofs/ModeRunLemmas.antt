@@ -14,10 +14,11 @@ use Rattle.sched_edges.specs.Causes.{Rose}
 use Rattle.sched_edges.specs.declared.gates.Gate.{Ghosts as GateTells}
 use Rattle.sched_edges.specs.declared.jobs.Job.{Ghosts as JobTells}
 use Rattle.sched_edges.specs.Gates.{grown}
+use Rattle.sched_edges.specs.Jobs.{reloaded}
 use Rattle.job_vm.specs.Loading.{anew, code_of}
 use Rattle.job_vm.proofs.LoadingLemmas.{loaded_past}
 use Rattle.run_tree.specs.Plans.{PlanContents, IsPlan}
-use Rattle.exec_book.specs.PlanRows.{plan_rows}
+use Rattle.plan_rounds.specs.PlanRows.{plan_rows}
 use Rattle.exec_lanes.specs.declared.answers.Executed.{Executed}
 use Rattle.exec_lanes.specs.declared.answers.ExecFault.TheVariants as exec
 use Rattle.exec_lanes.specs.Kits.{AreFilled}
@@ -31,7 +32,7 @@ use Rattle.mode_switch.specs.Runs as modes
 use Rattle.still_commands.specs.declared.mode_refusal.ModeRefusal.{ModeRefusal}
 use Rattle.still_commands.specs.declared.mode_refusal.ModeRefusal.TheVariants as mode
 use Rattle.run_tool.specs.Executions.{GateSeen, JobSeen, Crew, crew, gates_of, jobs_of, Holds, IsFreshCrew, AreBack, RanAll, GateRose, JobRose, GateStopped, JobStopped, name_at}
-use Rattle.run_tool.specs.ModeRuns.{begun_crew, RanThrough, StopsInMode, StopsBetween}
+use Rattle.run_tool.specs.ModeRuns.{begun_crew, made_after, RanThrough, StopsInMode, StopsBetween}
 use Rattle.run_tool.proofs.CrewLemmas.{below_or, seen_gate, seen_job, gate_in_kit, kit_shown, job_in_place, place_shown}
 use Rattle.run_tool.proofs.CrewEndLemmas.{same_seen, no_ticks_at_all, ran_to_end, gate_stopped, gate_names, gate_below, job_stopped, job_names}
 use Rattle.run_tool.proofs.LoadedLemmas.{loaded_held, loaded_at, unloaded}
@@ -81,7 +82,7 @@ grown_same (Some rows) = ap Some (append-nil rows)
 pub none_through : (c : Crew) → RanThrough [] c c
 none_through c = record {
   gates = λ q g at. at ∙ (λ i. Some (Some (record { ran = sym (grown_same g.ran) i; faults = g.faults })));
-  jobs = λ i j at. (j, at, refl, refl, refl);
+  jobs = λ i j at. (j, at, refl, refl, refl, refl);
   valid = tt;
 }
 
@@ -93,6 +94,10 @@ if_false : {A : Type 0} (b : Bool) (x y : A) → b ≡ false → (if b then x el
 if_false false x y e = refl
 if_false true x y e = absurd (let bad : true ≡ false = e in cc)
 
+-- what a job is made of after a mode of this plan
+abbrev made_in : PlanContents → ℕ → Option (ℕ × List ℕ) → Option (ℕ × List ℕ)
+made_in p i made = if nat_lt i (length p.set.tasks) then reloaded made 1 [] else made
+
 -- what a job has used after a mode of this plan that it began with so many ticks
 abbrev used_in : PlanContents → ℕ → ℕ → ℕ
 used_in p i used = if nat_lt i (length p.set.tasks) then ticks_in i (all_rows (plan_rows p)) else used
@@ -102,6 +107,7 @@ module _ (m : Mode) (ms : List Mode) (names : AllByRecursion (λ rows. AllByRecu
   -- a job after the first mode
   job_then : (i : ℕ) (j : JobSeen) → Holds a.jobs i j
       → (k : JobSeen) × Holds b.jobs i k × (k.id ≡ j.id) × (k.used ≡ used_in m.plan i j.used) × (k.faults ≡ j.faults)
+      × (k.made ≡ made_in m.plan i j.made)
   job_then i j at = elim (below_or i (length m.plan.set.tasks)) [
     | inl within ↦
         let begun = anew 1 (code_of [] (task_at m.plan.set.tasks i).name) j in
@@ -112,6 +118,7 @@ module _ (m : Mode) (ms : List Mode) (names : AllByRecursion (λ rows. AllByRecu
           refl,
           sum ∙ sym (if_true (nat_lt i (length m.plan.set.tasks)) ticks j.used (lt-ltb _ _ within)),
           refl,
+          sym (if_true (nat_lt i (length m.plan.set.tasks)) (reloaded j.made 1 []) j.made (lt-ltb _ _ within)),
         )
     | inr past ↦
         let ticks = ticks_in i (all_rows (plan_rows m.plan)) in
@@ -122,6 +129,7 @@ module _ (m : Mode) (ms : List Mode) (names : AllByRecursion (λ rows. AllByRecu
           refl,
           sum ∙ sym (if_false (nat_lt i (length m.plan.set.tasks)) ticks j.used (le-ltb _ _ past)),
           refl,
+          sym (if_false (nat_lt i (length m.plan.set.tasks)) (reloaded j.made 1 []) j.made (le-ltb _ _ past)),
         )
   ]
 
@@ -132,9 +140,9 @@ module _ (m : Mode) (ms : List Mode) (names : AllByRecursion (λ rows. AllByRecu
         let after = rest.gates q (record { ran = grown g.ran lane; faults = g.faults }) (first.gates q g at) in
         after ∙ (λ i. Some (Some (record { ran = grown_more g.ran lane (rows_through ms q) i; faults = g.faults })));
     jobs = λ i j at.
-        let (k, there, own, used, kept) = job_then i j at in
-        let (l, here, own', used', kept') = rest.jobs i k there in
-        (l, here, own' ∙ own, used' ∙ ap (used_after ms i) used, kept' ∙ kept);
+        let (k, there, own, used, kept, made) = job_then i j at in
+        let (l, here, own', used', kept', made') = rest.jobs i k there in
+        (l, here, own' ∙ own, used' ∙ ap (used_after ms i) used, kept' ∙ kept, made' ∙ ap (made_after ms i) made);
     valid = (first.valid, rest.valid);
   }
 
@@ -179,7 +187,7 @@ module _ {G J : Type 0} (gate : GateTells G) (job : JobTells J)
       let begun = ran.begun in
       let o = ran.outcome in
       subst (λ (c : Crew). RanAll p c (crew_at new)) (begun_is p h old begun ran.begins staffed)
-      (ran_to_end gate.ran gate.faults job.id job.used job.made job.faults p h begun.kits new.kits begun.places new.places
+      (ran_to_end gate.ran gate.faults job.id job.used job.made job.faults p ran.window h begun.kits new.kits begun.places new.places
       (filled p h old begun ran.begins staffed) (fresh p h old begun ran.begins staffed) (names p h) o.0 o.1 e o.2)
 
   -- modes that were run whole
@@ -246,7 +254,7 @@ module _ {G J : Type 0} (gate : GateTells G) (job : JobTells J)
       let (j, k, at, there, more) = rose in
       let (i, held, kept) = unloaded 1 [] tasks between.jobs t j at in
       let (first, begun, own) = staffed.jobs t within in
-      let (l, here, own', used, same) = ran.jobs t first begun in
+      let (l, here, own', used, same, made) = ran.jobs t first begun in
       let one = same_seen (slice_get between.jobs t) i l held here in
       let count : j.faults ≡ first.faults = kept ∙ ap (λ (x : JobSeen). x.faults) one ∙ same in
       (first, k, begun, there, subst (λ n. Rose n k.faults) count more)
@@ -270,26 +278,26 @@ module _ {G J : Type 0} (gate : GateTells G) (job : JobTells J)
         let o = ran.outcome in
         let full = filled p h stops.between begun ran.begins still in
         let new_jobs = fresh p h stops.between begun ran.begins still in
-        let here : GateStopped p (crew_at begun) (crew_at new) row =
-        gate_stopped gate.ran gate.faults job.id job.used job.made job.faults p h begun.kits new.kits begun.places new.places
+        let here : GateStopped p ran.window (crew_at begun) (crew_at new) row =
+        gate_stopped gate.ran gate.faults job.id job.used job.made job.faults p ran.window h begun.kits new.kits begun.places new.places
         full new_jobs (names p h) o.0 o.1 q row o.2.0 o.2.1 in
-        let stopped : GateStopped p (begun_crew p.set.tasks (crew_at stops.between)) (crew_at new) row =
-        subst (λ (c : Crew). GateStopped p c (crew_at new) row) (begun_is p h stops.between begun ran.begins still) here in
-        let below = gate_below gate.ran gate.faults job.id job.used job.made job.faults p h begun.kits new.kits begun.places new.places
+        let stopped : GateStopped p ran.window (begun_crew p.set.tasks (crew_at stops.between)) (crew_at new) row =
+        subst (λ (c : Crew). GateStopped p ran.window c (crew_at new) row) (begun_is p h stops.between begun ran.begins still) here in
+        let below = gate_below gate.ran gate.faults job.id job.used job.made job.faults p ran.window h begun.kits new.kits begun.places new.places
         full new_jobs (names p h) o.0 o.1 q row o.2.0 in
         let few = h.sized.few_processors in
         let within : row.processor < 32 = omega (arith, below, few) in
         record {
           mode = stops.mode;
           at = stops.at;
-          named = gate_names gate.ran gate.faults job.id job.used job.made job.faults p h begun.kits new.kits begun.places new.places
+          named = gate_names gate.ran gate.faults job.id job.used job.made job.faults p ran.window h begun.kits new.kits begun.places new.places
               full new_jobs (names p h) o.0 o.1 q row o.2.0;
           stops = λ name is. record {
             mode = stops.mode;
             at = stops.at;
             between = crew_at stops.between;
             before = before;
-            stopped = (stopped, is);
+            stopped = (ran.window, stopped, is);
             rose = gate_rose_since (take j ms) p.set.tasks (crew_at old) (crew_at stops.between) (crew_at new) row.processor within staffed before stopped.rose;
           };
         }
@@ -305,12 +313,12 @@ module _ {G J : Type 0} (gate : GateTells G) (job : JobTells J)
         let o = ran.outcome in
         let full = filled p h stops.between begun ran.begins still in
         let new_jobs = fresh p h stops.between begun ran.begins still in
-        let here : JobStopped p (crew_at begun) (crew_at new) row =
-        job_stopped gate.ran gate.faults job.id job.used job.made job.faults p h begun.kits new.kits begun.places new.places
+        let here : JobStopped p ran.window (crew_at begun) (crew_at new) row =
+        job_stopped gate.ran gate.faults job.id job.used job.made job.faults p ran.window h begun.kits new.kits begun.places new.places
         full new_jobs (names p h) o.0 o.1 q t o.2.1.0 row o.2.1.1 o.2.0 o.2.2 in
-        let stopped : JobStopped p (begun_crew p.set.tasks (crew_at stops.between)) (crew_at new) row =
-        subst (λ (c : Crew). JobStopped p c (crew_at new) row) (begun_is p h stops.between begun ran.begins still) here in
-        let named = job_names gate.ran gate.faults job.id job.used job.made job.faults p h begun.kits new.kits begun.places new.places
+        let stopped : JobStopped p ran.window (begun_crew p.set.tasks (crew_at stops.between)) (crew_at new) row =
+        subst (λ (c : Crew). JobStopped p ran.window c (crew_at new) row) (begun_is p h stops.between begun ran.begins still) here in
+        let named = job_names gate.ran gate.faults job.id job.used job.made job.faults p ran.window h begun.kits new.kits begun.places new.places
         full new_jobs (names p h) o.0 o.1 q t o.2.1.0 row o.2.1.1 in
         let (task, leaf, rose) = stopped.task in
         let among : task.0 < length p.set.tasks = subst (λ (l : Leaf). NamesOneOf p.set.tasks l) leaf named in
@@ -325,7 +333,7 @@ module _ {G J : Type 0} (gate : GateTells G) (job : JobTells J)
             at = stops.at;
             between = crew_at stops.between;
             before = before;
-            stopped = (stopped, is);
+            stopped = (ran.window, stopped, is);
             rose = (task, leaf, job_rose_since (take j ms) p.set.tasks (crew_at old) (crew_at stops.between) (crew_at new) task.0 within staffed before rose);
           };
         }

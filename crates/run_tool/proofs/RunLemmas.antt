@@ -26,13 +26,13 @@ use Rattle.mode_join.specs.declared.faults.ModeKind.TheVariants as kind
 use Rattle.still_commands.specs.declared.mode_refusal.ModeRefusal.{ModeRefusal}
 use Rattle.still_commands.specs.Ends.{Streams, ErrorStream, streams, IsUnread, IsQuiet, IsTold, StopsAs, Ends}
 use Rattle.command_words.proofs.WordLemmas.{executes, reads, batches, only_read, only_batch, only_execute}
-use Rattle.run_tool.specs.Executions.{Crew, AreBack, NothingRose}
+use Rattle.run_tool.specs.Executions.{Crew, AreBack, NothingRose, usual_window}
 use Rattle.run_tool.specs.JobPrograms.{WritesResults, RefusesJobs}
 use Rattle.still_commands.specs.declared.mode_refusal.ModeRefusal.TheVariants as mode
 use Rattle.run_tool.specs.ModeRuns.{WritesModesRun, RefusesModesRun}
 use Rattle.run_tool.specs.ModeTexts.{WritesModes, RefusesModes}
 use Rattle.run_tool.proofs.LoadedLemmas.{rose_loaded}
-use Rattle.run_tool.proofs.ExecutionAnswerLemmas.{IsToldBy, StopsBy, StopsDrill}
+use Rattle.run_tool.proofs.ExecutionAnswerLemmas.{IsToldBy, IsOwnTold, StopsBy, StopsDrill}
 use Rattle.run_tool.specs.Executed.{WritesJobsRun, RefusesJobsRun}
 use Rattle.run_tool.specs.Executed.{WritesRun, RefusesRun, RanDrill, StopsAtDrill, ToldRun, StopsRun, EndsWith, NoneFailed, may_have_called, takes_memory_late, may_have_run}
 
@@ -78,6 +78,15 @@ weaker_results b n bytes status result w = (b.jobs, (w.0, (w.1.0, w.1.1, w.1.2, 
 jobs_told : (old new : Streams) (b n : Crew) → IsTold set_limit (WritesJobsRun b n) Done old new → IsTold set_limit WritesResults Done old new
 jobs_told old new b n t = record { told = (t.told.0, t.told.1, t.told.2, weaker_results b n t.told.0 Done t.told.1 t.told.3, t.told.4) }
 
+-- it is what the jobs computed that there were
+pub own_told : (e : Execution) (old new : Streams) (b n : Crew) → ToldRun e old new b n → IsOwnTold e Done old new b
+own_told Jobs old new b n t = record {
+  told =
+      let w = t.told.3 in
+      (t.told.0, t.told.1, t.told.2, (w.0, (w.1.0, w.1.1, w.1.2, w.1.3, w.1.4)), t.told.4);
+}
+own_told _ old new b n t = tt
+
 -- what was run as modes was written
 weaker_modes : (b n : Crew) (bytes : List ℕ) (status : Status) (text : List ℕ) → WritesModesRun b n bytes status text → WritesModes bytes status text
 weaker_modes b n bytes status text w = (w.0, (w.1.0, w.1.1, w.1.2))
@@ -93,25 +102,27 @@ done_is Modes old new b n t = modes_told old new b n t
 done_is (Drill number) old new b n t = drill_told number old new b n t
 
 -- where nothing failed, what stopped it is what would stop a trace
-weaker_stops : (met : Bool) (old new : Streams) (b n : Crew) (r : Refusal) → NothingRose b n
-    → StopsAs set_limit (WritesRun met b n) (RefusesRun met b n) old new r
+weaker_stops : (window : ℕ) (met : Bool) (old new : Streams) (b n : Crew) (r : Refusal) → NothingRose b n
+    → StopsAs set_limit (WritesRun met b n) (RefusesRun window met b n) old new r
     → StopsAs set_limit (WritesSet (schedule_rows met)) (RefusesText (schedule_rows met)) old new r
-weaker_stops met old new b n why.Usage quiet s = s
-weaker_stops met old new b n why.ReadFault quiet s = s
-weaker_stops met old new b n why.WriteFault quiet s = (s.0, s.1, s.2, s.3, weaker_writes met b n s.0 s.2 s.1 s.4, s.5, s.6)
-weaker_stops met old new b n why.NoMemory quiet s = s
-weaker_stops met old new b n (why.BadSet q) quiet s = s
-weaker_stops met old new b n (why.BadLine line) quiet s = s
-weaker_stops met old new b n (why.BadProgram line) quiet s = s
-weaker_stops met old new b n (why.BadTree line kind) quiet s = s
-weaker_stops met old new b n (why.OfMode j q) quiet s = s
-weaker_stops met old new b n (why.Overload total room) quiet s = s
-weaker_stops met old new b n (why.ScaleTooLarge task) quiet s = s
-weaker_stops met old new b n (why.TooLong rows) quiet s = s
-weaker_stops met old new b n (why.TooWide ticks) quiet s = s
-weaker_stops met old new b n (why.GateFault row name) quiet s = absurd (quiet.gates row.processor s.2.3.rose)
-weaker_stops met old new b n (why.JobFault row name) quiet s = absurd (quiet.jobs s.2.3.task.0.0 s.2.3.task.2)
-weaker_stops met old new b n (why.InputTooLong count) quiet s = s
+weaker_stops window met old new b n why.Usage quiet s = s
+weaker_stops window met old new b n why.ReadFault quiet s = s
+weaker_stops window met old new b n why.WriteFault quiet s = (s.0, s.1, s.2, s.3, weaker_writes met b n s.0 s.2 s.1 s.4, s.5, s.6)
+weaker_stops window met old new b n why.NoMemory quiet s = s
+weaker_stops window met old new b n (why.BadSet q) quiet s = s
+weaker_stops window met old new b n (why.BadLine line) quiet s = s
+weaker_stops window met old new b n (why.BadProgram line) quiet s = s
+weaker_stops window met old new b n (why.BadTree line kind) quiet s = s
+weaker_stops window met old new b n (why.OfMode j q) quiet s = s
+weaker_stops window met old new b n (why.Overload total room) quiet s = s
+weaker_stops window met old new b n (why.ScaleTooLarge task) quiet s = s
+weaker_stops window met old new b n (why.TooLong rows) quiet s = s
+weaker_stops window met old new b n (why.TooWide ticks) quiet s = s
+weaker_stops window met old new b n (why.NoRepeat task) quiet s = s
+weaker_stops window met old new b n (why.WideRepeat units) quiet s = s
+weaker_stops window met old new b n (why.GateFault row name) quiet s = absurd (quiet.gates row.processor s.2.3.rose)
+weaker_stops window met old new b n (why.JobFault row name) quiet s = absurd (quiet.jobs s.2.3.task.0.0 s.2.3.task.2)
+weaker_stops window met old new b n (why.InputTooLong count) quiet s = s
 
 -- where nothing failed, a drill stopped for want of memory or at a fault of `out`
 drill_stops : (number : ℕ) (old new : Streams) (b n : Crew) (r : Refusal) → NothingRose b n → StopsRun (Drill number) old new b n r
@@ -167,8 +178,8 @@ modes_stops old new b n _ quiet s = s
 
 pub stop_is : (e : Execution) (old new : Streams) (b n : Crew) (r : Refusal) → NothingRose b n → StopsRun e old new b n r
     → StopsBy e old new r
-stop_is (Exec window) old new b n r quiet s = weaker_stops false old new b n r quiet s
-stop_is ExecMet old new b n r quiet s = weaker_stops true old new b n r quiet s
+stop_is (Exec window) old new b n r quiet s = weaker_stops window false old new b n r quiet s
+stop_is ExecMet old new b n r quiet s = weaker_stops usual_window true old new b n r quiet s
 stop_is Jobs old new b n r quiet s = jobs_stops old new b n r quiet s.0
 stop_is Modes old new b n r quiet s = modes_stops old new b n r quiet s.0
 stop_is (Drill number) old new b n r quiet s = drill_stops number old new b n r quiet s

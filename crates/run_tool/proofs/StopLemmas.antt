@@ -25,12 +25,12 @@ use Rattle.run_tool.specs.Executed.{IsToRun, WritesRun, RefusesRun, RanSet, Stop
 -- ---- running and writing
 
 -- a set that is refused leaves gates and jobs as they were
-pub refused_run : (met : Bool) (out : Option (List ℕ)) (faults : ℕ) (c : Crew) (s : SetContents) (r : Refusal) → IsRefusedSet s r
-    → StopsAtRun met out out faults faults c c s r
-refused_run met out faults c s (why.ScaleTooLarge task) refused = (refused, keeps_same out)
-refused_run met out faults c s (why.Overload total room) refused = (refused, keeps_same out)
-refused_run met out faults c s why.NoMemory refused = (tt, keeps_same out)
-refused_run met out faults c s _ refused = absurd refused
+pub refused_run : (window : ℕ) (met : Bool) (out : Option (List ℕ)) (faults : ℕ) (c : Crew) (s : SetContents) (r : Refusal) → IsRefusedSet s r
+    → StopsAtRun window met out out faults faults c c s r
+refused_run window met out faults c s (why.ScaleTooLarge task) refused = (refused, keeps_same out)
+refused_run window met out faults c s (why.Overload total room) refused = (refused, keeps_same out)
+refused_run window met out faults c s why.NoMemory refused = (tt, keeps_same out)
+refused_run window met out faults c s _ refused = absurd refused
 
 module _ (s : SetContents) (p : PlanContents) (set : p.set ≡ s) (tree : p.tree ≡ tree_of p.tree.scale s) where
   pub same_plan : p ≡ plan_of s p.tree.scale
@@ -48,19 +48,19 @@ module _ (s : SetContents) (p : PlanContents) (set : p.set ≡ s) (tree : p.tree
     subst (λ (q : PlanContents). rows ≡ (row_limit / q.tree.processors + 1) * q.tree.processors) same_plan is.1,
   )
 
-  pub uncounted : (met : Bool) (out : Option (List ℕ)) (faults : ℕ) (c : Crew) (f : CountFault) → IsSchedulable s p.tree.scale → IsCountFault p f
-      → StopsAtRun met out out faults faults c c s (of_count f)
-  uncounted met out faults c (count_fault.TooLong rows) run is = (too_long met rows run is, keeps_same out)
-  uncounted met out faults c count_fault.NoMemory run is = (tt, keeps_same out)
+  pub uncounted : (window : ℕ) (met : Bool) (out : Option (List ℕ)) (faults : ℕ) (c : Crew) (f : CountFault) → IsSchedulable s p.tree.scale → IsCountFault p f
+      → StopsAtRun window met out out faults faults c c s (of_count f)
+  uncounted window met out faults c (count_fault.TooLong rows) run is = (too_long met rows run is, keeps_same out)
+  uncounted window met out faults c count_fault.NoMemory run is = (tt, keeps_same out)
 
-  pub run_stops : (met : Bool) (out : Option (List ℕ)) (faults count : ℕ) (old new : Crew) (r : Refusal) → IsSchedulable s p.tree.scale → count ≡ rounds_of p
-      → count * p.tree.processors ≤ row_limit → StopsInRun p old new r → StopsAtRun met out out faults faults old new s r
-  run_stops met out faults count old new (why.GateFault row name) run is few stops =
-      (p.tree.scale, run, room count is few, subst (λ (q : PlanContents). StopsInRun q old new (why.GateFault row name)) same_plan stops, keeps_same out)
-  run_stops met out faults count old new (why.JobFault row name) run is few stops =
-      (p.tree.scale, run, room count is few, subst (λ (q : PlanContents). StopsInRun q old new (why.JobFault row name)) same_plan stops, keeps_same out)
-  run_stops met out faults count old new why.NoMemory run is few stops = (tt, keeps_same out)
-  run_stops met out faults count old new _ run is few stops = absurd stops
+  pub run_stops : (window : ℕ) (met : Bool) (out : Option (List ℕ)) (faults count : ℕ) (old new : Crew) (r : Refusal) → IsSchedulable s p.tree.scale → count ≡ rounds_of p
+      → count * p.tree.processors ≤ row_limit → StopsInRun p window old new r → StopsAtRun window met out out faults faults old new s r
+  run_stops window met out faults count old new (why.GateFault row name) run is few stops =
+      (p.tree.scale, run, room count is few, subst (λ (q : PlanContents). StopsInRun q window old new (why.GateFault row name)) same_plan stops, keeps_same out)
+  run_stops window met out faults count old new (why.JobFault row name) run is few stops =
+      (p.tree.scale, run, room count is few, subst (λ (q : PlanContents). StopsInRun q window old new (why.JobFault row name)) same_plan stops, keeps_same out)
+  run_stops window met out faults count old new why.NoMemory run is few stops = (tt, keeps_same out)
+  run_stops window met out faults count old new _ run is few stops = absurd stops
 
   -- all was run and written
   pub run_written : (met : Bool) (out out' : Option (List ℕ)) (count : ℕ) (old new : Crew) → IsSchedulable s p.tree.scale → count ≡ rounds_of p
@@ -74,10 +74,10 @@ module _ (s : SetContents) (p : PlanContents) (set : p.set ≡ s) (tree : p.tree
   )
 
   -- all was run, and not all was written
-  pub run_unwritten : (met : Bool) (out out' : Option (List ℕ)) (faults faults' count : ℕ) (old new : Crew) → IsSchedulable s p.tree.scale
+  pub run_unwritten : (window : ℕ) (met : Bool) (out out' : Option (List ℕ)) (faults faults' count : ℕ) (old new : Crew) → IsSchedulable s p.tree.scale
       → count ≡ rounds_of p → count * p.tree.processors ≤ row_limit → RanAll p old new → TookPart out out' (schedule_text met p) → Rose faults faults'
-      → StopsAtRun met out out' faults faults' old new s why.WriteFault
-  run_unwritten met out out' faults faults' count old new run is few ran took rose = (
+      → StopsAtRun window met out out' faults faults' old new s why.WriteFault
+  run_unwritten window met out out' faults faults' count old new run is few ran took rose = (
     p.tree.scale,
     run,
     room count is few,
@@ -101,31 +101,31 @@ run_told met old new b n s gave ran =
     let (scale, run, room, took, rows) = ran in
     record { told = (bytes, text_of (schedule_rows met) s scale, all, (refl, (s, scale, to_run met bytes s scale read run room, refl, rows)), took) }
 
-pub run_stopped : (met : Bool) (old new : Streams) (b n : Crew) (s : SetContents) (r : Refusal) → GaveSet old.left new.left set_limit s
-    → StopsAtRun met old.out new.out old.out_faults new.out_faults b n s r → StopsAs set_limit (WritesRun met b n) (RefusesRun met b n) old new r
-run_stopped met old new b n s why.WriteFault gave stops =
+pub run_stopped : (window : ℕ) (met : Bool) (old new : Streams) (b n : Crew) (s : SetContents) (r : Refusal) → GaveSet old.left new.left set_limit s
+    → StopsAtRun window met old.out new.out old.out_faults new.out_faults b n s r → StopsAs set_limit (WritesRun met b n) (RefusesRun window met b n) old new r
+run_stopped window met old new b n s why.WriteFault gave stops =
     let (bytes, all, read) = gave.gave in
     let (scale, run, room, took, rose, rows) = stops in
     (bytes, text_of (schedule_rows met) s scale, Done, all, (refl, (s, scale, to_run met bytes s scale read run room, refl, rows)), took, rose)
-run_stopped met old new b n s (why.GateFault row name) gave stops =
+run_stopped window met old new b n s (why.GateFault row name) gave stops =
     let (bytes, all, read) = gave.gave in
     let (scale, run, room, stopped, keeps) = stops in
     (bytes, all, (s, scale, to_run met bytes s scale read run room, stopped.0, stopped.1), keeps)
-run_stopped met old new b n s (why.JobFault row name) gave stops =
+run_stopped window met old new b n s (why.JobFault row name) gave stops =
     let (bytes, all, read) = gave.gave in
     let (scale, run, room, stopped, keeps) = stops in
     (bytes, all, (s, scale, to_run met bytes s scale read run room, stopped.0, stopped.1), keeps)
-run_stopped met old new b n s why.NoMemory gave stops = stops.1
-run_stopped met old new b n s (why.TooLong rows) gave stops = let (bytes, all, read) = gave.gave in (bytes, all, (s, read, stops.0), stops.1)
-run_stopped met old new b n s (why.ScaleTooLarge task) gave stops = let (bytes, all, read) = gave.gave in (bytes, all, (s, read, stops.0), stops.1)
-run_stopped met old new b n s (why.Overload total room) gave stops = let (bytes, all, read) = gave.gave in (bytes, all, (s, read, stops.0), stops.1)
-run_stopped met old new b n s _ gave stops = absurd stops.0
+run_stopped window met old new b n s why.NoMemory gave stops = stops.1
+run_stopped window met old new b n s (why.TooLong rows) gave stops = let (bytes, all, read) = gave.gave in (bytes, all, (s, read, stops.0), stops.1)
+run_stopped window met old new b n s (why.ScaleTooLarge task) gave stops = let (bytes, all, read) = gave.gave in (bytes, all, (s, read, stops.0), stops.1)
+run_stopped window met old new b n s (why.Overload total room) gave stops = let (bytes, all, read) = gave.gave in (bytes, all, (s, read, stops.0), stops.1)
+run_stopped window met old new b n s _ gave stops = absurd stops.0
 
 -- no set was read
-pub run_unread : (met : Bool) (old new : Streams) (b n : Crew) (r : Refusal) → GaveNoSet old.left new.left old.read_faults new.read_faults set_limit r
-    → Keeps old.out new.out → StopsAs set_limit (WritesRun met b n) (RefusesRun met b n) old new r
-run_unread met old new b n why.ReadFault none keeps = (none.0, none.1, keeps)
-run_unread met old new b n why.NoMemory none keeps = keeps
-run_unread met old new b n (why.InputTooLong count) none keeps = (none.0, none.1, keeps)
-run_unread met old new b n (why.BadSet q) none keeps = let (bytes, all, bad) = none in (bytes, all, bad, keeps)
-run_unread met old new b n _ none keeps = absurd none
+pub run_unread : (window : ℕ) (met : Bool) (old new : Streams) (b n : Crew) (r : Refusal) → GaveNoSet old.left new.left old.read_faults new.read_faults set_limit r
+    → Keeps old.out new.out → StopsAs set_limit (WritesRun met b n) (RefusesRun window met b n) old new r
+run_unread window met old new b n why.ReadFault none keeps = (none.0, none.1, keeps)
+run_unread window met old new b n why.NoMemory none keeps = keeps
+run_unread window met old new b n (why.InputTooLong count) none keeps = (none.0, none.1, keeps)
+run_unread window met old new b n (why.BadSet q) none keeps = let (bytes, all, bad) = none in (bytes, all, bad, keeps)
+run_unread window met old new b n _ none keeps = absurd none

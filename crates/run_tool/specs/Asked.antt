@@ -14,7 +14,7 @@ pub record EndsAsked (words : List (List ℕ)) (old new : Streams) (err err' : E
     : Type 0 where
   pub usage : status ≢ NoMemory → ((status ≡ Usage) ↔ (command_of words ≡ None))
   pub unread : command_of words ≡ None → IsUsage old new err err' status
-  pub done : status ≡ Done → (c : Command) × (command_of words ≡ Some c) × IsCommandDone c Done old new
+  pub done : status ≡ Done → (c : Command) × (command_of words ≡ Some c) × IsCommandDone c Done old new before
   pub valid : status ≢ Invalid
   pub ends : (c : Command) → command_of words ≡ Some c → EndsWith c old new err err' before now status
   pub uncalled : may_have_run (command_of words) status ≡ false → Uncalled

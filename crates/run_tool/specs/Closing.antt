@@ -1,6 +1,8 @@
 -- The end of a run over an `out` that keeps bytes back.
+use Rattle.std.specs.Prelude.{ℕ, ◌≡◌, List, [], OnOk}
 use Rattle.std.specs.declared.result.Result.{Result}
 use Rattle.std.specs.declared.result.Result.TheVariants.{Ok, Err}
+use Rattle.sched_edges.specs.Causes.{HasCause}
 use Rattle.sched_edges.specs.declared.streams.Failed.{Failed}
 use Rattle.still_commands.specs.declared.refusal.Refusal.TheVariants as why
 use Rattle.still_commands.specs.declared.status.Status.{Status}
@@ -29,3 +31,11 @@ TellsFault status old new = IsQuiet old new
 abbrev pub TellsClosed : Status → Result (Unit {0}) Failed → ErrorStream → ErrorStream → Type 0
 TellsClosed status (Ok _) old new = IsQuiet old new
 TellsClosed status (Err _) old new = TellsFault status old new
+
+-- a run that had this status ended with that one: `out` was asked to hand on, and this is what it keeps back now
+pub record IsClosed (status result : Status) (kept : List ℕ) (before now : ℕ) (old new : ErrorStream) : Type 0 where
+  pub flushed : Result (Unit {0}) Failed
+  pub handed_on : OnOk flushed (kept ≡ [])
+  pub cause : HasCause before now flushed
+  pub status_is : result ≡ closed status flushed
+  pub told : TellsClosed status flushed old new

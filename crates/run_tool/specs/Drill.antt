@@ -6,7 +6,7 @@ use Rattle.sched_base.specs.Scale.{IsScale}
 use Rattle.sched_edges.specs.Lines.{word_line, number_line}
 use Rattle.run_tree.specs.Compiled.{tree_of}
 use Rattle.run_tree.specs.Plans.{PlanContents, rounds_of}
-use Rattle.exec_book.specs.PlanRows.{plan_rows}
+use Rattle.plan_rounds.specs.PlanRows.{plan_rows}
 use Rattle.trace_lines.specs.Merging.{merged_lanes}
 use Rattle.trace_check.specs.Traces.{Trace}
 use Rattle.trace_check.specs.RoundTrip.{trace_again}

@@ -23,7 +23,7 @@ use Rattle.run_tool.specs.Drill.{drilled, drill_plan, IsDrill, drill_text}
 use Rattle.still_commands.specs.Ends.{Streams, ErrorStream, IsUnread, IsQuiet, Tells, IsTold, StopsAs, Ends}
 use Rattle.run_tree.specs.Plans.{PlanContents}
 use Rattle.still_commands.specs.Input.{IsSchedulable, IsRefusedSet, IsTooLongSet}
-use Rattle.run_tool.specs.Executions.{Crew, AreBack, RanAll, GateStopped, JobStopped, NothingRose, name_at}
+use Rattle.run_tool.specs.Executions.{Crew, AreBack, RanAll, GateStopped, JobStopped, NothingRose, name_at, usual_window}
 use Rattle.run_tool.specs.ModeRuns.{WritesModesRun, RefusesModesRun, MayHaveRun}
 
 -- the bytes are a set that fits, whose schedule has room
@@ -39,12 +39,12 @@ WritesRun met old new bytes status text =
     × RanAll (plan_of s scale) old new)
 
 -- why no text is written for these bytes: a gate or a job failed, or they are refused
-abbrev pub RefusesRun : Bool → Crew → Crew → List ℕ → Refusal → Type 0
-RefusesRun met old new bytes (why.GateFault row name) =
-    (s : SetContents) × (scale : ℕ) × IsToRun met bytes s scale × GateStopped (plan_of s scale) old new row × (name ≡ name_at s.tasks row.leaf)
-RefusesRun met old new bytes (why.JobFault row name) =
-    (s : SetContents) × (scale : ℕ) × IsToRun met bytes s scale × JobStopped (plan_of s scale) old new row × (name ≡ name_at s.tasks row.leaf)
-RefusesRun met old new bytes refusal = RefusesText (schedule_rows met) bytes refusal
+abbrev pub RefusesRun : ℕ → Bool → Crew → Crew → List ℕ → Refusal → Type 0
+RefusesRun window met old new bytes (why.GateFault row name) =
+    (s : SetContents) × (scale : ℕ) × IsToRun met bytes s scale × GateStopped (plan_of s scale) window old new row × (name ≡ name_at s.tasks row.leaf)
+RefusesRun window met old new bytes (why.JobFault row name) =
+    (s : SetContents) × (scale : ℕ) × IsToRun met bytes s scale × JobStopped (plan_of s scale) window old new row × (name ≡ name_at s.tasks row.leaf)
+RefusesRun window met old new bytes refusal = RefusesText (schedule_rows met) bytes refusal
 
 -- a set's schedule was run, and its text written
 abbrev pub RanSet : Bool → Option (List ℕ) → Option (List ℕ) → Crew → Crew → SetContents → Type 0
@@ -53,25 +53,25 @@ RanSet met out out' old new s =
     × RanAll (plan_of s scale) old new
 
 -- why running a plan's schedule stopped
-abbrev pub StopsInRun : PlanContents → Crew → Crew → Refusal → Type 0
-StopsInRun p old new (why.GateFault row name) = GateStopped p old new row × (name ≡ name_at p.set.tasks row.leaf)
-StopsInRun p old new (why.JobFault row name) = JobStopped p old new row × (name ≡ name_at p.set.tasks row.leaf)
-StopsInRun p old new why.NoMemory = Unit {0}
-StopsInRun p old new _ = ⊥
+abbrev pub StopsInRun : PlanContents → ℕ → Crew → Crew → Refusal → Type 0
+StopsInRun p window old new (why.GateFault row name) = GateStopped p window old new row × (name ≡ name_at p.set.tasks row.leaf)
+StopsInRun p window old new (why.JobFault row name) = JobStopped p window old new row × (name ≡ name_at p.set.tasks row.leaf)
+StopsInRun p window old new why.NoMemory = Unit {0}
+StopsInRun p window old new _ = ⊥
 
 -- why a set's schedule wasn't run, or its text not written
-abbrev pub StopsAtRun : Bool → Option (List ℕ) → Option (List ℕ) → ℕ → ℕ → Crew → Crew → SetContents → Refusal → Type 0
-StopsAtRun met out out' faults faults' old new s why.WriteFault =
+abbrev pub StopsAtRun : ℕ → Bool → Option (List ℕ) → Option (List ℕ) → ℕ → ℕ → Crew → Crew → SetContents → Refusal → Type 0
+StopsAtRun window met out out' faults faults' old new s why.WriteFault =
     (scale : ℕ) × IsSchedulable s scale × HasRoom (schedule_rows met) s scale × TookPart out out' (text_of (schedule_rows met) s scale)
     × Rose faults faults' × RanAll (plan_of s scale) old new
-StopsAtRun met out out' faults faults' old new s (why.GateFault row name) =
-    (scale : ℕ) × IsSchedulable s scale × HasRoom (schedule_rows met) s scale × StopsInRun (plan_of s scale) old new (why.GateFault row name)
+StopsAtRun window met out out' faults faults' old new s (why.GateFault row name) =
+    (scale : ℕ) × IsSchedulable s scale × HasRoom (schedule_rows met) s scale × StopsInRun (plan_of s scale) window old new (why.GateFault row name)
     × Keeps out out'
-StopsAtRun met out out' faults faults' old new s (why.JobFault row name) =
-    (scale : ℕ) × IsSchedulable s scale × HasRoom (schedule_rows met) s scale × StopsInRun (plan_of s scale) old new (why.JobFault row name)
+StopsAtRun window met out out' faults faults' old new s (why.JobFault row name) =
+    (scale : ℕ) × IsSchedulable s scale × HasRoom (schedule_rows met) s scale × StopsInRun (plan_of s scale) window old new (why.JobFault row name)
     × Keeps out out'
-StopsAtRun met out out' faults faults' old new s (why.TooLong rows) = IsTooLongSet (schedule_rows met) s rows × Keeps out out'
-StopsAtRun met out out' faults faults' old new s refusal = IsRefusedSet s refusal × Keeps out out'
+StopsAtRun window met out out' faults faults' old new s (why.TooLong rows) = IsTooLongSet (schedule_rows met) s rows × Keeps out out'
+StopsAtRun window met out out' faults faults' old new s refusal = IsRefusedSet s refusal × Keeps out out'
 
 -- a drill's schedule was run, and its text written
 abbrev pub RanDrill : ℕ → Option (List ℕ) → Option (List ℕ) → Crew → Crew → Type 0
@@ -81,9 +81,9 @@ RanDrill number out out' old new =
 -- why a drill's text isn't written: a gate or a job failed, or memory was refused, before anything was called or once all was run
 abbrev pub FailsDrill : ℕ → Crew → Crew → Refusal → Type 0
 FailsDrill number old new (why.GateFault row name) =
-    (scale : ℕ) × IsScale (drilled number).tasks scale × StopsInRun (drill_plan number scale) old new (why.GateFault row name)
+    (scale : ℕ) × IsScale (drilled number).tasks scale × StopsInRun (drill_plan number scale) usual_window old new (why.GateFault row name)
 FailsDrill number old new (why.JobFault row name) =
-    (scale : ℕ) × IsScale (drilled number).tasks scale × StopsInRun (drill_plan number scale) old new (why.JobFault row name)
+    (scale : ℕ) × IsScale (drilled number).tasks scale × StopsInRun (drill_plan number scale) usual_window old new (why.JobFault row name)
 FailsDrill number old new why.NoMemory =
     (new ≡ old) ⊎ ((scale : ℕ) × IsScale (drilled number).tasks scale × RanAll (drill_plan number scale) old new)
 FailsDrill number old new _ = ⊥
@@ -124,10 +124,10 @@ WritesJobsRun old new bytes status result =
 abbrev pub RefusesJobsRun : Crew → Crew → List ℕ → Refusal → Type 0
 RefusesJobsRun old new bytes (why.GateFault row name) =
     (text : JobTextHeld) × (s : SetContents) × (scale : ℕ) × IsJobsToRun bytes text s scale
-    × StopsInRun (plan_of s scale) (loaded_crew text scale s.tasks old) new (why.GateFault row name)
+    × StopsInRun (plan_of s scale) usual_window (loaded_crew text scale s.tasks old) new (why.GateFault row name)
 RefusesJobsRun old new bytes (why.JobFault row name) =
     (text : JobTextHeld) × (s : SetContents) × (scale : ℕ) × IsJobsToRun bytes text s scale
-    × StopsInRun (plan_of s scale) (loaded_crew text scale s.tasks old) new (why.JobFault row name)
+    × StopsInRun (plan_of s scale) usual_window (loaded_crew text scale s.tasks old) new (why.JobFault row name)
 RefusesJobsRun old new bytes refusal = RefusesJobs bytes refusal
 
 -- where memory was refused, nothing was begun, or some of the programs were loaded
@@ -149,8 +149,8 @@ ToldRun (Drill number) old new before now = IsUnread old new × RanDrill number 
 
 -- why an execution stopped, what `out` took, and what the gates and the jobs did. A drill read nothing
 abbrev pub StopsRun : Execution → Streams → Streams → Crew → Crew → Refusal → Type 0
-StopsRun (Exec window) old new before now refusal = StopsAs set_limit (WritesRun false before now) (RefusesRun false before now) old new refusal
-StopsRun ExecMet old new before now refusal = StopsAs set_limit (WritesRun true before now) (RefusesRun true before now) old new refusal
+StopsRun (Exec window) old new before now refusal = StopsAs set_limit (WritesRun false before now) (RefusesRun window false before now) old new refusal
+StopsRun ExecMet old new before now refusal = StopsAs set_limit (WritesRun true before now) (RefusesRun usual_window true before now) old new refusal
 StopsRun Jobs old new before now refusal =
     StopsAs set_limit (WritesJobsRun before now) (RefusesJobsRun before now) old new refusal × MayHaveLoaded old new before now refusal
 StopsRun Modes old new before now refusal =

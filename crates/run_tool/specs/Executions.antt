@@ -18,9 +18,9 @@ use Rattle.sched_edges.specs.Jobs.{JobPlaces}
 pub use Rattle.sched_edges.specs.Jobs.{JobAt as Holds}
 pub use Rattle.job_vm.specs.Seen.{JobSeen, jobs_of}
 use Rattle.run_tree.specs.Plans.{PlanContents, stop_of}
-use Rattle.exec_book.specs.PlanRows.{plan_rows}
+use Rattle.plan_rounds.specs.PlanRows.{plan_rows}
 use Rattle.exec_lanes.specs.declared.kits.Kit.{Kit}
-use Rattle.exec_workers.specs.Fronts.{IsFrontAt}
+use Rattle.exec_workers.specs.Fronts.{IsFrontAt, IsDue, least_count}
 
 -- what contracts see of a gate: the rows that it ran, where it tells them, and how often it has failed
 pub record GateSeen : Type 0 where
@@ -81,8 +81,10 @@ ShowsFailed old new _ = ⊥
 
 -- each gate ran the first rows of its processor, as many as `ran` says. As many of them as `posted` says are posted, all but one
 -- at most: the one at which its task's job failed, and no other job failed. Each job has worked the ticks of its task's posted rows,
--- which are the first of the task, with the program that it had
-pub record RanPart (p : PlanContents) (old new : Crew) (posted ran : List ℕ) : Type 0 where
+-- which are the first of the task, with the program that it had. No gate ran a row past the window, and those that the plan has no
+-- processor for are as they were
+pub record RanPart (p : PlanContents) (window : ℕ) (old new : Crew) (posted ran : List ℕ) : Type 0 where
+  pub width : length posted ≡ p.tree.processors
   pub beside : (q : ℕ) → (slice_index posted q ≤ slice_index ran q) × (slice_index ran q ≤ slice_index posted q + 1)
   pub gates : (q : ℕ) (g : GateSeen) → Holds old.gates q g
       → (h : GateSeen) × Holds new.gates q h × (h.ran ≡ grown g.ran (take (slice_index ran q) (lane_of (plan_rows p) q)))
@@ -92,6 +94,8 @@ pub record RanPart (p : PlanContents) (old new : Crew) (posted ran : List ℕ) :
   pub kept : (i : ℕ) → ((q : ℕ) → slice_index posted q < slice_index ran q → next_leaf p posted q ≡ Some (leaf.Task (record { 0 = i })) → ⊥)
       → JobKept old new i
   pub front : IsFrontAt p posted
+  pub within : (q : ℕ) → slice_index ran q ≤ least_count posted + window
+  pub others : (q : ℕ) → p.tree.processors ≤ q → slice_get new.gates q ≡ slice_get old.gates q
 
 -- the gate of processor q failed
 abbrev pub GateRose : Crew → Crew → ℕ → Type 0
@@ -101,20 +105,26 @@ GateRose old new q = (g h : GateSeen) × Holds old.gates q g × Holds new.gates 
 abbrev pub GateKept : Crew → Crew → ℕ → Type 0
 GateKept old new q = (g h : GateSeen) → Holds old.gates q g → Holds new.gates q h → h.faults ≡ g.faults
 
--- the gate of the row's processor failed at this row, the next after those that it ran, and none of a lower processor failed
-pub record GateStopped (p : PlanContents) (old new : Crew) (row : Row) : Type 0 where
+-- the gate of the row's processor failed at this row, the next after those that it ran, which could be taken, and none of a lower
+-- processor failed
+pub record GateStopped (p : PlanContents) (window : ℕ) (old new : Crew) (row : Row) : Type 0 where
   pub rose : GateRose old new row.processor
   pub lowest : (q : ℕ) → q < row.processor → GateKept old new q
-  pub at : (posted ran : List ℕ) × RanPart p old new posted ran × RowAt (plan_rows p) row.processor (slice_index ran row.processor) row
+  pub at : (posted ran : List ℕ) × RanPart p window old new posted ran × RowAt (plan_rows p) row.processor (slice_index ran row.processor) row
+      × (slice_index posted row.processor ≡ slice_index ran row.processor) × IsDue (plan_rows p) window posted row.processor
 
--- no gate failed. The job of the row's task failed at this row, the last one that the gate of the row's processor ran. On each
--- lower processor all that ran is posted, so no job failed there
-pub record JobStopped (p : PlanContents) (old new : Crew) (row : Row) : Type 0 where
+-- no gate failed. The job of the row's task failed at this row, the last one that the gate of the row's processor ran, and the first
+-- of the task that isn't posted. On each lower processor all that ran is posted, so no job failed there
+pub record JobStopped (p : PlanContents) (window : ℕ) (old new : Crew) (row : Row) : Type 0 where
   pub task : (task : TaskId) × (row.leaf ≡ leaf.Task task) × JobRose old new task.0
   pub gates : (q : ℕ) → GateKept old new q
-  pub at : (posted ran : List ℕ) × RanPart p old new posted ran × RowAt (plan_rows p) row.processor (slice_index posted row.processor) row
+  pub at : (posted ran : List ℕ) × RanPart p window old new posted ran × RowAt (plan_rows p) row.processor (slice_index posted row.processor) row
       × (slice_index ran row.processor ≡ slice_index posted row.processor + 1)
-      × ((q : ℕ) → q < row.processor → slice_index ran q ≡ slice_index posted q)
+      × ((q : ℕ) → q < row.processor → slice_index ran q ≡ slice_index posted q) × IsDue (plan_rows p) window posted row.processor
+
+-- how many rounds a lane may run ahead where no window is asked for
+abbrev pub usual_window : ℕ
+usual_window = 32
 
 -- no gate and no job failed
 pub record NothingRose (old new : Crew) : Type 0 where

@@ -12,7 +12,7 @@ use Rattle.still_commands.specs.declared.refusal.Refusal.TheVariants as why
 use Rattle.still_commands.specs.SetTexts.{schedule_rows, plan_of, HasRoom}
 use Rattle.run_tool.specs.JobPrograms.{ReadsJobs, HasBadProgram, set_bytes, result_text}
 use Rattle.still_commands.specs.Input.{IsSchedulable, IsRefusedSet, IsTooLongSet}
-use Rattle.run_tool.specs.Executions.{Crew, RanAll}
+use Rattle.run_tool.specs.Executions.{Crew, RanAll, usual_window}
 use Rattle.run_tool.specs.Executed.{StopsInRun, loaded_crew, HasLoaded}
 
 -- the source gave all its bytes, at most the limit, and they are this job text with this set
@@ -52,10 +52,10 @@ StopsAtJobs text out out' faults faults' old new s why.WriteFault =
     × Rose faults faults' × RanAll (plan_of s scale) (loaded_crew text scale s.tasks old) new
 StopsAtJobs text out out' faults faults' old new s (why.GateFault row name) =
     (scale : ℕ) × IsSchedulable s scale × HasRoom (schedule_rows false) s scale
-    × StopsInRun (plan_of s scale) (loaded_crew text scale s.tasks old) new (why.GateFault row name) × Keeps out out'
+    × StopsInRun (plan_of s scale) usual_window (loaded_crew text scale s.tasks old) new (why.GateFault row name) × Keeps out out'
 StopsAtJobs text out out' faults faults' old new s (why.JobFault row name) =
     (scale : ℕ) × IsSchedulable s scale × HasRoom (schedule_rows false) s scale
-    × StopsInRun (plan_of s scale) (loaded_crew text scale s.tasks old) new (why.JobFault row name) × Keeps out out'
+    × StopsInRun (plan_of s scale) usual_window (loaded_crew text scale s.tasks old) new (why.JobFault row name) × Keeps out out'
 StopsAtJobs text out out' faults faults' old new s (why.TooLong rows) = IsTooLongSet (schedule_rows false) s rows × Keeps out out'
 StopsAtJobs text out out' faults faults' old new s why.NoMemory = ((new ≡ old) ⊎ HasLoaded text s old new) × Keeps out out'
 StopsAtJobs text out out' faults faults' old new s refusal = IsRefusedSet s refusal × Keeps out out'

@@ -5,7 +5,7 @@ use Rattle.sched_base.specs.Scale.{Fits}
 use Rattle.sched_base.specs.Tables.{all_rows, ticks_in}
 use Rattle.sched_edges.specs.Jobs.{reloaded, computed}
 use Rattle.run_tree.specs.Plans.{PlanContents}
-use Rattle.exec_book.specs.PlanRows.{plan_rows}
+use Rattle.plan_rounds.specs.PlanRows.{plan_rows}
 use Rattle.task_reader.specs.Reading.{set_read_from}
 use Rattle.job_vm.specs.Programs.{Program, JobTextHeld, reading}
 use Rattle.job_vm.specs.Strays.{first_stray}

@@ -9,5 +9,6 @@ pub mod ModeRuns
 pub mod Ready
 pub mod Executed
 pub mod Asked
+pub mod Alone
 pub mod JobInput
 pub mod ModeInput

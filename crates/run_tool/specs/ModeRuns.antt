@@ -1,5 +1,5 @@
 -- What `modes` does with the gates and the jobs, what it writes then, and why it stops.
-use Rattle.std.specs.Prelude.{ℕ, ◌≡◌, ◌⊎◌, List, [], Some, slice_get, take}
+use Rattle.std.specs.Prelude.{ℕ, ◌≡◌, ◌⊎◌, nat_lt, if◌then◌else◌, List, [], ◌∷◌, Option, Some, length, slice_get, take}
 use Rattle.std.specs.List.{AllByRecursion}
 use Rattle.sched_base.specs.declared.rows.Leaf.TheVariants.{Task as OfTask}
 use Rattle.sched_base.specs.declared.rows.TaskId.{TaskId}
@@ -7,10 +7,11 @@ use Rattle.sched_base.specs.declared.sets.Task.{Task}
 use Rattle.sched_base.specs.Tables.{all_rows}
 use Rattle.sched_base.specs.Valid.{IsValid}
 use Rattle.sched_edges.specs.Gates.{grown}
+use Rattle.sched_edges.specs.Jobs.{reloaded}
 use Rattle.sched_edges.specs.Streams.{GaveAll}
 use Rattle.job_vm.specs.Loading.{loaded}
 use Rattle.run_tree.specs.Plans.{PlanContents, stop_of}
-use Rattle.exec_book.specs.PlanRows.{plan_rows}
+use Rattle.plan_rounds.specs.PlanRows.{plan_rows}
 use Rattle.mode_join.specs.declared.mode.Mode.{Mode}
 use Rattle.mode_join.specs.Modes.{ModesContents}
 use Rattle.mode_switch.specs.Runs.{rows_through, used_after}
@@ -33,18 +34,24 @@ begun_crew tasks c = record c { jobs = loaded 1 [] tasks c.jobs }
 abbrev pub HasValidRows : Mode → Type 0
 HasValidRows m = IsValid m.plan.set m.plan.tree.scale (stop_of m.plan) (stop_of m.plan) (all_rows (plan_rows m.plan))
 
+-- what a job is made of after the modes: of the empty program, in units of one tick, where one has its task
+abbrev pub made_after : List Mode → ℕ → Option (ℕ × List ℕ) → Option (ℕ × List ℕ)
+made_after [] i made = made
+made_after (m ∷ modes) i made = made_after modes i (if nat_lt i (length m.plan.set.tasks) then reloaded made 1 [] else made)
+
 -- modes were run whole, one after the other: each gate ran its processor's rows of them, and each job has worked the ticks of its
--- task in the last mode that has one. Nothing failed
+-- task in the last mode that has one, without a program. Nothing failed
 pub record RanThrough (modes : List Mode) (old new : Crew) : Type 0 where
   pub gates : (q : ℕ) (g : GateSeen) → Holds old.gates q g → Holds new.gates q (record { ran = grown g.ran (rows_through modes q); faults = g.faults })
   pub jobs : (i : ℕ) (j : JobSeen) → Holds old.jobs i j
       → (k : JobSeen) × Holds new.jobs i k × (k.id ≡ j.id) × (k.used ≡ used_after modes i j.used) × (k.faults ≡ j.faults)
+      × (k.made ≡ made_after modes i j.made)
   pub valid : AllByRecursion HasValidRows modes
 
 -- why the rows of a plan weren't all run
 abbrev pub StopsInPlan : PlanContents → Crew → Crew → ModeRefusal → Type 0
-StopsInPlan p old new (mode.GateFault row name) = GateStopped p old new row × (name ≡ name_at p.set.tasks row.leaf)
-StopsInPlan p old new (mode.JobFault row name) = JobStopped p old new row × (name ≡ name_at p.set.tasks row.leaf)
+StopsInPlan p old new (mode.GateFault row name) = (window : ℕ) × GateStopped p window old new row × (name ≡ name_at p.set.tasks row.leaf)
+StopsInPlan p old new (mode.JobFault row name) = (window : ℕ) × JobStopped p window old new row × (name ≡ name_at p.set.tasks row.leaf)
 StopsInPlan p old new _ = ⊥
 
 -- the gate or the job that is named failed

@@ -4,7 +4,7 @@ ghost use Rattle.sched_base.specs.Tables.{rounds_of as rounds_in};
 ghost use Rattle.sched_base.specs.Tables.{row_limit};
 ghost use Rattle.sched_base.specs.Lanes.{NamesOneOf};
 ghost use Rattle.row_totals.specs.Sums.{totals_of};
-ghost use Rattle.exec_book.specs.PlanRows.{plan_rows};
+ghost use Rattle.plan_rounds.specs.PlanRows.{plan_rows};
 ghost use Rattle.exec_workers.specs.Runs.{IsExecutable};
 ghost use Rattle.run_tree.specs.Compiled.{tree_of};
 ghost use Rattle.still_commands.specs.Commands.{set_limit};
@@ -24,7 +24,7 @@ use sched_edges::{BoxedJob, Gate, Job, Jobs, Sink, Source};
 use std::alloc::Global;
 use std::sync::Wait;
 use std::thread::Threads;
-use still_commands::{Refusal, plan_of, read_input, write_rows, written};
+use still_commands::{Refusal, finishes_for, plan_of, read_input, write_rows, written};
 
 /// Reads a task set, has the gates and the jobs run its schedule, and writes it; in version 2 where `met` is asked for or some
 /// task is released late. A lane may run up to `window` rounds ahead of the others.
@@ -46,7 +46,7 @@ pub(crate) fn exec<R: Source, W: Sink, G: Gate + Send, X: Threads + Wait + Sync>
         let before = crew_of G.Gate ⟦<BoxedJob as Job>⟧ kits.old jobs.old in
         let now = crew_of G.Gate ⟦<BoxedJob as Job>⟧ kits.new jobs.new in
         EndsPart (IsTold set_limit (WritesRun met before now) Done old new)
-        (StopsAs set_limit (WritesRun met before now) (RefusesRun met before now) old new) may_have_called before now
+        (StopsAs set_limit (WritesRun met before now) (RefusesRun window met before now) old new) may_have_called before now
         ((kits.new.items ≡ kits.old.items) × (jobs.new.places ≡ jobs.old.places)) result }
 {
     let set = read_input(alloc, source)?;
@@ -73,12 +73,14 @@ fn run_and_write<W: Sink, G: Gate + Send, X: Threads + Wait + Sync>(
     ensures { let before = crew_of G.Gate ⟦<BoxedJob as Job>⟧ kits.old jobs.old in
         let now = crew_of G.Gate ⟦<BoxedJob as Job>⟧ kits.new jobs.new in
         EndsPart (RanSet met (W.taken out.old) (W.taken out.new) before now plan.now.set)
-        (StopsAtRun met (W.taken out.old) (W.taken out.new) (W.faults out.old) (W.faults out.new) before now plan.now.set) may_have_called before now
+        (StopsAtRun window met (W.taken out.old) (W.taken out.new) (W.faults out.old) (W.faults out.new) before now plan.now.set) may_have_called before now
         ((kits.new.items ≡ kits.old.items) × (jobs.new.places ≡ jobs.old.places)) result }
 {
     let rounds = count_rounds(alloc, plan)?;
+    let mut finishes = finishes_for(alloc, plan.set(), met)?;
     let executed = run_plan(rt, alloc, plan, rounds, window, kits, jobs)?;
-    written(write_rows(plan, &executed.table, executed.totals.as_slice(), met, out))
+    let (table, totals) = (&executed.table, executed.totals.as_slice());
+    written(write_rows(plan, table, totals, met, &mut finishes, out))
 }
 
 /// Has the gates and the jobs run the schedule of a plan.
@@ -98,7 +100,7 @@ pub(crate) fn run_plan<G: Gate + Send, X: Threads + Wait + Sync>(
     ensures lanes { IfOk result (λ executed. executed.table.lanes ≡ plan_rows plan.now) }
     ensures few { IfOk result (λ executed. length executed.table.lanes * rounds_in executed.table.lanes ≤ row_limit) }
     ensures totals { IfOk result (λ executed. executed.totals.ticks ≡ totals_of (length plan.now.set.tasks) (plan_rows plan.now)) }
-    ensures stops { IfErr result (StopsInRun plan.now (crew_of G.Gate ⟦<BoxedJob as Job>⟧ kits.old jobs.old)
+    ensures stops { IfErr result (StopsInRun plan.now window (crew_of G.Gate ⟦<BoxedJob as Job>⟧ kits.old jobs.old)
         (crew_of G.Gate ⟦<BoxedJob as Job>⟧ kits.new jobs.new)) }
     ensures uncalled { IfErr result (λ refusal. may_have_called (status_of refusal) ≡ false →
         (kits.new.items ≡ kits.old.items) × (jobs.new.places ≡ jobs.old.places)) }

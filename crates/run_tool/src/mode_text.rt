@@ -5,7 +5,7 @@ ghost use Rattle.sched_base.specs.Tables.{row_limit};
 ghost use Rattle.sched_edges.specs.Causes.{HasCause};
 ghost use Rattle.sched_edges.specs.Lines.{line_of};
 ghost use Rattle.sched_edges.specs.Streams.{Wrote};
-ghost use Rattle.exec_book.specs.PlanRows.{plan_rows};
+ghost use Rattle.plan_rounds.specs.PlanRows.{plan_rows};
 ghost use Rattle.mode_join.specs.declared.mode.Mode.{Mode};
 ghost use Rattle.mode_switch.specs.Runs.{IsRunOf};
 ghost use Rattle.run_tree.specs.Plans.{rounds_of};

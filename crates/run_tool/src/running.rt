@@ -5,7 +5,7 @@ ghost use Rattle.still_commands.specs.Commands.{of_trace};
 ghost use Rattle.still_commands.specs.Ends.{streams_of, error_of, IsDone, IsUsage};
 ghost use Rattle.run_tool.specs.Asked.{EndsAsked};
 ghost use Rattle.run_tool.specs.Ends.{IsCommandDone, IsCommandAnswered};
-ghost use Rattle.run_tool.specs.Executions.{crew_of, IsFreshCrew, AreBack};
+ghost use Rattle.run_tool.specs.Executions.{Crew, crew_of, IsFreshCrew, AreBack};
 ghost use Rattle.run_tool.specs.Executed.{EndsExecution, EndsWith, NoneFailed, may_have_run};
 ghost use Rattle.command_words.specs.declared.command.Command.{Command};
 ghost use Rattle.command_words.specs.declared.command.Command.TheVariants.{Read};
@@ -55,7 +55,8 @@ pub fn run<R: Source, W: Sink, E: Sink, G: Gate + Send, X: Threads + Wait + Sync
     // Done: `out` took exactly the text that the command writes for the bytes that the source gave, and what it tells of a set
     // or of a tree is sound: a tree is a reduction tree of its set, and a schedule is valid. For a drill the source gave none.
     ensures done { result ≡ Status.Done → (c : Command) × (command_of (map string_bytes words.now) ≡ Some c) × IsCommandDone c Done
-        (streams_of R.Source W.Sink source.old out.old) (streams_of R.Source W.Sink source.new out.new) }
+        (streams_of R.Source W.Sink source.old out.old) (streams_of R.Source W.Sink source.new out.new)
+        (crew_of G.Gate ⟦<BoxedJob as Job>⟧ kits.old jobs.old) }
 
     // Invalid: `check` read a trace whose rows aren't a valid schedule, and `out` took exactly the line that says where and why.
     ensures invalid { result ≡ Status.Invalid → (command_of (map string_bytes words.now) ≡ Some (Read Check)) × IsDone of_trace Invalid
@@ -90,13 +91,43 @@ pub fn run<R: Source, W: Sink, E: Sink, G: Gate + Send, X: Threads + Wait + Sync
         → IsCommandAnswered (command_of (map string_bytes words.now)) (R.left source.old)
         (streams_of R.Source W.Sink source.old out.old) (streams_of R.Source W.Sink source.new out.new) result }
 {
+    if !asks_to_execute(words) {
+        return run_without_crew(rt, alloc, words, source, out, err);
+    }
+    run_execution(rt, alloc, words, source, out, err, kits, jobs)
+}
+
+/// Does what the words ask for, where they ask for no execution: no gate and no job is needed. The clauses are those of `run`.
+pub fn run_without_crew<R: Source, W: Sink, E: Sink, X: Threads + Sync>(
+    rt: &X,
+    alloc: Global,
+    words: &[String],
+    source: &mut R,
+    out: &mut W,
+    err: &mut E,
+) -> Status
+    requires still { asks_to_execute (map string_bytes words.now) ≡ false }
+    ensures usage { result ≢ Status.NoMemory → ((result ≡ Status.Usage) ↔ (command_of (map string_bytes words.now) ≡ None)) }
+    ensures unread { command_of (map string_bytes words.now) ≡ None → IsUsage
+        (streams_of R.Source W.Sink source.old out.old) (streams_of R.Source W.Sink source.new out.new)
+        (error_of E.Sink err.old) (error_of E.Sink err.new) result }
+    ensures done { result ≡ Status.Done → (c : Command) × (command_of (map string_bytes words.now) ≡ Some c)
+        × ((before : Crew) → IsCommandDone c Done
+        (streams_of R.Source W.Sink source.old out.old) (streams_of R.Source W.Sink source.new out.new) before) }
+    ensures invalid { result ≡ Status.Invalid → (command_of (map string_bytes words.now) ≡ Some (Read Check)) × IsDone of_trace Invalid
+        (streams_of R.Source W.Sink source.old out.old) (streams_of R.Source W.Sink source.new out.new) }
+
+    // Whatever the gates and the jobs are, which it doesn't touch.
+    ensures ends { (c : Command) (before now : Crew) → command_of (map string_bytes words.now) ≡ Some c →
+        EndsWith c (streams_of R.Source W.Sink source.old out.old) (streams_of R.Source W.Sink source.new out.new)
+        (error_of E.Sink err.old) (error_of E.Sink err.new) before now result }
+    ensures answered { IsCommandAnswered (command_of (map string_bytes words.now)) (R.left source.old)
+        (streams_of R.Source W.Sink source.old out.old) (streams_of R.Source W.Sink source.new out.new) result }
+{
     if asks_for_batch(words) {
         return run_batch(rt, alloc, words, source, out, err);
     }
-    if !asks_to_execute(words) {
-        return run_still(alloc, words, source, out, err);
-    }
-    run_execution(rt, alloc, words, source, out, err, kits, jobs)
+    run_still(alloc, words, source, out, err)
 }
 
 // Does what the words ask for, where they ask for an execution.

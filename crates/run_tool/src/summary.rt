@@ -36,8 +36,8 @@ pub(crate) fn summary_of(number: u64, rounds: u64, trace: &ReadTrace) -> Option<
             scale: trace.scale(),
             rounds,
             rows: trace.rows().len() as u64,
-            preemptions: preemptions(trace),
-            migrations: migrations(trace),
+            preemptions: preemptions(trace.checked()),
+            migrations: migrations(trace.checked()),
         }),
         Verdict::Fault { .. } => None,
     }

@@ -1,5 +1,7 @@
 -- What the streams over a reader and a writer count.
-use Rattle.std.specs.Prelude.{ℕ}
+use Rattle.std.specs.Prelude.{ℕ, List}
+use Rattle.std.specs.Io.Buffered.{writer_buffer}
+use Rattle.std.specs.declared.io.buffered.BufWriter.{BufWriter}
 use Rattle.sched_edges.specs.declared.std_streams.StdSource.{StdSource}
 use Rattle.sched_edges.specs.declared.std_streams.StdSink.{StdSink}
 
@@ -10,3 +12,7 @@ source_faults s = s.faults
 -- how often the sink has failed
 abbrev pub sink_faults : {W : Type 0} → StdSink W → ℕ
 sink_faults s = s.faults
+
+-- the bytes that the sink took and that its writer has still to hand on
+abbrev pub kept_back : {W A : Type 0} → StdSink (BufWriter W A) → List ℕ
+kept_back s = writer_buffer s.inner

@@ -1,11 +1,45 @@
 //! Streams over std's readers and writers. Over the streams of the process they are the edge that is trusted.
-ghost use Rattle.std.specs.Prelude.{◌≡◌};
-ghost use Rattle.std.specs.Io.KnownBytes.{Keeps};
+ghost use Rattle.std.specs.Prelude.{◌≡◌, [], OnOk};
+ghost use Rattle.std.specs.Io.{ReadsAtMost, WritesAtMost};
+ghost use Rattle.std.specs.Io.Buffered.{writer_contents};
+ghost use Rattle.std.specs.Io.KnownBytes.{Keeps, ReadConsumes, WriteAppends};
 ghost use Rattle.sched_edges.specs.Causes.{HasCause};
-ghost use Rattle.sched_edges.specs.StdStreams.{source_faults, sink_faults};
+ghost use Rattle.sched_edges.specs.StdStreams.{source_faults, sink_faults, kept_back};
 
 use crate::streams::{Failed, Sink, Source, fault};
-use std::io::{Read, Write};
+use std::io;
+use std::io::{BufWriter, ErrorKind, Read, Write};
+
+/// How often a call is made again that a signal interrupts each time.
+const TRIES: u32 = 64;
+
+// Reads once. A call that a signal interrupted is made again.
+fn read_again<R: Read>(reader: &mut R, buffer: &mut [u8]) -> io::Result<usize>
+    ensures bound { ReadsAtMost result buffer.new }
+    ensures bytes { ReadConsumes (R.remaining reader.old) (R.remaining reader.new) result buffer.new }
+{
+    for _ in 0..TRIES {
+        match reader.read(buffer) {
+            Err(error) if error.kind() == ErrorKind::Interrupted => {}
+            told => return told,
+        }
+    }
+    reader.read(buffer)
+}
+
+// Writes once. A call that a signal interrupted is made again.
+fn write_again<W: Write>(writer: &mut W, piece: &[u8]) -> io::Result<usize>
+    ensures bound { WritesAtMost result piece.now }
+    ensures bytes { WriteAppends (W.contents writer.old) (W.contents writer.new) result piece.now }
+{
+    for _ in 0..TRIES {
+        match writer.write(piece) {
+            Err(error) if error.kind() == ErrorKind::Interrupted => {}
+            told => return told,
+        }
+    }
+    writer.write(piece)
+}
 
 /// A source over a reader. It tells what the reader tells: standard input tells nothing.
 #[derive(Drop)]
@@ -29,7 +63,7 @@ impl<R: Read + Drop> Source for StdSource<R> {
     ghost faults = { λ s. source_faults s };
 
     fn read(&mut self, buffer: &mut [u8]) -> Result<usize, Failed> {
-        match self.inner.read(buffer) {
+        match read_again(&mut self.inner, buffer) {
             Ok(count) => Ok(count),
             Err(_) => Err(fault(&mut self.faults)),
         }
@@ -50,10 +84,13 @@ impl<W: Write + Drop> StdSink<W> {
     {
         StdSink { inner, faults: 0 }
     }
+}
 
-    /// Hands on what the writer has kept back. To be called at the end over a writer with a buffer.
+impl<W: Write + Drop> StdSink<BufWriter<W>> {
+    /// Hands on what the writer has kept back. To be called at the end.
     pub fn flush(&mut self) -> Result<(), Failed>
-        ensures bytes { Keeps (W.contents self.old.inner) (W.contents self.new.inner) }
+        ensures handed_on { OnOk result (kept_back self.new ≡ []) }
+        ensures bytes { Keeps (writer_contents W.contents self.old.inner) (writer_contents W.contents self.new.inner) }
         ensures cause { HasCause (sink_faults self.old) (sink_faults self.new) result }
     {
         match self.inner.flush() {
@@ -69,7 +106,7 @@ impl<W: Write + Drop> Sink for StdSink<W> {
     ghost faults = { λ s. sink_faults s };
 
     fn write(&mut self, piece: &[u8]) -> Result<usize, Failed> {
-        match self.inner.write(piece) {
+        match write_again(&mut self.inner, piece) {
             Ok(count) if count > 0 || piece.is_empty() => Ok(count),
             _ => Err(fault(&mut self.faults)),
         }

@@ -4,6 +4,8 @@ use Rattle.std.proofs.Common.{sym, ◌∙◌, ap, subst, arith}
 use Rattle.sched_base.specs.Sets.{SetContents}
 use Rattle.sched_base.specs.Scale.{IsScale, PassesAt, total_of, room_of}
 use Rattle.sched_base.specs.Tables.{row_limit}
+use Rattle.repeat_laws.specs.Repeats.{up_to}
+use Rattle.repeat_laws.proofs.Repeating.{of_task}
 use Rattle.run_tree.specs.Plans.{stop_of}
 use Rattle.task_reader.specs.Reading.{set_read_from}
 use Rattle.task_reader.specs.declared.refusals.ReadSet.{ReadSet}
@@ -17,10 +19,10 @@ use Rattle.still_commands.specs.declared.refusal.Refusal.{Refusal}
 use Rattle.still_commands.specs.declared.refusal.Refusal.TheVariants as why
 use Rattle.still_commands.specs.declared.status.Status.{Status}
 use Rattle.still_commands.specs.declared.status.Status.TheVariants.{Done, Invalid, NoMemory, BadInput, TooLong, TooWide}
-use Rattle.still_commands.specs.Commands.{SetText, rates, server_tree, schedule_rows, wrapped_rows, c_table, Output, of_set, of_trace, of_picture, of_tree, of_batch}
+use Rattle.still_commands.specs.Commands.{SetText, rates, server_tree, schedule_rows, wrapped_rows, c_table, repeating, Output, of_set, of_trace, of_picture, of_tree, of_batch}
 use Rattle.still_commands.specs.Commands.{output_of, limit_of, plan_of, rows_of, wrapped_rows_of, HasRoom, WritesSet, RefusesText}
 use Rattle.still_commands.specs.Commands.{Writes, CallsFor, Refuses}
-use Rattle.still_commands.specs.SetTexts.{IsSchedulable, IsUnfit, IsTooLongSet, IsTooWidePlan, IsTooWideSet, LacksText}
+use Rattle.still_commands.specs.SetTexts.{IsSchedulable, IsUnfit, IsTooLongSet, IsTooWidePlan, IsTooWideSet, IsUnrepeated, LacksRepeat, LacksText, Repeats}
 use Rattle.still_commands.specs.Checks.{TellsTrace, Judges, RefusesTrace}
 use Rattle.still_commands.specs.Draws.{AreDrawn}
 use Rattle.still_commands.specs.Refusals.{status_of, set_status}
@@ -39,6 +41,10 @@ not_both : (bytes : List ℕ) (s : SetContents) (r : ReadSet) → set_read_from 
 not_both bytes s r a b = let e : ◌≡◌ {A = Result SetContents ReadSet} (Ok s) (Err r) = sym a ∙ b in cc
 
 -- ---- sets
+
+-- a set fits up to each horizon
+up_to_fits : (s : SetContents) (horizon scale : ℕ) → IsSchedulable s scale → IsSchedulable (up_to horizon s) scale
+up_to_fits s horizon scale run = record { is_scale = run.is_scale; within = run.within; fits = run.fits }
 
 -- a set with a scale within the limit has no task that passes it
 no_pass : (s : SetContents) (scale task : ℕ) → IsScale s.tasks scale → scale ≤ 2 ^ 94 → PassesAt (2 ^ 94) s.tasks task → ⊥
@@ -80,6 +86,10 @@ not_too_long c_table s scale rows run room long =
     let over' = moved (λ n. row_limit < rows_of (plan_of s n)) s other scale run' run over in
     let few = room.1 in
     absurd (omega (arith, few, over'))
+not_too_long (repeating what) s scale rows run room long =
+    let (other, run', repeats, long') = long in
+    let here = moved (λ n. IsTooLongSet what (up_to n s) rows) s other scale run' run long' in
+    not_too_long what (up_to scale s) scale rows (up_to_fits s scale scale run) room.1 here
 
 -- a schedule with few ticks hasn't too many
 few_ticks : (s : SetContents) (scale ticks : ℕ) → IsSchedulable s scale → stop_of (plan_of s scale) < 2 ^ 64 → IsTooWidePlan s ticks → ⊥
@@ -90,10 +100,17 @@ few_ticks s scale ticks run few wide =
 
 not_too_wide : (what : SetText) (s : SetContents) (scale ticks : ℕ) → IsSchedulable s scale → HasRoom what s scale → IsTooWideSet what s ticks → ⊥
 not_too_wide c_table s scale ticks run room wide = few_ticks s scale ticks run room.0 wide
+not_too_wide (repeating what) s scale ticks run room wide =
+    let (other, run', repeats, wide') = wide in
+    let here = moved (λ n. IsTooWideSet what (up_to n s) ticks) s other scale run' run wide' in
+    not_too_wide what (up_to scale s) scale ticks (up_to_fits s scale scale run) room.1 here
 not_too_wide _ s scale ticks run room wide = absurd wide
 
 not_long_and_wide : (what : SetText) (s : SetContents) (rows ticks : ℕ) → IsTooLongSet what s rows → IsTooWideSet what s ticks → ⊥
 not_long_and_wide c_table s rows ticks long wide = few_ticks s long.0.0 ticks long.0.1 long.0.2 wide
+not_long_and_wide (repeating what) s rows ticks long wide =
+    let here = moved (λ n. IsTooWideSet what (up_to n s) ticks) s wide.0 long.0 wide.1 long.1 wide.3 in
+    not_long_and_wide what (up_to long.0 s) rows ticks long.3 here
 not_long_and_wide _ s rows ticks long wide = absurd wide
 
 -- a set that has not this text for its many rows, or its many ticks, fits
@@ -103,28 +120,75 @@ long_fits server_tree s rows long = absurd long
 long_fits (schedule_rows met) s rows long = (long.0, long.1)
 long_fits wrapped_rows s rows long = (long.0, long.1)
 long_fits c_table s rows long = (long.1.0, long.1.1)
+long_fits (repeating what) s rows long = (long.0, long.1)
 
 wide_fits : (what : SetText) (s : SetContents) (ticks : ℕ) → IsTooWideSet what s ticks → (scale : ℕ) × IsSchedulable s scale
 wide_fits c_table s ticks wide = (wide.0, wide.1)
+wide_fits (repeating what) s ticks wide = (wide.0, wide.1)
 wide_fits _ s ticks wide = absurd wide
 
--- a set doesn't fit, or doesn't have this text for its many rows, or its many ticks
+-- a set whose schedule doesn't repeat fits
+unrepeated_fits : (what : SetText) (s : SetContents) (r : Refusal) → LacksRepeat what s r → (scale : ℕ) × IsSchedulable s scale
+unrepeated_fits (repeating what) s (why.NoRepeat task) without = (without.0, without.1)
+unrepeated_fits (repeating what) s (why.WideRepeat units) without = (units, without.0)
+unrepeated_fits (repeating what) s _ without = absurd without
+unrepeated_fits _ s r without = absurd without
+
+-- a schedule that repeats doesn't lack that
+repeats_or_not : (s : SetContents) (scale : ℕ) (r : Refusal) → IsSchedulable s scale → Repeats s scale → IsUnrepeated s r → ⊥
+repeats_or_not s scale (why.NoRepeat task) run repeats without =
+    without.2.holds (of_task (λ t. t.offset ≡ 0) s.tasks task repeats.no_offset without.2.within)
+repeats_or_not s scale (why.WideRepeat units) run repeats without =
+    let few = moved (λ n. n < 2 ^ 32) s scale units run without.0 repeats.horizon_fits in
+    let many = without.2 in
+    absurd (omega (arith, few, many))
+repeats_or_not s scale _ run repeats without = absurd without
+
+not_unrepeated : (what : SetText) (s : SetContents) (scale : ℕ) (r : Refusal) → IsSchedulable s scale → HasRoom what s scale → LacksRepeat what s r → ⊥
+not_unrepeated (repeating what) s scale r run room without = repeats_or_not s scale r run room.0 without
+not_unrepeated _ s scale r run room without = absurd without
+
+not_long_unrepeated : (what : SetText) (s : SetContents) (rows : ℕ) (r : Refusal) → IsTooLongSet what s rows → LacksRepeat what s r → ⊥
+not_long_unrepeated (repeating what) s rows r long without = repeats_or_not s long.0 r long.1 long.2 without
+not_long_unrepeated _ s rows r long without = absurd without
+
+-- a set doesn't fit, or doesn't have this text for its many rows; or for its many ticks, or since its schedule doesn't repeat
 abbrev Lacks : SetText → SetContents → Refusal → Type 0
 Lacks what s r =
     IsUnfit s r
-    ⊎ (((rows : ℕ) × IsTooLongSet what s rows × (status_of r ≡ TooLong)) ⊎ ((ticks : ℕ) × IsTooWideSet what s ticks × (status_of r ≡ TooWide)))
+    ⊎ (((rows : ℕ) × IsTooLongSet what s rows × (status_of r ≡ TooLong))
+    ⊎ ((((ticks : ℕ) × IsTooWideSet what s ticks) ⊎ LacksRepeat what s r) × (status_of r ≡ TooWide)))
 
 lacks : (what : SetText) (s : SetContents) (r : Refusal) → LacksText what s r → Lacks what s r
 lacks what s (why.TooLong rows) without = inr (inl (rows, without, refl))
-lacks what s (why.TooWide ticks) without = inr (inr (ticks, without, refl))
+lacks what s (why.TooWide ticks) without = inr (inr (inl (ticks, without), refl))
+lacks what s (why.NoRepeat task) without = inr (inr (inr without, refl))
+lacks what s (why.WideRepeat units) without = inr (inr (inr without, refl))
 lacks what s _ without = inl without
+
+-- a set that lacks a text for such a reason fits
+abbrev IsWide : SetText → SetContents → Refusal → Type 0
+IsWide what s r = ((ticks : ℕ) × IsTooWideSet what s ticks) ⊎ LacksRepeat what s r
+
+lacking_fits : (what : SetText) (s : SetContents) (r : Refusal) → IsWide what s r → (scale : ℕ) × IsSchedulable s scale
+lacking_fits what s r (inl wide) = wide_fits what s wide.0 wide.1
+lacking_fits what s r (inr without) = unrepeated_fits what s r without
+
+-- and hasn't got too many rows
+not_long_and_lacking : (what : SetText) (s : SetContents) (rows : ℕ) (r : Refusal) → IsTooLongSet what s rows → IsWide what s r → ⊥
+not_long_and_lacking what s rows r long (inl wide) = not_long_and_wide what s rows wide.0 long wide.1
+not_long_and_lacking what s rows r long (inr without) = not_long_unrepeated what s rows r long without
+
+room_or_lacking : (what : SetText) (s : SetContents) (scale : ℕ) (r : Refusal) → IsSchedulable s scale → HasRoom what s scale → IsWide what s r → ⊥
+room_or_lacking what s scale r run room (inl wide) = not_too_wide what s scale wide.0 run room wide.1
+room_or_lacking what s scale r run room (inr without) = not_unrepeated what s scale r run room without
 
 -- a set doesn't lack the text that it has
 has_or_lacks : (what : SetText) (s : SetContents) (scale : ℕ) (r : Refusal) → IsSchedulable s scale → HasRoom what s scale → LacksText what s r → ⊥
 has_or_lacks what s scale r run room without = elim (lacks what s r without) [
   | inl unfit ↦ fits_or_not s scale r run unfit
   | inr (inl long) ↦ not_too_long what s scale long.0 run room long.1
-  | inr (inr wide) ↦ not_too_wide what s scale wide.0 run room wide.1
+  | inr (inr wide) ↦ room_or_lacking what s scale r run room wide.0
 ]
 
 -- a set that doesn't fit is refused with one status
@@ -144,17 +208,17 @@ one_lack_status what s r q a b =
       | inl unfit ↦ elim (lacks what s q b) [
         | inl other ↦ one_unfit_status s r q unfit other
         | inr (inl long) ↦ let (scale, run) = long_fits what s long.0 long.1 in absurd (fits_or_not s scale r run unfit)
-        | inr (inr wide) ↦ let (scale, run) = wide_fits what s wide.0 wide.1 in absurd (fits_or_not s scale r run unfit)
+        | inr (inr wide) ↦ let (scale, run) = lacking_fits what s q wide.0 in absurd (fits_or_not s scale r run unfit)
       ]
       | inr (inl long) ↦ elim (lacks what s q b) [
         | inl unfit ↦ let (scale, run) = long_fits what s long.0 long.1 in absurd (fits_or_not s scale q run unfit)
         | inr (inl other) ↦ long.2 ∙ sym other.2
-        | inr (inr wide) ↦ absurd (not_long_and_wide what s long.0 wide.0 long.1 wide.1)
+        | inr (inr wide) ↦ absurd (not_long_and_lacking what s long.0 q long.1 wide.0)
       ]
       | inr (inr wide) ↦ elim (lacks what s q b) [
-        | inl unfit ↦ let (scale, run) = wide_fits what s wide.0 wide.1 in absurd (fits_or_not s scale q run unfit)
-        | inr (inl long) ↦ absurd (not_long_and_wide what s long.0 wide.0 long.1 wide.1)
-        | inr (inr other) ↦ wide.2 ∙ sym other.2
+        | inl unfit ↦ let (scale, run) = lacking_fits what s r wide.0 in absurd (fits_or_not s scale q run unfit)
+        | inr (inl long) ↦ absurd (not_long_and_lacking what s long.0 r long.1 wide.0)
+        | inr (inr other) ↦ wide.1 ∙ sym other.1
       ]
     ]
 

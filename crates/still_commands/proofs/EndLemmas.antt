@@ -4,7 +4,7 @@ use Rattle.std.specs.Io.KnownBytes.{Keeps}
 use Rattle.command_words.specs.declared.command.Command.{Command}
 use Rattle.command_words.specs.declared.command.Command.TheVariants.{Read}
 use Rattle.command_words.specs.declared.command.Reading.{Reading}
-use Rattle.command_words.specs.declared.command.Reading.TheVariants.{Rate, Tree, Trace, TraceMet, TraceWrap, Table, Check, Follow, Draw}
+use Rattle.command_words.specs.declared.command.Reading.TheVariants.{Rate, Tree, Trace, TraceMet, TraceWrap, TraceRepeat, Table, TableRepeat, Check, Follow, Draw}
 use Rattle.mode_join.specs.declared.faults.ModeKind.{ModeKind}
 use Rattle.mode_join.specs.declared.faults.ModeKind.TheVariants as kind
 use Rattle.task_reader.specs.declared.refusals.ReadSet.{ReadSet}
@@ -131,7 +131,9 @@ told_invalid Tree status old new done e = absurd (not_both status done.told.3.0 
 told_invalid Trace status old new done e = absurd (not_both status done.told.3.0 e)
 told_invalid TraceMet status old new done e = absurd (not_both status done.told.3.0 e)
 told_invalid TraceWrap status old new done e = absurd (not_both status done.told.3.0 e)
+told_invalid TraceRepeat status old new done e = absurd (not_both status done.told.3.0 e)
 told_invalid Table status old new done e = absurd (not_both status done.told.3.0 e)
+told_invalid TableRepeat status old new done e = absurd (not_both status done.told.3.0 e)
 told_invalid Follow status old new done e = absurd (not_both status done.told.3.0 e)
 told_invalid (Draw asked) status old new done e = absurd (not_both status done.told.3.0 e)
 

@@ -12,3 +12,4 @@ pub mod SoundLemmas
 pub mod NumberedLemmas
 pub mod BatchLemmas
 pub mod WrittenLemmas
+mod RepeatLemmas

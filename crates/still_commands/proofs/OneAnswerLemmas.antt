@@ -161,6 +161,12 @@ module _ (limit : ℕ) (Writes : List ℕ → Status → List ℕ → Type 0) (C
   stop_answered bytes old new (why.TooWide ticks) answer e stops unread unwritten is =
       inl (refused_by bytes stops.0 new.left (why.TooWide ticks) answer
       (subst (λ (l : Option (List ℕ)). GaveAll l new.left limit stops.0) e stops.1) stops.2 is)
+  stop_answered bytes old new (why.NoRepeat task) answer e stops unread unwritten is =
+      inl (refused_by bytes stops.0 new.left (why.NoRepeat task) answer
+      (subst (λ (l : Option (List ℕ)). GaveAll l new.left limit stops.0) e stops.1) stops.2 is)
+  stop_answered bytes old new (why.WideRepeat units) answer e stops unread unwritten is =
+      inl (refused_by bytes stops.0 new.left (why.WideRepeat units) answer
+      (subst (λ (l : Option (List ℕ)). GaveAll l new.left limit stops.0) e stops.1) stops.2 is)
 
   -- what stopped answers
   pub stops_asked : (left : Option (List ℕ)) (old new : Streams) (err err' : ErrorStream) (r : Refusal) (status : Status) → old.left ≡ left

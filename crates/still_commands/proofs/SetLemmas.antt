@@ -60,4 +60,6 @@ pub refused_stops : (what : SetText) (s : SetContents) (out : Option (List ℕ))
 refused_stops what s out faults why.WriteFault is = absurd is
 refused_stops what s out faults (why.TooLong rows) is = absurd is
 refused_stops what s out faults (why.TooWide ticks) is = absurd is
+refused_stops what s out faults (why.NoRepeat task) is = absurd is
+refused_stops what s out faults (why.WideRepeat units) is = absurd is
 refused_stops what s out faults _ is = (is, keeps_same out)

@@ -1,13 +1,12 @@
 -- What the rows of a plan are, as its trace text asks for.
 use Rattle.std.proofs.Common.{◌≡◌, ◌≤◌, ◌*◌, ◌||◌, ℕ, not, eqb, Bool, true, false, List, [], ◌∷◌, length, ap, ap₂, sym, subst, ◌∙◌, inl, inr, mul_comm}
-use Rattle.std.proofs.lemmas.Bool.{cases_Bool, cond-false, eqb-true}
+use Rattle.std.proofs.lemmas.Bool.{cases_Bool, eqb-true}
 use Rattle.sched_base.specs.declared.rows.Row.{Row}
 use Rattle.sched_base.specs.declared.sets.Task as declared
 use Rattle.sched_base.specs.Lanes.{lanes_of}
 use Rattle.sched_base.specs.Tables.{all_rows, row_limit, rounds_of}
 use Rattle.run_tree.specs.Plans.{PlanContents, schedule_of}
 use Rattle.trace_lines.specs.Conditions.{AreOnTime}
-use Rattle.trace_lines.specs.declared.versions.Version.TheVariants.{One, Two}
 use Rattle.trace_lines.specs.Text.{trace_text}
 use Rattle.merged_rows.proofs.PushLemmas.{all_merged}
 use Rattle.merged_rounds.specs.Passes.{AreMergedOf}
@@ -27,12 +26,11 @@ pub on_time_unless : (met : Bool) (tasks : List declared.Task) → (met || some_
 on_time_unless true tasks e = absurd (let wanted : true ≡ false = e in cc)
 on_time_unless false tasks e = on_time tasks e
 
--- the text of merged rows, where it is of version 1
-pub merged_text : (met : Bool) (p : PlanContents) (lanes : List (List Row)) → (met || some_late p.set.tasks) ≡ false → AreMergedOf p lanes
-    → trace_text One p.set p.tree.scale (all_rows lanes) ≡ schedule_text met p
-merged_text met p lanes first is =
-    ap (λ version. trace_text version p.set p.tree.scale (all_rows lanes)) (sym (cond-false (met || some_late p.set.tasks) Two One first))
-    ∙ ap (trace_text (version_of met p.set.tasks) p.set p.tree.scale) (ap all_rows is ∙ all_merged (lanes_of p.tree.processors (schedule_of p)))
+-- the text of merged rows
+pub merged_text : (met : Bool) (p : PlanContents) (lanes : List (List Row)) → AreMergedOf p lanes
+    → trace_text (version_of met p.set.tasks) p.set p.tree.scale (all_rows lanes) ≡ schedule_text met p
+merged_text met p lanes is =
+    ap (trace_text (version_of met p.set.tasks) p.set p.tree.scale) (ap all_rows is ∙ all_merged (lanes_of p.tree.processors (schedule_of p)))
 
 -- a table of so many rounds, with a lane for each of so many processors, has few rows
 pub few_rows : (lanes : List (List Row)) (m rounds : ℕ) → length lanes ≡ m → rounds_of lanes ≡ rounds → rounds * m ≤ row_limit

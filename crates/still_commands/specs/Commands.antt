@@ -2,7 +2,7 @@
 use Rattle.std.specs.Prelude.{◌≡◌, ℕ, true, false, List}
 use Rattle.trace_lines.specs.declared.asking.Asked.{Asked}
 use Rattle.command_words.specs.declared.command.Reading.{Reading}
-use Rattle.command_words.specs.declared.command.Reading.TheVariants.{Rate, Tree, Trace, TraceMet, TraceWrap, Table, Check, Follow, Draw}
+use Rattle.command_words.specs.declared.command.Reading.TheVariants.{Rate, Tree, Trace, TraceMet, TraceWrap, TraceRepeat, Table, TableRepeat, Check, Follow, Draw}
 use Rattle.still_commands.specs.declared.refusal.Refusal.{Refusal}
 use Rattle.still_commands.specs.Batch.{WritesBatch}
 use Rattle.still_commands.specs.Checks.{WritesVerdict, Judges, RefusesTrace}
@@ -10,7 +10,7 @@ use Rattle.still_commands.specs.Draws.{WritesPicture, AreDrawn}
 use Rattle.still_commands.specs.Follow.{WritesFollow, RefusesFollow}
 use Rattle.still_commands.specs.declared.status.Status.{Status}
 use Rattle.still_commands.specs.declared.status.Status.TheVariants.{Done}
-pub use Rattle.still_commands.specs.SetTexts.{SetText, rates, server_tree, schedule_rows, wrapped_rows, c_table, ReadsSet, plan_of, some_late, version_of}
+pub use Rattle.still_commands.specs.SetTexts.{SetText, rates, server_tree, schedule_rows, wrapped_rows, c_table, repeating, ReadsSet, plan_of, some_late, version_of}
 pub use Rattle.still_commands.specs.SetTexts.{schedule_text, wrapped_text, plan_table, text_of, rows_of, wrapped_rows_of}
 pub use Rattle.still_commands.specs.SetTexts.{HasRoom, WritesSet, IsSound, RefusesText}
 
@@ -37,7 +37,9 @@ output_of Tree = of_set server_tree
 output_of Trace = of_set (schedule_rows false)
 output_of TraceMet = of_set (schedule_rows true)
 output_of TraceWrap = of_set wrapped_rows
+output_of TraceRepeat = of_set (repeating (schedule_rows false))
 output_of Table = of_set c_table
+output_of TableRepeat = of_set (repeating c_table)
 output_of Check = of_trace
 output_of Follow = of_tree
 output_of (Draw asked) = of_picture asked

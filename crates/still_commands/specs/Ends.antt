@@ -15,7 +15,7 @@ use Rattle.still_commands.specs.declared.status.Status.TheVariants.{Done, Invali
 use Rattle.still_commands.specs.declared.status.Status.TheVariants.{ModeFault, BadTree, TooWide}
 use Rattle.sched_base.specs.Sets.{SetContents}
 use Rattle.sched_base.specs.Scale.{Fits}
-use Rattle.still_commands.specs.Commands.{SetText, Output, of_set, of_tree, of_batch, output_of, limit_of, ReadsSet, Writes, CallsFor, Refuses, IsSound}
+use Rattle.still_commands.specs.Commands.{SetText, Output, of_set, of_tree, of_batch, output_of, limit_of, ReadsSet, HasRoom, Writes, CallsFor, Refuses, IsSound}
 use Rattle.still_commands.specs.Commands.{set_limit}
 use Rattle.still_commands.specs.SetTexts.{WritesSoundly}
 use Rattle.still_commands.specs.Follow.{WritesFollowed}
@@ -101,9 +101,9 @@ IsDoneSoundly output status old new = IsDone output status old new
 abbrev pub Stops : Output → Streams → Streams → Refusal → Type 0
 Stops output old new refusal = StopsAs (limit_of output) (Writes output) (Refuses output) old new refusal
 
--- what is told of each set that fits is sound
+-- what is told of each set that fits and has this text is sound
 abbrev pub IsAlwaysSound : SetText → Type 0
-IsAlwaysSound what = (bytes : List ℕ) (s : SetContents) (scale : ℕ) → ReadsSet bytes s scale → Fits scale s → IsSound what s scale
+IsAlwaysSound what = (bytes : List ℕ) (s : SetContents) (scale : ℕ) → ReadsSet bytes s scale → Fits scale s → HasRoom what s scale → IsSound what s scale
 
 -- how a command that tells this ends with this status, and what `err` took
 abbrev pub Ends : Output → Streams → Streams → ErrorStream → ErrorStream → Status → Type 0

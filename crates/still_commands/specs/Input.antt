@@ -10,9 +10,10 @@ use Rattle.trace_check.specs.Traces.{Trace}
 use Rattle.trace_check.specs.Reading.{reading}
 use Rattle.still_commands.specs.declared.refusal.Refusal.{Refusal}
 use Rattle.still_commands.specs.declared.refusal.Refusal.TheVariants.{ReadFault, WriteFault, NoMemory, BadSet, BadLine, TooLong}
-use Rattle.still_commands.specs.declared.refusal.Refusal.TheVariants.{InputTooLong, TooWide}
-pub use Rattle.still_commands.specs.SetTexts.{IsSchedulable, IsTooLongSet, IsTooWideSet}
-use Rattle.still_commands.specs.SetTexts.{SetText, text_of, HasRoom, IsUnfit}
+use Rattle.still_commands.specs.declared.refusal.Refusal.TheVariants.{InputTooLong, TooWide, NoRepeat, WideRepeat}
+pub use Rattle.still_commands.specs.SetTexts.{IsSchedulable, IsTooLongSet, IsTooWideSet, LacksRepeat}
+use Rattle.repeat_laws.specs.Repeats.{up_to}
+use Rattle.still_commands.specs.SetTexts.{SetText, text_of, HasRoom, IsUnfit, IsUnrepeated, Repeats}
 
 -- the source gave all its bytes, at most the limit, and they are this set
 pub record GaveSet (left left' : Option (List ℕ)) (limit : ℕ) (s : SetContents) : Type 0 where
@@ -49,8 +50,20 @@ StopsAtSet what out out' faults faults' s WriteFault =
     (scale : ℕ) × IsSchedulable s scale × HasRoom what s scale × TookPart out out' (text_of what s scale) × Rose faults faults'
 StopsAtSet what out out' faults faults' s (TooLong rows) = IsTooLongSet what s rows × Keeps out out'
 StopsAtSet what out out' faults faults' s (TooWide ticks) = IsTooWideSet what s ticks × Keeps out out'
+StopsAtSet what out out' faults faults' s (NoRepeat task) = LacksRepeat what s (NoRepeat task) × Keeps out out'
+StopsAtSet what out out' faults faults' s (WideRepeat units) = LacksRepeat what s (WideRepeat units) × Keeps out out'
 StopsAtSet what out out' faults faults' s refusal = IsRefusedSet s refusal × Keeps out out'
 
 -- a set's text was written
 abbrev pub WroteSet : SetText → Option (List ℕ) → Option (List ℕ) → SetContents → Type 0
 WroteSet what out out' s = (scale : ℕ) × IsSchedulable s scale × HasRoom what s scale × Appends out out' (text_of what s scale)
+
+-- the set fits, its schedule repeats, and this is the set up to the least horizon at which it does
+pub record IsRepeating (s again : SetContents) : Type 0 where
+  pub is : (scale : ℕ) × IsSchedulable s scale × Repeats s scale × (again ≡ up_to scale s)
+
+-- why there is no such set
+abbrev pub IsNotRepeating : SetContents → Refusal → Type 0
+IsNotRepeating s (NoRepeat task) = IsUnrepeated s (NoRepeat task)
+IsNotRepeating s (WideRepeat units) = IsUnrepeated s (WideRepeat units)
+IsNotRepeating s refusal = IsRefusedSet s refusal

@@ -16,6 +16,7 @@ use Rattle.tree_check.specs.declared.faults.TreeKind.TheVariants.{Total, Unplace
 use Rattle.still_commands.specs.declared.refusal.Refusal.{Refusal}
 use Rattle.still_commands.specs.declared.refusal.Refusal.TheVariants.{Usage, ReadFault, WriteFault, NoMemory, BadSet, BadLine, Overload, ScaleTooLarge}
 use Rattle.still_commands.specs.declared.refusal.Refusal.TheVariants.{TooLong, GateFault, JobFault, InputTooLong, BadProgram, BadTree, OfMode, TooWide}
+use Rattle.still_commands.specs.declared.refusal.Refusal.TheVariants.{NoRepeat, WideRepeat}
 use Rattle.still_commands.specs.declared.mode_refusal.ModeRefusal.{ModeRefusal}
 use Rattle.still_commands.specs.declared.mode_refusal.ModeRefusal.TheVariants as mode
 use Rattle.still_commands.specs.declared.status.Status.{Status}
@@ -59,6 +60,8 @@ status_of (JobFault row name) = status.JobFault
 status_of (InputTooLong count) = status.InputTooLong
 status_of (BadTree line kind) = status.BadTree
 status_of (TooWide ticks) = status.TooWide
+status_of (NoRepeat task) = status.TooWide
+status_of (WideRepeat units) = status.TooWide
 status_of (OfMode j refusal) = mode_status refusal
 
 -- a byte of an unknown key as it is printed: `?` for one that isn't from 33 to 126
@@ -157,6 +160,8 @@ refusal_words (JobFault row name) = job_words row name
 refusal_words (InputTooLong count) = codes "InputTooLong" ∷ decimal count ∷ []
 refusal_words (BadTree line kind) = codes "BadTree" ∷ codes "line" ∷ decimal line ∷ tree_kind_text kind ∷ []
 refusal_words (TooWide ticks) = codes "TooWide" ∷ codes "ticks" ∷ decimal ticks ∷ []
+refusal_words (NoRepeat task) = codes "NoRepeat" ∷ codes "offset" ∷ decimal task ∷ []
+refusal_words (WideRepeat units) = codes "NoRepeat" ∷ codes "units" ∷ decimal units ∷ []
 refusal_words (OfMode j refusal) = mode_words refusal
 
 -- `set`, the number of a set of several, and a space

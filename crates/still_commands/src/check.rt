@@ -5,13 +5,13 @@ ghost use Rattle.still_commands.specs.Commands.{trace_limit};
 ghost use Rattle.still_commands.specs.Checks.{invalid_line, TellsTrace, WritesVerdict, RefusesTrace, StopsAtTrace};
 ghost use Rattle.still_commands.specs.Ends.{streams_of, IsTold, StopsAs};
 
-use crate::input::read_trace_input;
+use crate::input::read_checked_input;
 use crate::refusal::Refusal;
 use crate::status::Status;
 use sched_edges::{Line, Sink, Source, write_all};
 use stat_report::write_report;
 use std::alloc::Global;
-use trace_check::{FaultKind, ReadTrace, Verdict, check_trace};
+use trace_check::{CheckedTrace, FaultKind, Verdict};
 use trace_draw::kind_text;
 
 /// Reads a trace text, and tells whether its rows are a valid schedule of its set: the report of a valid one, with the status
@@ -26,17 +26,17 @@ pub(crate) fn check<R: Source, W: Sink>(
     ensures stops { IfErr result (StopsAs trace_limit WritesVerdict RefusesTrace
         (streams_of R.Source W.Sink source.old out.old) (streams_of R.Source W.Sink source.new out.new)) }
 {
-    let trace = read_trace_input(alloc, source)?;
+    let trace = read_checked_input(alloc, source)?;
     write_verdict(&trace, out)
 }
 
 // Writes the report of a valid trace, or the first fault of another.
-fn write_verdict<W: Sink>(trace: &ReadTrace, out: &mut W) -> Result<Status, Refusal>
+fn write_verdict<W: Sink>(trace: &CheckedTrace, out: &mut W) -> Result<Status, Refusal>
     ensures told { IfOk result (λ status. (text : List ℕ) × TellsTrace trace.now status text × Appends (W.taken out.old)
         (W.taken out.new) text) }
     ensures stops { IfErr result (StopsAtTrace (W.taken out.old) (W.taken out.new) (W.faults out.old) (W.faults out.new) trace.now) }
 {
-    match check_trace(trace) {
+    match trace.verdict() {
         Verdict::Valid => {
             write_report(out, trace)?;
             Ok(Status::Done)

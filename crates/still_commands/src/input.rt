@@ -7,7 +7,7 @@ use sched_base::TaskSet;
 use sched_edges::{Source, read_all};
 use std::alloc::Global;
 use task_reader::read_set;
-use trace_check::{ReadTrace, read_trace};
+use trace_check::{CheckedTrace, ReadTrace, read_checked, read_trace};
 
 /// The most bytes of a task set.
 pub const SET_LIMIT: usize = 1_048_576;
@@ -36,4 +36,17 @@ pub(crate) fn read_trace_input<R: Source>(
 {
     let bytes = read_all(alloc, source, TRACE_LIMIT)?;
     Ok(read_trace(alloc, bytes.as_slice())?)
+}
+
+/// The same for whoever asks for no order of the rows.
+pub(crate) fn read_checked_input<R: Source>(
+    alloc: Global,
+    source: &mut R,
+) -> Result<CheckedTrace, Refusal>
+    ensures trace { IfOk result (GaveTrace (R.left source.old) (R.left source.new) TRACE_LIMIT) }
+    ensures refusal { IfErr result (GaveNoTrace (R.left source.old) (R.left source.new)
+        (R.faults source.old) (R.faults source.new) TRACE_LIMIT) }
+{
+    let bytes = read_all(alloc, source, TRACE_LIMIT)?;
+    Ok(read_checked(alloc, bytes.as_slice())?)
 }

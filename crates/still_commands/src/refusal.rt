@@ -40,6 +40,10 @@ pub enum Refusal {
     BadTree { line: u64, kind: TreeKind },
     /// The schedule has this many ticks, which no type of C holds.
     TooWide { ticks: u128 },
+    /// The schedule doesn't repeat from its start on: this task, the first such one, isn't released at unit 0.
+    NoRepeat { task: u32 },
+    /// The least horizon at which the schedule repeats has this many units, 2^32 or more, which no set has.
+    WideRepeat { units: u128 },
     /// Of several sets that follow each other as modes, this mode, counted from 0, wasn't done, for this reason.
     OfMode { mode: u32, refusal: ModeRefusal },
 }
@@ -59,6 +63,8 @@ impl Drop for Refusal {
             Refusal::InputTooLong { count: _ } => {}
             Refusal::BadTree { line: _, kind: _ } => {}
             Refusal::TooWide { ticks: _ } => {}
+            Refusal::NoRepeat { task: _ } => {}
+            Refusal::WideRepeat { units: _ } => {}
             Refusal::OfMode {
                 mode: _,
                 refusal: _refusal,
@@ -89,6 +95,8 @@ impl Refusal {
             Refusal::InputTooLong { .. } => Status::InputTooLong,
             Refusal::BadTree { .. } => Status::BadTree,
             Refusal::TooWide { .. } => Status::TooWide,
+            Refusal::NoRepeat { .. } => Status::TooWide,
+            Refusal::WideRepeat { .. } => Status::TooWide,
             Refusal::OfMode { mode: _, refusal } => refusal.status(),
         }
     }

@@ -11,7 +11,7 @@ ghost use Rattle.still_commands.specs.Status.{code_of};
 ghost use Rattle.still_commands.specs.Ends.{error_of};
 ghost use Rattle.still_commands.specs.Refuse.{IsRefused};
 ghost use Rattle.still_commands.specs.declared.status.Status.TheVariants.{BadInput};
-ghost use Rattle.still_commands.specs.declared.refusal.Refusal.TheVariants.{BadSet, Overload, ScaleTooLarge, TooLong, GateFault, JobFault, BadTree, TooWide};
+ghost use Rattle.still_commands.specs.declared.refusal.Refusal.TheVariants.{BadSet, Overload, ScaleTooLarge, TooLong, GateFault, JobFault, BadTree, TooWide, NoRepeat, WideRepeat};
 ghost use Rattle.task_reader.specs.declared.refusals.ReadSet.TheVariants.{UnknownKey};
 
 use crate::mode_line::write_mode_refusal;
@@ -64,6 +64,8 @@ fn write_refusal<W: Sink>(refusal: &Refusal, out: &mut W) -> Result<(), Failed>
         ),
         Refusal::BadTree { line, kind } => tree_line(*line, *kind),
         Refusal::TooWide { ticks } => ticks_line(*ticks),
+        Refusal::NoRepeat { task } => offset_line(*task),
+        Refusal::WideRepeat { units } => units_line(*units),
     };
     write_line(line, out)
 }
@@ -267,6 +269,28 @@ fn ticks_line(ticks: u128) -> Line
 {
     let mut line = begin(Status::TooWide, b"TooWide");
     add_number(&mut line, b"ticks", ticks);
+    line.end();
+    line
+}
+
+// The line of a schedule that doesn't repeat, since this task has an offset.
+#[tactic(auto, unfolding(crate::specs::Refusals::refusal_line, sched_edges::specs::Lines::line_of))]
+fn offset_line(task: u32) -> Line
+    ensures { result ≡ refusal_line (NoRepeat task) }
+{
+    let mut line = begin(Status::TooWide, b"NoRepeat");
+    add_number(&mut line, b"offset", u128::from(task));
+    line.end();
+    line
+}
+
+// The line of a schedule that would repeat after too many units.
+#[tactic(auto, unfolding(crate::specs::Refusals::refusal_line, sched_edges::specs::Lines::line_of))]
+fn units_line(units: u128) -> Line
+    ensures { result ≡ refusal_line (WideRepeat units) }
+{
+    let mut line = begin(Status::TooWide, b"NoRepeat");
+    add_number(&mut line, b"units", units);
     line.end();
     line
 }

@@ -5,13 +5,17 @@ ghost use Rattle.still_commands.specs.Follow.{FollowsTrees};
 ghost use Rattle.still_commands.specs.Followed.{FollowsAsTraced};
 
 use reading_laws::{again_law, form_law};
+use repeat_laws::repeat_unit_law;
+use repeat_plans::merged_plan_law;
 use sched_laws::valid_law;
+use table_text::step_law;
 use task_reader::reading_law;
 use tree_laws::tree_law;
 use wrap_sched::wrap_law;
 
-/// What is told of a set that fits is sound: the tree that `tree` writes is a reduction tree of the set, and the
-/// schedules that `trace` writes, by itself and by wrapping, are valid. This runs nothing: its clause is the law.
+/// What is told of a set that fits is sound: the tree that `tree` writes is a reduction tree of the set, the schedules that `trace`
+/// writes, by itself and by wrapping, are valid, and the rows of `table` come again from where it tells. This runs nothing: its clause
+/// is the law.
 pub fn sound_law()
     ensures { (what : SetText) → IsAlwaysSound what }
 {
@@ -19,6 +23,9 @@ pub fn sound_law()
     tree_law();
     valid_law();
     wrap_law();
+    merged_plan_law();
+    step_law();
+    repeat_unit_law();
 }
 
 /// The tree that `follow` follows is a reduction tree of the text's set, and the schedule that it writes is valid; what it writes of the

@@ -35,7 +35,7 @@ pub enum Status {
     ModeFault,
     /// The tree text is that of no reduction tree of its set.
     BadTree,
-    /// The schedule has 2^64 ticks or more.
+    /// The schedule has 2^64 ticks or more, or no horizon at which it repeats.
     TooWide,
 }
 

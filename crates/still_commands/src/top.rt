@@ -13,6 +13,7 @@ use crate::follow::follow;
 use crate::rate::rate;
 use crate::refusal::Refusal;
 use crate::refusal_line::refuse;
+use crate::repeat::{table_repeat, trace_repeat};
 use crate::sound::{follow_law, sound_law};
 use crate::status::Status;
 use crate::table::table;
@@ -123,7 +124,9 @@ fn read<R: Source, W: Sink>(
         Reading::Trace => trace(alloc, source, false, out),
         Reading::TraceMet => trace(alloc, source, true, out),
         Reading::TraceWrap => trace_by_wrapping(alloc, source, out),
+        Reading::TraceRepeat => trace_repeat(alloc, source, out),
         Reading::Table => table(alloc, source, out),
+        Reading::TableRepeat => table_repeat(alloc, source, out),
         Reading::Follow => follow(alloc, source, out),
         Reading::Draw(asked) => draw(alloc, asked, source, out),
     };

@@ -1,14 +1,13 @@
 //! The command `trace --by wrap`.
-ghost use Rattle.std.specs.Prelude.{◌≡◌, ◌≤◌, ◌*◌, false, length, OnOk, IfOk, IfErr};
-ghost use Rattle.std.specs.List.{AllByRecursion};
-ghost use Rattle.sched_base.specs.Lanes.{NamesOneOf, lanes_of};
-ghost use Rattle.sched_base.specs.Tables.{row_limit, rounds_of};
+ghost use Rattle.std.specs.Prelude.{◌≡◌, ◌≤◌, ◌*◌, ◌^◌, length, OnOk, IfOk, IfErr};
+ghost use Rattle.sched_base.specs.Tables.{row_limit};
 ghost use Rattle.sched_edges.specs.Causes.{HasCause};
 ghost use Rattle.sched_edges.specs.Streams.{Wrote};
 ghost use Rattle.row_totals.specs.Sums.{totals_of};
 ghost use Rattle.merged_rows.specs.Lawful.{AreLawful};
+ghost use Rattle.trace_writer.specs.Finishes.{HaveRoomIf};
 ghost use Rattle.wrap_sched.specs.Merged.{AreMergedOf};
-ghost use Rattle.wrap_sched.specs.Wrapped.{wrapped, wrapped_rounds};
+ghost use Rattle.wrap_sched.specs.Wrapped.{wrapped_rounds};
 ghost use Rattle.still_commands.specs.Commands.{some_late, wrapped_rows, wrapped_text, set_limit, WritesSet, RefusesText};
 ghost use Rattle.still_commands.specs.Ends.{streams_of, IsTold, StopsAs};
 ghost use Rattle.still_commands.specs.Input.{IsSchedulable, IsRefusedSet, WroteSet, StopsAtSet};
@@ -16,16 +15,15 @@ ghost use Rattle.still_commands.specs.declared.status.Status.TheVariants.{Done};
 
 use crate::input::read_input;
 use crate::refusal::Refusal;
-use crate::trace::{wants_met, write_table};
+use crate::trace::{finishes_for, write_merged_rows};
 use crate::unwritten::written;
 use merged_rows::{MergedRows, totals_of as totals_of_merged};
 use rate_scale::{scale_of, total};
-use row_totals::totals_of;
-use sched_base::{NoMemory, RowTable, TaskSet, Totals};
+use sched_base::{NoMemory, TaskSet};
 use sched_edges::{Failed, Sink, Source};
 use std::alloc::Global;
-use trace_writer::write_merged;
-use wrap_sched::{merged_wrap, names_law, wrap, wrap_rounds};
+use trace_writer::Finishes;
+use wrap_sched::{merged_wrap, wrap_rounds};
 
 /// Reads a task set, and writes its wrapped schedule; in version 2 where some task is released late.
 pub(crate) fn trace_by_wrapping<R: Source, W: Sink>(
@@ -49,35 +47,12 @@ fn write_set<W: Sink>(alloc: Global, set: &TaskSet, out: &mut W) -> Result<(), R
         (W.faults out.old) (W.faults out.new) set.now) }
 {
     let scale = scale_to_run(set)?;
-    let rounds = wrap_rounds(alloc, set, scale)?;
-    if wants_met(set, false) {
-        write_second_version(alloc, set, scale, rounds, out)
-    } else {
-        write_first_version(alloc, set, scale, out)
-    }
+    let _rounds = wrap_rounds(alloc, set, scale)?;
+    write_wrapped(alloc, set, scale, out)
 }
 
-// Writes the wrapped schedule of a set that fits, in version 2.
-fn write_second_version<W: Sink>(
-    alloc: Global,
-    set: &TaskSet,
-    scale: u128,
-    rounds: u64,
-    out: &mut W,
-) -> Result<(), Refusal>
-    requires run { IsSchedulable set.now scale }
-    requires rounds { rounds ≡ wrapped_rounds scale set.now }
-    requires few { rounds * set.now.processors ≤ row_limit }
-    ensures done { OnOk result (WroteSet wrapped_rows (W.taken out.old) (W.taken out.new) set.now) }
-    ensures stops { IfErr result (StopsAtSet wrapped_rows (W.taken out.old) (W.taken out.new)
-        (W.faults out.old) (W.faults out.new) set.now) }
-{
-    let (table, totals) = rows_of(alloc, set, scale, rounds)?;
-    written(write_table(set, scale, &table, totals.as_slice(), false, out))
-}
-
-// Writes the wrapped schedule of a set that fits, in version 1.
-fn write_first_version<W: Sink>(
+// Writes the wrapped schedule of a set that fits.
+fn write_wrapped<W: Sink>(
     alloc: Global,
     set: &TaskSet,
     scale: u128,
@@ -85,17 +60,17 @@ fn write_first_version<W: Sink>(
 ) -> Result<(), Refusal>
     requires run { IsSchedulable set.now scale }
     requires few { wrapped_rounds scale set.now * set.now.processors ≤ row_limit }
-    requires first_version { some_late set.now.tasks ≡ false }
     ensures done { OnOk result (WroteSet wrapped_rows (W.taken out.old) (W.taken out.new) set.now) }
     ensures stops { IfErr result (StopsAtSet wrapped_rows (W.taken out.old) (W.taken out.new)
         (W.faults out.old) (W.faults out.new) set.now) }
 {
     let (rows, totals) = merged_rows_of(alloc, set, scale)?;
-    written(write_merged_rows(set, scale, &rows, &totals, out))
+    let mut finishes = finishes_for(alloc, set, false)?;
+    written(write_wrapped_rows(set, scale, &rows, &totals, &mut finishes, out))
 }
 
-// The scale of a set that fits, in ticks per unit.
-fn scale_to_run(set: &TaskSet) -> Result<u128, Refusal>
+/// The scale of a set that fits, in ticks per unit.
+pub(crate) fn scale_to_run(set: &TaskSet) -> Result<u128, Refusal>
     ensures run { IfOk result (IsSchedulable set.now) }
     ensures refused { IfErr result (IsRefusedSet set.now) }
 {
@@ -106,30 +81,6 @@ fn scale_to_run(set: &TaskSet) -> Result<u128, Refusal>
         return Err(Refusal::Overload { total, room });
     }
     Ok(scale)
-}
-
-// The rows of the wrapped schedule, and the ticks of each task in them.
-fn rows_of(
-    alloc: Global,
-    set: &TaskSet,
-    scale: u128,
-    rounds: u64,
-) -> Result<(RowTable, Totals), NoMemory>
-    requires run { IsSchedulable set.now scale }
-    requires rounds { rounds ≡ wrapped_rounds scale set.now }
-    requires few { rounds * set.now.processors ≤ row_limit }
-    ensures lanes { IfOk result (λ made. made.0.lanes ≡ lanes_of set.now.processors (wrapped scale set.now)) }
-    ensures processors { IfOk result (λ made. length made.0.lanes ≡ set.now.processors) }
-    ensures names { IfOk result (λ made.
-        AllByRecursion (λ rows. AllByRecursion (λ r. NamesOneOf set.now.tasks r.leaf) rows) made.0.lanes) }
-    ensures few { IfOk result (λ made. length made.0.lanes * rounds_of made.0.lanes ≤ row_limit) }
-    ensures totals { IfOk result (λ made. made.1.ticks ≡ totals_of (length set.now.tasks) made.0.lanes) }
-{
-    names_law();
-    set.know_lawful();
-    let table = wrap(alloc, set, scale, rounds)?;
-    let totals = totals_of(alloc, &table, set.count())?;
-    Ok((table, totals))
 }
 
 // The merged rows of the wrapped schedule, in one pass over its rounds, and the ticks of each task in them.
@@ -149,20 +100,22 @@ fn merged_rows_of(
     Ok((rows, totals))
 }
 
-// Writes the merged rows of the wrapped schedule, in version 1.
-fn write_merged_rows<W: Sink>(
+// Writes the merged rows of the wrapped schedule.
+fn write_wrapped_rows<W: Sink>(
     set: &TaskSet,
     scale: u128,
     rows: &MergedRows,
     totals: &[u128],
+    finishes: &mut Finishes,
     out: &mut W,
 ) -> Result<(), Failed>
-    requires first_version { some_late set.now.tasks ≡ false }
+    requires scale { scale ≤ 2 ^ 94 }
     requires rows { AreMergedOf scale set.now rows.now.lanes }
     requires lawful { AreLawful set.now rows.now.lanes }
     requires totals { totals.now ≡ totals_of (length set.now.tasks) rows.now.lanes }
+    requires room { HaveRoomIf (some_late set.now.tasks) set.now finishes.old }
     ensures wrote { Wrote (W.taken out.old) (W.taken out.new) (wrapped_text set.now scale) result }
     ensures cause { HasCause (W.faults out.old) (W.faults out.new) result }
 {
-    write_merged(out, set, scale, rows, totals)
+    write_merged_rows(set, scale, rows, totals, false, finishes, out)
 }

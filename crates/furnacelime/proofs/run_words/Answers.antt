@@ -1,23 +1,34 @@
-use Rattle.std.proofs.Common.{ℕ, refl, ap, ◌∙◌, arith}
-use Rattle.run_tool.proofs.ReadyLemmas.{no_jobs_made, one_more_made, are_ready}
-use Rattle.furnacelime.proofs.run_words.OwnLists.{own-1, at-1-1}
-use denote.Param.Object.{read_made}
+use Rattle.std.proofs.Common.{◌≡◌, ◌∙◌, true, false, map, string_bytes, refl, subst, sym}
+use Rattle.command_words.specs.Words.{asks_to_execute}
+use Rattle.still_commands.specs.Ends.{streams_of, error_of}
+use Rattle.still_commands.specs.Refuse.{IsRefused}
+use Rattle.still_commands.specs.declared.refusal.Refusal.TheVariants as why
+use Rattle.still_commands.proofs.EndLemmas.{keeps_same}
+use Rattle.run_tool.specs.Alone.{EndsAlone}
+use Rattle.run_tool.proofs.AloneLemmas.{alone_still, alone_unmade, unread_unmade}
+use Rattle.run_tool.proofs.RunLemmas.{unread_same}
 use Rattle.furnacelime.proofs.run_words.Goals as goal
 
-pub loop-id-init : goal.loop-id-init
-loop-id-init g c = no_jobs_made _ _ _ _ _ _ c.in_ok-jobs.ensures.room c.in_ok-jobs.ensures.none
+pub returns-then-not-asks_to_execute-clause-ends : goal.returns-then-not-asks_to_execute-clause-ends
+returns-then-not-asks_to_execute-clause-ends g c =
+    let old = streams_of g.R.Source g.W.Sink c.args.source.now c.args.out.now in
+    let new = streams_of g.R.Source g.W.Sink c.run_without_crew.new.source c.run_without_crew.new.out in
+    let told = error_of g.E.Sink c.args.err.now in
+    let tells = error_of g.E.Sink c.run_without_crew.new.err in
+    let did = c.run_without_crew.ensures in
+    let executes : asks_to_execute (map string_bytes c.behind_name-words.result.now) ≡ false = sym c.asks_to_execute.ensures ∙ c.if-not-asks_to_execute.true in
+    subst (λ words. EndsAlone (map string_bytes words) old new told tells c.run_without_crew.result) c.behind_name-words.ensures
+    (alone_still _ old new told tells _ did.usage did.invalid executes did.done did.ends)
 
-pub loop-id-preserved : goal.loop-id-preserved
-loop-id-preserved g c =
-    one_more_made _ _ _ _ c.loop-id.id _ _ _ _ _ c.loop-id.invariant c.add.ensures.room c.add.ensures.places
-    (read_made own-1 (own-1.entry at-1-1) at-1-1 refl ℕ (λ e x. e.1.id x) _ _ _ c.into_dyn_box.ensures.1
-    ∙ ap (λ j. j.id) (c.in_ok-new.ensures.ok ∙ c.new.ensures))
-    (read_made own-1 (own-1.entry at-1-1) at-1-1 refl ℕ (λ e x. e.1.used x) _ _ _ c.into_dyn_box.ensures.1
-    ∙ ap (λ j. j.used) (c.in_ok-new.ensures.ok ∙ c.new.ensures))
-
-pub run-requires-clause-ready : goal.run-requires-clause-ready
-run-requires-clause-ready g c =
-    λ _ _.
-    let past = c.loop-id-test.false in
-    let within = c.loop-id.auto.id-end in
-    are_ready 32 c.loop-id.id (omega arith) (omega (arith, past, within)) c.in_ok-kits.ensures c.loop-id.invariant.first
+pub returns-in-Err-clause-ends : goal.returns-in-Err-clause-ends
+returns-in-Err-clause-ends g c =
+    let same = c.in-Err.ensures.same in
+    let old = streams_of g.R.Source g.W.Sink c.args.source.now c.args.out.now in
+    let told = error_of g.E.Sink c.args.err.now in
+    let tells = error_of g.E.Sink c.refuse.new.err in
+    let executes : asks_to_execute (map string_bytes c.behind_name-words.result.now) ≡ true = sym c.asks_to_execute.ensures ∙ c.if-not-asks_to_execute.false in
+    let refused : IsRefused why.NoMemory told tells c.refuse.result =
+    subst (λ err. IsRefused why.NoMemory (error_of g.E.Sink err) tells c.refuse.result) same.2 c.refuse.ensures in
+    rw (same.0, same.1)
+    (subst (λ words. EndsAlone (map string_bytes words) old old told tells c.refuse.result) c.behind_name-words.ensures
+    (alone_unmade _ old old told tells _ executes (unread_same _ _ _ _ _ _) (keeps_same _) refl refused))

@@ -1,7 +1,7 @@
 use Rattle.std.proofs.Common.{◌≡◌, Option, Some, None, List, ℕ, codes, sym, ap, option_map, ◌∙◌}
 use Rattle.clap.specs.Words.{found_of, rows_of}
 use Rattle.command_words.specs.declared.command.Command.TheVariants.{Read, Execute}
-use Rattle.command_words.proofs.CommandLineLemmas.{names, name_of, called_as, plainly_named, trace_used, trace_told, draw_used, exec_used, exec_told, drill_used}
+use Rattle.command_words.proofs.CommandLineLemmas.{names, name_of, called_as, plainly_named, trace_used, trace_told, table_used, table_told, draw_used, exec_used, exec_told, drill_used}
 use Rattle.command_words.proofs.command_line.command_in.Goals as goal
 
 pub returns-in_err-name : goal.returns-in_err-name
@@ -16,8 +16,18 @@ returns-in-trace c = λ used words spells e.
     let name = called_as used (codes "trace") (sym c.in-trace.is ∙ cc) in
     let rows = rows_of (found_of c.in_ok-name.options.now) in
     let (x, is, tells) = trace_used used words rows spells name (c.in_ok-name.ensures.rows ∙ ap (option_map (λ p. p.1)) e) in
-    let read = trace_told x rows c.trace_in.result tells c.trace_in.ensures.met c.trace_in.ensures.plain c.trace_in.ensures.wrap in
+    let read = trace_told x rows c.trace_in.result tells c.trace_in.ensures.met c.trace_in.ensures.repeat c.trace_in.ensures.plain c.trace_in.ensures.wrap in
     c.read.ensures ∙ ap (option_map Read) read ∙ ap Some (sym is)
+
+pub returns-in-table : goal.returns-in-table
+returns-in-table c = λ used words spells e.
+    let h : ◌≡◌ {A = Option (List ℕ)} (Some c.in_ok-name.name.now) (Some (name_of used)) =
+    c.in_ok-name.ensures.name ∙ names c.args.matches.now used words spells e in
+    let name = called_as used (codes "table") (sym c.in-table.is ∙ cc) in
+    let rows = rows_of (found_of c.in_ok-name.options.now) in
+    let (x, is, tells) = table_used used words rows spells name (c.in_ok-name.ensures.rows ∙ ap (option_map (λ p. p.1)) e) in
+    let read = table_told x rows c.table_in.result tells c.table_in.ensures.repeat c.table_in.ensures.plain in
+    c.read-in-table.ensures ∙ ap (option_map Read) read ∙ ap Some (sym is)
 
 pub returns-in-draw : goal.returns-in-draw
 returns-in-draw c = λ used words spells e.
@@ -72,4 +82,4 @@ returns-in_default c = λ used words spells e.
     let called : c.in_ok-name.name.now ≡ name_of used = cc in
     let other = c.in_default in
     c.read-in_default.ensures ∙ ap (option_map Read) c.reading_named.ensures
-    ∙ plainly_named used c.in_ok-name.name.now called other.not-trace other.not-draw other.not-batch other.not-exec other.not-drill other.not-jobs other.not-modes
+    ∙ plainly_named used c.in_ok-name.name.now called other.not-trace other.not-table other.not-draw other.not-batch other.not-exec other.not-drill other.not-jobs other.not-modes

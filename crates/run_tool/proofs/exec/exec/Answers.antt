@@ -12,15 +12,15 @@ pub returns-in_err-set : goal.returns-in_err-set
 returns-in_err-set g c =
     let old = streams_of g.R.Source g.W.Sink c.args.source.now c.args.out.now in
     let new = streams_of g.R.Source g.W.Sink c.read_input.new.source c.args.out.now in
-    stops_first _ _ c.from_residual.ensures.1 (run_unread c.args.met old new _ _ _ c.in_err-set.ensures.refusal (keeps_same _))
+    stops_first _ _ c.from_residual.ensures.1 (run_unread c.args.window c.args.met old new _ _ _ c.in_err-set.ensures.refusal (keeps_same _))
 
 pub returns-in_err-plan : goal.returns-in_err-plan
 returns-in_err-plan g c =
     let old = streams_of g.R.Source g.W.Sink c.args.source.now c.args.out.now in
     let new = streams_of g.R.Source g.W.Sink c.read_input.new.source c.args.out.now in
     stops_first _ _ c.from_residual-in_err-plan.ensures.1
-    (run_stopped c.args.met old new _ _ c.in_ok-set.set _ c.in_ok-set.ensures.set
-    (refused_run c.args.met _ _ _ c.in_ok-set.set _ c.in_err-plan.ensures.refused))
+    (run_stopped c.args.window c.args.met old new _ _ c.in_ok-set.set _ c.in_ok-set.ensures.set
+    (refused_run c.args.window c.args.met _ _ _ c.in_ok-set.set _ c.in_err-plan.ensures.refused))
 
 pub run_and_write-requires-clause-run : goal.run_and_write-requires-clause-run
 run_and_write-requires-clause-run g c κs within =
@@ -46,4 +46,4 @@ returns g c =
     let new = streams_of g.R.Source g.W.Sink c.read_input.new.source c.run_and_write.new.out in
     ends_above _ (rw c.in_ok-plan.ensures.set at c.run_and_write.ensures)
     (λ ran. run_told c.args.met old new _ _ c.in_ok-set.set c.in_ok-set.ensures.set ran)
-    (λ r stops. run_stopped c.args.met old new _ _ c.in_ok-set.set r c.in_ok-set.ensures.set stops)
+    (λ r stops. run_stopped c.args.window c.args.met old new _ _ c.in_ok-set.set r c.in_ok-set.ensures.set stops)

@@ -2,7 +2,7 @@ use Rattle.std.proofs.Common.{◌≡◌, ◌∙◌, arith, refl}
 use Rattle.still_commands.specs.Refusals.{refusal_line}
 use Rattle.still_commands.proofs.LineLemmas.{wrote_as}
 use Rattle.still_commands.proofs.refusal_line.write_refusal.Goals as goal
-use Rattle.still_commands.proofs.refusal_line.write_refusal.Goals.{in-Usage, in-ReadFault, in-WriteFault, in-NoMemory, in-BadLine, in-BadProgram, in-Overload, in-ScaleTooLarge, in-TooLong, in-GateFault, in-JobFault, in-InputTooLong, in-BadTree, in-TooWide}
+use Rattle.still_commands.proofs.refusal_line.write_refusal.Goals.{in-Usage, in-ReadFault, in-WriteFault, in-NoMemory, in-BadLine, in-BadProgram, in-Overload, in-ScaleTooLarge, in-TooLong, in-GateFault, in-JobFault, in-InputTooLong, in-BadTree, in-TooWide, in-NoRepeat, in-WideRepeat}
 
 pub returns-in-BadSet-clause-wrote : goal.returns-in-BadSet-clause-wrote
 returns-in-BadSet-clause-wrote g c = rw c.in-BadSet.is c.write_set_refusal.ensures.wrote
@@ -55,6 +55,8 @@ returns-clause-wrote g c =
       | in-InputTooLong w ↦ w.line-is ∙ rw (w.in-InputTooLong.is, w.number_line-line-in-InputTooLong.ensures, w.from-in-InputTooLong.ensures) refl
       | in-BadTree w ↦ w.line-is ∙ rw (w.in-BadTree.is, w.tree_line-line.ensures) refl
       | in-TooWide w ↦ w.line-is ∙ rw (w.in-TooWide.is, w.ticks_line-line.ensures) refl
+      | in-NoRepeat w ↦ w.line-is ∙ rw (w.in-NoRepeat.is, w.offset_line-line.ensures) refl
+      | in-WideRepeat w ↦ w.line-is ∙ rw (w.in-WideRepeat.is, w.units_line-line.ensures) refl
     ] in
     wrote_as _ _ _ _ _ line c.write_line.ensures.wrote
 

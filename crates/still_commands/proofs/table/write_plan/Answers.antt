@@ -47,6 +47,17 @@ returns-in_err-rows-clause-stops g c =
     let why = err_from_is_err_and c.from_residual.result c.from_residual.ensures.1 in
     rw (why.1, why.2) (uncounted_table c.args.plan.now c.requires.run c.requires.tree _ _ _ few c.in_err-rows.ensures.fault)
 
+pub returns-in_err-from-clause-done : goal.returns-in_err-from-clause-done
+returns-in_err-from-clause-done g c = IfOk-from_err _ _ c.from_residual-in_err-from.ensures.0
+
+pub returns-in_err-from-clause-stops : goal.returns-in_err-from-clause-stops
+returns-in_err-from-clause-stops g c =
+    let why = err_from_is_err_and c.from_residual-in_err-from.result c.from_residual-in_err-from.ensures.1 in
+    rw (why.1, why.2) (tt, keeps_same _)
+
+pub write_rows-requires-clause-scale : goal.write_rows-requires-clause-scale
+write_rows-requires-clause-scale g c = c.requires.run.is_scale.positive
+
 pub write_rows-requires-clause-ticks : goal.write_rows-requires-clause-ticks
 write_rows-requires-clause-ticks g c = omega arith
 

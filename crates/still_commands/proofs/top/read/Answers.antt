@@ -6,7 +6,7 @@ use Rattle.still_commands.specs.declared.status.Status.TheVariants.{Done}
 use Rattle.still_commands.specs.Commands.{Output, output_of}
 use Rattle.still_commands.specs.Ends.{Streams, streams_of, IsDone, Stops}
 use Rattle.still_commands.proofs.top.read.Goals as goal
-use Rattle.still_commands.proofs.top.read.Goals.{in-Rate, in-Tree, in-Trace, in-TraceMet, in-TraceWrap, in-Table, in-Follow, in-Draw}
+use Rattle.still_commands.proofs.top.read.Goals.{in-Rate, in-Tree, in-Trace, in-TraceMet, in-TraceWrap, in-TraceRepeat, in-Table, in-TableRepeat, in-Follow, in-Draw}
 
 -- the result is `Done` where the text was told, else the refusal
 abbrev IsDoneAs : Result (Unit {0}) Refusal → Result Status Refusal → Type 0
@@ -41,7 +41,9 @@ returns g c =
       | in-Trace w ↦ rw (w.in-Trace.is, w.told-is, w.source-is, w.out-is) (w.trace-told.ensures.done, w.trace-told.ensures.stops)
       | in-TraceMet w ↦ rw (w.in-TraceMet.is, w.told-is, w.source-is, w.out-is) (w.trace-told-in-TraceMet.ensures.done, w.trace-told-in-TraceMet.ensures.stops)
       | in-TraceWrap w ↦ rw (w.in-TraceWrap.is, w.told-is, w.source-is, w.out-is) (w.trace_by_wrapping-told.ensures.done, w.trace_by_wrapping-told.ensures.stops)
+      | in-TraceRepeat w ↦ rw (w.in-TraceRepeat.is, w.told-is, w.source-is, w.out-is) (w.trace_repeat-told.ensures.done, w.trace_repeat-told.ensures.stops)
       | in-Table w ↦ rw (w.in-Table.is, w.told-is, w.source-is, w.out-is) (w.table-told.ensures.done, w.table-told.ensures.stops)
+      | in-TableRepeat w ↦ rw (w.in-TableRepeat.is, w.told-is, w.source-is, w.out-is) (w.table_repeat-told.ensures.done, w.table_repeat-told.ensures.stops)
       | in-Follow w ↦ rw (w.in-Follow.is, w.told-is, w.source-is, w.out-is) (w.follow-told.ensures.done, w.follow-told.ensures.stops)
       | in-Draw w ↦ rw (w.in-Draw.is, w.told-is, w.source-is, w.out-is) (w.draw-told.ensures.done, w.draw-told.ensures.stops)
     ] in

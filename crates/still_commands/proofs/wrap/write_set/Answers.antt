@@ -1,4 +1,4 @@
-use Rattle.std.proofs.Common.{ℕ, List, Option, ◌*◌, ◌≤◌, ◌∙◌, sym, subst}
+use Rattle.std.proofs.Common.{ℕ, List, Option, ◌*◌, ◌≤◌, subst}
 use Rattle.std.proofs.lemmas.Result.{IfOk-from_err, err_from_is_err_and}
 use Rattle.sched_base.specs.Sets.{SetContents}
 use Rattle.sched_base.specs.Tables.{row_limit}
@@ -35,30 +35,18 @@ wrap_rounds-requires-clause-scale_fits g c = c.in_ok-scale.ensures.run.within
 pub wrap_rounds-requires-clause-fits : goal.wrap_rounds-requires-clause-fits
 wrap_rounds-requires-clause-fits g c = c.in_ok-scale.ensures.run.fits
 
-pub returns-in_err-rounds-clause-done : goal.returns-in_err-rounds-clause-done
-returns-in_err-rounds-clause-done g c = IfOk-from_err _ _ c.from_residual-in_err-rounds.ensures.0
+pub returns-in_err-_rounds-clause-done : goal.returns-in_err-_rounds-clause-done
+returns-in_err-_rounds-clause-done g c = IfOk-from_err _ _ c.from_residual-in_err-_rounds.ensures.0
 
-pub returns-in_err-rounds-clause-stops : goal.returns-in_err-rounds-clause-stops
-returns-in_err-rounds-clause-stops g c =
-    let why = err_from_is_err_and c.from_residual-in_err-rounds.result c.from_residual-in_err-rounds.ensures.1 in
-    rw (why.1, why.2) (uncounted c.args.set.now c.in_ok-scale.scale _ _ _ c.in_ok-scale.ensures.run c.in_err-rounds.ensures.fault)
+pub returns-in_err-_rounds-clause-stops : goal.returns-in_err-_rounds-clause-stops
+returns-in_err-_rounds-clause-stops g c =
+    let why = err_from_is_err_and c.from_residual-in_err-_rounds.result c.from_residual-in_err-_rounds.ensures.1 in
+    rw (why.1, why.2) (uncounted c.args.set.now c.in_ok-scale.scale _ _ _ c.in_ok-scale.ensures.run c.in_err-_rounds.ensures.fault)
 
-pub write_second_version-requires-clause-run : goal.write_second_version-requires-clause-run
-write_second_version-requires-clause-run g c = c.in_ok-scale.ensures.run
+pub write_wrapped-requires-clause-run : goal.write_wrapped-requires-clause-run
+write_wrapped-requires-clause-run g c = c.in_ok-scale.ensures.run
 
-pub write_second_version-requires-clause-rounds : goal.write_second_version-requires-clause-rounds
-write_second_version-requires-clause-rounds g c = c.in_ok-rounds.ensures.count.0
-
-pub write_second_version-requires-clause-few : goal.write_second_version-requires-clause-few
-write_second_version-requires-clause-few g c = c.in_ok-rounds.ensures.count.1
-
-pub write_first_version-requires-clause-run : goal.write_first_version-requires-clause-run
-write_first_version-requires-clause-run g c = c.in_ok-scale.ensures.run
-
-pub write_first_version-requires-clause-few : goal.write_first_version-requires-clause-few
-write_first_version-requires-clause-few g c =
-    let count = c.in_ok-rounds.ensures.count in
+pub write_wrapped-requires-clause-few : goal.write_wrapped-requires-clause-few
+write_wrapped-requires-clause-few g c =
+    let count = c.in_ok-_rounds.ensures.count in
     subst (λ (n : ℕ). n * c.args.set.now.processors ≤ row_limit) count.0 count.1
-
-pub write_first_version-requires-clause-first_version : goal.write_first_version-requires-clause-first_version
-write_first_version-requires-clause-first_version g c = sym c.wants_met.ensures ∙ c.if-wants_met.false

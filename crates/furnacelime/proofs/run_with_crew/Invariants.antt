@@ -1,7 +1,7 @@
 use Rattle.run_tool.specs.Executions.{jobs_of}
 use Rattle.run_tool.proofs.ReadyLemmas.{AreMade}
-use Rattle.furnacelime.proofs.run_words.OwnLists.{own-1}
-use Rattle.furnacelime.proofs.run_words.Given as goal
+use Rattle.furnacelime.proofs.run_with_crew.OwnLists.{own-1}
+use Rattle.furnacelime.proofs.run_with_crew.Given as goal
 
 abbrev pub invariant-loop-id : goal.invariant-loop-id
 invariant-loop-id g l = AreMade l.id l.jobs.room (jobs_of (λ j. (own-1.entry j.vtable).1.id j.value) (λ j. (own-1.entry j.vtable).1.used j.value)

@@ -1,0 +1,17 @@
+use Rattle.std.proofs.Common.{refl}
+use Rattle.run_tool.proofs.ClosedLemmas.{usage_closed, done_closed, command_closed}
+use Rattle.furnacelime.proofs.run_and_close.Goals as goal
+
+pub returns-clause-usage : goal.returns-clause-usage
+returns-clause-usage g c = usage_closed _ _ _ c.close_run.ensures.closed.status_is c.run_words-status.ensures.ends.usage
+
+pub returns-clause-done : goal.returns-clause-done
+returns-clause-done g c = λ is.
+    let own = c.run_words-status.ensures.ends.done (done_closed _ _ _ c.close_run.ensures.closed.status_is is) in
+    record {
+      command = own.command;
+      asked = own.asked;
+      before = own.before;
+      fresh = own.fresh;
+      done = command_closed _ _ _ _ c.close_run.ensures.kept own.command own.before own.done;
+    }

@@ -1,0 +1,35 @@
+-- How a call of the program ends: as the top call, with gates and jobs that were made for it.
+use Rattle.std.specs.Prelude.{ℕ, ◌≡◌, ◌≢◌, ◌↔◌, true, List, Some, None}
+use Rattle.command_words.specs.Words.{command_of, asks_to_execute}
+use Rattle.command_words.specs.declared.command.Command.{Command}
+use Rattle.command_words.specs.declared.command.Command.TheVariants.{Read}
+use Rattle.command_words.specs.declared.command.Reading.TheVariants.{Check}
+use Rattle.still_commands.specs.Commands.{of_trace}
+use Rattle.still_commands.specs.Ends.{Streams, ErrorStream, IsDone}
+use Rattle.still_commands.specs.declared.status.Status.{Status}
+use Rattle.still_commands.specs.declared.status.Status.TheVariants.{Done, Invalid, Usage, NoMemory}
+use Rattle.run_tool.specs.Ends.{IsCommandDone}
+use Rattle.run_tool.specs.Executed.{EndsWith}
+use Rattle.run_tool.specs.Executions.{Crew, IsFreshCrew}
+
+-- the command ended with this status; an execution that memory wasn't refused to began with a fresh crew
+pub record EndsWithOwn (words : List (List ℕ)) (c : Command) (old new : Streams) (err err' : ErrorStream) (status : Status) : Type 0 where
+  pub before : Crew
+  pub now : Crew
+  pub fresh : asks_to_execute words ≡ true → status ≢ NoMemory → IsFreshCrew before
+  pub ends : EndsWith c old new err err' before now status
+
+-- the command was done; an execution began with a fresh crew
+pub record IsDoneWithOwn (words : List (List ℕ)) (old new : Streams) : Type 0 where
+  pub command : Command
+  pub asked : command_of words ≡ Some command
+  pub before : Crew
+  pub fresh : asks_to_execute words ≡ true → IsFreshCrew before
+  pub done : IsCommandDone command Done old new before
+
+-- the clauses of the top call
+pub record EndsAlone (words : List (List ℕ)) (old new : Streams) (err err' : ErrorStream) (status : Status) : Type 0 where
+  pub usage : status ≢ NoMemory → ((status ≡ Usage) ↔ (command_of words ≡ None))
+  pub done : status ≡ Done → IsDoneWithOwn words old new
+  pub invalid : status ≡ Invalid → (command_of words ≡ Some (Read Check)) × IsDone of_trace Invalid old new
+  pub ends : (c : Command) → command_of words ≡ Some c → EndsWithOwn words c old new err err' status
