@@ -67,6 +67,10 @@ why_not o bytes left out (why.BadTree line kind) stops memory =
     refused_bytes (λ xs. Refuses o xs (why.BadTree line kind)) (limit_of o) bytes left stops.0 stops.1 stops.2
 why_not o bytes left out (why.TooWide ticks) stops memory =
     refused_bytes (λ xs. Refuses o xs (why.TooWide ticks)) (limit_of o) bytes left stops.0 stops.1 stops.2
+why_not o bytes left out (why.NoRepeat task) stops memory =
+    refused_bytes (λ xs. Refuses o xs (why.NoRepeat task)) (limit_of o) bytes left stops.0 stops.1 stops.2
+why_not o bytes left out (why.WideRepeat units) stops memory =
+    refused_bytes (λ xs. Refuses o xs (why.WideRepeat units)) (limit_of o) bytes left stops.0 stops.1 stops.2
 why_not o bytes left out (why.OfMode j refusal) stops memory =
     refused_bytes (λ xs. Refuses o xs (why.OfMode j refusal)) (limit_of o) bytes left stops.0 stops.1 stops.2
 

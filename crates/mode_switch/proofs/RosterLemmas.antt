@@ -15,8 +15,8 @@ use Rattle.job_vm.specs.Seen.{JobSeen, job_seen, jobs_of, seen}
 use Rattle.job_vm.specs.Loading.{anew, loaded}
 use Rattle.job_vm.proofs.LoadingLemmas.{loaded_past, seen_at}
 use Rattle.run_tree.specs.Plans.{PlanContents, IsPlan}
-use Rattle.exec_book.specs.PlanRows.{plan_rows}
-use Rattle.exec_book.proofs.RoundLemmas.{below_or, names_task}
+use Rattle.plan_rounds.specs.PlanRows.{plan_rows}
+use Rattle.plan_rounds.proofs.RoundLemmas.{below_or, names_task}
 use Rattle.exec_lanes.specs.declared.answers.Executed.{Executed}
 use Rattle.exec_lanes.specs.declared.answers.ExecFault.{ExecFault}
 use Rattle.exec_lanes.specs.declared.answers.ExecFault.TheVariants as exec
@@ -160,9 +160,9 @@ module _ {G J : Type 0} (gate : GateTells G) (job : JobTells J) where
         (now, here, kept.id, omega (arith, same));
   }
 
-  back_ran : (p : PlanContents) (a b : Roster G J) (lanes : List LaneContents)
-      → Ran gate.ran gate.faults job.id job.used job.made job.faults p a.kits b.kits a.places b.places lanes → AreBack gate job a b
-  back_ran p a b lanes r = record {
+  back_ran : (p : PlanContents) (window : ℕ) (a b : Roster G J) (lanes : List LaneContents)
+      → Ran gate.ran gate.faults job.id job.used job.made job.faults p window a.kits b.kits a.places b.places lanes → AreBack gate job a b
+  back_ran p window a b lanes r = record {
     gates = λ q g at. elim (below_or q p.tree.processors) [
       | inl within ↦
           let (now, there, gr) = r.gates q g within at in
@@ -177,12 +177,12 @@ module _ {G J : Type 0} (gate : GateTells G) (job : JobTells J) where
     ];
   }
 
-  back_outcome : (p : PlanContents) (a b : Roster G J) (answer : Result Executed ExecFault)
-      → Outcome gate.ran gate.faults job.id job.used job.made job.faults p a.kits b.kits a.places b.places answer → AreBack gate job a b
-  back_outcome p a b (Ok e) o = back_ran p a b o.0 o.1
-  back_outcome p a b (Err (exec.Gate q r n)) o = back_ran p a b o.0 o.1
-  back_outcome p a b (Err (exec.Job t q r n)) o = back_ran p a b o.0 o.1
-  back_outcome p a b (Err exec.NoMemory) o = record {
+  back_outcome : (p : PlanContents) (window : ℕ) (a b : Roster G J) (answer : Result Executed ExecFault)
+      → Outcome gate.ran gate.faults job.id job.used job.made job.faults p window a.kits b.kits a.places b.places answer → AreBack gate job a b
+  back_outcome p window a b (Ok e) o = back_ran p window a b o.0 o.1
+  back_outcome p window a b (Err (exec.Gate q r n)) o = back_ran p window a b o.0 o.1
+  back_outcome p window a b (Err (exec.Job t q r n)) o = back_ran p window a b o.0 o.1
+  back_outcome p window a b (Err exec.NoMemory) o = record {
     gates = λ q g at. (g, ap (λ (kits : List (Kit G)). slice_get kits q) o.0 ∙ at, omega arith);
     jobs = λ i j at. (j, ap (λ (places : List (Option J)). slice_get places i) o.1 ∙ at, refl, omega arith);
   }
@@ -190,14 +190,14 @@ module _ {G J : Type 0} (gate : GateTells G) (job : JobTells J) where
   -- whatever a mode answers, all are back
   pub back_mode : (p : PlanContents) (answer : Result Executed ExecFault) (old new : Roster G J) → RanMode gate job p answer old new → AreBack gate job old new
   back_mode p answer old new run =
-      back_on old run.begun new (back_begun p.set.tasks old run.begun run.begins) (back_outcome p run.begun new answer run.outcome)
+      back_on old run.begun new (back_begun p.set.tasks old run.begun run.begins) (back_outcome p run.window run.begun new answer run.outcome)
 
   -- ---- a mode that was run whole
 
   module _ (p : PlanContents) (h : IsPlan p) (e : Executed) (old new : Roster G J) (run : RanMode gate job p (Ok e) old new) where
     pub mode_gates : GatesGrew gate.ran p old.kits new.kits
     mode_gates = subst (λ (kits : List (Kit G)). GatesGrew gate.ran p kits new.kits) run.begins.gates
-        (gates_grew gate.ran gate.faults job.id job.used job.made job.faults p h run.begun.kits new.kits run.begun.places new.places (Ok e) run.outcome)
+        (gates_grew gate.ran gate.faults job.id job.used job.made job.faults p run.window h run.begun.kits new.kits run.begun.places new.places (Ok e) run.outcome)
 
     pub mode_jobs : (i : ℕ) (j : J) → JobAt old.places i j → (now : J) × JobAt new.places i now × (job.id now ≡ job.id j)
         × (job.used now ≡ (if nat_lt i (length p.set.tasks) then ticks_in i (all_rows (plan_rows p)) else job.used j))
@@ -228,23 +228,23 @@ module _ {G J : Type 0} (gate : GateTells G) (job : JobTells J) where
 
   -- ---- a mode that may have stopped
 
-  first_ran : (p : PlanContents) (a b : Roster G J) (lanes : List LaneContents)
-      → Ran gate.ran gate.faults job.id job.used job.made job.faults p a.kits b.kits a.places b.places lanes → (q : ℕ) (g : G) → q < p.tree.processors → KitAt a.kits q g
+  first_ran : (p : PlanContents) (window : ℕ) (a b : Roster G J) (lanes : List LaneContents)
+      → Ran gate.ran gate.faults job.id job.used job.made job.faults p window a.kits b.kits a.places b.places lanes → (q : ℕ) (g : G) → q < p.tree.processors → KitAt a.kits q g
       → (now : G) × KitAt b.kits q now × ((k : ℕ) × (gate.ran now ≡ grown (gate.ran g) (take k (lane_of (plan_rows p) q))))
-  first_ran p a b lanes r q g within at =
+  first_ran p window a b lanes r q g within at =
       let (now, there, gr) = r.gates q g within at in
       let lane = lane_in lanes q in
       let next = subst (λ n. FailsNext (plan_rows p) (record { lane = n; posted = lane.seat.posted }) lane.cause) gr.own gr.next in
       let first = gate_first (plan_rows p) q lane.seat.posted lane.cause next in
       (now, there, (first.0, gr.list ∙ ap (grown (gate.ran g)) first.1))
 
-  first_outcome : (p : PlanContents) (a b : Roster G J) (answer : Result Executed ExecFault)
-      → Outcome gate.ran gate.faults job.id job.used job.made job.faults p a.kits b.kits a.places b.places answer → (q : ℕ) (g : G) → q < p.tree.processors → KitAt a.kits q g
+  first_outcome : (p : PlanContents) (window : ℕ) (a b : Roster G J) (answer : Result Executed ExecFault)
+      → Outcome gate.ran gate.faults job.id job.used job.made job.faults p window a.kits b.kits a.places b.places answer → (q : ℕ) (g : G) → q < p.tree.processors → KitAt a.kits q g
       → (now : G) × KitAt b.kits q now × ((k : ℕ) × (gate.ran now ≡ grown (gate.ran g) (take k (lane_of (plan_rows p) q))))
-  first_outcome p a b (Ok e) o q g within at = first_ran p a b o.0 o.1 q g within at
-  first_outcome p a b (Err (exec.Gate x r n)) o q g within at = first_ran p a b o.0 o.1 q g within at
-  first_outcome p a b (Err (exec.Job t x r n)) o q g within at = first_ran p a b o.0 o.1 q g within at
-  first_outcome p a b (Err exec.NoMemory) o q g within at =
+  first_outcome p window a b (Ok e) o q g within at = first_ran p window a b o.0 o.1 q g within at
+  first_outcome p window a b (Err (exec.Gate x r n)) o q g within at = first_ran p window a b o.0 o.1 q g within at
+  first_outcome p window a b (Err (exec.Job t x r n)) o q g within at = first_ran p window a b o.0 o.1 q g within at
+  first_outcome p window a b (Err exec.NoMemory) o q g within at =
       (g, ap (λ (kits : List (Kit G)). slice_get kits q) o.0 ∙ at, (0, sym (grown-nil (gate.ran g))))
 
   -- whatever a mode answers, each gate ran first rows of its processor
@@ -252,7 +252,7 @@ module _ {G J : Type 0} (gate : GateTells G) (job : JobTells J) where
       → (q : ℕ) (g : G) → q < p.tree.processors → KitAt old.kits q g
       → (now : G) × KitAt new.kits q now × ((k : ℕ) × (gate.ran now ≡ grown (gate.ran g) (take k (lane_of (plan_rows p) q))))
   mode_first p answer old new run q g within at =
-      first_outcome p run.begun new answer run.outcome q g within (ap (λ (kits : List (Kit G)). slice_get kits q) run.begins.gates ∙ at)
+      first_outcome p run.window run.begun new answer run.outcome q g within (ap (λ (kits : List (Kit G)). slice_get kits q) run.begins.gates ∙ at)
 
   -- the gate that is named failed
   pub gate_risen : (p : PlanContents) (q : ℕ) (r : Row) (n : ℕ) (old new : Roster G J) → RanMode gate job p (Err (exec.Gate q r n)) old new

@@ -10,7 +10,7 @@ use Rattle.sched_edges.specs.declared.gates.Gate.{Ghosts as GateTells}
 use Rattle.sched_edges.specs.declared.jobs.Job.{Ghosts as JobTells}
 use Rattle.sched_edges.specs.Gates.{grown}
 use Rattle.run_tree.specs.Plans.{PlanContents, rounds_of}
-use Rattle.exec_book.specs.PlanRows.{IsCompiled, plan_rows}
+use Rattle.plan_rounds.specs.PlanRows.{IsCompiled, plan_rows}
 use Rattle.exec_lanes.specs.declared.answers.Executed.{Executed}
 use Rattle.exec_lanes.specs.declared.answers.ExecFault.{ExecFault}
 use Rattle.exec_lanes.specs.declared.answers.ExecFault.TheVariants as exec

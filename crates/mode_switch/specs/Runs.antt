@@ -12,7 +12,7 @@ use Rattle.job_vm.specs.Seen.{seen}
 use Rattle.job_vm.specs.Loading.{loaded}
 use Rattle.run_tree.specs.Plans.{PlanContents, stop_of}
 use Rattle.row_totals.specs.Sums.{totals_of}
-use Rattle.exec_book.specs.PlanRows.{plan_rows}
+use Rattle.plan_rounds.specs.PlanRows.{plan_rows}
 use Rattle.exec_lanes.specs.declared.answers.Executed.{Executed}
 use Rattle.exec_lanes.specs.declared.answers.ExecFault.{ExecFault}
 use Rattle.exec_lanes.specs.declared.answers.ExecFault.TheVariants as exec
@@ -47,7 +47,8 @@ pub record RanMode {G J : Type 0} (gate : GateTells G) (job : JobTells J) (p : P
     (old new : Roster G J) : Type 0 where
   pub begun : Roster G J
   pub begins : HasBegun job p.set.tasks old begun
-  pub outcome : Outcome gate.ran gate.faults job.id job.used job.made job.faults p begun.kits new.kits begun.places new.places answer
+  pub window : ℕ
+  pub outcome : Outcome gate.ran gate.faults job.id job.used job.made job.faults p window begun.kits new.kits begun.places new.places answer
 
 -- modes were run whole, one after the other, with these answers
 abbrev pub RanModes : {G J : Type 0} → GateTells G → JobTells J → List Mode → List Executed → Roster G J → Roster G J → Type 0

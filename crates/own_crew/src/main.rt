@@ -6,7 +6,7 @@ mod busy_gate;
 
 ghost use Rattle.std.specs.Prelude.{IfOk};
 ghost use Rattle.exec_lanes.specs.Kits.{AreFilled};
-ghost use Rattle.exec_book.specs.PlanRows.{IsCompiled};
+ghost use Rattle.plan_rounds.specs.PlanRows.{IsCompiled};
 
 use anyhow::anyhow;
 use bounded_job::BoundedJob;

@@ -7,4 +7,4 @@ mod steps;
 
 pub use faults::OpenFault;
 pub use halves::{Halves, halves_of};
-pub use steps::{NO_TASK, Steps};
+pub use steps::{NO_TASK, Steps, read_plan, task_shown};

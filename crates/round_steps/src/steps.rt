@@ -43,12 +43,14 @@ impl Model for Steps {
     ghost invariant = { λ s. IsCoreOf s.plan s.core × (length s.rows.items ≡ s.plan.tree.processors) };
 }
 
-// The plan of a task set, written as a TOML document.
-fn plan_of(alloc: Global, bytes: &[u8]) -> Result<Plan, OpenFault>
-    requires { length bytes.now ≤ 1048576 }
+/// The plan of a task set, written as a TOML document.
+pub fn read_plan(alloc: Global, bytes: &[u8]) -> Result<Plan, OpenFault>
     ensures plan { IfOk result (IsPlanOf bytes.now) }
     ensures refused { IfErr result (IsRefusedFor bytes.now) }
 {
+    if bytes.len() > SET_LIMIT {
+        return Err(OpenFault::InputTooLong);
+    }
     let set = read_set(alloc, bytes)?;
     Ok(compile(alloc, set)?)
 }
@@ -80,10 +82,7 @@ impl Steps {
         ensures start { IfOk result (λ s. s.core.tick ≡ 0) }
         ensures refused { IfErr result (IsRefusedFor bytes.now) }
     {
-        if bytes.len() > SET_LIMIT {
-            return Err(OpenFault::InputTooLong);
-        }
-        let plan = plan_of(alloc, bytes)?;
+        let plan = read_plan(alloc, bytes)?;
         Ok(start(alloc, plan)?)
     }
 
@@ -143,6 +142,7 @@ impl Steps {
         ensures room { length tasks.new ≡ length tasks.old }
         ensures tasks { (q : ℕ) (none : DeclaredRow) → q < self.now.plan.tree.processors →
             slice_index tasks.new q ≡ task_shown (slice_index_or self.now.rows q none).leaf }
+        ensures rest { (q : ℕ) → self.now.plan.tree.processors ≤ q → slice_index tasks.new q ≡ slice_index tasks.old q }
     {
         for q in 0..self.rows.len() {
             tasks[q] = task_shown(self.rows[q].leaf);
@@ -150,8 +150,8 @@ impl Steps {
     }
 }
 
-// The number of the task that a row shows.
-fn task_shown(leaf: Leaf) -> u32
+/// The number of the task that a row shows.
+pub fn task_shown(leaf: Leaf) -> u32
     ensures { result ≡ task_shown leaf }
 {
     match leaf {

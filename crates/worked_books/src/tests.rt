@@ -4,7 +4,7 @@ ghost use Rattle.book_machine.specs.Machine.{lane_at};
 ghost use Rattle.unit_ledger.specs.Seats.{seats_at_start};
 ghost use Rattle.exec_book.specs.Books.{IsDismissed};
 ghost use Rattle.sched_edges.specs.Jobs.{JobAt, CountHeld};
-ghost use Rattle.exec_book.specs.PlanRows.{IsCompiled};
+ghost use Rattle.plan_rounds.specs.PlanRows.{IsCompiled};
 
 mod halts;
 mod ledgers;

@@ -8,7 +8,7 @@ use Rattle.sched_edges.specs.Jobs.{JobAt}
 use Rattle.run_tree.specs.Plans.{PlanContents, rounds_of}
 use Rattle.sched_base.specs.Tables.{row_limit}
 use Rattle.exec_book.specs.Jobs.{Made}
-use Rattle.exec_book.specs.PlanRows.{IsCompiled}
+use Rattle.plan_rounds.specs.PlanRows.{IsCompiled}
 use Rattle.exec_lanes.specs.declared.answers.Executed.{Executed}
 use Rattle.exec_lanes.specs.declared.answers.ExecFault.{ExecFault}
 use Rattle.exec_lanes.specs.declared.answers.ExecFault.TheVariants as fault
@@ -125,12 +125,12 @@ module _ {J : Type 0} (id used : J → ℕ) (all : ℕ) where
   pub all_made : (n room : ℕ) (places : List (Option J)) → AreMade id used all n room places → all ≤ n → (m : ℕ) → m ≡ all → AreFresh id used m places
   all_made n room places made past m same = λ t below. made.fresh t (omega (arith, below, same, past))
 
-module _ {G J : Type 0} (ran : G → Option (List Row)) (gate_faults : G → ℕ) (id used : J → ℕ) (made : J → Made) (job_faults : J → ℕ) (p : PlanContents) (kits kits' : List (Kit G)) (places places' : List (Option J)) where
-  left_by : (lanes : List LaneContents) → Ran ran gate_faults id used made job_faults p kits kits' places places' lanes → (t : ℕ) (job : J) → t < length p.set.tasks → JobAt places t job → (now : J) × JobAt places' t now
+module _ {G J : Type 0} (ran : G → Option (List Row)) (gate_faults : G → ℕ) (id used : J → ℕ) (made : J → Made) (job_faults : J → ℕ) (p : PlanContents) (window : ℕ) (kits kits' : List (Kit G)) (places places' : List (Option J)) where
+  left_by : (lanes : List LaneContents) → Ran ran gate_faults id used made job_faults p window kits kits' places places' lanes → (t : ℕ) (job : J) → t < length p.set.tasks → JobAt places t job → (now : J) × JobAt places' t now
   left_by lanes run t job within at = let now = run.jobs t job within at in (now.0, now.1)
 
   -- the job of a task is in its place again, whatever the run answers
-  pub job_left : (result : Result Executed ExecFault) → Outcome ran gate_faults id used made job_faults p kits kits' places places' result → (t : ℕ) (job : J) → t < length p.set.tasks → JobAt places t job → (now : J) × JobAt places' t now
+  pub job_left : (result : Result Executed ExecFault) → Outcome ran gate_faults id used made job_faults p window kits kits' places places' result → (t : ℕ) (job : J) → t < length p.set.tasks → JobAt places t job → (now : J) × JobAt places' t now
   job_left (Ok e) o = left_by o.0 o.1
   job_left (Err (fault.Gate processor row posts)) o = left_by o.0 o.1
   job_left (Err (fault.Job task processor row posts)) o = left_by o.0 o.1

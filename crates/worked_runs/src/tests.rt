@@ -1,7 +1,7 @@
 //! Streams, gates and jobs, and the three tasks executed on gates with lists: what the tests of these share.
 ghost use Rattle.std.specs.Prelude.{◌<◌, ℕ};
 ghost use Rattle.sched_edges.specs.Jobs.{JobAt};
-ghost use Rattle.exec_book.specs.PlanRows.{IsCompiled};
+ghost use Rattle.plan_rounds.specs.PlanRows.{IsCompiled};
 ghost use Rattle.worked_runs.specs.Ready.{AreUnrun, IsReady};
 
 mod faults;

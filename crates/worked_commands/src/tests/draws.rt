@@ -19,16 +19,16 @@ const OVERLAP_ROWS: &str =
 
 // How the picture of its unit 1 begins, and what stands below the style sheet.
 const UNIT_ABOVE: &str = "<svg xmlns='http://www.w3.org/2000/svg' role='img' aria-labelledby='t d'
- viewBox='0 0 12000 3670'>
+ viewBox='0 0 12000 3870'>
 <title id='t'>Schedule of 3 tasks on 2 processors</title>
 <desc id='d'>A lane for each processor, and below them one for each task;
 units 1 to 2 of 3; valid</desc>
 ";
 
-const UNIT_BELOW: &str = "<rect width='12000' height='3670' fill='#fff'/>
+const UNIT_BELOW: &str = "<rect width='12000' height='3870' fill='#fff'/>
 <text class='h' x='250' y='330'>3 tasks on 2 processors</text>
-<text class='n' x='250' y='560'>units 1 to 2 of 3</text>
-<text class='u' x='11600' y='560'>one unit is 3 ticks</text>
+<text class='n x' x='250' y='560'>units 1 to 2 of 3; all: draw --units 3</text>
+<text class='u x' x='11600' y='560'>one unit is 3 ticks</text>
 <text class='ok' x='11600' y='330'>valid</text>
 <text class='l x' x='1780' y='1215'>cpu 0</text>
 <rect class='p' x='1900' y='1000' width='9700' height='340'/>
@@ -38,10 +38,14 @@ const UNIT_BELOW: &str = "<rect width='12000' height='3670' fill='#fff'/>
 <text class='a x' x='1900' y='840'>1</text>
 <path class='g' d='M11600 880V3270'/>
 <text class='a x' x='11600' y='840'>2</text>
-<rect class='c0 v0' x='1900' y='1000' width='9700' height='340'/>
-<rect class='c0 v0' x='1900' y='2140' width='9700' height='230'/>
-<rect class='c2 v0' x='1900' y='1420' width='9700' height='340'/>
-<rect class='c2 v0' x='1900' y='2940' width='9700' height='230'/>
+<g class='c0 v0'><title>a</title>
+<rect x='1900' y='1000' width='9700' height='340'/>
+<rect x='1900' y='2140' width='9700' height='230'/>
+</g>
+<g class='c2 v0'><title>c</title>
+<rect x='1900' y='1420' width='9700' height='340'/>
+<rect x='1900' y='2940' width='9700' height='230'/>
+</g>
 <text class='l x' x='1780' y='2240'>a</text>
 <text class='s x' x='1780' y='2420'>2/3</text>
 <path class='b' d='M1900 2370H11600'/>
@@ -56,27 +60,36 @@ const UNIT_BELOW: &str = "<rect width='12000' height='3670' fill='#fff'/>
 <text class='m c0 x' x='6750' y='2255'>0</text>
 <text class='m c2 x' x='6750' y='1590'>c</text>
 <text class='m c2 x' x='6750' y='3055'>1</text>
-<text class='n' x='250' y='3470'>arrow: release, and deadline of the job before; ring: the period has its work; red: at fault</text>
+<text class='n x' x='250' y='3480'>arrow: release, and deadline of the job before</text>
+<text class='n x' x='250' y='3740'>ring: the period has its work; red: at fault</text>
 </svg>
 ";
 
 // How the picture of the whole begins where the last row begins before the one before it ends, and all its boxes, lanes and words.
 const OVERLAP_ABOVE: &str =
     "<svg xmlns='http://www.w3.org/2000/svg' role='img' aria-labelledby='t d'
- viewBox='0 0 12000 3670'>
+ viewBox='0 0 12000 3870'>
 <title id='t'>Schedule of 3 tasks on 2 processors</title>
 <desc id='d'>A lane for each processor, and below them one for each task;
 units 0 to 3 of 3; line 12: processor-overlap</desc>
 ";
 
-const OVERLAP_BELOW: &str = "<rect class='c1 v0' x='1900' y='1000' width='3233' height='340'/>
-<rect class='c1 v0' x='1900' y='2540' width='3233' height='230'/>
-<rect class='c0 v0' x='5133' y='1000' width='6467' height='340'/>
-<rect class='c0 v0' x='5133' y='2140' width='6467' height='230'/>
-<rect class='c2 v0' x='1900' y='1420' width='6466' height='340'/>
-<rect class='c2 v0' x='1900' y='2940' width='6466' height='230'/>
-<rect class='c1 v0' x='7288' y='1420' width='3234' height='340'/>
-<rect class='c1 v0' x='7288' y='2540' width='3234' height='230'/>
+const OVERLAP_BELOW: &str = "<g class='c1 v0'><title>b</title>
+<rect x='1900' y='1000' width='3233' height='340'/>
+<rect x='1900' y='2540' width='3233' height='230'/>
+</g>
+<g class='c0 v0'><title>a</title>
+<rect x='5133' y='1000' width='6467' height='340'/>
+<rect x='5133' y='2140' width='6467' height='230'/>
+</g>
+<g class='c2 v0'><title>c</title>
+<rect x='1900' y='1420' width='6466' height='340'/>
+<rect x='1900' y='2940' width='6466' height='230'/>
+</g>
+<g class='c1 v0'><title>b</title>
+<rect x='7288' y='1420' width='3234' height='340'/>
+<rect x='7288' y='2540' width='3234' height='230'/>
+</g>
 <text class='l x' x='1780' y='2240'>a</text>
 <text class='s x' x='1780' y='2420'>2/3</text>
 <path class='b' d='M1900 2370H11600'/>
@@ -105,7 +118,8 @@ const OVERLAP_BELOW: &str = "<rect class='c1 v0' x='1900' y='1000' width='3233' 
 <text class='m c2 x' x='5133' y='3055'>1</text>
 <text class='m c1 x' x='8905' y='1590'>b</text>
 <text class='m c1 x' x='8905' y='2655'>1</text>
-<text class='n' x='250' y='3470'>arrow: release, and deadline of the job before; ring: the period has its work; red: at fault</text>
+<text class='n x' x='250' y='3480'>arrow: release, and deadline of the job before</text>
+<text class='n x' x='250' y='3740'>ring: the period has its work; red: at fault</text>
 </svg>
 ";
 
@@ -201,7 +215,7 @@ const FAULTS: &[FaultCase] = &[
     (
         Outside { out: &[3], ..SURE },
         Status::WriteFault,
-        "<svg xmlns='http://www.w3.org/2000/svg' role='img' aria-labelledby='t d'\n viewBox='0 0 12000 3670'>\n",
+        "<svg xmlns='http://www.w3.org/2000/svg' role='img' aria-labelledby='t d'\n viewBox='0 0 12000 3870'>\n",
         "refused 4 WriteFault\n",
         Did::Nothing,
     ),

@@ -4,9 +4,12 @@ use super::calls::{Outside, SURE};
 use super::cases::{Cases, FaultCase, Table, assert_tables};
 use super::lanes::Did;
 use super::texts::{THREE_RATES, THREE_TASKS};
-use run_tool::{Status, close_flushed};
-use sched_edges::{Failed, MemSink};
+use run_tool::{Status, close_flushed, close_run};
+use sched_edges::{Failed, MemSink, StdSink, write_all};
 use std::alloc::Global;
+use std::cell::Cell;
+use std::io;
+use std::io::{BufWriter, Write};
 use std::process::Abort;
 
 /// Faults leave a first part.
@@ -101,6 +104,63 @@ fn a_text_kept_back_is_not_lost_silently(rt: HostRuntime) {
         let end = (*at_the_end, *line);
         assert_closed(&rt, rt.alloc(), (*status, *is_flushed), end);
     }
+}
+
+/// A writer that counts the bytes which it takes, and fails where it is broken.
+#[derive(Drop)]
+struct Counting<'a> {
+    bytes: &'a Cell<usize>,
+    is_broken: bool,
+}
+
+impl Write for Counting<'_> {
+    fn write(&mut self, piece: &[u8]) -> io::Result<usize> {
+        if self.is_broken {
+            return Err(io::Error::other("broken"));
+        }
+        self.bytes.set(self.bytes.get().saturating_add(piece.len()));
+        Ok(piece.len())
+    }
+
+    fn flush(&mut self) -> io::Result<()> {
+        Ok(())
+    }
+}
+
+// Makes sure that a text that was kept back is handed on at the end, before the sink is let go, or that its loss is told.
+fn assert_handed_on(
+    rt: &impl Abort,
+    alloc: Global,
+    is_broken: bool,
+    (at_the_end, count, line): (Status, usize, &str),
+) {
+    let bytes = Cell::new(0);
+    let writer = Counting {
+        bytes: &bytes,
+        is_broken,
+    };
+    let mut out = StdSink::new(BufWriter::with_capacity(alloc, 64, writer).expect(
+        rt,
+        "there is memory",
+    ));
+    assert!(rt; write_all(&mut out, b"rate 2\n") == Ok(()) && bytes.get() == 0);
+    let mut err = MemSink::new(alloc, 64, &[]).expect(rt, "there is memory");
+    let closed = close_run(Status::Done, &mut out, &mut err);
+    assert!(rt;
+        closed == at_the_end && bytes.get() == count && err.taken() == line.as_bytes(),
+        "{line}"
+    );
+}
+
+#[test]
+fn a_text_kept_back_is_handed_on_or_its_loss_told(rt: HostRuntime) {
+    assert_handed_on(&rt, rt.alloc(), false, (Status::Done, 7, ""));
+    assert_handed_on(
+        &rt,
+        rt.alloc(),
+        true,
+        (Status::WriteFault, 0, "refused 4 WriteFault\n"),
+    );
 }
 
 #[test]

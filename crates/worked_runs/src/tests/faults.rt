@@ -1,5 +1,5 @@
 //! Runs that end at a failure, and what they leave.
-ghost use Rattle.exec_book.specs.PlanRows.{IsCompiled};
+ghost use Rattle.plan_rounds.specs.PlanRows.{IsCompiled};
 
 use super::{A, B, C, Left, assert_first, kits_of, ran, row, run, three_tasks};
 use exec_workers::ExecFault;

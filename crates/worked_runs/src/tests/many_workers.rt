@@ -1,5 +1,5 @@
 //! Runs with 24 workers, whose gates keep different paces.
-ghost use Rattle.exec_book.specs.PlanRows.{IsCompiled};
+ghost use Rattle.plan_rounds.specs.PlanRows.{IsCompiled};
 ghost use Rattle.worked_runs.specs.Ready.{AreUnrun, IsReady};
 
 use super::paced_gate::{Pace, PacedGate};

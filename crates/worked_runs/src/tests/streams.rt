@@ -135,7 +135,6 @@ fn assert_std_sink(rt: &impl Abort, alloc: Global) {
     let mut taken = Vec::new(alloc);
     let mut sink = StdSink::new(&mut taken);
     assert!(rt; write_all(&mut sink, b"output") == Ok(()));
-    assert!(rt; sink.flush() == Ok(()));
     assert!(rt; taken.as_slice() == b"output".as_slice());
 }
 
@@ -147,6 +146,54 @@ fn writes_by_std_and_counts_its_faults(rt: HostRuntime) {
     assert!(rt; read_all(rt.alloc(), &mut source, 5).is_ok() == false);
     let mut sink = StdSink::new(Broken);
     assert!(rt; write_all(&mut sink, b"output") == Err(Failed));
-    assert!(rt; sink.flush() == Err(Failed));
     assert!(rt; write_all(&mut sink, b"") == Ok(()));
+}
+
+/// Interrupts the first calls, and then does as std's streams of bytes do.
+#[derive(Drop)]
+struct Interrupting {
+    calls: u32,
+}
+
+impl Interrupting {
+    // Whether this call is one that is interrupted.
+    fn interrupts(&mut self) -> bool {
+        let is_left = self.calls > 0;
+        self.calls = self.calls.saturating_sub(1);
+        is_left
+    }
+}
+
+impl Read for Interrupting {
+    fn read(&mut self, buffer: &mut [u8]) -> io::Result<usize> {
+        if self.interrupts() {
+            return Err(io::Error::from(io::ErrorKind::Interrupted));
+        }
+        b"in".as_slice().read(buffer)
+    }
+}
+
+impl Write for Interrupting {
+    fn write(&mut self, piece: &[u8]) -> io::Result<usize> {
+        if self.interrupts() {
+            return Err(io::Error::from(io::ErrorKind::Interrupted));
+        }
+        Ok(piece.len())
+    }
+
+    fn flush(&mut self) -> io::Result<()> {
+        Ok(())
+    }
+}
+
+#[test]
+fn interrupted_calls_are_made_again(rt: HostRuntime) {
+    let mut source = StdSource::new(Interrupting { calls: 3 });
+    assert!(rt; source.read(&mut [0; 4]) == Ok(2));
+    let mut sink = StdSink::new(Interrupting { calls: 3 });
+    assert!(rt; write_all(&mut sink, b"output") == Ok(()));
+
+    // Not for ever.
+    let mut source = StdSource::new(Interrupting { calls: u32::MAX });
+    assert!(rt; source.read(&mut [0; 4]) == Err(Failed));
 }

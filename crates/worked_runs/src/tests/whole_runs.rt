@@ -1,5 +1,5 @@
 //! Runs that come to their end.
-ghost use Rattle.exec_book.specs.PlanRows.{IsCompiled};
+ghost use Rattle.plan_rounds.specs.PlanRows.{IsCompiled};
 
 use super::{assert_first, kits_of, ran, run, three_tasks};
 use exec_workers::Executed;

@@ -23,8 +23,8 @@ const STYLE: &str =
 .m{dominant-baseline:central;stroke:currentColor;stroke-width:.2em;paint-order:stroke}.m.c0,.m.c7{fill:#fff}
 .v0,.v1,.v2,.v3{fill:currentColor}.v1,.v2,.v3{stroke:#000;stroke-width:12}
 .v2{stroke-dasharray:40}.v3{stroke-dasharray:160 60}
-@media(max-width:900px){.h{font-size:300px}.n,.u{font-size:190px}.ok,.bad{font-size:260px}
-.x{font-size:230px}.y{font-size:165px}.s.x{font-size:185px}.s.y{font-size:145px}}</style>
+@media(max-width:900px){.h{font-size:300px}.ok,.bad{font-size:260px}.l,.e{transform:translateY(-30px)}
+.s{transform:translateY(15px)}.x{font-size:230px}.y{font-size:165px}.s.x{font-size:220px}}</style>
 ";
 
 // How each picture begins, up to its height.
@@ -32,7 +32,7 @@ const SVG: &str = "<svg xmlns='http://www.w3.org/2000/svg' role='img' aria-label
  viewBox='0 0 12000 ";
 
 // The height and the words of a picture of three tasks on two processors, up to the verdict.
-const TITLE: &str = "3670'>
+const TITLE: &str = "3870'>
 <title id='t'>Schedule of 3 tasks on 2 processors</title>
 <desc id='d'>A lane for each processor, and below them one for each task;
 units 0 to 3 of 3; ";
@@ -42,10 +42,10 @@ const DESCRIBED: &str = "</desc>
 ";
 
 // The first lines that are drawn of three tasks, up to the verdict.
-const CAPTION: &str = "<rect width='12000' height='3670' fill='#fff'/>
+const CAPTION: &str = "<rect width='12000' height='3870' fill='#fff'/>
 <text class='h' x='250' y='330'>3 tasks on 2 processors</text>
-<text class='n' x='250' y='560'>units 0 to 3 of 3</text>
-<text class='u' x='11600' y='560'>one unit is 3 ticks</text>
+<text class='n x' x='250' y='560'>units 0 to 3 of 3</text>
+<text class='u x' x='11600' y='560'>one unit is 3 ticks</text>
 ";
 
 // The lanes of the processors, the axis, and the boxes of the first row, which is task b's.
@@ -61,15 +61,21 @@ const LANES: &str = "<text class='l x' x='1780' y='1215'>cpu 0</text>
 <text class='a x' x='8366' y='840'>2</text>
 <path class='g' d='M11600 880V3270'/>
 <text class='a x' x='11600' y='840'>3</text>
-<rect class='c1 v0' x='1900' y='1000' width='3233' height='340'/>
-<rect class='c1 v0' x='1900' y='2540' width='3233' height='230'/>
+<g class='c1 v0'><title>b</title>
+<rect x='1900' y='1000' width='3233' height='340'/>
+<rect x='1900' y='2540' width='3233' height='230'/>
+</g>
 ";
 
 // The boxes of the third row and of the fourth.
-const OTHER_ROWS: &str = "<rect class='c2 v0' x='1900' y='1420' width='6466' height='340'/>
-<rect class='c2 v0' x='1900' y='2940' width='6466' height='230'/>
-<rect class='c1 v0' x='8366' y='1420' width='3234' height='340'/>
-<rect class='c1 v0' x='8366' y='2540' width='3234' height='230'/>
+const OTHER_ROWS: &str = "<g class='c2 v0'><title>c</title>
+<rect x='1900' y='1420' width='6466' height='340'/>
+<rect x='1900' y='2940' width='6466' height='230'/>
+</g>
+<g class='c1 v0'><title>b</title>
+<rect x='8366' y='1420' width='3234' height='340'/>
+<rect x='8366' y='2540' width='3234' height='230'/>
+</g>
 ";
 
 // The lane of task a, from its work and period up to its first release.
@@ -110,7 +116,8 @@ const OTHER_WORDS: &str = "<text class='m c2 x' x='5133' y='1590'>c</text>
 
 // The last lines.
 const LEGEND: &str =
-    "<text class='n' x='250' y='3470'>arrow: release, and deadline of the job before; ring: the period has its work; red: at fault</text>
+    "<text class='n x' x='250' y='3480'>arrow: release, and deadline of the job before</text>
+<text class='n x' x='250' y='3740'>ring: the period has its work; red: at fault</text>
 </svg>
 ";
 
@@ -130,8 +137,10 @@ const THREE_TASKS_PICTURE: &[&str] = &[
     CAPTION,
     "<text class='ok' x='11600' y='330'>valid</text>\n",
     LANES,
-    "<rect class='c0 v0' x='5133' y='1000' width='6467' height='340'/>
-<rect class='c0 v0' x='5133' y='2140' width='6467' height='230'/>
+    "<g class='c0 v0'><title>a</title>
+<rect x='5133' y='1000' width='6467' height='340'/>
+<rect x='5133' y='2140' width='6467' height='230'/>
+</g>
 ",
     OTHER_ROWS,
     "<text class='l x' x='1780' y='2240'>a</text>\n",
@@ -154,16 +163,16 @@ const OFFSET: &str =
         row 0 3 5 a\nrow 0 5 7 b\nrow 0 7 9 a\nrow 0 9 10 b\ntotal a 4\ntotal b 5\nmet a 0 5\nmet a 1 9\nmet b 0 3\n\
         met b 1 7\nrows 6\n";
 
-const OFFSET_ABOVE: &str = "2850'>
+const OFFSET_ABOVE: &str = "3050'>
 <title id='t'>Schedule of 2 tasks on 1 processor</title>
 <desc id='d'>A lane for each processor, and below them one for each task;
 units 1 to 4 of 5; valid</desc>
 ";
 
-const OFFSET_BELOW: &str = "<rect width='12000' height='2850' fill='#fff'/>
+const OFFSET_BELOW: &str = "<rect width='12000' height='3050' fill='#fff'/>
 <text class='h' x='250' y='330'>2 tasks on 1 processor</text>
-<text class='n' x='250' y='560'>units 1 to 4 of 5</text>
-<text class='u' x='11600' y='560'>one unit is 2 ticks</text>
+<text class='n x' x='250' y='560'>units 1 to 4 of 5; all: draw --units 5</text>
+<text class='u x' x='11600' y='560'>one unit is 2 ticks</text>
 <text class='ok' x='11600' y='330'>valid</text>
 <text class='l x' x='1780' y='1215'>cpu 0</text>
 <rect class='p' x='1900' y='1000' width='9700' height='340'/>
@@ -175,14 +184,22 @@ const OFFSET_BELOW: &str = "<rect width='12000' height='2850' fill='#fff'/>
 <text class='a x' x='8366' y='840'>3</text>
 <path class='g' d='M11600 880V2450'/>
 <text class='a x' x='11600' y='840'>4</text>
-<rect class='c1 v0' x='1900' y='1000' width='1616' height='340'/>
-<rect class='c1 v0' x='1900' y='2120' width='1616' height='230'/>
-<rect class='c0 v0' x='3516' y='1000' width='3234' height='340'/>
-<rect class='c0 v0' x='3516' y='1720' width='3234' height='230'/>
-<rect class='c1 v0' x='6750' y='1000' width='3233' height='340'/>
-<rect class='c1 v0' x='6750' y='2120' width='3233' height='230'/>
-<rect class='c0 v0' x='9983' y='1000' width='1617' height='340'/>
-<rect class='c0 v0' x='9983' y='1720' width='1617' height='230'/>
+<g class='c1 v0'><title>b</title>
+<rect x='1900' y='1000' width='1616' height='340'/>
+<rect x='1900' y='2120' width='1616' height='230'/>
+</g>
+<g class='c0 v0'><title>a</title>
+<rect x='3516' y='1000' width='3234' height='340'/>
+<rect x='3516' y='1720' width='3234' height='230'/>
+</g>
+<g class='c1 v0'><title>b</title>
+<rect x='6750' y='1000' width='3233' height='340'/>
+<rect x='6750' y='2120' width='3233' height='230'/>
+</g>
+<g class='c0 v0'><title>a</title>
+<rect x='9983' y='1000' width='1617' height='340'/>
+<rect x='9983' y='1720' width='1617' height='230'/>
+</g>
 <text class='l x' x='1780' y='1820'>a</text>
 <text class='s x' x='1780' y='2000'>1/2 @1</text>
 <path class='b' d='M1900 1950H11600'/>
@@ -204,7 +221,8 @@ const OFFSET_BELOW: &str = "<rect width='12000' height='2850' fill='#fff'/>
 <text class='m c1 x' x='8366' y='2235'>0</text>
 <text class='m c0 x' x='10791' y='1170'>a</text>
 <text class='m c0 x' x='10791' y='1835'>0</text>
-<text class='n' x='250' y='2650'>arrow: release, and deadline of the job before; ring: the period has its work; red: at fault</text>
+<text class='n x' x='250' y='2660'>arrow: release, and deadline of the job before</text>
+<text class='n x' x='250' y='2920'>ring: the period has its work; red: at fault</text>
 </svg>
 ";
 
@@ -222,8 +240,10 @@ const SHORT_PICTURE: &[&str] = &[
     CAPTION,
     "<text class='bad' x='11600' y='330'>line 13: supply</text>\n",
     LANES,
-    "<rect class='c0 v0' x='5133' y='1000' width='5389' height='340'/>
-<rect class='c0 v0' x='5133' y='2140' width='5389' height='230'/>
+    "<g class='c0 v0'><title>a</title>
+<rect x='5133' y='1000' width='5389' height='340'/>
+<rect x='5133' y='2140' width='5389' height='230'/>
+</g>
 ",
     OTHER_ROWS,
     "<text class='e x' x='1780' y='2240'>a</text>\n",
@@ -254,8 +274,10 @@ const OVERLAP_PICTURE: &[&str] = &[
     CAPTION,
     "<text class='bad' x='11600' y='330'>line 11: task-overlap</text>\n",
     LANES,
-    "<rect class='c2 v0' x='5133' y='1000' width='6467' height='340'/>
-<rect class='c2 v0' x='5133' y='2940' width='6467' height='230'/>
+    "<g class='c2 v0'><title>c</title>
+<rect x='5133' y='1000' width='6467' height='340'/>
+<rect x='5133' y='2940' width='6467' height='230'/>
+</g>
 ",
     OTHER_ROWS,
     "<text class='l x' x='1780' y='2240'>a</text>\n",

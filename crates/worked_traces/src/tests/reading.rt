@@ -8,12 +8,21 @@ use sched_base::{Leaf, NoMemory, Row, RowTable, TaskId, TaskSet};
 use std::alloc::Global;
 use std::process::Abort;
 use trace_check::FaultKind::{Early, End, Processor, ProcessorOverlap, Supply, TaskOverlap};
-use trace_check::{ReadTrace, TraceFault, Verdict, check_trace, read_trace};
+use trace_check::{ReadTrace, TraceFault, Verdict, check_trace, read_checked, read_trace};
 
 /// The verdict on a text, or the line that isn't of the form, which is 0 where memory was refused.
 fn outcome_of(alloc: Global, text: &[u8]) -> Result<Verdict, u64> {
     match read_trace(alloc, text) {
         Ok(trace) => Ok(check_trace(&trace)),
+        Err(TraceFault::BadLine { line }) => Err(line),
+        Err(TraceFault::NoMemory) => Err(0),
+    }
+}
+
+/// The same where nobody asks for orders.
+fn checked_outcome_of(alloc: Global, text: &[u8]) -> Result<Verdict, u64> {
+    match read_checked(alloc, text) {
+        Ok(trace) => Ok(trace.verdict()),
         Err(TraceFault::BadLine { line }) => Err(line),
         Err(TraceFault::NoMemory) => Err(0),
     }
@@ -74,6 +83,7 @@ fn three_tasks_of_rate_two_thirds(rt: HostRuntime) {
     for (lines, want) in table {
         let text = three_tasks(&rt, rt.alloc(), lines);
         assert!(rt; outcome_of(rt.alloc(), &text) == want);
+        assert!(rt; checked_outcome_of(rt.alloc(), &text) == want);
     }
 }
 
@@ -125,6 +135,7 @@ fn texts_alone(rt: HostRuntime) {
     ];
     for (text, want) in table {
         assert!(rt; outcome_of(rt.alloc(), text) == want);
+        assert!(rt; checked_outcome_of(rt.alloc(), text) == want);
     }
 }
 

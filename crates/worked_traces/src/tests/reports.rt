@@ -5,21 +5,21 @@ use sched_edges::MemSink;
 use stat_report::{migrations, preemptions, response, write_report};
 use std::alloc::Global;
 use std::process::Abort;
-use trace_check::{ReadTrace, Verdict, check_trace, read_trace};
+use trace_check::{CheckedTrace, Verdict, read_checked};
 
 /// The trace of a text, which is valid.
-fn trace_of(rt: &impl Abort, alloc: Global, text: &str) -> ReadTrace
+fn trace_of(rt: &impl Abort, alloc: Global, text: &str) -> CheckedTrace
     ensures { IsValidTrace result }
 {
-    let trace = read_trace(alloc, text.as_bytes()).expect(rt, "the text is a trace");
-    match check_trace(&trace) {
+    let trace = read_checked(alloc, text.as_bytes()).expect(rt, "the text is a trace");
+    match trace.verdict() {
         Verdict::Valid => trace,
         Verdict::Fault { line, kind: _ } => panic!(rt; "line {line} is at fault"),
     }
 }
 
 /// Compares what a sink takes of the report of a valid trace with these bytes. Where calls of the sink fail, they are a first part.
-fn compare_report(rt: &impl Abort, alloc: Global, trace: &ReadTrace, fails: &[u64], taken: &str)
+fn compare_report(rt: &impl Abort, alloc: Global, trace: &CheckedTrace, fails: &[u64], taken: &str)
     requires { IsValidTrace trace.now }
 {
     let mut sink = MemSink::new(alloc, 4096, fails).expect(rt, "there is memory");
@@ -97,7 +97,7 @@ fn reports(rt: HostRuntime) {
     }
 }
 
-fn compare_counts(rt: &impl Abort, trace: &ReadTrace)
+fn compare_counts(rt: &impl Abort, trace: &CheckedTrace)
     requires { IsValidTrace trace.now }
 {
     assert!(rt; preemptions(trace) == 1);
@@ -113,17 +113,14 @@ fn counts_alone(rt: HostRuntime) {
 }
 
 /// Compares what is found of each task.
-fn compare_findings(rt: &impl Abort, trace: &ReadTrace) {
-    // The places of each task's rows, its preemptions and migrations, and its response.
-    let table: [(u32, &[u32], u64, u128); 3] = [
-        (0, &[3], 0, 9),
-        (1, &[2, 1], 1, 9),
-        (2, &[0], 0, 6),
-    ];
-    for (task, places, count, response) in table {
+fn compare_findings(rt: &impl Abort, trace: &CheckedTrace)
+    requires { IsValidTrace trace.now }
+{
+    // The preemptions and migrations of each task, and its response.
+    let table: [(u32, u64, u128); 3] = [(0, 0, 9), (1, 1, 9), (2, 0, 6)];
+    for (task, count, response) in table {
         assert!(rt; task < trace.set().count());
-        assert!(rt; trace.by_task(task) == places);
-        let found = trace.findings(task).expect(rt, "something was found");
+        let found = trace.findings(task);
         assert!(rt; (found.preemptions, found.migrations) == (count, count));
         assert!(rt; found.response == response);
     }

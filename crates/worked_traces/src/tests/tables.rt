@@ -1,5 +1,5 @@
 //! Worked schedules in C, and a sink that fails. That of three tasks stands whole in the tests of the command `table`.
-ghost use Rattle.std.specs.Prelude.{◌≡◌, ◌*◌, ◌<◌, ◌^◌, length};
+ghost use Rattle.std.specs.Prelude.{◌≡◌, ◌≤◌, ◌*◌, ◌<◌, ◌^◌, length, IfOk};
 
 use super::A;
 use merged_rows::MergedRows;
@@ -9,55 +9,79 @@ use std::alloc::Global;
 use std::process::Abort;
 use table_text::write_table;
 
-/// What a sink takes of the schedule of a set, where these calls of it fail.
+/// What a sink takes of the schedule of a set, which comes again from a unit on, where these calls of it fail.
 fn written(
     rt: &impl Abort,
     alloc: Global,
     set: &TaskSet,
     scale: u128,
     rows: &MergedRows,
+    from: u64,
     fails: &[u64],
 ) -> MemSink
+    requires some_scale { 1 ≤ scale }
+    requires from { from ≤ set.now.horizon }
     requires fits { set.now.horizon * scale < 2 ^ 64 }
     requires processors { length rows.now.lanes ≡ set.now.processors }
 {
     let mut sink = MemSink::new(alloc, 4096, fails).expect(rt, "there is memory");
-    assert!(rt; write_table(&mut sink, set, scale, rows).is_ok() == fails.is_empty());
+    assert!(rt; write_table(&mut sink, set, scale, rows, from).is_ok() == fails.is_empty());
     sink
 }
 
-/// The ticks of a row have the narrowest type that holds those up to the horizon.
+/// Rows of one processor that begin at 0 and at this tick, and end at another.
+fn two_rows(alloc: Global, tick: u128, end: u128) -> Result<MergedRows, NoMemory>
+    ensures { IfOk result (λ rows. length rows.lanes ≡ 1) }
+{
+    let rows = MergedRows::new(alloc, 1)?;
+    let rows = rows.with_round(tick, &[Some(A)])?;
+    rows.with_round(end, &[Some(Leaf::Idle(0))])
+}
+
+/// The numbers of a row have the narrowest type that holds the steps up to the horizon.
 #[test]
 fn the_narrowest_types(rt: HostRuntime) -> Result<(), NoMemory> {
-    let rows = MergedRows::new(rt.alloc(), 1)?;
     let set = TaskSet::start(rt.alloc(), 1, 1);
-    let table: [(u128, &[u8]); 7] = [
-        (255, b"  uint8_t start, end;\n"),
-        (256, b"  uint16_t start, end;\n"),
-        (65_535, b"  uint16_t start, end;\n"),
-        (65_536, b"  uint32_t start, end;\n"),
-        (4_294_967_295, b"  uint32_t start, end;\n"),
-        (4_294_967_296, b"  uint64_t start, end;\n"),
-        (18_446_744_073_709_551_615, b"  uint64_t start, end;\n"),
+    // A tick that a row ends at besides the horizon, which is as many ticks as the scale.
+    let table: [(u128, u128, &[u8]); 9] = [
+        (1, 255, b"  uint8_t start, end;\n"),
+        (1, 256, b"  uint16_t start, end;\n"),
+        (1, 65_535, b"  uint16_t start, end;\n"),
+        (1, 65_536, b"  uint32_t start, end;\n"),
+        (1, 4_294_967_295, b"  uint32_t start, end;\n"),
+        (1, 4_294_967_296, b"  uint64_t start, end;\n"),
+        (1, 18_446_744_073_709_551_615, b"  uint64_t start, end;\n"),
+        // 2^64 - 1 is 3 * 5 * 17 * 257 * 641 * 65537 * 6700417: in steps of all but the first four it ends at 65,535, of all but three at 255.
+        (
+            281_479_271_743_489,
+            18_446_744_073_709_551_615,
+            b"  uint16_t start, end;\n",
+        ),
+        (
+            72_340_172_838_076_673,
+            18_446_744_073_709_551_615,
+            b"  uint8_t start, end;\n",
+        ),
     ];
-    for (scale, line) in table {
-        assert!(rt; scale < 1 << 64);
-        let sink = written(&rt, rt.alloc(), &set, scale, &rows, &[]);
+    for (tick, scale, line) in table {
+        assert!(rt; 1 <= scale && scale < 1 << 64);
+        let rows = two_rows(rt.alloc(), tick, scale)?;
+        let sink = written(&rt, rt.alloc(), &set, scale, &rows, 0, &[]);
         assert!(rt; sink.taken().windows(line.len()).any(|part| part == line));
     }
     Ok(())
 }
 
-// Neither the late task's waiting row nor the idle one has a task.
+// Neither the late task's waiting row nor the idle one has a task. 6, 256 and 300 are told in steps of 2.
 const LATE: &[u8] = b"struct furnacelime_task furnacelime_tasks[] = {
   {\"late\", 1u, 2u, 1u},
   {\"\", 0u, 0u, 0u}
 };
 
 static const struct furnacelime_row furnacelime_rows_0[] = {
-  {0u, 6u, -1},
-  {6u, 256u, 0},
-  {256u, 300u, -1},
+  {0u, 3u, -1},
+  {3u, 128u, 0},
+  {128u, 150u, -1},
   {0u, 0u, -1}
 };
 
@@ -65,14 +89,17 @@ static const struct furnacelime_processor furnacelime_processors[] = {
   {3u, furnacelime_rows_0},
 };
 
+extern const struct furnacelime_table furnacelime_table;
 const struct furnacelime_table furnacelime_table = {
-  .scale = 6u,
-  .ticks = 300u,
-  .horizon = 50u,
-  .processor_count = 1u,
-  .task_count = 1u,
-  .processors = furnacelime_processors,
-  .tasks = furnacelime_tasks
+  6u, /* scale */
+  2u, /* step */
+  300u, /* ticks */
+  264u, /* repeat_from */
+  50u, /* horizon */
+  1u, /* processor_count */
+  1u, /* task_count */
+  furnacelime_processors,
+  furnacelime_tasks
 };
 ";
 
@@ -85,7 +112,7 @@ fn a_late_task(rt: HostRuntime) -> Result<(), NoMemory> {
     let mut set = TaskSet::start(rt.alloc(), 1, 50);
     set.add_late(b"late", 1, 2, 1)?;
     assert!(rt;
-        written(&rt, rt.alloc(), &set, 6, &rows, &[])
+        written(&rt, rt.alloc(), &set, 6, &rows, 44, &[])
             .taken()
             .ends_with(LATE)
     );
@@ -111,14 +138,17 @@ static const struct furnacelime_processor furnacelime_processors[] = {
   {1u, furnacelime_rows_1},
 };
 
+extern const struct furnacelime_table furnacelime_table;
 const struct furnacelime_table furnacelime_table = {
-  .scale = 1u,
-  .ticks = 1u,
-  .horizon = 1u,
-  .processor_count = 2u,
-  .task_count = 0u,
-  .processors = furnacelime_processors,
-  .tasks = furnacelime_tasks
+  1u, /* scale */
+  1u, /* step */
+  1u, /* ticks */
+  0u, /* repeat_from */
+  1u, /* horizon */
+  2u, /* processor_count */
+  0u, /* task_count */
+  furnacelime_processors,
+  furnacelime_tasks
 };
 ";
 
@@ -131,7 +161,7 @@ fn no_tasks(rt: HostRuntime) -> Result<(), NoMemory> {
     let first = b"struct furnacelime_row {\n  uint8_t start, end;\n";
     let rows_taken: [(&[u64], &[u8]); 2] = [(&[], NONE), (&[3], first)];
     for (fails, taken) in rows_taken {
-        let sink = written(&rt, rt.alloc(), &set, 1, &rows, fails);
+        let sink = written(&rt, rt.alloc(), &set, 1, &rows, 0, fails);
         assert!(rt; sink.taken().ends_with(taken));
     }
     Ok(())

@@ -6,7 +6,7 @@ use super::{A, row};
 use sched_base::{Leaf, NoMemory, RowTable, TaskSet};
 use sched_edges::MemSink;
 use std::alloc::Global;
-use trace_writer::{write_met, write_trace};
+use trace_writer::{Finishes, write_met, write_trace};
 
 #[test]
 fn numbers_past_64_bits(rt: HostRuntime) -> Result<(), NoMemory> {
@@ -73,7 +73,8 @@ fn many_rounds_and_many_periods(rt: HostRuntime) -> Result<(), NoMemory> {
     set.add(b"a", 1, 1)?;
     let table = long_table(rt.alloc(), 200_000)?;
     let mut sink = MemSink::new(rt.alloc(), 30_000_000, &[])?;
-    assert!(rt; write_met(&mut sink, &set, 1, &table, &[200_000]).is_ok());
+    let mut finishes = Finishes::with_room(rt.alloc(), &set)?;
+    assert!(rt; write_met(&mut sink, &set, 1, &table, &[200_000], &mut finishes).is_ok());
     let first =
         b"run-trace 2\nprocessors 1\nhorizon 1000000\nscale 1\ntasks 1\ntask a 1 1 0\nrow 0 0 200000 a\ntotal a 200000\nmet a 0 1\nmet a 1 2\n";
     let last = b"\nmet a 999998 999998\nmet a 999999 999999\nrows 1\n";

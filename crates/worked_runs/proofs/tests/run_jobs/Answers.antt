@@ -36,5 +36,5 @@ told-requires g c = λ t below.
     let three = c.requires.ready.tasks in
     let past = c.loop-t-test.false in
     let job = c.loop-t.invariant.fresh t (omega (arith, below, past)) in
-    job_left _ _ _ _ _ _ c.args.plan.now c.args.kits.now.items c.execute-answer.new.kits.items c.loop-t.jobs.places c.execute-answer.new.jobs.places
+    job_left _ _ _ _ _ _ c.args.plan.now _ c.args.kits.now.items c.execute-answer.new.kits.items c.loop-t.jobs.places c.execute-answer.new.jobs.places
     c.execute-answer.result c.execute-answer.ensures.outcome t job.0 (omega (arith, below, three)) job.1

@@ -1,0 +1,4 @@
+pub mod BoxValues
+pub mod StepsValues
+pub mod AnswerValues
+pub mod BookValues
