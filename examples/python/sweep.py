@@ -1,7 +1,8 @@
 #!/usr/bin/env python3
 """How often jobs are preempted and moved as the processors fill up: sweep.py [PROCESSORS] [SETS] [SEED]
 
-Draws sets for each total rate from half of the processors to all of them, and counts preemptions and migrations of their schedules.
+Draws sets for each total rate from half of the processors to all of them, and counts preemptions and migrations of their schedules. `plot.py` makes
+a picture of the table.
 """
 import random
 import sys
@@ -30,51 +31,36 @@ def text_of(processors, tasks):
     return "\n".join([f"processors = {processors}", f"horizon = {HORIZON}", "task = ["] + lines + ["]"]) + "\n"
 
 
-def pieces(rows, length):
-    """The rows of one task, cut where its periods end: (number of the job, start, end, processor), in the order of time."""
-    cut = []
-    for processor, start, end in sorted(rows, key=lambda row: row[1]):
-        while start < end:
-            job = start // length
-            until = min(end, (job + 1) * length)
-            if cut and cut[-1][0] == job and cut[-1][2:] == (start, processor):
-                start_of_piece = cut.pop()[1]
-            else:
-                start_of_piece = start
-            cut.append((job, start_of_piece, until, processor))
-            start = until
-    return cut
-
-
-def counts(set_text, tasks):
-    """The preemptions and the migrations: neighbouring pieces of one job apart in time, and on different processors.
+def counts(set_text):
+    """The preemptions and the migrations of a set's schedule, as the report of `check` has them.
 
     Three tasks on two processors, by hand: in each of 13 periods one job gives way to another, and goes on on the other processor.
 
-    >>> tasks = [(2, 3)] * 3
-    >>> counts(text_of(2, tasks), tasks)
+    >>> counts(text_of(2, [(2, 3)] * 3))
     (13, 13)
     """
-    scale, rows = furnacelime.Plan(set_text).scale, furnacelime.trace(set_text)
-    preemptions = migrations = 0
-    for j, (_, period) in enumerate(tasks):
-        of_task = pieces([row[:3] for row in rows if row[3] == f"t{j}"], period * scale)
-        for first, second in zip(of_task, of_task[1:]):
-            if first[0] == second[0]:
-                preemptions += first[2] < second[1]
-                migrations += first[3] != second[3]
-    return preemptions, migrations
+    told = furnacelime.report(furnacelime.trace_text(set_text))
+    return told["preemptions"], told["migrations"]
+
+
+def numbers(words, usual):
+    """The numbers that the words are, with the usual ones behind them."""
+    given = [int(word) for word in words if word.isascii() and word.isdecimal()]
+    if len(given) < len(words) or len(words) > len(usual) or 0 in given[:2] or given[:1] > [32]:
+        print("sweep.py [PROCESSORS] [SETS] [SEED]: PROCESSORS from 1 to 32, SETS from 1 on, SEED from 0 on", file=sys.stderr)
+        sys.exit(2)
+    return given + usual[len(given) :]
 
 
 def main():
-    processors, sets, seed = (int(given) for given in (sys.argv[1:] + ["4", "20", "1"][len(sys.argv) - 1 :])[:3])
+    processors, sets, seed = numbers(sys.argv[1:], [4, 20, 1])
     draw = random.Random(seed)
     print("total  preemptions and migrations per unit")
     for tenth in range(5, 11):
         sums = [0, 0]
         for _ in range(sets):
             tasks = drawn(draw, processors, processors * HORIZON * tenth // 10)
-            for place, count in enumerate(counts(text_of(processors, tasks), tasks)):
+            for place, count in enumerate(counts(text_of(processors, tasks))):
                 sums[place] += count
         print(f"{tenth / 10 * processors:5.1f}{sums[0] / sets / HORIZON:13.2f}{sums[1] / sets / HORIZON:15.2f}")
 

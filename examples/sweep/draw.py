@@ -1,6 +1,7 @@
 #!/usr/bin/env python3
 """Draws task sets, divided by lines `%%`: draw.py COUNT [SEED] > sets"""
 import random
+import signal
 import sys
 
 PERIODS = [1, 2, 4, 5, 8, 10, 20, 25, 40, 50, 100, 200]
@@ -16,10 +17,16 @@ def drawn(draw):
 
 
 def main():
-    draw = random.Random(int(sys.argv[2]) if len(sys.argv) > 2 else 1)
-    for number in range(int(sys.argv[1])):
+    numbers = [int(word) for word in sys.argv[1:] if word.isascii() and word.isdecimal()]
+    if len(numbers) != len(sys.argv) - 1 or not 1 <= len(numbers) <= 2 or numbers[0] < 1:
+        print("draw.py COUNT [SEED] > sets: COUNT from 1 on, SEED from 0 on", file=sys.stderr)
+        return 2
+    signal.signal(signal.SIGPIPE, signal.SIG_DFL)  # ends as other tools do where its reader ends
+    draw = random.Random(numbers[1] if len(numbers) > 1 else 1)
+    for number in range(numbers[0]):
         sys.stdout.write(("%%\n" if number else "") + drawn(draw))
+    return 0
 
 
 if __name__ == "__main__":
-    main()
+    sys.exit(main())
