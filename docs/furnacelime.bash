@@ -2,8 +2,9 @@
 _furnacelime() {
     local word=${COMP_WORDS[COMP_CWORD]} words=
     case $COMP_CWORD:${COMP_WORDS[1]} in
-        1:*) words='rate tree trace table check follow draw batch exec drill jobs modes' ;;
-        2:trace) words='--met --by --by=wrap' ;;
+        1:*) words='rate tree trace table check follow draw batch exec drill jobs modes help' ;;
+        2:trace) words='--met --by --by=wrap --repeat' ;;
+        2:table) words='--repeat' ;;
         3:trace) [[ ${COMP_WORDS[2]} == --by ]] && words='wrap' ;;
         2:draw) words='--from --units' ;;
         3:draw) [[ ${COMP_WORDS[2]} == --from=* ]] && words='--units' ;;
@@ -12,4 +13,4 @@ _furnacelime() {
     esac
     mapfile -t COMPREPLY < <(compgen -W "$words" -- "$word")
 }
-complete -F _furnacelime furnacelime ./furnacelime
+complete -o bashdefault -o default -F _furnacelime furnacelime ./furnacelime
