@@ -6,6 +6,9 @@
 # The kit's compiler is called as the gate calls it: a crate's library holds what the crate states and not its proofs, so those above
 # read less. A library is kept under a sum of all that it was made from. So a build that was stopped goes on where it was, and after
 # an edit the crates that changed are proved, and those above them.
+#
+# Lists of crates are several words, and `a && b || c` is meant as it reads.
+# shellcheck disable=SC2086,SC2015,SC2013
 top=$(dirname "$(readlink -f "$0")")
 program=furnacelime
 wanted=${1:-$program}
@@ -14,7 +17,7 @@ libraries=$top/.git/build
 
 say() { echo "furnacelime: $*" >&2; }
 
-grep -q "^$wanted[ :]" "$top/crates.txt" || { say "there is no crate $wanted"; exit 2; }
+grep -q "^${wanted}[ :]" "$top/crates.txt" || { say "there is no crate $wanted"; exit 2; }
 command -v rt >/dev/null || { say "the command rt of the Rattle kit is needed to build the program"; exit 127; }
 kit=$(dirname "$(dirname "$(readlink -f "$(command -v rt)")")")
 
@@ -75,7 +78,7 @@ sum_of() {
     shift
     {
         echo "$version"
-        grep "^$crate[ :]" "$top/crates.txt"
+        grep "^${crate}[ :]" "$top/crates.txt"
         (cd "$top/crates/$crate" && find src specs proofs -type f -exec sha256sum {} + 2>/dev/null | LC_ALL=C sort)
         for below in "$@"; do cat "$work/$below.sum"; done
     } | sha256sum | cut -d ' ' -f 1
