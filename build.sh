@@ -44,13 +44,13 @@ sed -n 's/^\([a-z][a-z_]*\).*:.*/\1/p' "$top/crates.txt" | while read -r name; d
 done >"$work/sizes"
 
 # Each crate of the repository that the wanted one needs, with the processor seconds that it takes and those of them that it stands
-# on: first the one with the longest chain of crates above it, since that chain decides how long the whole takes. In a chain a crate
-# that several jobs share well counts with what it then takes by the clock. The guess of the time that is left goes by processor
-# seconds. All were measured (build.seconds). A crate that isn't there takes 1.7 seconds for each 1,000 bytes of its code, and 0.07
-# for each 1,000 bytes of the crates below it, whose statements are read.
+# on: first the one with the longest chain of crates above it, since that chain decides how long the whole takes. The seconds are those
+# that its last build left (NAME.took); before its first build 1.7 for each 1,000 bytes of its code, and 0.07 for each 1,000 bytes of the
+# crates below it, whose statements are read.
+cat "$libraries"/*.took >"$work/took" 2>/dev/null
 awk -v wanted="$wanted" '
     FILENAME ~ /sizes$/ { size[$1] = $2; next }
-    FILENAME ~ /seconds$/ { if ($1 != "#") { takes[$1] = $2; if (NF > 2) shared[$1] = $3 }; next }
+    FILENAME ~ /took$/ { takes[$1] = $2; next }
     /^[a-z]/ { name = $1; sub(":.*", "", name); line = $0; sub("^[^:]*:", "", line); below[name] = line }
     function read_below(crate, of,    names, n, i) {
         if ((of, crate) in seen) return 0
@@ -61,7 +61,7 @@ awk -v wanted="$wanted" '
     }
     function visit(crate, chain,    names, n, i) {
         if (!(crate in takes)) read_below(crate, crate)
-        chain += crate in shared ? shared[crate] : takes[crate]
+        chain += takes[crate]
         if (crate in above && above[crate] >= chain) return
         above[crate] = chain
         own[crate] = ""
@@ -69,7 +69,7 @@ awk -v wanted="$wanted" '
         for (i = 1; i <= n; i++) if (names[i] in below) { own[crate] = own[crate] " " names[i]; visit(names[i], chain) }
     }
     END { visit(wanted, 0); for (crate in above) printf "%d %s %d%s\n", above[crate], crate, takes[crate] + 1, own[crate] }' \
-    "$work/sizes" "$top/build.seconds" "$top/crates.txt" | sort -k 1,1nr -k 2,2 | cut -d ' ' -f 2- >"$work/crates"
+    "$work/sizes" "$work/took" "$top/crates.txt" | sort -k 1,1nr -k 2,2 | cut -d ' ' -f 2- >"$work/crates"
 
 # The sum of all that a crate is made from: the kit, its line, its files, and the sums of the crates of the repository that it stands on.
 version=$(rt version)
@@ -206,12 +206,28 @@ build() {
     ) 2>/dev/null &
 }
 
+# The compiler of another kit may take other words. Then the kit's own command builds what is wanted, one crate after the other.
+by_kit() {
+    say "the compiler of this kit takes other words; the command rt builds $wanted in its own way, which takes longer"
+    stop
+    cd "$top/crates/$wanted" || exit 126
+    case $(kind_of "$wanted") in
+    program) rt run </dev/null >"$work/log" 2>&1; status=$? ;;
+    *) rt lib >"$work/log" 2>&1; status=$? ;;
+    esac
+    [ -e "$(made_of "$wanted")" ] && { say "built"; exit 0; }
+    tail -n 20 "$work/log" >&2
+    say "$wanted could not be built (status $status)"
+    exit 126
+}
+
 # Takes note of the builds that have ended; the first that failed ends this one. What was edited meanwhile is built again by the next.
 take_ended() {
     while read -r name size below; do
         [ -e "$work/$name.ended" ] && [ ! -e "$work/$name.done" ] || continue
         if [ "$(cat "$work/$name.ended")" != 0 ]; then
             [ -t 2 ] && echo >&2
+            grep -q 'unexpected argument' "$work/$name.log" && by_kit
             grep -E 'error|not proved|no proof' "$work/$name.log" | head -n 20 >&2
             say "the crate $name could not be built"
             stop
@@ -233,16 +249,29 @@ ready() {
     done <"$work/crates"
 }
 
-# Whether several jobs share a crate well, by its second number in build.seconds: then as many as there are processors take hardly more
-# work than two, and two thirds of their time.
-is_shared() { grep -q "^$1 [0-9]* [0-9]" "$top/build.seconds"; }
+# Whether no more crates than there are processors can go on beside a crate: those that aren't done and don't stand on it. Then it has a
+# job for each processor, or some of them would wait.
+is_alone() {
+    awk -v crate="$1" -v jobs="$jobs" -v work="$work" '
+        function is_above(it) { return (it in above) }
+        { name[NR] = $1; line[NR] = $0 }
+        END {
+            above[crate] = 1
+            for (i = 1; i <= NR; i++) {
+                n = split(line[i], below, " ")
+                for (k = 3; k <= n; k++) if (is_above(below[k])) above[name[i]] = 1
+            }
+            for (i = 1; i <= NR; i++) if (!is_above(name[i]) && (getline _ < (work "/" name[i] ".done")) < 0) beside++
+            exit !(beside <= jobs)
+        }' "$work/crates"
+}
 
 # Whether what a crate takes is more than half of what all that is left takes on all processors: then the others would wait for it.
 is_long() { [ "$((2 * $1 * jobs))" -gt "$((whole - done_size))" ]; }
 
 # Each crate has a processor and one job, since several jobs take more work for the same proofs; a processor that no crate waits for is
-# one more. Where there is memory, a crate that several share well has a job for each processor, and a long one two at least, and the
-# system shares the processors out: of exec_workers two take a quarter less time and a quarter more work than one, four hardly less time
+# one more. Where there is memory, a crate beside which few others can go on has a job for each processor, and a long one two at least, and
+# the system shares the processors out: of exec_workers two take a quarter less time and a quarter more work than one, four hardly less time
 # and half as much work again.
 free=$jobs
 while [ "$done_count" -lt "$count" ]; do
@@ -256,7 +285,7 @@ while [ "$done_count" -lt "$count" ]; do
         at_once=$share
         if [ "$memory" -ge "$((2 * jobs))" ]; then
             [ "$share" -eq 1 ] && is_long "$size" && at_once=2
-            [ "$jobs" -gt "$share" ] && is_shared "$name" && at_once=$((jobs < 4 ? jobs : 4))
+            [ "$jobs" -gt "$share" ] && is_alone "$name" && at_once=$((jobs < 4 ? jobs : 4))
         fi
         : >"$work/$name.begun"
         build "$name" "$share" "$at_once"
