@@ -1,5 +1,6 @@
 //! The answers of the pieces of a text.
 ghost use Rattle.std.specs.Prelude.{◌≡◌, ◌≤◌, ◌<◌, ◌^◌, length, slice_get, Some, IfOk};
+ghost use Rattle.sched_base.specs.Limits.{set_limit};
 ghost use Rattle.batch_compile.specs.Answers.{IsAnswer, IsAnswerOfSet};
 
 use run_compile::{CompileFault, compile, levels};
@@ -69,7 +70,7 @@ impl Answers {
 
 /// The answer of these bytes, as `read_set` and `compile` give it.
 pub fn answer_of(alloc: Global, bytes: &[u8]) -> Result<Answer, NoMemory>
-    requires { length bytes.now ≤ 1048576 }
+    requires { length bytes.now ≤ set_limit }
     ensures { IfOk result (IsAnswer bytes.now) }
 {
     match read_set(alloc, bytes) {

@@ -3,6 +3,7 @@ ghost use Rattle.std.specs.Prelude.{◌≡◌, ◌≤◌, ◌<◌, ◌+◌, ◌�
 ghost use Rattle.book_machine.specs.Machine.{IsLegal, MayTake, HasTakeable, WaitsFor, IsOut, IsStuck};
 ghost use Rattle.book_machine.specs.Machine.{after, start, posted_at, least_posted as least_count, horizon_of};
 ghost use Rattle.book_machine.specs.Links.{LinkIsPosted, ArePostedInOrder};
+ghost use Rattle.sched_base.specs.Limits.{processor_limit, window_limit};
 ghost use Rattle.sched_base.specs.declared.rows.Row.{Row};
 ghost use Rattle.sched_base.specs.Tables.{rounds_of};
 
@@ -43,7 +44,7 @@ impl MachineState {
     /// The state before the first event.
     pub fn new(alloc: Global, processors: u32) -> Result<MachineState, NoMemory>
         requires some { 1 ≤ processors }
-        requires few { processors ≤ 32 }
+        requires few { processors ≤ processor_limit }
         ensures { IfOk result (λ s. s ≡ start processors) }
     {
         let mut lanes = Vec::new(alloc);
@@ -64,7 +65,7 @@ impl MachineState {
     pub fn is_legal(&self, table: &RowTable, window: u32, event: Event) -> bool
         requires lanes { length self.now.lanes ≡ length table.now.lanes }
         requires some_window { 1 ≤ window }
-        requires small_window { window ≤ 1024 }
+        requires small_window { window ≤ window_limit }
         ensures { IsTrue result ↔ IsLegal table.now.lanes window self.now event }
     {
         match event {
@@ -78,7 +79,7 @@ impl MachineState {
     pub fn step(&mut self, table: &RowTable, window: u32, event: Event)
         requires lanes { length self.old.lanes ≡ length table.now.lanes }
         requires some_window { 1 ≤ window }
-        requires small_window { window ≤ 1024 }
+        requires small_window { window ≤ window_limit }
         requires legal { IsLegal table.now.lanes window self.old event }
         ensures { self.new ≡ after self.old event }
     {
@@ -154,7 +155,7 @@ impl MachineState {
     pub fn stuck(&self, table: &RowTable, window: u32) -> bool
         requires lanes { length self.now.lanes ≡ length table.now.lanes }
         requires some_window { 1 ≤ window }
-        requires small_window { window ≤ 1024 }
+        requires small_window { window ≤ window_limit }
         ensures { IsTrue result ↔ IsStuck table.now.lanes window self.now }
     {
         if self.halted || any_out(self.lanes.as_slice()) {

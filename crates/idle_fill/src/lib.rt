@@ -3,6 +3,7 @@
 
 ghost use Rattle.std.specs.Prelude.{◌≡◌, ◌≤◌, ◌<◌, ◌+◌, ◌-◌, ◌*◌, ◌/◌, ◌⊎◌, ◌++◌, length, map, replicate};
 ghost use Rattle.std.specs.Prelude.{slice_set, OnOk, OnErr};
+ghost use Rattle.sched_base.specs.Limits.{processor_limit};
 ghost use Rattle.sched_base.specs.FirstFit.{idles};
 ghost use Rattle.server_pack.specs.Servers.{server_at, rates_of, rate_sum, HasNoIdle, idle_alone, with_idle, with_idles};
 
@@ -21,7 +22,7 @@ pub fn fill(
 ) -> Result<(), NoMemory>
     requires made { packing.old.scale ≡ scale }
     requires no_idle { HasNoIdle packing.old.servers }
-    requires few { processors ≤ 32 }
+    requires few { processors ≤ processor_limit }
     requires fits { rate_sum packing.old.servers ≤ processors * scale }
     ensures filled { OnOk result (packing.new.servers ≡ with_idles (idles scale (processors * scale - rate_sum packing.old.servers)
         (rates_of packing.old.servers)) packing.old.servers) }

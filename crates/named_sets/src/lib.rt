@@ -3,8 +3,11 @@
 
 ghost use Rattle.std.specs.Prelude.{◌≡◌, ◌∷◌, [], ◌++◌, IfOk, OnOk, OnErr};
 
-use sched_base::{NoMemory, TaskSet, lawful_name};
+use sched_base::{NoMemory, PROCESSOR_LIMIT, TASK_LIMIT, TaskSet, UNIT_LIMIT, lawful_name};
 use std::alloc::Global;
+
+/// The most units of a horizon, a period or an offset.
+const MOST_UNITS: u64 = UNIT_LIMIT as u64;
 
 /// A task's name, work, period and offset, the numbers in units.
 pub type NamedTask<'a> = (&'a str, u64, u64, u64);
@@ -34,7 +37,7 @@ pub fn set_of(
     ensures processors { IfOk result (λ s. s.processors ≡ processors) }
     ensures horizon { IfOk result (λ s. s.horizon ≡ horizon) }
 {
-    if processors < 1 || 32 < processors || horizon < 1 || 1 << 32 <= horizon {
+    if processors < 1 || PROCESSOR_LIMIT < processors || horizon < 1 || MOST_UNITS < horizon {
         return Err(NoSet::Unlawful);
     }
     let mut set = TaskSet::start(alloc, processors, horizon);
@@ -57,10 +60,10 @@ pub fn add_task(
     }) }
     ensures err { OnErr result (set.new ≡ set.old) }
 {
-    if !lawful_name(name) || set.find(name).is_some() || 256 <= set.count() {
+    if !lawful_name(name) || set.find(name).is_some() || TASK_LIMIT <= set.count() {
         return Err(NoSet::Unlawful);
     }
-    if work < 1 || period < work || 1 << 32 <= period || 1 << 32 <= offset {
+    if work < 1 || period < work || MOST_UNITS < period || MOST_UNITS < offset {
         return Err(NoSet::Unlawful);
     }
     Ok(set.add_late(name, work, period, offset)?)

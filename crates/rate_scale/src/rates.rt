@@ -1,6 +1,7 @@
 //! The rates of tasks, and whether they fit on the processors.
 ghost use Rattle.std.specs.Prelude.{◌≡◌, ◌≤◌, ◌<◌, ◌^◌, ◌*◌, ◌/◌, ◌↔◌, All, IfOk, IsTrue, map};
 ghost use Rattle.std.specs.Int.{◌∣◌};
+ghost use Rattle.sched_base.specs.Limits.{task_limit};
 ghost use Rattle.sched_base.specs.Scale.{IsScale, Fits, rate_of, total_of};
 
 use sched_base::{NoMemory, TaskSet};
@@ -39,7 +40,7 @@ pub fn total(set: &TaskSet, scale: u128) -> u128
     requires scale { IsScale set.now.tasks scale }
     requires scale_fits { scale ≤ 2 ^ 94 }
     ensures value { result ≡ total_of scale set.now.tasks }
-    ensures within { result ≤ 256 * scale }
+    ensures within { result ≤ task_limit * scale }
 {
     let tasks = set.tasks();
     let mut sum: u128 = 0;

@@ -1,19 +1,17 @@
 -- What the compiler's answers say of a set.
-use Rattle.std.specs.Prelude.{ℕ, ◌≡◌, ◌≤◌, ◌<◌, ◌^◌}
+use Rattle.std.specs.Prelude.{ℕ, ◌<◌, ◌^◌}
 use Rattle.sched_base.specs.Sets.{SetContents}
-use Rattle.sched_base.specs.Scale.{IsScale, PassesAt, Fits, total_of, room_of}
+use Rattle.sched_base.specs.Scale.{PassesAt, Fits}
+use Rattle.rate_scale.specs.declared.loads.LoadFault.{LoadFault}
+use Rattle.rate_scale.specs.declared.loads.LoadFault.TheVariants as load
 use Rattle.run_compile.specs.declared.faults.CompileFault.{CompileFault}
 use Rattle.run_compile.specs.declared.faults.CompileFault.TheVariants as fault
+pub use Rattle.rate_scale.specs.Loads.{HasScale, IsOverload}
 
--- the scale of the set, within the limit
-pub record HasScale (s : SetContents) (scale : ℕ) : Type 0 where
-  pub is : IsScale s.tasks scale
-  pub within : scale ≤ 2 ^ 94
-
--- the set asks for this total, more than this room
-pub record IsOverload (s : SetContents) (total room : ℕ) : Type 0 where
-  pub some_scale : (scale : ℕ) × HasScale s scale × (total ≡ total_of scale s.tasks) × (room ≡ room_of scale s)
-  pub over : room < total
+-- the refusal of a set that doesn't fit
+abbrev pub of_load : LoadFault → CompileFault
+of_load (load.ScaleTooLarge at) = fault.ScaleTooLarge at
+of_load (load.Overload total room) = fault.Overload total room
 
 -- the scale is past the limit; the tasks ask for too much; or the set would be compiled, had there been memory
 abbrev pub IsRefused : SetContents → CompileFault → Type 0

@@ -1,6 +1,6 @@
 //! Sets into plans.
-ghost use Rattle.std.specs.Prelude.{ℕ, ◌≡◌, ◌≤◌, ◌<◌, ◌+◌, ◌-◌, ◌^◌, ◌⊎◌, IfOk, IfErr};
-ghost use Rattle.sched_base.specs.Scale.{Fits, room_of, total_of};
+ghost use Rattle.std.specs.Prelude.{ℕ, ◌≡◌, ◌≤◌, ◌+◌, ◌-◌, ◌^◌, ◌⊎◌, IfOk, IfErr};
+ghost use Rattle.sched_base.specs.Scale.{Fits};
 ghost use Rattle.run_tree.specs.TreeOfSet.{IsTreeOf};
 ghost use Rattle.run_tree.specs.Compiled.{tree_of};
 ghost use Rattle.run_compile.specs.Answers.{HasScale, IsRefused, IsSmall};
@@ -8,7 +8,7 @@ ghost use Rattle.sched_laws.specs.LevelCounts.{duals_of};
 
 use crate::faults::CompileFault;
 use crate::higher;
-use rate_scale::{fits, rates_of, scale_of, total};
+use rate_scale::{load_of, rates_of};
 use run_tree::{Plan, Tree};
 use sched_base::{NoMemory, TaskSet};
 use std::alloc::Global;
@@ -23,36 +23,9 @@ pub fn compile(alloc: Global, set: TaskSet) -> Result<Plan, CompileFault>
     ensures refused { IfErr result (λ fault. IsRefused set fault) }
     ensures small { IfErr result IsSmall }
 {
-    let scale = fitting_scale(&set)?;
-    let tree = set_tree(alloc, &set, scale)?;
-    Ok(Plan::new(set, scale, tree))
-}
-
-// The scale of a set, where its tasks fit.
-fn fitting_scale(set: &TaskSet) -> Result<u128, CompileFault>
-    ensures scale { IfOk result (λ scale. HasScale set.now scale) }
-    ensures fits { IfOk result (λ scale. Fits scale set.now) }
-    ensures refused { IfErr result (λ fault. IsRefused set.now fault) }
-    ensures small { IfErr result IsSmall }
-{
-    let scale = scale_of(set)?;
-    if !fits(set, scale) {
-        return Err(overload(set, scale));
-    }
-    Ok(scale)
-}
-
-// The refusal of a set that asks for more than its processors have at this scale.
-fn overload(set: &TaskSet, scale: u128) -> CompileFault
-    requires scale { HasScale set.now scale }
-    requires over { room_of scale set.now < total_of scale set.now.tasks }
-    ensures refused { IsRefused set.now result }
-    ensures small { IsSmall result }
-{
-    CompileFault::Overload {
-        total: total(set, scale),
-        room: u128::from(set.processors()) * scale,
-    }
+    let load = load_of(&set)?;
+    let tree = set_tree(alloc, &set, load.scale)?;
+    Ok(Plan::new(set, load.scale, tree))
 }
 
 // The tree of a set that fits at this scale.

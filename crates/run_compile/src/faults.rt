@@ -1,5 +1,5 @@
 //! Why a set isn't compiled.
-use rate_scale::ScaleTooLarge;
+use rate_scale::LoadFault;
 use sched_base::NoMemory;
 
 /// Why a set isn't compiled.
@@ -19,14 +19,17 @@ pub enum CompileFault {
     NoMemory,
 }
 
-impl From<ScaleTooLarge> for CompileFault {
+impl From<LoadFault> for CompileFault {
     ghost use Rattle.std.specs.Prelude.{◌≡◌};
-    ghost use Rattle.run_compile.specs.declared.faults.CompileFault.TheVariants as fault;
+    ghost use Rattle.run_compile.specs.Answers.{of_load};
 
-    ghost from_gives = { λ e f. f ≡ fault.ScaleTooLarge e.at };
+    ghost from_gives = { λ e f. f ≡ of_load e };
 
-    fn from(refusal: ScaleTooLarge) -> Self {
-        CompileFault::ScaleTooLarge { at: refusal.at }
+    fn from(fault: LoadFault) -> Self {
+        match fault {
+            LoadFault::ScaleTooLarge { at } => CompileFault::ScaleTooLarge { at },
+            LoadFault::Overload { total, room } => CompileFault::Overload { total, room },
+        }
     }
 }
 

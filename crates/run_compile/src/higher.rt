@@ -1,5 +1,6 @@
 //! The levels above level 0: the duals of a level's packs that aren't roots, by first fit, until all packs are roots.
 ghost use Rattle.std.specs.Prelude.{◌≡◌, ◌≤◌, ◌<◌, ◌^◌, ℕ, length, map, slice_index, IfOk, OnOk};
+ghost use Rattle.sched_base.specs.Limits.{processor_limit, task_limit};
 ghost use Rattle.sched_base.specs.FirstFit.{homes};
 ghost use Rattle.run_tree.specs.Tree.{rate};
 ghost use Rattle.run_tree.specs.Making.{lower_packs, lifted};
@@ -22,9 +23,9 @@ pub(crate) fn tree_of(
     rates: &[u128],
 ) -> Result<Tree, NoMemory>
     requires fit { RatesFit processors scale rates.now }
-    requires few_processors { processors ≤ 32 }
+    requires few_processors { processors ≤ processor_limit }
     requires scale_fits { scale ≤ 2 ^ 94 }
-    requires few_tasks { length rates.now ≤ 256 }
+    requires few_tasks { length rates.now ≤ task_limit }
     ensures { IfOk result (λ tree. tree ≡ tree_of_rates processors scale rates.now) }
 {
     let mut maker = first_level(alloc, processors, scale, rates)?;

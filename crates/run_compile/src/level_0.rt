@@ -1,5 +1,6 @@
 //! Level 0: the tasks by first fit, then the idle leaves.
 ghost use Rattle.std.specs.Prelude.{ℕ, ◌≡◌, ◌≤◌, ◌^◌, length, IfOk};
+ghost use Rattle.sched_base.specs.Limits.{processor_limit, task_limit};
 ghost use Rattle.sched_base.specs.FirstFit.{homes, packed};
 ghost use Rattle.run_tree.specs.Making.{started};
 ghost use Rattle.run_tree.specs.Compiled.{pack_items, task_items, first_level as level_0};
@@ -21,9 +22,9 @@ pub(crate) fn first_level(
     rates: &[u128],
 ) -> Result<TreeMaker, NoMemory>
     requires fit { RatesFit processors scale rates.now }
-    requires few_processors { processors ≤ 32 }
+    requires few_processors { processors ≤ processor_limit }
     requires scale_fits { scale ≤ 2 ^ 94 }
-    requires few_tasks { length rates.now ≤ 256 }
+    requires few_tasks { length rates.now ≤ task_limit }
     ensures { IfOk result (λ maker. maker ≡ level_0 processors scale rates.now) }
 {
     let mut packing = first_fit(alloc, rates, scale)?;
@@ -49,9 +50,9 @@ fn packed_tasks(
     packing: &Packing,
 ) -> Result<TreeMaker, NoMemory>
     requires fit { RatesFit processors scale rates.now }
-    requires few_processors { processors ≤ 32 }
+    requires few_processors { processors ≤ processor_limit }
     requires scale_fits { scale ≤ 2 ^ 94 }
-    requires few_tasks { length rates.now ≤ 256 }
+    requires few_tasks { length rates.now ≤ task_limit }
     requires scale { packing.now.scale ≡ scale }
     requires rates { rates_of packing.now.servers ≡ packed packing.now.scale rates.now }
     requires members { (b : ℕ) → (server_at packing.now.servers b).members ≡ items_of (homes packing.now.scale rates.now) b }
@@ -70,9 +71,9 @@ fn pack_tasks(
     told: &[u32],
 ) -> Result<TreeMaker, NoMemory>
     requires fit { RatesFit processors scale rates.now }
-    requires few_processors { processors ≤ 32 }
+    requires few_processors { processors ≤ processor_limit }
     requires scale_fits { scale ≤ 2 ^ 94 }
-    requires few_tasks { length rates.now ≤ 256 }
+    requires few_tasks { length rates.now ≤ task_limit }
     requires homes { told.now ≡ homes scale rates.now }
     ensures { IfOk result (λ maker. maker ≡ pack_items (task_items 0 rates.now) (started processors scale)) }
 {

@@ -1,5 +1,6 @@
 -- What the maker of trees keeps, and what its calls ask for.
 use Rattle.std.specs.Prelude.{ℕ, ◌+◌, ◌*◌, ◌<◌, ◌≤◌, ◌≡◌, ◌^◌, List, [], length, map, slice_index, slice_index_or}
+use Rattle.sched_base.specs.Limits.{processor_limit}
 use Rattle.sched_base.specs.Counting.{sum_to, bit}
 use Rattle.run_tree.specs.Tree.{Tree, kind_at, rate, members, is_leaf}
 use Rattle.run_tree.specs.Schedule.{packs_at}
@@ -14,7 +15,7 @@ pub record IsMaking (m : Making) : Type 0 where
   pub some_scale : 1 ≤ m.tree.scale
   pub scale_fits : m.tree.scale ≤ 2 ^ 94
   pub some_processors : 1 ≤ m.tree.processors
-  pub few_processors : m.tree.processors ≤ 32
+  pub few_processors : m.tree.processors ≤ processor_limit
   pub some_level : 1 ≤ m.tree.levels
   pub few_levels : m.tree.levels ≤ 4096
   pub few_packs : length m.last ≤ 1280

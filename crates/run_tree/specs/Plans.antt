@@ -1,5 +1,6 @@
 -- Plans: a set with its scale and a reduction tree of it.
 use Rattle.std.specs.Prelude.{ℕ, ◌*◌, ◌≤◌, ◌<◌, ◌^◌, Bool, List, length}
+use Rattle.sched_base.specs.Limits.{processor_limit}
 use Rattle.sched_base.specs.declared.rows.Row.{Row}
 use Rattle.sched_base.specs.Sets.{SetContents, IsLawful}
 use Rattle.run_tree.specs.Tree.{Tree, IsTree, rate}
@@ -15,7 +16,7 @@ pub record PlanContents : Type 0 where
 pub record IsSized (t : Tree) : Type 0 where
   pub scale_fits : t.scale ≤ 2 ^ 94
   pub some_processors : 1 ≤ t.processors
-  pub few_processors : t.processors ≤ 32
+  pub few_processors : t.processors ≤ processor_limit
   pub few_nodes : length t.nodes < 2 ^ 32
   pub rates : (x : ℕ) → x < length t.nodes → rate t x ≤ t.scale
 

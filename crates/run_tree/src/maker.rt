@@ -1,5 +1,6 @@
 //! Trees in the making.
 ghost use Rattle.std.specs.Prelude.{◌≡◌, ◌≤◌, ◌<◌, ◌^◌, ◌+◌, ℕ, filter, length, map, nat_lt, slice_index, IfOk, OnOk, OnErr};
+ghost use Rattle.sched_base.specs.Limits.{processor_limit};
 ghost use Rattle.run_tree.specs.declared.kinds.Kind.TheVariants as kind;
 ghost use Rattle.run_tree.specs.Tree.{IsTree, rate as rate_in};
 ghost use Rattle.run_tree.specs.Schedule.{packs_at};
@@ -116,7 +117,7 @@ impl TreeMaker {
     /// No node yet. It takes no memory.
     pub fn start(alloc: Global, processors: u32, scale: u128) -> TreeMaker
         requires some_processors { 1 ≤ processors }
-        requires few_processors { processors ≤ 32 }
+        requires few_processors { processors ≤ processor_limit }
         requires some_scale { 1 ≤ scale }
         requires scale_fits { scale ≤ 2 ^ 94 }
         ensures { result ≡ started processors scale }

@@ -1,8 +1,13 @@
 -- What a task at the end of a set leaves true.
-use Rattle.std.proofs.Common.{◌<◌, List, [], ◌∷◌, ◌++◌, length, sym, arith, length-append}
+use Rattle.std.proofs.Common.{◌≡◌, ◌+◌, ◌^◌, ◌<◌, List, [], ◌∷◌, ◌++◌, length, refl, sym, arith, length-append}
 use Rattle.std.specs.List.{AllByRecursion}
 use Rattle.sched_base.specs.declared.sets.Task.{Task}
+use Rattle.sched_base.specs.Limits.{task_limit, unit_limit}
 use Rattle.sched_base.specs.Sets.{SetContents, IsLawful, IsLawfulTask, IsFree, NamesDiffer}
+
+-- numbers of units are below 2 ^ 32 where they are within the limit
+pub units_within : unit_limit + 1 ≡ 2 ^ 32
+units_within = refl
 
 pub AllByRecursion-push : {A : Type 0} (P : A → Type 0) (xs : List A) (x : A) → AllByRecursion P xs → P x → AllByRecursion P (xs ++ x ∷ [])
 AllByRecursion-push P [] x h p = (p, tt)
@@ -12,7 +17,7 @@ pub NamesDiffer-push : (ts : List Task) (t : Task) → NamesDiffer ts → IsFree
 NamesDiffer-push [] t h free = (tt, tt)
 NamesDiffer-push (s ∷ ts) t h free = (AllByRecursion-push _ ts t h.0 (λ same. free.0 (sym same)), NamesDiffer-push ts t h.1 free.1)
 
-pub IsLawful-push : (s : SetContents) (t : Task) → IsLawful s → length s.tasks < 256 → IsLawfulTask t → IsFree t.name s.tasks
+pub IsLawful-push : (s : SetContents) (t : Task) → IsLawful s → length s.tasks < task_limit → IsLawfulTask t → IsFree t.name s.tasks
     → IsLawful (record s { tasks = s.tasks ++ t ∷ [] })
 IsLawful-push s t h room lawful free = record {
   some_processors = h.some_processors;

@@ -6,6 +6,7 @@ use Rattle.sched_base.specs.declared.rows.TaskId.{TaskId}
 use Rattle.sched_base.specs.declared.rows.Row.{Row}
 use Rattle.sched_base.specs.Counting.{bit}
 use Rattle.sched_base.specs.Rows.{is_of_task}
+pub use Rattle.sched_base.specs.Limits.{row_limit}
 
 -- what a table holds, with the number of further rounds for which it has room
 pub record Table : Type 0 where
@@ -113,7 +114,3 @@ pub record IsHeld (lanes : List LaneHeld) (room : ℕ) : Type 0 where
   pub few : length lanes < 2 ^ 32
   pub table : IsTable (rows_of lanes)
   pub reserved : HaveRoom room lanes
-
--- how many rows a schedule may have
-abbrev pub row_limit : ℕ
-row_limit = 2097152

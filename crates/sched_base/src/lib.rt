@@ -2,6 +2,7 @@
 #![tactic(auto)]
 
 mod candidates;
+mod limits;
 mod memory;
 mod names;
 mod rows;
@@ -10,9 +11,10 @@ mod tables;
 mod totals;
 
 pub use candidates::Candidate;
+pub use limits::{PROCESSOR_LIMIT, ROW_LIMIT, SET_LIMIT, TASK_LIMIT, UNIT_LIMIT, WINDOW_LIMIT};
 pub use memory::NoMemory;
 pub use names::{Name, lawful_name};
 pub use rows::{Leaf, NodeId, ProcId, Row, TaskId};
 pub use sets::{Task, TaskSet};
-pub use tables::{ROW_LIMIT, RowTable, blank_rows};
+pub use tables::{RowTable, blank_rows};
 pub use totals::Totals;

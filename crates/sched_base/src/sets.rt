@@ -3,6 +3,7 @@ ghost use Rattle.std.specs.Prelude.{◌≡◌, ◌≤◌, ◌<◌, ◌^◌, ◌+
 ghost use Rattle.std.specs.Prelude.{OnErr, IfSome, IfNone};
 ghost use Rattle.std.specs.Prelude.{IfOk, IsTrue, ◌↔◌, option_map};
 ghost use Rattle.sched_base.specs.Names.{is_lawful_name};
+ghost use Rattle.sched_base.specs.Limits.{processor_limit, task_limit};
 ghost use Rattle.sched_base.specs.Sets.{IsFree, IsLawful};
 
 use crate::memory::NoMemory;
@@ -17,14 +18,14 @@ pub struct Task {
     pub name: Name,
     /// From 1 to the period.
     pub work: u64,
-    /// From 1 to 4,294,967,295.
+    /// From 1 to `UNIT_LIMIT`.
     pub period: u64,
-    /// The first release, from 0 to 4,294,967,295.
+    /// The first release, from 0 to `UNIT_LIMIT`.
     pub offset: u64,
 }
 
-/// A set of at most 256 tasks with different names, with the number of processors (1 to 32) and the horizon of its
-/// schedule (1 to 4,294,967,295 units).
+/// A set of at most `TASK_LIMIT` tasks with different names, with the number of processors (1 to `PROCESSOR_LIMIT`) and the
+/// horizon of its schedule (1 to `UNIT_LIMIT` units).
 pub struct TaskSet {
     processors: u32,
     horizon: u64,
@@ -57,7 +58,7 @@ impl TaskSet {
     /// A set with no task. It takes no memory.
     pub fn start(alloc: Global, processors: u32, horizon: u64) -> TaskSet
         requires some_processors { 1 ≤ processors }
-        requires few_processors { processors ≤ 32 }
+        requires few_processors { processors ≤ processor_limit }
         requires some_horizon { 1 ≤ horizon }
         requires horizon_fits { horizon < 2 ^ 32 }
         ensures processors { result.processors ≡ processors }
@@ -73,7 +74,7 @@ impl TaskSet {
 
     /// Adds a task at the end, first released at unit 0.
     pub fn add(&mut self, name: &[u8], work: u64, period: u64) -> Result<(), NoMemory>
-        requires room { length self.old.tasks < 256 }
+        requires room { length self.old.tasks < task_limit }
         requires lawful { is_lawful_name name.now ≡ true }
         requires free { IsFree name.now self.old.tasks }
         requires some_work { 1 ≤ work }
@@ -96,7 +97,7 @@ impl TaskSet {
         period: u64,
         offset: u64,
     ) -> Result<(), NoMemory>
-        requires room { length self.old.tasks < 256 }
+        requires room { length self.old.tasks < task_limit }
         requires lawful { is_lawful_name name.now ≡ true }
         requires free { IsFree name.now self.old.tasks }
         requires some_work { 1 ≤ work }

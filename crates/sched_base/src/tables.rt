@@ -7,9 +7,6 @@ use crate::rows::{Leaf, Row};
 use std::alloc::Global;
 use std::marker::Model;
 
-/// The most rows that a schedule has which is executed, printed or read.
-pub const ROW_LIMIT: u64 = 2_097_152;
-
 /// Rows to be overwritten, one for each processor.
 pub fn blank_rows(alloc: Global, processors: u32) -> Result<Vec<Row>, NoMemory>
     ensures { IfOk result (λ v. length v.items ≡ processors) }

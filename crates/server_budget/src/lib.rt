@@ -2,6 +2,7 @@
 #![tactic(auto)]
 
 mod dues;
+mod laws;
 
 ghost use Rattle.std.specs.Prelude.{◌≡◌, ℕ, ◌<◌, ◌≤◌, ◌^◌, ◌*◌, ◌-◌, true, length, replicate, slice_index, slice_set, IfOk};
 ghost use Rattle.sched_base.specs.Counting.{bit};
@@ -9,6 +10,7 @@ ghost use Rattle.run_tree.specs.Tree.{rate, IsMember};
 ghost use Rattle.server_budget.specs.Spent.{spends, IsSpent};
 
 pub use dues::Dues;
+pub use laws::spend_law;
 use run_tree::{Kind, Tree};
 use sched_base::{NoMemory, NodeId};
 use std::alloc::Global;

@@ -1,9 +1,10 @@
 -- The refusals for numbers and names, of a document with the right keys and kinds.
-use Rattle.std.specs.Prelude.{ℕ, suc, ◌-◌, ◌^◌, ℤ, pos, negsuc, Bool, false, ◌&&◌, not, nat_le, if◌then◌else◌, List, []}
+use Rattle.std.specs.Prelude.{ℕ, suc, ℤ, pos, negsuc, Bool, false, ◌&&◌, not, nat_le, if◌then◌else◌, List, []}
 use Rattle.std.specs.Prelude.{◌∷◌, ◌++◌, length}
 use Rattle.std.specs.Prelude.{Option, Some, None, option_map}
 use Rattle.std.specs.Str.{bytes_eq}
 use Rattle.std.specs.List.{list_any, position}
+use Rattle.sched_base.specs.Limits.{processor_limit, task_limit, unit_limit}
 use Rattle.sched_base.specs.Names.{is_lawful_name}
 use Rattle.task_reader.specs.declared.refusals.ReadSet.{ReadSet}
 use Rattle.task_reader.specs.declared.refusals.ReadSet.TheVariants.{BadProcessors, BadHorizon, TooManyTasks, BadName, SameName, BadPeriod, BadWork, BadOffset}
@@ -27,29 +28,29 @@ first_repeated earlier i (t ∷ ts) = if is_repeated earlier t then Some i else 
 abbrev pub has_bad_name : WrittenTask → Bool
 has_bad_name t = not (is_lawful_name t.name)
 
--- whether the period isn't 1 to 4294967295 units
+-- whether the period isn't 1 unit up to the limit
 abbrev pub has_bad_period : WrittenTask → Bool
-has_bad_period t = not (is_within 1 (2 ^ 32 - 1) t.period)
+has_bad_period t = not (is_within 1 unit_limit t.period)
 
 -- whether the work isn't 1 unit up to the period, which is looked at before
 abbrev pub has_bad_work : WrittenTask → Bool
 has_bad_work t = not (is_within 1 (natural t.period) t.work)
 
--- whether the offset isn't 0 to 4294967295 units
+-- whether the offset isn't 0 units up to the limit
 abbrev pub has_bad_offset : WrittenTask → Bool
-has_bad_offset t = not (is_within 0 (2 ^ 32 - 1) t.offset)
+has_bad_offset t = not (is_within 0 unit_limit t.offset)
 
--- the processors, if they aren't 1 to 32
+-- the processors, if they aren't 1 up to the limit
 abbrev pub bad_processors : ℤ → Option ReadSet
-bad_processors z = if is_within 1 32 z then None else Some (BadProcessors z)
+bad_processors z = if is_within 1 processor_limit z then None else Some (BadProcessors z)
 
--- the horizon, if it isn't 1 to 4294967295 units
+-- the horizon, if it isn't 1 unit up to the limit
 abbrev pub bad_horizon : ℤ → Option ReadSet
-bad_horizon z = if is_within 1 (2 ^ 32 - 1) z then None else Some (BadHorizon z)
+bad_horizon z = if is_within 1 unit_limit z then None else Some (BadHorizon z)
 
--- the tasks, if they are more than 256
+-- the tasks, if they are more than the limit
 abbrev pub too_many : List WrittenTask → Option ReadSet
-too_many ts = if nat_le (length ts) 256 then None else Some (TooManyTasks (length ts))
+too_many ts = if nat_le (length ts) task_limit then None else Some (TooManyTasks (length ts))
 
 -- the first task whose name isn't lawful
 abbrev pub bad_name : List WrittenTask → Option ReadSet

@@ -2,6 +2,7 @@
 ghost use Rattle.std.specs.Prelude.{◌≡◌, ◌≤◌, ◌<◌, length, None, IfSome};
 ghost use Rattle.std.specs.List.{position};
 ghost use Rattle.toml.specs.View.{table_view, items_view};
+ghost use Rattle.sched_base.specs.Limits.{task_limit};
 ghost use Rattle.task_reader.specs.Tree.{number_at};
 ghost use Rattle.task_reader.specs.Written.{natural, written_tasks};
 ghost use Rattle.task_reader.specs.Limits.{is_within, is_repeated, bad_processors, bad_horizon, too_many, same_name};
@@ -10,12 +11,18 @@ ghost use Rattle.task_reader.specs.Flaws.{has_flaw, refusal_at, first_flaw};
 use crate::refusals::{Key, ReadSet};
 use crate::tree::number_at;
 use crate::written::WrittenTask;
-use sched_base::lawful_name;
+use sched_base::{PROCESSOR_LIMIT, TASK_LIMIT, UNIT_LIMIT, lawful_name};
 use toml::Value;
 use toml::value::Table;
 
 /// The most units of a horizon, a period or an offset.
-const MOST_UNITS: i64 = 4_294_967_295;
+const MOST_UNITS: i64 = UNIT_LIMIT as i64;
+
+/// The most processors of a set.
+const MOST_PROCESSORS: i64 = PROCESSOR_LIMIT as i64;
+
+/// The most tasks of a set.
+const MOST_TASKS: usize = TASK_LIMIT as usize;
 
 /// Whether the value lies between 1 and the other number.
 fn is_within(value: i64, high: i64) -> bool
@@ -29,7 +36,7 @@ pub(crate) fn bad_processors(top: &Table) -> Option<ReadSet>
     ensures { result ≡ bad_processors (number_at Key.Processors (table_view top.now)) }
 {
     let value = number_at(top, Key::Processors);
-    if is_within(value, 32) {
+    if is_within(value, MOST_PROCESSORS) {
         None
     } else {
         Some(ReadSet::BadProcessors { value })
@@ -51,9 +58,9 @@ pub(crate) fn bad_horizon(top: &Table) -> Option<ReadSet>
 /// The refusal of that many tasks, if any.
 pub(crate) fn too_many(tasks: &[Value]) -> Option<ReadSet>
     ensures value { result ≡ too_many (written_tasks (items_view tasks.now)) }
-    ensures few { result ≡ None → length tasks.now ≤ 256 }
+    ensures few { result ≡ None → length tasks.now ≤ task_limit }
 {
-    if tasks.len() <= 256 {
+    if tasks.len() <= MOST_TASKS {
         None
     } else {
         Some(ReadSet::TooManyTasks {
@@ -105,7 +112,7 @@ fn place_of(tasks: &[WrittenTask], flaw: Flaw) -> Option<usize>
 
 /// The refusal of the first task that has this flaw, if any.
 pub(crate) fn first_flaw(tasks: &[WrittenTask], flaw: Flaw) -> Option<ReadSet>
-    requires { length tasks.now ≤ 256 }
+    requires { length tasks.now ≤ task_limit }
     ensures { result ≡ first_flaw flaw tasks.now }
 {
     match place_of(tasks, flaw) {
@@ -122,7 +129,7 @@ fn is_repeated(earlier: &[WrittenTask], task: &WrittenTask) -> bool
 
 /// The first task that has an earlier one's name.
 pub(crate) fn same_name(tasks: &[WrittenTask]) -> Option<ReadSet>
-    requires { length tasks.now ≤ 256 }
+    requires { length tasks.now ≤ task_limit }
     ensures { result ≡ same_name tasks.now }
 {
     for (i, task) in tasks.iter().enumerate() {

@@ -2,6 +2,7 @@
 ghost use Rattle.std.specs.Prelude.{ℕ, List, ◌+◌, ◌≡◌, ◌≤◌, ◌<◌, ◌^◌, ◌++◌, ◌∷◌, [], true, length, map};
 ghost use Rattle.std.specs.Prelude.{slice_get, Some, IfOk};
 ghost use Rattle.std.specs.List.{All, AllByRecursion, filter};
+ghost use Rattle.sched_base.specs.Limits.{set_limit};
 ghost use Rattle.task_reader.specs.Pieces.{full_lines_of, divides, pieces_of, bytes_in, IsWithin, joined, ends_line, IsOnePiece};
 
 use sched_base::NoMemory;
@@ -56,7 +57,7 @@ impl Pieces {
 
 /// Cuts a text at its lines that are exactly `%%`. The last one may lack its line feed.
 pub fn cut(alloc: Global, bytes: &[u8]) -> Result<Pieces, NoMemory>
-    requires { length bytes.now ≤ 1048576 }
+    requires { length bytes.now ≤ set_limit }
     ensures each { IfOk result (λ p. map (bytes_in bytes.now) p ≡ pieces_of bytes.now) }
     ensures within { IfOk result (All (IsWithin bytes.now)) }
 {

@@ -5,6 +5,7 @@ ghost use Rattle.std.specs.Str.{is_utf8};
 ghost use Rattle.toml.specs.Data.{Members};
 ghost use Rattle.toml.specs.Parse.{parse_document};
 ghost use Rattle.toml.specs.View.{table_view};
+ghost use Rattle.sched_base.specs.Limits.{set_limit, task_limit};
 ghost use Rattle.sched_base.specs.Sets.{SetContents, IsFree, NamesDiffer, IsLawfulTask, IsLawful};
 ghost use Rattle.task_reader.specs.Tree.{tasks_of};
 ghost use Rattle.task_reader.specs.Written.{written_tasks, task_of};
@@ -21,12 +22,12 @@ use sched_base::{NoMemory, TaskSet};
 use std::alloc::Global;
 use toml::value::Table;
 
-/// Reads a task set from the bytes of a TOML document, of which there are at most 1,048,576.
+/// Reads a task set from the bytes of a TOML document, of which there are at most `SET_LIMIT`.
 ///
 /// What comes is a function of the bytes, want of memory aside: the set that the document writes, or the first
 /// refusal in the order of `ReadSet`.
 pub fn read_set(alloc: Global, bytes: &[u8]) -> Result<TaskSet, ReadSet>
-    requires { length bytes.now ≤ 1048576 }
+    requires { length bytes.now ≤ set_limit }
     ensures { result ≢ Err ReadSet.NoMemory → result ≡ set_read_from bytes.now }
 {
     match toml::table_from_slice(alloc, bytes) {
@@ -78,7 +79,7 @@ fn top_refusal(top: &Table) -> Option<ReadSet>
 
 /// The first refusal for what the tasks write.
 fn task_refusal(tasks: &[WrittenTask]) -> Option<ReadSet>
-    requires { length tasks.now ≤ 256 }
+    requires { length tasks.now ≤ task_limit }
     ensures { result ≡ first_refusal (λ refusal. refusal) (task_refusals tasks.now) }
 {
     if let Some(refusal) = first_flaw(tasks, Flaw::Name) {
@@ -112,7 +113,7 @@ fn set_of(alloc: Global, top: &Table, tasks: &[WrittenTask]) -> Result<TaskSet, 
 /// Adds the tasks to an empty set.
 fn add_all(set: &mut TaskSet, tasks: &[WrittenTask]) -> Result<(), NoMemory>
     requires empty { set.old.tasks ≡ [] }
-    requires few { length tasks.now ≤ 256 }
+    requires few { length tasks.now ≤ task_limit }
     requires each { AllByRecursion IsLawfulTask (map task_of tasks.now) }
     requires names_differ { NamesDiffer (map task_of tasks.now) }
     ensures { OnOk result (set.new ≡ record set.old { tasks = map task_of tasks.now }) }
@@ -125,7 +126,7 @@ fn add_all(set: &mut TaskSet, tasks: &[WrittenTask]) -> Result<(), NoMemory>
 
 /// Adds one task at the end.
 fn add(set: &mut TaskSet, task: &WrittenTask) -> Result<(), NoMemory>
-    requires room { length set.old.tasks < 256 }
+    requires room { length set.old.tasks < task_limit }
     requires lawful { IsLawfulTask (task_of task.now) }
     requires free { IsFree task.now.name set.old.tasks }
     ensures { OnOk result (set.new ≡ record set.old { tasks = set.old.tasks ++ task_of task.now ∷ [] }) }

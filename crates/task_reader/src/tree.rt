@@ -14,7 +14,7 @@ use toml::value::Table;
 pub(crate) fn task_place(i: usize) -> Place
     ensures { result ≡ task_place i }
 {
-    Place::Task(i.min(4_294_967_295) as u32)
+    Place::Task(i.min(u32::MAX as usize) as u32)
 }
 
 /// The value at a key.

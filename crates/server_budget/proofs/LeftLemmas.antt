@@ -11,7 +11,7 @@ use Rattle.run_tree.proofs.WindowLemmas.{end_is}
 use Rattle.run_tree.proofs.BoundaryLemmas.{member_has}
 use Rattle.run_tree.proofs.SetBoundaryLemmas.{set_leaves}
 use Rattle.sched_laws.proofs.Spending.{left_spent}
-use Rattle.budget_laws.specs.Spending.{SaysLeft, SaysMembersRun, AreSpent, left_of}
+use Rattle.server_budget.specs.Spending.{SaysLeft, SaysMembersRun, AreSpent, left_of}
 
 module _ (p : PlanContents) (h : IsPlan p) where
   leaves : HaveBoundaries (set_boundary p.set.tasks) p.tree

@@ -1,13 +1,9 @@
-//! Spending keeps what is left of each due.
-//!
-//! `Budgets::spend` takes the ticks off each leaf and dual that runs. The law says that this is what is left of the dues
-//! that many ticks later.
-#![tactic(auto)]
+//! The law of spending, without code: spending keeps what is left of each due.
 
 ghost use Rattle.std.specs.Prelude.{ℕ, List, Bool, false, ◌≡◌, ◌<◌, ◌≤◌, ◌+◌, ◌*◌, slice_index};
 ghost use Rattle.run_tree.specs.Plans.{PlanContents, IsPlan, boundary_of};
 ghost use Rattle.run_tree.specs.Tree.{IsMember};
-ghost use Rattle.budget_laws.specs.Spending.{SaysLeft, SaysMembersRun, AreSpent, left_of};
+ghost use Rattle.server_budget.specs.Spending.{SaysLeft, SaysMembersRun, AreSpent, left_of};
 
 /// The law of spending. At tick n let the remainders be what is left of the dues, and let `running` say who runs at each tick
 /// from n up to n + ticks, the end excluded. Then spending the ticks leaves what is left at n + ticks, at each leaf and dual
