@@ -1,5 +1,5 @@
 -- Where windows end, by the ends of the windows below.
-use Rattle.std.proofs.Common.{◌≡◌, ℕ, ◌<◌, ◌≤◌, ◌^◌, not, Bool, length, true, false, refl, ap, arith, inl, inr, subst}
+use Rattle.std.proofs.Common.{◌≡◌, ℕ, ◌<◌, ◌≤◌, not, Bool, length, true, false, refl, ap, arith, inl, inr, subst}
 use Rattle.std.proofs.lemmas.Bool.{cases_lt, both_ways}
 use Rattle.sched_base.specs.declared.rows.NodeId.{NodeId}
 use Rattle.run_tree.specs.declared.kinds.Kind.{Kind}
