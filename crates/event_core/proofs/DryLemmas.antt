@@ -14,7 +14,7 @@ use Rattle.edf_pick.specs.Ready.{ready_end, AreReady}
 use Rattle.edf_pick.proofs.ReadyLemmas.{ready_none}
 use Rattle.server_budget.specs.Dues.{DueContents}
 use Rattle.tree_select.specs.Selected.{candidates}
-use Rattle.tree_select.specs.Reselected.{AreFreshFrom}
+use Rattle.tree_select.specs.Marked.{AreFreshFrom}
 use Rattle.tree_select.proofs.LevelLemmas.{place_in_level}
 use Rattle.tree_select.proofs.ServedLemmas.{still_served}
 use Rattle.event_core.specs.Serving.{ServingContents, no_tick, dry_by, AreSoonestFrom, IsServing, AreReadyBut, IsDrying, IsDried}

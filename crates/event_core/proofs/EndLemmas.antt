@@ -6,7 +6,7 @@ use Rattle.std.proofs.Math.ListN.{set}
 use Rattle.sched_base.specs.Candidates.{is_at}
 use Rattle.run_tree.specs.Tree.{Tree, IsTree, IsPack, IsMember, home, place, member, level}
 use Rattle.run_tree.specs.Schedule.{packs_at}
-use Rattle.tree_select.specs.Reselected.{AreFreshFrom}
+use Rattle.tree_select.specs.Marked.{AreFreshFrom}
 use Rattle.tree_select.proofs.LevelLemmas.{place_in_level}
 use Rattle.server_budget.specs.Dues.{DueContents}
 use Rattle.event_core.specs.Serving.{ServingContents, no_tick, dry_by, AreSoonestFrom, IsServing, IsSoonest}

@@ -14,7 +14,7 @@ use Rattle.knockout.specs.Knockouts.{never}
 use Rattle.edf_pick.proofs.ReadyLemmas.{ready_none}
 use Rattle.server_budget.specs.Dues.{DueContents}
 use Rattle.tree_select.specs.Selected.{candidates}
-use Rattle.tree_select.proofs.ReselectLemmas.{dual_is}
+use Rattle.tree_select.proofs.MarkedLemmas.{dual_is}
 use Rattle.release_calendar.specs.Calendars.{CalendarContents, BelongsTo}
 use Rattle.event_core.specs.Serving.{ServingContents, due_of, IsServing, IsBlank, AreBegun}
 use Rattle.event_core.proofs.BegunLemmas.{begun_step, begun_skip, begun_places}

@@ -14,7 +14,7 @@ use Rattle.run_tree.specs.Boundaries.{set_boundary}
 use Rattle.run_tree.specs.Plans.{PlanContents, IsPlan, boundary_of, stop_of}
 use Rattle.run_tree.proofs.RunLemmas.{left_is, on_time}
 use Rattle.server_budget.specs.Dues.{DueContents}
-use Rattle.tree_select.specs.Reselected.{AreFreshFrom}
+use Rattle.tree_select.specs.Marked.{AreFreshFrom}
 use Rattle.release_calendar.specs.Calendars.{CalendarContents, BelongsTo, AreListed}
 use Rattle.event_core.specs.Serving.{ServingContents, no_tick, lists, AreFitting, IsServing, IsSoonest, AreBegun}
 use Rattle.event_core.specs.Cores.{CoreContents, dues_of, IsAtRound, IsInRound}

@@ -16,7 +16,7 @@ use Rattle.run_tree.specs.Plans.{PlanContents, IsPlan}
 use Rattle.run_tree.proofs.TreeLemmas.{first_is_pack}
 use Rattle.run_tree.proofs.ScheduleLemmas.{running_is}
 use Rattle.sched_laws.proofs.PlacedPacks.{held_onto}
-use Rattle.tree_select.specs.Reselected.{AreFresh}
+use Rattle.tree_select.specs.Marked.{AreFresh}
 use Rattle.tree_select.proofs.LevelLemmas.{pack_of_level}
 use Rattle.cpu_assign.specs.Changed.{ChangeLists, with_pack, AreChanged}
 use Rattle.cpu_assign.proofs.BackLemmas.{range_more}

@@ -4,7 +4,7 @@ use Rattle.std.proofs.lemmas.Bool.{cases_lt, both_ways}
 use Rattle.std.proofs.lemmas.List.{get_or_past}
 use Rattle.sched_base.specs.declared.candidates.Candidate.{Candidate}
 use Rattle.sched_base.specs.Candidates.{candidate_at, is_at}
-use Rattle.tree_select.specs.Reselected.{AreLed, IsServed}
+use Rattle.tree_select.specs.Marked.{AreLed, IsServed}
 use Rattle.run_tree.specs.Windows.{window_end}
 use Rattle.run_tree.specs.Tree.{Tree, IsTree, IsPack, IsMember, kind_at, is_pack, home, place, primal, rate, members, member}
 use Rattle.run_tree.specs.Plans.{PlanContents, IsPlan, boundary_of}

@@ -8,7 +8,7 @@ use Rattle.sched_base.specs.Candidates.{is_at}
 use Rattle.run_tree.specs.Tree.{Tree, IsPack, IsMember, members, member}
 use Rattle.edf_pick.specs.Ready.{AreReady}
 use Rattle.tree_select.specs.Selected.{candidates}
-use Rattle.tree_select.specs.Reselected.{AreLed, AreServed}
+use Rattle.tree_select.specs.Marked.{AreLed, AreServed}
 use Rattle.server_budget.specs.Dues.{DueContents}
 use Rattle.event_core.specs.Serving.{ServingContents, dry_by, AreFitting, IsServing}
 

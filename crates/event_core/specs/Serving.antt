@@ -12,7 +12,7 @@ use Rattle.knockout.specs.Knockouts.{never}
 use Rattle.edf_pick.specs.Ready.{ready_end, AreReady}
 use Rattle.server_budget.specs.Dues.{DueContents}
 use Rattle.tree_select.specs.Selected.{candidates}
-use Rattle.tree_select.specs.Reselected.{AreLed, IsServed, AreServed}
+use Rattle.tree_select.specs.Marked.{AreLed, IsServed, AreServed}
 
 -- What is kept of packs, by their numbers: the ends of the members that have something left, the place of the member that
 -- runs, the tick at which it has nothing left, and whether the pack is to be looked at; and of all nodes which of them run.

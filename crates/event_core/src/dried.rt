@@ -15,6 +15,7 @@ use server_budget::Dues;
 pub(crate) fn put_end(p: NodeId, k: u32, end: u64, ready: &mut [Knockout], stale: &mut [bool])
     requires ready { p.0 < length ready.old }
     requires member { k < length (slice_index_or ready.old p.0 []) }
+    requires end { end ≤ never }
     requires stale { p.0 < length stale.old }
     ensures ready { ready.new ≡ slice_set ready.old p.0 (slice_set (slice_index_or ready.old p.0 []) k end) }
     ensures stale { stale.new ≡ slice_set stale.old p.0 true }

@@ -6,7 +6,7 @@ ghost use Rattle.run_tree.specs.Runs.{runs_now};
 ghost use Rattle.run_tree.specs.Schedule.{packs_at};
 ghost use Rattle.cpu_assign.specs.Changed.{AreChanged};
 ghost use Rattle.release_calendar.specs.Calendars.{BelongsTo};
-ghost use Rattle.tree_select.specs.Reselected.{AreFreshFrom};
+ghost use Rattle.tree_select.specs.Marked.{AreFreshFrom};
 ghost use Rattle.event_core.specs.Serving.{due_of, AreBegun, AreFitting, AreLong, AreSettledFrom, AreSoonestFrom, IsBlank, IsDrying, IsServing, IsSoonest};
 ghost use Rattle.event_core.specs.Steps.{packs_by};
 

@@ -4,7 +4,7 @@ ghost use Rattle.sched_base.specs.Candidates.{is_at};
 ghost use Rattle.run_tree.specs.Tree.{IsTree, IsPack, IsMember, level, member, members};
 ghost use Rattle.edf_pick.specs.Ready.{AreReady};
 ghost use Rattle.tree_select.specs.Selected.{candidates};
-ghost use Rattle.tree_select.specs.Reselected.{AreLed, AreServed};
+ghost use Rattle.tree_select.specs.Marked.{AreLed, AreServed};
 ghost use Rattle.event_core.specs.Serving.{with_place, AreFitting, IsOver};
 
 use edf_pick::first_ready;

@@ -6,7 +6,7 @@ ghost use Rattle.run_tree.specs.Tree.{IsTree, IsPack, member, members, level};
 ghost use Rattle.run_tree.specs.Schedule.{packs_at};
 ghost use Rattle.run_tree.specs.Runs.{runs_now};
 ghost use Rattle.cpu_assign.specs.Changed.{with_pack, AreChanged};
-ghost use Rattle.tree_select.specs.Reselected.{AreFreshFrom};
+ghost use Rattle.tree_select.specs.Marked.{AreFreshFrom};
 ghost use Rattle.event_core.specs.Serving.{dry_by, lists, AreFitting, AreLong, AreSettledFrom, AreUnchanged, IsServing};
 ghost use Rattle.event_core.specs.Steps.{packs_by};
 

@@ -1,10 +1,11 @@
 -- Where windows end, by the ends of the windows below.
-use Rattle.std.proofs.Common.{◌≡◌, ℕ, ◌<◌, ◌≤◌, ◌^◌, length, true, refl, ap, arith, inl, inr, subst}
+use Rattle.std.proofs.Common.{◌≡◌, ℕ, ◌<◌, ◌≤◌, not, Bool, length, true, false, refl, ap, arith, inl, inr, subst}
 use Rattle.std.proofs.lemmas.Bool.{cases_lt, both_ways}
 use Rattle.sched_base.specs.declared.rows.NodeId.{NodeId}
 use Rattle.run_tree.specs.declared.kinds.Kind.{Kind}
 use Rattle.run_tree.specs.declared.kinds.Kind.TheVariants as kind
 use Rattle.run_tree.specs.Windows.{window_end}
+use Rattle.knockout.specs.Knockouts.{never}
 use Rattle.run_tree.specs.Tree.{IsPack, IsMember, is_pack, is_dual, kind_at, level_of, members, primal_of}
 use Rattle.run_tree.specs.Plans.{PlanContents, IsPlan, boundary_of}
 use Rattle.run_tree.proofs.WindowLemmas.{end_is}
@@ -16,9 +17,14 @@ pack_kind (kind.Leaf leaf) e = cc
 pack_kind (kind.Pack level) e = refl
 pack_kind (kind.Dual primal) e = cc
 
+-- what isn't so is false
+pub off_is : (b : Bool) → not b ≡ true → b ≡ false
+off_is true e = cc
+off_is false e = refl
+
 module _ (p : PlanContents) (h : IsPlan p) where
-  -- the window of a unit up to the horizon ends within 64 bits
-  pub end_near : (x u : ℕ) → IsMember p.tree x → u ≤ p.set.horizon → window_end (boundary_of p x) u < 2 ^ 64
+  -- the window of a unit up to the horizon ends some time
+  pub end_near : (x u : ℕ) → IsMember p.tree x → u ≤ p.set.horizon → window_end (boundary_of p x) u < never
   end_near x u i early =
       let b = boundary_of p x in
       let has = have p h x i in

@@ -49,9 +49,9 @@ pub record AreListed (due : List Bool) (begun : List ℕ) : Type 0 where
   pub all : (x : ℕ) → slice_index_or due x false ≡ true → (k : ℕ) × (k < length begun) × (slice_index begun k ≡ x)
   pub marked : (k : ℕ) → k < length begun → slice_index_or due (slice_index begun k) false ≡ true
 
--- the ends fit 64 bits
+-- no end is past the one that never comes
 abbrev pub EndsFit : List ℕ → Type 0
-EndsFit ends = (x : ℕ) → slice_index ends x < 2 ^ 64
+EndsFit ends = (x : ℕ) → slice_index ends x ≤ never
 
 -- ---- the steps of a turn
 

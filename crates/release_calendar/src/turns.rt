@@ -222,7 +222,7 @@ fn turn_due(
     ensures ends { ends.new ≡ slice_set ends.old n.0 (window_end (boundary_of plan.now n.0) at) }
     ensures order { order.new ≡ slice_set order.old n.0 (window_end (boundary_of plan.now n.0) at) }
     ensures due { due.new ≡ slice_set due.old n.0 true }
-    ensures fits { window_end (boundary_of plan.now n.0) at < 2 ^ 64 }
+    ensures fits { window_end (boundary_of plan.now n.0) at ≤ never }
 {
     let end = end_from(plan, n, at, ends);
     begins[n.0 as usize] = at;

@@ -6,8 +6,8 @@ use Rattle.sched_base.specs.Candidates.{is_at}
 use Rattle.sched_base.proofs.EarliestLemmas.{same_earliest}
 use Rattle.run_tree.specs.Tree.{Tree, IsTree, IsPack, IsMember, kind_at, home, place, members, member, level}
 use Rattle.tree_select.specs.Selected.{picked}
-use Rattle.tree_select.specs.Reselected.{IsServed, AreServed, IsTurned, IsPlaced, IsHanded, served_by, primal_at}
-use Rattle.tree_select.proofs.ReselectLemmas.{primal_is, apart, same_at, other_at}
+use Rattle.tree_select.specs.Marked.{IsServed, AreServed, IsTurned, IsPlaced, IsHanded, served_by, primal_at}
+use Rattle.tree_select.proofs.MarkedLemmas.{primal_is, apart, same_at, other_at}
 
 module _ (t : Tree) (h : IsTree t) where
   pub placed_none : (p : ℕ) (on : Bool) (stale runs : List Bool) → IsPlaced t p None on stale runs stale runs

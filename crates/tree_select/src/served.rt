@@ -3,7 +3,7 @@ ghost use Rattle.std.specs.Prelude.{ℕ, List, ◌≡◌, ◌≢◌, ◌<◌, �
 ghost use Rattle.sched_base.specs.Candidates.{is_at};
 ghost use Rattle.run_tree.specs.Tree.{IsTree, IsPack, level, member, members};
 ghost use Rattle.tree_select.specs.Selected.{picked};
-ghost use Rattle.tree_select.specs.Reselected.{AreLed, AreServed, IsPlaced, IsHanded, served_by};
+ghost use Rattle.tree_select.specs.Marked.{AreLed, AreServed, IsPlaced, IsHanded, served_by};
 
 use crate::marked::{id_of, set_member};
 use run_tree::Tree;

@@ -1,4 +1,4 @@
-use Rattle.std.proofs.Common.{◌-◌, ◌∙◌, arith}
+use Rattle.std.proofs.Common.{◌-◌, ◌∙◌, arith, refl}
 use Rattle.knockout.proofs.KnockoutLemmas.{second_same, right_from}
 use Rattle.knockout.proofs.play_all.Goals as goal
 
@@ -7,6 +7,6 @@ loop-at-preserved c =
     let at = c.loop-at.at - 1 in (
       omega arith,
       omega arith,
-      second_same c.loop-at.entries c.play.new.entries at c.play.ensures c.args.count (omega arith) ∙ c.loop-at.invariant.2,
-      right_from c.loop-at.entries c.play.new.entries at c.play.ensures c.args.count c.loop-at.at (omega arith) (omega arith) (omega arith) c.loop-at.invariant.3,
+      second_same c.loop-at.keys c.play.new.keys at _ c.play.ensures refl c.args.count (omega arith) ∙ c.loop-at.invariant.2,
+      right_from c.loop-at.keys c.play.new.keys at _ c.play.ensures refl c.args.count c.loop-at.at (omega arith) (omega arith) (omega arith) c.loop-at.invariant.3,
     )

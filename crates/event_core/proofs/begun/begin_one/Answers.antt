@@ -1,4 +1,5 @@
 use Rattle.std.proofs.Common.{arith}
+use Rattle.event_core.proofs.TurnedLemmas.{end_near}
 use Rattle.event_core.proofs.begun.begin_one.Goals as goal
 
 pub window_of-due-requires-clause-plan : goal.window_of-due-requires-clause-plan
@@ -24,6 +25,12 @@ put_end-requires-clause-ready c = let b = c.stand_of-place.ensures.within in let
 
 pub put_end-requires-clause-stale : goal.put_end-requires-clause-stale
 put_end-requires-clause-stale c = let b = c.stand_of-place.ensures.within in let long = c.requires.stale in omega (arith, b, long)
+
+pub put_end-requires-clause-end : goal.put_end-requires-clause-end
+put_end-requires-clause-end c =
+    let near = end_near c.args.plan.now c.requires.plan c.args.calendar.now c.requires.calendar c.args.n.0 c.requires.member in
+    let e = c.window_of-due.ensures.end in
+    omega (arith, near, e)
 
 pub returns-clause-tick : goal.returns-clause-tick
 returns-clause-tick c = c.give.ensures.tick

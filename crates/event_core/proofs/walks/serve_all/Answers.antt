@@ -1,7 +1,7 @@
 use Rattle.std.proofs.Common.{arith, refl, subst, ℕ, List, ◌≡◌, ◌∙◌, sym, ◌-◌, ◌+◌}
-use Rattle.tree_select.specs.Reselected.{AreFreshFrom, AreServed}
+use Rattle.tree_select.specs.Marked.{AreFreshFrom, AreServed}
 use Rattle.tree_select.proofs.SelectLemmas.{all_selected}
-use Rattle.tree_select.proofs.ReselectLemmas.{fresh_top, led_right}
+use Rattle.tree_select.proofs.MarkedLemmas.{fresh_top, led_right}
 use Rattle.event_core.proofs.FirstLevel.{some_level}
 use Rattle.event_core.proofs.WalkLemmas.{fitting_still}
 use Rattle.event_core.proofs.walks.serve_all.Goals as goal

@@ -1,5 +1,5 @@
 use Rattle.std.proofs.Common.{◌≡◌, ◌≤◌, length}
-use Rattle.tree_select.specs.Reselected.{AreFreshFrom}
+use Rattle.tree_select.specs.Marked.{AreFreshFrom}
 use Rattle.event_core.specs.Serving.{lists, AreSettledFrom, IsServing}
 use Rattle.event_core.proofs.walks.serve_all.Given as goal
 

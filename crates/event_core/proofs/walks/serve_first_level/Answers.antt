@@ -2,7 +2,7 @@ use Rattle.std.proofs.Common.{arith, ap, refl, sym, length, get_or, false, not, 
 use Rattle.sched_base.specs.Places.{is_held}
 use Rattle.run_tree.specs.Schedule.{packs_at}
 use Rattle.run_tree.proofs.TreeLemmas.{first_is_pack}
-use Rattle.tree_select.proofs.ReselectLemmas.{fresh_none, fresh_step, fresh_all}
+use Rattle.tree_select.proofs.MarkedLemmas.{fresh_none, fresh_step, fresh_all}
 use Rattle.event_core.specs.Serving.{first_runs, stops_below, begins_below}
 use Rattle.event_core.proofs.SettledPacks.{begins_skip, changed_are, few_pass, fresh_skip, listed_step, settled_rest, settled_skip, stops_skip}
 use Rattle.event_core.proofs.WalkLemmas.{fitting_still}

@@ -1,6 +1,6 @@
 use Rattle.std.proofs.Common.{◌≡◌, ◌≤◌, ◌-◌, length}
 use Rattle.run_tree.specs.Schedule.{packs_at}
-use Rattle.tree_select.specs.Reselected.{AreFresh}
+use Rattle.tree_select.specs.Marked.{AreFresh}
 use Rattle.event_core.specs.Serving.{lists, AreSettledFrom, IsServing, stops_below, begins_below}
 use Rattle.event_core.proofs.walks.serve_first_level.Given as goal
 

@@ -1,6 +1,6 @@
 use Rattle.std.proofs.Common.{arith, refl, length, ◌+◌, ◌<◌, ◌∙◌}
 use Rattle.run_tree.specs.Schedule.{packs_at}
-use Rattle.tree_select.proofs.ReselectLemmas.{fresh_none, fresh_step, fresh_all}
+use Rattle.tree_select.proofs.MarkedLemmas.{fresh_none, fresh_step, fresh_all}
 use Rattle.event_core.proofs.SettledPacks.{fresh_skip, settled_above}
 use Rattle.event_core.proofs.WalkLemmas.{fitting_still}
 use Rattle.event_core.proofs.walks.serve_level.Goals as goal

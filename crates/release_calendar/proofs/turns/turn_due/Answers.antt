@@ -1,5 +1,6 @@
 use Rattle.std.proofs.Common.{arith, refl, ap, ◌∙◌}
 use Rattle.std.proofs.Math.ListN.{set}
+use Rattle.release_calendar.proofs.EndLemmas.{end_near}
 use Rattle.release_calendar.proofs.turns.turn_due.Goals as goal
 
 pub end_from-end-requires-clause-plan : goal.end_from-end-requires-clause-plan
@@ -23,8 +24,14 @@ bounds-begins-n c = let b = c.requires.member.0 in let long = c.requires.begins 
 pub bounds-ends-n : goal.bounds-ends-n
 bounds-ends-n c = let b = c.requires.member.0 in let long = c.requires.ends in omega (arith, b, long)
 
-pub set-requires : goal.set-requires
-set-requires c = let b = c.requires.member.0 in let long = c.requires.order in omega (arith, b, long)
+pub set-requires-clause-end : goal.set-requires-clause-end
+set-requires-clause-end c =
+    let near = end_near c.args.plan.now c.requires.plan c.args.n.0 c.args.at c.requires.member c.requires.at in
+    let e = c.end_from-end.ensures in
+    omega (arith, near, e)
+
+pub set-requires-clause-index : goal.set-requires-clause-index
+set-requires-clause-index c = let b = c.requires.member.0 in let long = c.requires.order in omega (arith, b, long)
 
 pub bounds-due-n : goal.bounds-due-n
 bounds-due-n c = let b = c.requires.member.0 in let long = c.requires.due in omega (arith, b, long)
@@ -42,4 +49,4 @@ pub returns-clause-order : goal.returns-clause-order
 returns-clause-order c = c.set.ensures ∙ ap (set c.args.order.now c.args.n.0) c.end_from-end.ensures
 
 pub returns-clause-fits : goal.returns-clause-fits
-returns-clause-fits c = let t = c.end_from-end.type_inv in let e = c.end_from-end.ensures in omega (arith, t, e)
+returns-clause-fits c = let near = end_near c.args.plan.now c.requires.plan c.args.n.0 c.args.at c.requires.member c.requires.at in omega (arith, near)

@@ -2,6 +2,7 @@ use Rattle.std.proofs.Common.{refl, ap, sym, ◌∙◌, not, arith}
 use Rattle.run_tree.specs.Tree.{Tree, is_pack, kind_at}
 use Rattle.release_calendar.proofs.TurnLemmas.{no_pack, no_member}
 use Rattle.release_calendar.proofs.OrderLemmas.{fit_set, other_at}
+use Rattle.release_calendar.proofs.EndLemmas.{end_near, off_is}
 use Rattle.release_calendar.proofs.turns.turn_node.Goals as goal
 
 pub returns-then-ends-n-clause-kept : goal.returns-then-ends-n-clause-kept
@@ -59,4 +60,11 @@ pub bounds-ends-n-then-ends-n : goal.bounds-ends-n-then-ends-n
 bounds-ends-n-then-ends-n c = let b = c.requires.node in let long = c.requires.ends in omega (arith, b, long)
 
 pub returns-then-ends-n-clause-fit : goal.returns-then-ends-n-clause-fit
-returns-then-ends-n-clause-fit c = λ fit. let e = c.from-then-ends-n.ensures in let t = c.next_boundary.type_inv in let b = c.requires.node in let long = c.requires.ends in fit_set c.args.ends.now c.args.n.0 c.from-then-ends-n.result fit (omega (arith, e, t)) (omega (arith, b, long))
+returns-then-ends-n-clause-fit c = λ fit.
+    let e = c.from-then-ends-n.ensures in
+    let is = c.next_boundary.ensures in
+    let member = off_is _ (sym (c.is_member.ensures ∙ ap (λ (t : Tree). not (is_pack (kind_at t c.args.n.0))) c.tree.ensures.value) ∙ c.if-is_member.true) in
+    let near = end_near c.args.plan.now c.tree.ensures.lawful c.args.n.0 c.args.at (c.requires.node, member) c.requires.at in
+    let b = c.requires.node in
+    let long = c.requires.ends in
+    fit_set c.args.ends.now c.args.n.0 c.from-then-ends-n.result fit (omega (arith, e, is, near)) (omega (arith, b, long))

@@ -1,6 +1,6 @@
 use Rattle.std.proofs.Common.{arith, false, subst, ℕ, Option}
 use Rattle.std.proofs.Math.ListN.{set}
-use Rattle.tree_select.specs.Reselected.{IsHanded}
+use Rattle.tree_select.specs.Marked.{IsHanded}
 use Rattle.tree_select.proofs.ServedLemmas.{handed_served, handed_unmarked, handed_mark, handed_marks}
 use Rattle.tree_select.proofs.served.hand_over.Goals as goal
 

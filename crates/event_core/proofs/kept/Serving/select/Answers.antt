@@ -3,7 +3,7 @@ use Rattle.run_tree.specs.Tree.{Tree}
 use Rattle.run_tree.specs.Runs.{runs_now}
 use Rattle.run_tree.specs.Schedule.{packs_at}
 use Rattle.cpu_assign.specs.Changed.{AreChanged}
-use Rattle.tree_select.specs.Reselected.{AreFreshFrom}
+use Rattle.tree_select.specs.Marked.{AreFreshFrom}
 use Rattle.event_core.specs.Serving.{ServingContents, AreFitting, AreLong, AreSettledFrom, IsServing}
 use Rattle.event_core.specs.Steps.{packs_by}
 use Rattle.event_core.proofs.KeptLemmas.{back, back_long, same_lists}
