@@ -1,0 +1,10 @@
+pub mod LaterWindows
+pub mod LaterBoundaries
+pub mod LaterPicks
+pub mod LaterLeaves
+pub mod IdleLeaves
+pub mod LaterRuns
+pub mod LaterEvents
+pub mod LaterPlaces
+pub mod LaterSchedules
+pub mod RoundTrees

@@ -1,0 +1,8 @@
+//! The laws of the hyperperiod: what a reduction tree runs comes again, and with the places so does the schedule.
+//!
+//! Each function does nothing: its clauses are the law.
+#![tactic(auto)]
+
+mod returns;
+
+pub use returns::{hyperperiod_law, places_law};
