@@ -17,9 +17,17 @@ use Rattle.command_words.specs.declared.command.Execution.TheVariants.{Exec, Exe
 use Rattle.command_words.specs.Words.{window_of, exec_with, drill_of, drill_with}
 use Rattle.command_words.specs.Words.{drawn, reading_named}
 use Rattle.command_words.specs.CommandLine.{parser, Spells, SpellsWrap, SpellsExec}
-use Rattle.command_words.specs.Words.{as_window, as_drill}
 use Rattle.command_words.proofs.ValueLemmas.{IsBare, in_range_is_bare}
 use Rattle.command_words.proofs.DrawLineLemmas.{reads_draw}
+use Rattle.std.specs.Prelude.{nat_lt, ◌^◌, if◌then◌else◌, nat_le, ◌&&◌}
+
+-- a window is from 1 to 1,024
+abbrev as_window : ℕ → Option ℕ
+as_window n = if nat_le 1 n && nat_le n 1024 then Some n else None
+
+-- the number of a drill is below 2 ^ 64
+abbrev as_drill : ℕ → Option ℕ
+as_drill n = if nat_lt n (2 ^ 64) then Some n else None
 
 pub simple : is_simple parser ≡ true
 unfolding clap_on_literals

@@ -7,11 +7,23 @@ use Rattle.clap.proofs.OnLiterals.{clap_on_literals}
 use Rattle.trace_lines.specs.declared.asking.Asked.{Asked}
 use Rattle.command_words.specs.declared.command.Reading.{Reading}
 use Rattle.command_words.specs.declared.command.Reading.TheVariants.{Draw}
-use Rattle.command_words.specs.Words.{units_of, asked_from, asked_units, draw_from, drawn}
+use Rattle.command_words.specs.Words.{units_of, asked_from, asked_units, drawn}
 use Rattle.command_words.specs.CommandLine.{parser, SpellsOption, SpellsDraw}
-use Rattle.command_words.specs.Words.{as_unit, as_units}
 use Rattle.command_words.proofs.WordLemmas.{mapped, and_then_some}
 use Rattle.command_words.proofs.ValueLemmas.{IsBare, in_range_is_bare}
+use Rattle.std.specs.Prelude.{nat_lt, ◌^◌, if◌then◌else◌, nat_le, ◌&&◌}
+
+-- `draw` from this unit on
+abbrev draw_from : ℕ → Option ℕ → Reading
+draw_from from units = Draw (record { from = from; units = units })
+
+-- so many units are from 1 to 2 ^ 32 - 1
+abbrev as_units : ℕ → Option ℕ
+as_units n = if nat_le 1 n && nat_lt n (2 ^ 32) then Some n else None
+
+-- a unit is below 2 ^ 32, as a horizon is
+abbrev as_unit : ℕ → Option ℕ
+as_unit n = if nat_lt n (2 ^ 32) then Some n else None
 
 -- the words of `draw` with these options
 abbrev drawing : List Text → List Text

@@ -34,21 +34,13 @@ front name (word ∷ next ∷ rest) = if bytes_eq word name then (Some next, res
 
 -- ---- pictures
 
--- a unit is below 2 ^ 32, as a horizon is
-abbrev pub as_unit : ℕ → Option ℕ
-as_unit n = if nat_lt n (2 ^ 32) then Some n else None
-
 -- the unit that a word writes: a number in decimal digits, without a leading zero
 abbrev pub unit_of : List ℕ → Option ℕ
-unit_of word = option_and_then as_unit (number_of word)
-
--- so many units are from 1 to 2 ^ 32 - 1
-abbrev pub as_units : ℕ → Option ℕ
-as_units n = if nat_le 1 n && nat_lt n (2 ^ 32) then Some n else None
+unit_of word = option_and_then (λ n. if nat_lt n (2 ^ 32) then Some n else None) (number_of word)
 
 -- how many units a word writes: a number in decimal digits, without a leading zero
 abbrev pub units_of : List ℕ → Option ℕ
-units_of word = option_and_then as_units (number_of word)
+units_of word = option_and_then (λ n. if nat_le 1 n && nat_lt n (2 ^ 32) then Some n else None) (number_of word)
 
 -- the first unit that is asked for by the value of `--from`: 0 where there is none
 abbrev pub asked_from : Option (List ℕ) → Option ℕ
@@ -60,13 +52,9 @@ abbrev pub asked_units : Option (List ℕ) → Option (Option ℕ)
 asked_units None = Some None
 asked_units (Some word) = option_map (λ n. Some n) (units_of word)
 
--- `draw` from this unit on
-abbrev pub draw_from : ℕ → Option ℕ → Reading
-draw_from from units = Draw (record { from = from; units = units })
-
 -- `draw` with the values of its options, where they stand there
 abbrev pub drawn : Option (List ℕ) → Option (List ℕ) → Option Reading
-drawn from units = option_and_then (λ first. option_map (draw_from first) (asked_units units)) (asked_from from)
+drawn from units = option_and_then (λ first. option_map (λ units. Draw (record { from = first; units = units })) (asked_units units)) (asked_from from)
 
 -- `draw` with these values, where no word is left
 abbrev pub draw_at_end : Option (List ℕ) → Option (List ℕ) → List (List ℕ) → Option Reading
@@ -128,25 +116,17 @@ reading_of (word ∷ options) = if bytes_eq word (codes "draw") then draw_of opt
 
 -- ---- commands that execute
 
--- a window is from 1 to 1,024
-abbrev pub as_window : ℕ → Option ℕ
-as_window n = if nat_le 1 n && nat_le n 1024 then Some n else None
-
 -- the window that a word writes: a number in decimal digits, without a leading zero
 abbrev pub window_of : List ℕ → Option ℕ
-window_of word = option_and_then as_window (number_of word)
+window_of word = option_and_then (λ n. if nat_le 1 n && nat_le n 1024 then Some n else None) (number_of word)
 
 -- `exec` with the window that a word writes
 abbrev pub exec_with : List ℕ → Option Execution
 exec_with word = option_map (λ window. Exec window) (window_of word)
 
--- the number of a drill is below 2 ^ 64
-abbrev pub as_drill : ℕ → Option ℕ
-as_drill n = if nat_lt n (2 ^ 64) then Some n else None
-
 -- the number of a drill that a word writes, in decimal digits, without a leading zero
 abbrev pub drill_of : List ℕ → Option ℕ
-drill_of word = option_and_then as_drill (number_of word)
+drill_of word = option_and_then (λ n. if nat_lt n (2 ^ 64) then Some n else None) (number_of word)
 
 -- `drill` with the number that a word writes
 abbrev pub drill_with : List ℕ → Option Execution

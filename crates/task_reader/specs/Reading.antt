@@ -12,22 +12,6 @@ use Rattle.task_reader.specs.Written.{WrittenTask, natural, written_tasks, task_
 use Rattle.task_reader.specs.Members.{first_refusal, unknown, missing, wrong}
 use Rattle.task_reader.specs.Limits.{bad_processors, bad_horizon, too_many, bad_name, same_name, bad_period, bad_work, bad_offset}
 
--- the refusals that a document has, numbers 2 to 12 in their order
-abbrev pub refusals_of : Members → List (Option ReadSet)
-refusals_of top =
-    unknown top
-    ∷ missing top
-    ∷ wrong top
-    ∷ bad_processors (number_at key.Processors top)
-    ∷ bad_horizon (number_at key.Horizon top)
-    ∷ too_many (written_tasks (tasks_of top))
-    ∷ bad_name (written_tasks (tasks_of top))
-    ∷ same_name (written_tasks (tasks_of top))
-    ∷ bad_period (written_tasks (tasks_of top))
-    ∷ bad_work (written_tasks (tasks_of top))
-    ∷ bad_offset (written_tasks (tasks_of top))
-    ∷ []
-
 -- those of them for missing keys, for kinds, and for the numbers of the top table
 abbrev pub top_refusals : Members → List (Option ReadSet)
 top_refusals top =
@@ -39,7 +23,18 @@ task_refusals tasks = bad_name tasks ∷ same_name tasks ∷ bad_period tasks �
 
 -- the refusal of the lowest number over the whole document
 abbrev pub refusal_of : Members → Option ReadSet
-refusal_of top = first_refusal (λ refusal. refusal) (refusals_of top)
+refusal_of top =
+    first_refusal (λ refusal. refusal) (unknown top
+    ∷ missing top
+    ∷ wrong top
+    ∷ bad_processors (number_at key.Processors top)
+    ∷ bad_horizon (number_at key.Horizon top)
+    ∷ too_many (written_tasks (tasks_of top))
+    ∷ bad_name (written_tasks (tasks_of top))
+    ∷ same_name (written_tasks (tasks_of top))
+    ∷ bad_period (written_tasks (tasks_of top))
+    ∷ bad_work (written_tasks (tasks_of top))
+    ∷ bad_offset (written_tasks (tasks_of top)) ∷ [])
 
 -- the set of a document that isn't refused
 abbrev pub set_of : Members → SetContents

@@ -1,3 +1,4 @@
+pub mod Parts
 pub mod LengthLemmas
 pub mod WindowLemmas
 pub mod ServedLemmas

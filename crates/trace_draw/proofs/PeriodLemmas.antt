@@ -7,10 +7,15 @@ use Rattle.std.proofs.Math.Nat.{le-div_iff_mul-le, le-mul_of_pos_right}
 use Rattle.std.proofs.lemmas.Bool.{cases_Bool, cases_lt, ne_eqb, lt-ltb}
 use Rattle.sched_base.specs.declared.sets.Task.{Task}
 use Rattle.trace_draw.specs.declared.windows.Window.{Window}
-use Rattle.trace_draw.specs.Windows.{first_tick, has_tick, place}
+use Rattle.trace_draw.specs.Windows.{first_tick, has_tick, place, plot_width}
 use Rattle.trace_draw.specs.Shapes.{box_line, arrow_line, ring_line}
 use Rattle.trace_draw.specs.Rows.{line_if}
-use Rattle.trace_draw.specs.Periods.{begun_before, is_wide, first_shown, count_shown, is_wrong, period_lines}
+use Rattle.trace_draw.specs.Periods.{begun_before, first_shown, count_shown, is_wrong, period_lines}
+use Rattle.std.specs.Prelude.{Bool, nat_le}
+
+-- whether a period is as wide as an arrow needs
+abbrev is_wide : Window → Task → Bool
+is_wide w t = nat_le (150 * w.units) (t.period * plot_width)
 
 begun_by : (t : Task) (unit k : ℕ) → 1 ≤ t.period → k < begun_before t unit → t.offset + k * t.period < unit
 begun_by t unit k some h =

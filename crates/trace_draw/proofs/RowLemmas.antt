@@ -8,7 +8,7 @@ use Rattle.std.proofs.Math.Seq.{get_or-append_seam}
 use Rattle.sched_base.specs.declared.rows.Row.{Row}
 use Rattle.trace_draw.specs.declared.windows.Window.{Window}
 use Rattle.trace_draw.specs.Windows.{most_drawn, reaches}
-use Rattle.trace_draw.specs.Rows.{drawn_rows}
+use Rattle.trace_draw.proofs.Parts.{drawn_rows}
 
 -- what passes is what passed before an item that does, this item, and what passes behind it
 filter_split : {X : Type 0} (p : X → Bool) (xs : List X) (i : ℕ) (x : X) → i < length xs → x ≡ get_or xs i x → p x ≡ true

@@ -17,10 +17,6 @@ use Rattle.trace_draw.specs.Shapes.{box_line, label_line, grown, roomy_line, gri
 abbrev pub bottom : SetContents → ℕ
 bottom s = task_top s.processors (length s.tasks)
 
--- how high the picture is
-abbrev pub height : SetContents → ℕ
-height s = bottom s + 600
-
 -- what follows the name of a thing, where there are so many
 abbrev pub plural : ℕ → List ℕ
 plural n = if n == 1 then [] else codes "s"
@@ -60,7 +56,7 @@ verdict_look (Fault line kind) = codes "bad"
 
 -- the picture's size, its title, and a description
 unfoldable pub size_line : SetContents → List ℕ
-size_line s = codes " viewBox='0 0 12000 " ++ (decimal (height s) ++ (codes "'>" ++ line_feed ∷ []))
+size_line s = codes " viewBox='0 0 12000 " ++ (decimal (bottom s + 600) ++ (codes "'>" ++ line_feed ∷ []))
 
 unfoldable pub title_line : SetContents → List ℕ
 title_line s = codes "<title id='t'>Schedule of " ++ (size_text s ++ (codes "</title>" ++ line_feed ∷ []))
@@ -69,7 +65,7 @@ unfoldable pub description_line : SetContents → Window → Verdict → List �
 description_line s w v = units_text s w ++ (codes "; " ++ (verdict_text v ++ (codes "</desc>" ++ line_feed ∷ [])))
 
 unfoldable pub paper_line : SetContents → List ℕ
-paper_line s = codes "<rect width='12000' height='" ++ (decimal (height s) ++ (codes "' fill='#fff'/>" ++ line_feed ∷ []))
+paper_line s = codes "<rect width='12000' height='" ++ (decimal (bottom s + 600) ++ (codes "' fill='#fff'/>" ++ line_feed ∷ []))
 
 -- how the shapes look: the colours are told apart by colour-blind people, and each text by its contrast; on a narrow page the words above the plot
 -- are larger, and others where they have room

@@ -19,17 +19,13 @@ use Rattle.trace_draw.specs.Rows.{line_if}
 abbrev pub begun_before : Task → ℕ → ℕ
 begun_before t unit = (unit - t.offset + t.period - 1) / t.period
 
--- whether a period is as wide as an arrow needs
-abbrev pub is_wide : Window → Task → Bool
-is_wide w t = nat_le (150 * w.units) (t.period * plot_width)
-
 -- the first period that is shown: the one in which the window begins
 abbrev pub first_shown : Window → Task → ℕ
 first_shown w t = begun_before t (w.from + 1) - 1
 
 -- how many are shown: those that begin by the end of the window, and none where they are too narrow
 abbrev pub count_shown : Window → Task → ℕ
-count_shown w t = if is_wide w t then begun_before t (w.from + w.units + 1) - first_shown w t else 0
+count_shown w t = if nat_le (150 * w.units) (t.period * plot_width) then begun_before t (w.from + w.units + 1) - first_shown w t else 0
 
 -- whether the period that ends at tick `end` was given other than its due, or, past the horizon, more
 abbrev pub is_wrong : ℕ → ℕ → ℕ → ℕ → Bool
@@ -50,26 +46,18 @@ period_text t w j k =
     (period_start t.scale (task_at t.set.tasks j) k) (period_start t.scale (task_at t.set.tasks j) (k + 1))
     ((task_at t.set.tasks j).work * t.scale) (served t.scale t.set t.rows j k) (finish t.scale t.set t.rows j k))
 
--- the offset of a task that has one
-abbrev pub offset_text : ℕ → List ℕ
-offset_text offset = if offset == 0 then [] else codes " @" ++ decimal offset
-
 -- the work, the period and the offset of a task
 unfoldable pub numbers_text : Task → List ℕ
-numbers_text t = decimal t.work ++ (47 ∷ (decimal t.period ++ offset_text t.offset))
+numbers_text t = decimal t.work ++ (47 ∷ (decimal t.period ++ (if t.offset == 0 then [] else codes " @" ++ decimal t.offset)))
 
 -- whether the trace is at fault at the line of the total of task j
 abbrev pub is_at_fault : Trace → Verdict → ℕ → Bool
 is_at_fault t Valid j = Bool.false
 is_at_fault t (Fault line kind) j = line == first_task_line + length t.set.tasks + length t.rows + j
 
--- how small so many letters are, that they fit into the left margin
-abbrev pub shrunk : ℕ → List ℕ
-shrunk letters = if nat_le letters 24 then [] else (if nat_le letters 34 then codes " q" else codes " j")
-
 -- the look of a task's name: bold and red where its total is at fault, small where it is long
 abbrev pub title_look : Bool → ℕ → List ℕ
-title_look fault letters = (if fault then codes "e" else codes "l") ++ shrunk letters
+title_look fault letters = (if fault then codes "e" else codes "l") ++ (if nat_le letters 24 then [] else (if nat_le letters 34 then codes " q" else codes " j"))
 
 -- the words and the line of the lane of task j
 abbrev pub title_lines : Trace → Verdict → ℕ → ℕ → List (List ℕ)

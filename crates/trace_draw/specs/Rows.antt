@@ -1,6 +1,6 @@
 -- The rows of a picture: each is a box in the lane of its processor and one in the lane of its task, with words where they have room. The words of
 -- all rows lie above all boxes. Of very many rows in one place the first ones are drawn.
-use Rattle.std.specs.Prelude.{ℕ, ◌+◌, ◌*◌, ◌/◌, nat_le, nat_lt, Bool, if◌then◌else◌, List, [], ◌∷◌, length, take, filter, codes, decimal}
+use Rattle.std.specs.Prelude.{ℕ, ◌+◌, ◌*◌, ◌/◌, nat_le, nat_lt, Bool, if◌then◌else◌, List, [], ◌∷◌, length, take, filter, codes, decimal, ◌%◌}
 use Rattle.std.specs.List.{flat_map, concat}
 use Rattle.sched_base.specs.declared.rows.Leaf.{Leaf}
 use Rattle.sched_base.specs.declared.rows.Leaf.TheVariants as leaves
@@ -11,19 +11,17 @@ use Rattle.trace_draw.specs.declared.rows.Part.{Part}
 use Rattle.trace_draw.specs.declared.rows.Part.TheVariants.{Boxes, Words}
 use Rattle.trace_draw.specs.declared.windows.Window.{Window}
 use Rattle.trace_draw.specs.Windows.{reaches, place, span, most_drawn}
-use Rattle.trace_draw.specs.Shapes.{box_line, group_line, roomy_line, task_look, text_look, lane_top, task_top}
+use Rattle.trace_draw.specs.Shapes.{box_line, group_line, roomy_line, task_look, lane_top, task_top}
+use Rattle.sched_base.specs.Bytes.{space}
 
 -- the line, where it is to be shown
 abbrev pub line_if : Bool → List ℕ → List ℕ
 line_if shown line = if shown then line else []
 
--- whether a box of this width has room for a text
-abbrev pub has_room : List ℕ → ℕ → Bool
-has_room text width = nat_le (76 * length text + 60) width
-
 -- a text in a box of task j, x from the left and so wide, where it has room
 abbrev pub words_line : ℕ → ℕ → ℕ → ℕ → List ℕ → List ℕ
-words_line j x width y text = line_if (has_room text width) (roomy_line (text_look j) width (x + width / 2) y text)
+words_line j x width y text =
+    line_if (nat_le (76 * length text + 60) width) (roomy_line (109 ∷ space ∷ 99 ∷ (48 + j % 8) ∷ []) width (x + width / 2) y text)
 
 -- the boxes of a row of task j, x from the left and so wide, in a group that has the task's name. A processor that the set hasn't has no lane.
 abbrev pub boxes_lines : SetContents → ℕ → Row → ℕ → ℕ → List (List ℕ)
@@ -54,13 +52,9 @@ leaf_text part s w r leaves.Empty = []
 abbrev pub row_text : Part → SetContents → Window → Row → List ℕ
 row_text part s w r = leaf_text part s w r r.leaf
 
--- the rows that are drawn, in the order of their lines: the first ones that reach into the window
-abbrev pub drawn_rows : Window → List Row → List Row
-drawn_rows w rows = take most_drawn (filter (reaches w) rows)
-
 -- this part of what is drawn of all rows
 abbrev pub rows_text : Part → SetContents → Window → List Row → List ℕ
-rows_text part s w rows = flat_map (row_text part s w) (drawn_rows w rows)
+rows_text part s w rows = flat_map (row_text part s w) (take most_drawn (filter (reaches w) rows))
 
 -- the red frame of a row with this leaf, in the lane of its task
 abbrev pub task_frame : SetContents → Leaf → ℕ → ℕ → List ℕ

@@ -43,17 +43,9 @@ arrow_line x y = codes "<path class='r' d='M" ++ (decimal x ++ (space ∷ (decim
 unfoldable pub ring_line : ℕ → ℕ → List ℕ
 ring_line x y = codes "<circle class='o' cx='" ++ (decimal x ++ (codes "' cy='" ++ (decimal y ++ (codes "' r='40'/>" ++ line_feed ∷ []))))
 
--- the border of a box of task j: one of four, and none where the box is narrow
-abbrev pub border : ℕ → ℕ → ℕ
-border j width = if nat_lt width 60 then 0 else j / 8 % 4
-
 -- the look of a box of task j that is so wide: one of eight colours, and its border
 abbrev pub task_look : ℕ → ℕ → List ℕ
-task_look j width = 99 ∷ (48 + j % 8) ∷ space ∷ 118 ∷ (48 + border j width) ∷ []
-
--- the look of a text on them, which is edged with their colour
-abbrev pub text_look : ℕ → List ℕ
-text_look j = 109 ∷ space ∷ 99 ∷ (48 + j % 8) ∷ []
+task_look j width = 99 ∷ (48 + j % 8) ∷ space ∷ 118 ∷ (48 + (if nat_lt width 60 then 0 else j / 8 % 4)) ∷ []
 
 -- how far from the top the lane of processor p begins
 abbrev pub lane_top : ℕ → ℕ

@@ -5,7 +5,7 @@ ghost use Rattle.sched_edges.specs.Causes.{HasCause};
 ghost use Rattle.sched_edges.specs.Streams.{Wrote};
 ghost use Rattle.trace_draw.specs.Windows.{IsWindow};
 ghost use Rattle.trace_draw.specs.Shapes.{label_line};
-ghost use Rattle.trace_draw.specs.Head.{bottom, height, plural, size_text, units_text, scale_text, second_size, kind_text, verdict_text, verdict_look, size_line};
+ghost use Rattle.trace_draw.specs.Head.{bottom, plural, size_text, units_text, scale_text, second_size, kind_text, verdict_text, verdict_look, size_line};
 ghost use Rattle.trace_draw.specs.Head.{title_line, description_line, paper_line, style_lines, opening_lines, caption_lines, head_text};
 ghost use Rattle.trace_draw.specs.Head.{lane_lines, lanes_text, axis_step, first_mark, mark_count, mark_lines, axis_text};
 

