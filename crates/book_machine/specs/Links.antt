@@ -1,5 +1,6 @@
 -- What the links of a table say: of each row of a task the task's last row before it on another processor.
-use Rattle.std.specs.Prelude.{ℕ, ◌≡◌, ◌≢◌, ◌<◌, ◌≤◌, ◌+◌, ◌^◌, ◌⊎◌, List, [], Some, length, slice_get, slice_index_or}
+use Rattle.std.specs.Prelude.{ℕ, ◌≡◌, ◌≢◌, ◌<◌, ◌≤◌, ◌+◌, ◌*◌, ◌/◌, ◌%◌, ◌^◌, ◌⊎◌, ◌↔◌, nat_lt, nat_eq, if◌then◌else◌}
+use Rattle.std.specs.Prelude.{List, [], Option, Some, None, Bool, true, IsTrue, length, slice_get, slice_index_or}
 use Rattle.sched_base.specs.declared.rows.Row.{Row}
 use Rattle.sched_base.specs.declared.rows.Leaf.TheVariants.{Task}
 use Rattle.sched_base.specs.declared.rows.TaskId.{TaskId}
@@ -10,6 +11,13 @@ use Rattle.book_machine.specs.declared.links.Link.TheVariants.{First, After, Unk
 use Rattle.book_machine.specs.declared.links.Trail.{Trail}
 use Rattle.book_machine.specs.declared.links.Trail.TheVariants.{NoRow, Last}
 
+-- the link of four bytes: the lane above the round, as far as there are 255 lanes and 2^24 rounds
+abbrev pub link_of : ℕ → Link
+link_of code =
+    if nat_lt (code / 2 ^ 24) 255 then After (record { lane = code / 2 ^ 24; round = code % 2 ^ 24 })
+    else if nat_eq code (255 * 2 ^ 24) then First
+    else Unknown
+
 -- (u, i) is a place in a round before n, or in round n on a processor below p
 abbrev pub IsBefore : ℕ → ℕ → ℕ → ℕ → Type 0
 IsBefore n p u i = (i < n) ⊎ ((i ≡ n) × (u < p))
@@ -17,6 +25,7 @@ IsBefore n p u i = (i < n) ⊎ ((i ≡ n) × (u < p))
 -- at (q, j) stands the task's last row before (n, p) on another processor than `lane`
 pub record IsLink (rows : List (List Row)) (task : TaskId) (lane n p q j : ℕ) : Type 0 where
   pub other : q ≢ lane
+  pub before : IsBefore n p q j
   pub row : Row
   pub at : RowAt rows q j row
   pub of_task : row.leaf ≡ Task task
@@ -34,6 +43,7 @@ NoneAfter rows task n p j = (u i : ℕ) (r : Row) → IsBefore n p u i → RowAt
 
 -- at (q, j) stands the task's last row before (n, p)
 pub record IsLast (rows : List (List Row)) (task : TaskId) (n p q j : ℕ) : Type 0 where
+  pub before : IsBefore n p q j
   pub row : Row
   pub at : RowAt rows q j row
   pub of_task : row.leaf ≡ Task task
@@ -55,11 +65,20 @@ pub record AreLinked (rows : List (List Row)) (n p : ℕ) (links : List (List Li
       Says rows task u k u (link_at links u k)
   pub ends : (task : TaskId) (trail : Trail) → slice_get trails task.0 ≡ Some trail → IsTrail rows task n p trail
 
--- the row to which a link leads is posted
-abbrev pub LinkIsPosted : State → Link → Type 0
-LinkIsPosted s First = Unit {0}
-LinkIsPosted s (After place) = place.round < posted_at s place.lane
-LinkIsPosted s Unknown = ⊥
+-- a lane's links keep those before row n, and have this one there, or nothing
+pub record KeepsLink (old new : List Link) (n : ℕ) (link : Link) : Type 0 where
+  pub before : (k : ℕ) → k < n → slice_index_or new k Unknown ≡ slice_index_or old k Unknown
+  pub here : (slice_index_or new n Unknown ≡ link) ⊎ (slice_index_or new n Unknown ≡ Unknown)
+
+-- whether the row to which a link leads is posted, where it is known
+abbrev pub posted_by : State → Link → Option Bool
+posted_by s First = Some true
+posted_by s (After place) = Some (nat_lt place.round (posted_at s place.lane))
+posted_by s Unknown = None
+
+-- it is told whether the row on lane p in round k has its leaf's earlier rows posted
+abbrev pub AreEarlierPosted : List (List Row) → State → ℕ → ℕ → Bool → Type 0
+AreEarlierPosted rows s p k told = (r : Row) × RowAt rows p k r × (IsTrue told ↔ EarlierPosted rows s.lanes p k r.leaf)
 
 -- each posted row has its leaf's earlier rows posted
 abbrev pub ArePostedInOrder : List (List Row) → State → Type 0

@@ -1,5 +1,5 @@
 //! Links: for each row of a task the task's last row before it on another processor.
-ghost use Rattle.std.specs.Prelude.{◌≡◌, ◌≤◌, ◌<◌, ◌+◌, ◌^◌, ℕ, List, [], Some, replicate, length, slice_get, slice_set};
+ghost use Rattle.std.specs.Prelude.{◌≡◌, ◌≤◌, ◌<◌, ◌+◌, ◌^◌, ◌⊎◌, ℕ, List, [], Some, replicate, length, slice_get, slice_set};
 ghost use Rattle.std.specs.Prelude.{slice_index_or, IfOk};
 ghost use Rattle.sched_base.specs.declared.rows.Row.{Row};
 ghost use Rattle.sched_base.specs.declared.rows.Leaf.TheVariants.{Task};
@@ -8,7 +8,7 @@ ghost use Rattle.sched_base.specs.Tables.{rounds_of, end_of, RowAt, IsRound, wit
 ghost use Rattle.book_machine.specs.declared.links.Link.TheVariants.{Unknown};
 ghost use Rattle.book_machine.specs.declared.links.Trail.{Trail};
 ghost use Rattle.book_machine.specs.declared.links.Trail.TheVariants.{NoRow, Last};
-ghost use Rattle.book_machine.specs.Links.{IsTrail, Says, AreLinked};
+ghost use Rattle.book_machine.specs.Links.{IsTrail, Says, AreLinked, KeepsLink, link_of};
 
 use sched_base::{Leaf, NoMemory, Row, RowTable, TaskId};
 use std::alloc::Global;
@@ -93,7 +93,7 @@ impl LinkedTable {
         ensures room { IfOk result (λ t. t.room ≡ rounds) }
     {
         let table = RowTable::new(alloc, processors, rounds)?;
-        let links = blank_links(alloc, processors, rounds)?;
+        let links = no_links(alloc, processors, rounds)?;
         let trails = no_trails(alloc, tasks)?;
         Ok(LinkedTable {
             table,
@@ -139,25 +139,26 @@ impl LinkedTable {
     }
 }
 
-/// The links of one processor's rows.
+/// The links of one processor's rows, in four bytes each: the lane above the round.
 #[derive(Drop)]
 pub(crate) struct LaneLinks {
-    links: Vec<Link>,
+    links: Vec<u32>,
 }
 
 impl Model for LaneLinks {
-    ghost use Rattle.std.specs.Prelude.{List};
+    ghost use Rattle.std.specs.Prelude.{List, map};
     ghost use Rattle.book_machine.specs.declared.links.Link.{Link};
+    ghost use Rattle.book_machine.specs.Links.{link_of};
 
     ghost Value = { List Link };
 
-    ghost view = { λ l. l.links.items };
+    ghost view = { λ l. map link_of l.links.items };
 }
 
 impl LaneLinks {
-    fn blank(alloc: Global, rounds: u64) -> Result<LaneLinks, NoMemory> {
+    fn with_room(alloc: Global, rounds: u64) -> Result<LaneLinks, NoMemory> {
         Ok(LaneLinks {
-            links: vec![in alloc; Link::Unknown; rounds as usize]?,
+            links: Vec::with_capacity(alloc, rounds as usize)?,
         })
     }
 
@@ -165,26 +166,72 @@ impl LaneLinks {
         ensures { result ≡ slice_index_or self.now round Unknown }
     {
         match self.links.get(round as usize) {
-            Some(link) => *link,
+            Some(code) => link_of(*code),
             None => Link::Unknown,
         }
     }
 
+    // Keeps the link of the row of this round, which is the next one: there is room for it.
     fn put(&mut self, round: u32, link: Link)
-        ensures { self.new ≡ slice_set self.old round link }
+        ensures { KeepsLink self.old self.new round link }
     {
-        if let Some(place) = self.links.get_mut(round as usize) {
-            *place = link;
+        self.links.truncate(round as usize);
+        if self.links.len() == round as usize {
+            let _ = self.links.push(code_of(link));
         }
     }
 }
 
-fn blank_links(alloc: Global, processors: u32, rounds: u64) -> Result<Vec<LaneLinks>, NoMemory>
+/// What is above every round that a link can name.
+const ROUNDS: u32 = 16_777_216;
+
+/// What is above every lane that a link can name.
+const LANES: u32 = 255;
+
+const FIRST: u32 = LANES * ROUNDS;
+
+const UNKNOWN: u32 = FIRST + 1;
+
+// A link in four bytes. One that doesn't fit says nothing.
+fn code_of(link: Link) -> u32
+    ensures { (link_of result ≡ link) ⊎ (link_of result ≡ Unknown) }
+{
+    match link {
+        Link::First => FIRST,
+        Link::After(place) => {
+            if place.lane < LANES && place.round < ROUNDS {
+                place.lane * ROUNDS + place.round
+            } else {
+                UNKNOWN
+            }
+        }
+        Link::Unknown => UNKNOWN,
+    }
+}
+
+// The link of four bytes.
+fn link_of(code: u32) -> Link
+    ensures { result ≡ link_of code }
+{
+    let place = Place {
+        lane: code / ROUNDS,
+        round: code % ROUNDS,
+    };
+    if place.lane < LANES {
+        Link::After(place)
+    } else if code == FIRST {
+        Link::First
+    } else {
+        Link::Unknown
+    }
+}
+
+fn no_links(alloc: Global, processors: u32, rounds: u64) -> Result<Vec<LaneLinks>, NoMemory>
     ensures { IfOk result (λ v. length v.items ≡ processors) }
 {
     let mut links = Vec::new(alloc);
     for _p in 0..processors {
-        links.push(LaneLinks::blank(alloc, rounds)?)?;
+        links.push(LaneLinks::with_room(alloc, rounds)?)?;
     }
     Ok(links)
 }

@@ -2,7 +2,7 @@
 ghost use Rattle.std.specs.Prelude.{◌≡◌, ◌≤◌, ◌<◌, ◌+◌, ◌↔◌, ℕ, length, true, IsTrue, IfOk, IfSome, IfNone};
 ghost use Rattle.book_machine.specs.Machine.{IsLegal, MayTake, HasTakeable, WaitsFor, IsOut, IsStuck};
 ghost use Rattle.book_machine.specs.Machine.{after, start, posted_at, least_posted as least_count, horizon_of};
-ghost use Rattle.book_machine.specs.Links.{LinkIsPosted, ArePostedInOrder};
+ghost use Rattle.book_machine.specs.Links.{ArePostedInOrder, AreEarlierPosted, posted_by};
 ghost use Rattle.sched_base.specs.Limits.{processor_limit, window_limit};
 ghost use Rattle.sched_base.specs.declared.rows.Row.{Row};
 ghost use Rattle.sched_base.specs.Tables.{rounds_of};
@@ -184,8 +184,8 @@ impl MachineState {
         }
     }
 
-    /// The same, where each posted row has its leaf's earlier rows posted: one look at the row's link tells that the lane waits
-    /// for none. It searches only where the link's row isn't posted, or where rows of no task are behind.
+    /// The lane that `waits_for` names, where each posted row has its leaf's earlier rows posted: it searches only where the lane waits,
+    /// or where rows of no task are behind.
     pub fn waits_by_link(&self, linked: &LinkedTable, window: u32, p: u32) -> Option<u32>
         requires lanes { length self.now.lanes ≡ length linked.now.lanes }
         requires round { posted_at self.now p < least_count self.now + window → posted_at self.now p < rounds_of linked.now.lanes }
@@ -194,44 +194,61 @@ impl MachineState {
         ensures some { IfSome result (λ q. WaitsFor linked.now.lanes window self.now p q) }
         ensures none { IfNone result (HasTakeable linked.now.lanes window self.now p) }
     {
-        if self.is_clear(linked, window, p) {
+        if self.is_due(linked, window, p) {
             None
         } else {
             self.waits_for(linked.table(), window, p)
         }
     }
 
-    // Whether one look tells that lane p waits for none.
-    fn is_clear(&self, linked: &LinkedTable, window: u32, p: u32) -> bool
+    /// Whether lane p may take its next row, whatever is out and halted, where each posted row has its leaf's earlier rows posted: the
+    /// link of a task's row tells. It searches only for a row of no task that is ahead of other lanes.
+    pub fn is_due(&self, linked: &LinkedTable, window: u32, p: u32) -> bool
         requires lanes { length self.now.lanes ≡ length linked.now.lanes }
         requires round { posted_at self.now p < least_count self.now + window → posted_at self.now p < rounds_of linked.now.lanes }
         requires lane { p < length self.now.lanes }
         requires in_order { ArePostedInOrder linked.now.lanes self.now }
-        ensures { IsTrue result → HasTakeable linked.now.lanes window self.now p }
+        ensures { IsTrue result ↔ HasTakeable linked.now.lanes window self.now p }
     {
         let round = self.posted(p);
         if round - self.least >= window as u64 {
             return false;
         }
-        match linked.table().row(p, round).leaf {
-            Leaf::Task(_) => self.has_posted(linked.link(p, round)),
-            Leaf::Wait(_) => round == self.least,
-            Leaf::Idle(_) => round == self.least,
-            Leaf::Empty => round == self.least,
+        match self.told_by_link(linked, p, round) {
+            Some(told) => told,
+            None => self.waits_for(linked.table(), window, p).is_none(),
         }
     }
 
-    // Whether the row to which a link leads is posted.
-    fn has_posted(&self, link: Link) -> bool
-        ensures { IsTrue result ↔ LinkIsPosted self.now link }
+    // Whether the earlier rows of the leaf that stands on lane p in the round are posted, as far as one look tells.
+    fn told_by_link(&self, linked: &LinkedTable, p: u32, round: u64) -> Option<bool>
+        requires lanes { length self.now.lanes ≡ length linked.now.lanes }
+        requires lane { p < length self.now.lanes }
+        requires round { round < rounds_of linked.now.lanes }
+        requires in_order { ArePostedInOrder linked.now.lanes self.now }
+        ensures { IfSome result (λ told. AreEarlierPosted linked.now.lanes self.now p round told) }
+    {
+        let leaf = linked.table().row(p, round).leaf;
+        if round == self.least {
+            return Some(true);
+        }
+        match leaf {
+            Leaf::Task(_) => self.has_posted(linked.link(p, round)),
+            Leaf::Wait(_) | Leaf::Idle(_) | Leaf::Empty => None,
+        }
+    }
+
+    // Whether the row to which a link leads is posted, where it is known.
+    fn has_posted(&self, link: Link) -> Option<bool>
+        ensures { result ≡ posted_by self.now link }
     {
         match link {
-            Link::First => true,
+            Link::First => Some(true),
             Link::After(place) => match self.lanes.get(place.lane as usize) {
-                Some(lane) => u64::from(place.round) < lane.posted,
-                None => false,
+                Some(lane) => Some(u64::from(place.round) < lane.posted),
+                None => Some(false),
             },
-            Link::Unknown => false,
+            Link::Unknown => None,
         }
     }
 

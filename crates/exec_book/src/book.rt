@@ -1,5 +1,5 @@
 //! The book, how it begins, and what it tells.
-ghost use Rattle.std.specs.Prelude.{◌≡◌, ◌<◌, ◌≤◌, ◌+◌, ◌*◌, ◌↔◌, vec_capacity, ℕ, [], Some, length, replicate, IfOk};
+ghost use Rattle.std.specs.Prelude.{◌≡◌, ◌<◌, ◌≤◌, ◌+◌, ◌*◌, ◌↔◌, ℕ, [], Some, length, replicate, IfOk};
 ghost use Rattle.std.specs.Prelude.{IfErr, IsTrue, true};
 ghost use Rattle.sched_base.specs.declared.rows.Row.{Row};
 ghost use Rattle.sched_base.specs.Rows.{is_of_task};
@@ -18,7 +18,9 @@ ghost use Rattle.plan_rounds.specs.Laws.{FollowsPlan};
 
 use crate::held::Held;
 use crate::jobs::{JobDesk, no_notes};
-use book_machine::{Event, LaneState, MachineState};
+use crate::log::EventLog;
+use crate::waits::Waits;
+use book_machine::{LaneState, MachineState};
 use plan_rounds::Rounds;
 use run_tree::Plan;
 use sched_base::{NoMemory, RowTable};
@@ -35,8 +37,10 @@ pub struct Book<Q: PostLedger, J: Job> {
     pub(crate) rounds: u64,
     pub(crate) window: u32,
     pub(crate) state: MachineState,
-    pub(crate) log: Vec<Event>,
+    pub(crate) log: EventLog,
     pub(crate) held: Option<Held<Q, J>>,
+    // No clause speaks of it.
+    pub(crate) waits: Waits,
 }
 
 impl<Q: PostLedger, J: Job> Drop for Book<Q, J> {
@@ -48,12 +52,13 @@ impl<Q: PostLedger, J: Job> Drop for Book<Q, J> {
             state: _state,
             log: _log,
             held: _held,
+            waits: _,
         } = self;
     }
 }
 
 impl<Q: PostLedger, J: Job> Model for Book<Q, J> {
-    ghost use Rattle.std.specs.Prelude.{◌≡◌, option_map, vec_capacity};
+    ghost use Rattle.std.specs.Prelude.{◌≡◌, option_map};
     ghost use Rattle.plan_rounds.specs.Parts.{RowsPart, LogPart};
     ghost use Rattle.exec_book.specs.Books.{BookContents, PostsPart, JobsPart, table_in, jobs_in};
 
@@ -63,7 +68,7 @@ impl<Q: PostLedger, J: Job> Model for Book<Q, J> {
       plan = b.plan;
       window = b.window;
       state = b.state;
-      log = b.log.items;
+      log = b.log.events;
       table = table_in (option_map (λ h. h.rounds) b.held);
       jobs = jobs_in (option_map (λ h. h.desk) b.held);
       side = option_map (λ h. h.side) b.held;
@@ -71,7 +76,7 @@ impl<Q: PostLedger, J: Job> Model for Book<Q, J> {
 
     ghost invariant = { λ b. record {
       rows : RowsPart b.plan b.rounds b.window b.state (option_map (λ h. h.rounds) b.held);
-      log : LogPart b.plan b.window b.state b.log.items (vec_capacity b.log);
+      log : LogPart b.plan b.window b.state b.log.events b.log.room;
       posts : PostsPart b.state (option_map (λ h. h.side) b.held);
       jobs : JobsPart J.id J.used J.made Q.made b.plan b.state (option_map (λ h. h.desk) b.held);
       set : b.plan.set ≡ Q.set;
@@ -136,6 +141,7 @@ impl<Q: PostLedger, J: Job> Book<Q, J> {
             state,
             log,
             held: Some(held),
+            waits: Waits::none(),
         })
     }
 
@@ -161,12 +167,12 @@ impl<Q: PostLedger, J: Job> Book<Q, J> {
     }
 
     /// The events so far. They lead to a front of the plan's schedule, which is valid.
-    pub fn log(&self) -> &[Event]
-        ensures value { result.now ≡ self.now.log }
+    pub fn log(&self) -> &EventLog
+        ensures value { result.now.events ≡ self.now.log }
         ensures follows { FollowsPlan self.now.plan self.now.window self.now.log self.now.state }
     {
         self.plan.know_lawful();
-        self.log.as_slice()
+        &self.log
     }
 
     /// How many rows lane p has posted, and whether its next one is out.
@@ -200,6 +206,14 @@ impl<Q: PostLedger, J: Job> Book<Q, J> {
         ensures none_out { IsDismissed self.now → (p : ℕ) → ¬ (IsOut self.now.state p) }
     {
         self.held.is_none()
+    }
+
+    /// The lanes that wait for no more than what is posted, a bit each. They are marked as waiting no more.
+    pub fn woken(&mut self) -> u32
+        ensures { self.new ≡ self.old }
+    {
+        let least = self.state.least();
+        self.waits.reached(least)
     }
 
     /// The rounds computed so far.
@@ -248,7 +262,7 @@ impl<Q: PostLedger, J: Job> Book<Q, J> {
 struct Parts {
     computed: Rounds,
     state: MachineState,
-    log: Vec<Event>,
+    log: EventLog,
     handed: Vec<u128>,
 }
 
@@ -256,13 +270,13 @@ impl Parts {
     fn new(alloc: Global, plan: &Plan, rounds: u64) -> Result<Parts, NoMemory>
         requires rounds { rounds ≡ rounds_of plan.now }
         requires few { rounds * plan.now.tree.processors ≤ row_limit }
-        ensures { IfOk result (λ q. AreParts plan.now q.computed q.state q.log.items (vec_capacity q.log) q.handed.items) }
+        ensures { IfOk result (λ q. AreParts plan.now q.computed q.state q.log q.handed.items) }
     {
         let lanes = plan.tree().processors();
         let events = 2 * (rounds * u64::from(lanes));
         Ok(Parts {
             computed: Rounds::new(alloc, plan, rounds)?,
-            log: Vec::with_capacity(alloc, events as usize)?,
+            log: EventLog::with_room(alloc, events)?,
             handed: no_notes(alloc, lanes)?,
             state: MachineState::new(alloc, lanes)?,
         })

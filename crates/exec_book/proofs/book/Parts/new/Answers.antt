@@ -13,12 +13,12 @@ returns c =
     let plan = c.args.plan.now in
     let lanes : c.processors-lanes.result ≡ plan.tree.processors = c.processors-lanes.ensures.value ∙ ap (λ (t : Tree). t.processors) c.tree.ensures.value in
     let rows : c.args.rounds * c.from.result ≡ rounds_of plan * plan.tree.processors = ap (λ n. n * c.from.result) c.requires.rounds ∙ ap (λ n. rounds_of plan * n) (c.from.ensures ∙ lanes) in
-    let capacity = c.in_ok-with_capacity.ensures.capacity in
+    let capacity = c.in_ok-with_room.ensures.room in
     record {
       rounds = c.in_ok-new.ensures.rounds;
       none = rw (← c.requires.rounds) c.in_ok-new.ensures.none;
       state = c.in_ok-new-2.ensures ∙ ap start lanes;
-      log = c.in_ok-with_capacity.ensures.items;
+      log = c.in_ok-with_room.ensures.none;
       room = omega (arith, rows, capacity);
       unused = c.in_ok-no_notes.ensures ∙ ap (λ n. replicate n 0) lanes;
     }
@@ -26,8 +26,8 @@ returns c =
 pub returns-in_err-new : goal.returns-in_err-new
 returns-in_err-new c = IfOk-from_err _ _ c.from_residual.ensures.0
 
-pub returns-in_err-with_capacity : goal.returns-in_err-with_capacity
-returns-in_err-with_capacity c = IfOk-from_err _ _ c.from_residual-in_err-with_capacity.ensures.0
+pub returns-in_err-with_room : goal.returns-in_err-with_room
+returns-in_err-with_room c = IfOk-from_err _ _ c.from_residual-in_err-with_room.ensures.0
 
 pub returns-in_err-no_notes : goal.returns-in_err-no_notes
 returns-in_err-no_notes c = IfOk-from_err _ _ c.from_residual-in_err-no_notes.ensures.0
