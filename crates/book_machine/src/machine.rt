@@ -1,6 +1,7 @@
 //! The state of the machine, and its steps.
-ghost use Rattle.std.specs.Prelude.{◌≡◌, ◌≤◌, ◌<◌, ◌+◌, ◌↔◌, ℕ, length, true, IsTrue, IfOk, IfSome, IfNone};
-ghost use Rattle.book_machine.specs.Machine.{IsLegal, MayTake, HasTakeable, WaitsFor, IsOut, IsStuck};
+ghost use Rattle.std.specs.Prelude.{◌≡◌, ◌≤◌, ◌<◌, ◌+◌, ◌^◌, ◌↔◌, ℕ, length, true, IsTrue, IfOk, IfSome, IfNone};
+ghost use Rattle.book_machine.specs.Machine.{IsLegal, MayTake, HasTakeable, WaitsFor, IsLowest, IsOut, IsStuck};
+ghost use Rattle.book_machine.specs.declared.events.Event.TheVariants.{Take, Post, Halt};
 ghost use Rattle.book_machine.specs.Machine.{after, start, posted_at, least_posted as least_count, horizon_of};
 ghost use Rattle.book_machine.specs.Links.{ArePostedInOrder, AreEarlierPosted, posted_by};
 ghost use Rattle.sched_base.specs.Limits.{processor_limit, window_limit};
@@ -85,25 +86,57 @@ impl MachineState {
     {
         let _rounds = table.rounds();
         match event {
-            Event::Take(p) => {
-                let lane = &mut self.lanes[p.0 as usize];
-                lane.out = true;
-            }
-            Event::Post(p) => {
-                let lane = &mut self.lanes[p.0 as usize];
-                let is_least = lane.posted == self.least;
-                lane.posted += 1;
-                lane.out = false;
-                if is_least {
-                    self.least = least_posted(self.lanes.as_slice());
-                }
-            }
-            Event::Halt(p) => {
-                let lane = &mut self.lanes[p.0 as usize];
-                lane.out = false;
-                self.halted = true;
-            }
+            Event::Take(p) => self.hand_out(p.0),
+            Event::Post(p) => self.post(p.0),
+            Event::Halt(p) => self.put_back(p.0),
         }
+    }
+
+    /// Hands the next row of lane p out, whatever the rows are.
+    pub fn hand_out(&mut self, p: u32)
+        requires lane { p < length self.old.lanes }
+        requires counted { posted_at self.old p + 1 < 2 ^ 64 }
+        ensures { self.new ≡ after self.old (Take (record { 0 = p })) }
+    {
+        let lane = &mut self.lanes[p as usize];
+        lane.out = true;
+    }
+
+    /// Posts the row that is out on lane p.
+    pub fn post(&mut self, p: u32)
+        requires { IsOut self.old p }
+        ensures { self.new ≡ after self.old (Post (record { 0 = p })) }
+    {
+        let lane = &mut self.lanes[p as usize];
+        let is_least = lane.posted == self.least;
+        lane.posted += 1;
+        lane.out = false;
+        if is_least {
+            self.least = least_posted(self.lanes.as_slice());
+        }
+    }
+
+    /// Puts the row that is out on lane p back unposted, and halts.
+    pub fn put_back(&mut self, p: u32)
+        requires { IsOut self.old p }
+        ensures { self.new ≡ after self.old (Halt (record { 0 = p })) }
+    {
+        let lane = &mut self.lanes[p as usize];
+        lane.out = false;
+        self.halted = true;
+    }
+
+    /// The lowest lane with the least posted count.
+    pub fn lowest(&self) -> u32
+        requires some { 1 ≤ length self.now.lanes }
+        requires few { length self.now.lanes ≤ 32 }
+        ensures { IsLowest self.now.lanes result }
+    {
+        lowest(
+            self.lanes.as_slice(),
+            self.lanes.len() as u32,
+            self.least,
+        )
     }
 
     /// How many rows lane p has posted.
