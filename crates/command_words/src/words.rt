@@ -12,7 +12,7 @@ use crate::command::{Command, Execution, Reading};
 use crate::command_line::read_line;
 use sched_base::NoMemory;
 use std::alloc::Global;
-use trace_lines::Asked;
+use crate::asking::Asked;
 use trace_text::read_number;
 
 /// Where no window is asked for, a lane may run up to that many rounds ahead.

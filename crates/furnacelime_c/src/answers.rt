@@ -7,7 +7,7 @@ use byte_calls::call;
 use c_handles::AnswerHandle;
 use std::alloc::Global;
 use still_commands::Reading;
-use trace_lines::Asked;
+use command_words::Asked;
 
 /// The status of a call that can't be done.
 const WRONG_CALL: u8 = 64;

@@ -5,7 +5,7 @@ ghost use Rattle.merged_rows.specs.Columns.{Begun, going_on, shows_last, showing
 use sched_base::{Leaf, NoMemory};
 use std::alloc::Global;
 use std::marker::Model;
-use trace_lines::is_shown_alike;
+use crate::neighbours::is_shown_alike;
 
 /// The rows of one processor as they begin, each at a tick and with what it shows. A row goes on up to the next one's start.
 #[derive(Drop)]

@@ -14,7 +14,7 @@ use Rattle.run_tree.specs.Schedule.{schedule}
 use Rattle.run_tree.specs.Tree.{Tree}
 use Rattle.run_tree.specs.TreeOfSet.{IsTreeOf}
 use Rattle.trace_lines.specs.declared.versions.Version.TheVariants.{One}
-use Rattle.trace_lines.specs.Merging.{merged_lanes}
+use Rattle.merged_rows.specs.Merging.{merged_lanes}
 use Rattle.trace_lines.specs.Text.{trace_text}
 use Rattle.tree_check.specs.Written.{Written}
 use Rattle.tree_check.specs.Faults.{HasNoFault, IsFirstFault}

@@ -11,7 +11,7 @@ use crate::refusal::Refusal;
 use sched_edges::{Sink, Source};
 use std::alloc::Global;
 use trace_draw::draw_trace;
-use trace_lines::Asked;
+use command_words::Asked;
 
 /// Reads a trace text, and draws the units of it that are asked for, whether its rows are a valid schedule or not.
 pub(crate) fn draw<R: Source, W: Sink>(

@@ -4,7 +4,7 @@ ghost use Rattle.trace_draw.specs.Windows.{first_unit, most_units, most_rows, sh
 
 use crate::windows::{MOST_DRAWN, Window};
 use trace_check::ReadTrace;
-use trace_lines::Asked;
+use command_words::Asked;
 
 /// The most rows in a window, where the number of units isn't asked for.
 const FEW: usize = 200;

@@ -14,7 +14,7 @@ use Rattle.sched_edges.proofs.CauseLemmas.{took_none}
 use Rattle.sched_edges.proofs.Wrote.{part_then, part_cut, wrote_part}
 use Rattle.row_totals.specs.Sums.{IsAmong, NamesAmong}
 use Rattle.trace_lines.specs.Lines.{row_line}
-use Rattle.trace_lines.specs.Merging.{merged, merged_lanes}
+use Rattle.merged_rows.specs.Merging.{merged, merged_lanes}
 
 -- ---- one processor
 

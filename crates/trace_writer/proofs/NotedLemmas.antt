@@ -7,7 +7,7 @@ use Rattle.sched_base.specs.declared.rows.Row.{Row}
 use Rattle.sched_base.specs.Sets.{SetContents}
 use Rattle.sched_base.specs.Tables.{all_rows, lane_of}
 use Rattle.row_totals.specs.Sums.{NamesAmong}
-use Rattle.trace_lines.specs.Merging.{merged, merged_lanes}
+use Rattle.merged_rows.specs.Merging.{merged, merged_lanes}
 use Rattle.trace_writer.specs.Finishes.{HaveRoom, AreDoneBy}
 
 -- of a processor's rows some merged ones went by, and these rows are left

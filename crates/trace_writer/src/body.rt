@@ -6,7 +6,7 @@ ghost use Rattle.sched_edges.specs.Causes.{HasCause};
 ghost use Rattle.sched_edges.specs.Streams.{Wrote};
 ghost use Rattle.row_totals.specs.Sums.{NamesAmong, totals_of};
 ghost use Rattle.trace_lines.specs.Lines.{task_line, version_number};
-ghost use Rattle.trace_lines.specs.Merging.{merged_lanes};
+ghost use Rattle.merged_rows.specs.Merging.{merged_lanes};
 ghost use Rattle.trace_lines.specs.Text.{head_lines};
 ghost use Rattle.trace_writer.specs.Parts.{text_of, body_text, lines_of_totals};
 

@@ -4,13 +4,13 @@ ghost use Rattle.std.specs.List.{AllByRecursion};
 ghost use Rattle.sched_base.specs.declared.rows.Row.{Row as declared_row};
 ghost use Rattle.sched_base.specs.Tables.{all_rows, lane_of};
 ghost use Rattle.row_totals.specs.Sums.{NamesAmong};
-ghost use Rattle.trace_lines.specs.Merging.{merged, merged_lanes};
+ghost use Rattle.merged_rows.specs.Merging.{merged, merged_lanes};
 ghost use Rattle.trace_writer.specs.Finishes.{HaveRoom, AreDoneBy};
 
 use crate::finishes::Finishes;
 use merged_rows::MergedRows;
 use sched_base::{Row, RowTable, TaskSet};
-use trace_lines::first_merged;
+use merged_rows::first_merged;
 
 /// Finds when the periods were done by the rows of a table.
 pub(crate) fn note_table(finishes: &mut Finishes, set: &TaskSet, scale: u128, table: &RowTable)

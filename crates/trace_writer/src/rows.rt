@@ -6,14 +6,14 @@ ghost use Rattle.sched_edges.specs.Causes.{HasCause};
 ghost use Rattle.sched_edges.specs.Streams.{Wrote};
 ghost use Rattle.row_totals.specs.Sums.{NamesAmong};
 ghost use Rattle.trace_lines.specs.Lines.{row_line};
-ghost use Rattle.trace_lines.specs.Merging.{merged, merged_lanes};
+ghost use Rattle.merged_rows.specs.Merging.{merged, merged_lanes};
 
 use crate::lines::add_row;
 use crate::pages::Page;
 use crate::pens::Pen;
 use sched_base::{Row, RowTable, TaskSet};
 use sched_edges::{Failed, Sink, write_all};
-use trace_lines::first_merged;
+use merged_rows::first_merged;
 
 /// Writes the rows of all processors, each processor's merged, and says how many lines these are.
 pub(crate) fn write_rows<W: Sink>(

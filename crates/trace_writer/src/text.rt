@@ -7,7 +7,7 @@ ghost use Rattle.sched_edges.specs.Streams.{Wrote};
 ghost use Rattle.trace_lines.specs.declared.versions.Version.TheVariants.{One, Two};
 ghost use Rattle.row_totals.specs.Sums.{NamesAmong, totals_of};
 ghost use Rattle.trace_lines.specs.Conditions.{AreOnTime};
-ghost use Rattle.trace_lines.specs.Merging.{merged_lanes};
+ghost use Rattle.merged_rows.specs.Merging.{merged_lanes};
 ghost use Rattle.trace_lines.specs.Text.{trace_text};
 ghost use Rattle.trace_writer.specs.Finishes.{HaveRoom};
 

@@ -7,7 +7,7 @@ use std::alloc::Global;
 use std::process::Abort;
 use trace_check::{ReadTrace, check_trace, read_trace};
 use trace_draw::{shown_window, write_picture};
-use trace_lines::Asked;
+use command_words::Asked;
 
 // ---- parts that several worked pictures share
 

@@ -1,5 +1,5 @@
 use Rattle.std.proofs.Common.{length}
-use Rattle.trace_lines.proofs.MergeLemmas.{names_merged}
+use Rattle.merged_rows.proofs.MergeLemmas.{names_merged}
 use Rattle.trace_writer.proofs.LaneLemmas.{names_next}
 use Rattle.trace_writer.proofs.NotedLemmas.{none_left, has_noted_none, has_noted_more, has_noted_all}
 use Rattle.trace_writer.proofs.noting.note_lane.Goals as goal

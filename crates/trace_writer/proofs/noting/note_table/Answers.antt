@@ -1,7 +1,7 @@
 use Rattle.std.proofs.Common.{◌<◌, ◌≤◌, length, take, subst, arith}
 use Rattle.std.proofs.lemmas.List.{take_all}
 use Rattle.row_totals.specs.Sums.{NamesAmong}
-use Rattle.trace_lines.specs.Merging.{merged_lanes}
+use Rattle.merged_rows.specs.Merging.{merged_lanes}
 use Rattle.trace_writer.proofs.LaneLemmas.{lane_has}
 use Rattle.trace_writer.proofs.NotedLemmas.{merged_next}
 use Rattle.trace_writer.proofs.noting.note_table.Goals as goal

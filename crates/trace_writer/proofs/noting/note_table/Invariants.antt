@@ -1,5 +1,5 @@
 use Rattle.std.proofs.Common.{take}
-use Rattle.trace_lines.specs.Merging.{merged_lanes}
+use Rattle.merged_rows.specs.Merging.{merged_lanes}
 use Rattle.trace_writer.specs.Finishes.{HaveRoom, AreDoneBy}
 use Rattle.trace_writer.proofs.noting.note_table.Given as goal
 

@@ -1,5 +1,5 @@
 use Rattle.std.proofs.Common.{length, arith, le_refl, le_trans}
-use Rattle.trace_lines.proofs.MergeLemmas.{names_merged}
+use Rattle.merged_rows.proofs.MergeLemmas.{names_merged}
 use Rattle.sched_edges.proofs.CauseLemmas.{cause_cut}
 use Rattle.trace_writer.proofs.CauseLemmas.{no_answer}
 use Rattle.trace_writer.proofs.LaneLemmas.{written_none, written_more, written_cut, names_next}

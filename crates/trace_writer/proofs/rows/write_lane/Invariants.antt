@@ -1,6 +1,6 @@
 use Rattle.std.proofs.Common.{◌≤◌, ◌+◌, length}
 use Rattle.row_totals.specs.Sums.{NamesAmong}
-use Rattle.trace_lines.specs.Merging.{merged}
+use Rattle.merged_rows.specs.Merging.{merged}
 use Rattle.trace_writer.proofs.LaneLemmas.{Written}
 use Rattle.trace_writer.proofs.rows.write_lane.Given as goal
 

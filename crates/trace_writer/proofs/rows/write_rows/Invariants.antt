@@ -2,7 +2,7 @@ use Rattle.std.proofs.Common.{◌≤◌, ◌*◌, ◌≡◌, length, take}
 use Rattle.std.specs.List.{flat_map}
 use Rattle.std.specs.Io.KnownBytes.{Appends}
 use Rattle.trace_lines.specs.Lines.{row_line}
-use Rattle.trace_lines.specs.Merging.{merged, merged_lanes}
+use Rattle.merged_rows.specs.Merging.{merged, merged_lanes}
 use Rattle.trace_writer.proofs.rows.write_rows.Given as goal
 
 abbrev pub invariant-loop-p : goal.invariant-loop-p

@@ -1,7 +1,7 @@
 use Rattle.std.proofs.Common.{le_refl}
 use Rattle.sched_edges.proofs.Wrote.{wrote_then, wrote_cut}
 use Rattle.trace_lines.specs.declared.versions.Version.TheVariants.{One}
-use Rattle.trace_lines.specs.Merging.{merged_lanes}
+use Rattle.merged_rows.specs.Merging.{merged_lanes}
 use Rattle.sched_edges.proofs.CauseLemmas.{cause_cut, cause_then}
 use Rattle.trace_writer.proofs.TextLemmas.{trace_parts}
 use Rattle.trace_writer.proofs.text.write_trace.Goals as goal
