@@ -25,13 +25,7 @@ pub(crate) fn note_rows<R: ShownRows>(finishes: &mut Finishes, set: &TaskSet, sc
 }
 
 // The rows of processor p go by.
-fn note_lane<R: ShownRows>(
-    finishes: &mut Finishes,
-    set: &TaskSet,
-    scale: u128,
-    rows: &R,
-    p: u32,
-)
+fn note_lane<R: ShownRows>(finishes: &mut Finishes, set: &TaskSet, scale: u128, rows: &R, p: u32)
     requires scale { scale ≤ 2 ^ 94 }
     requires processor { p < length (R.lanes rows.now) }
     requires whole { R.left rows.now p 0 ≡ lane_of (R.lanes rows.now) p }
