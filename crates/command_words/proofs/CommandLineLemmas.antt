@@ -7,7 +7,7 @@ use Rattle.clap.specs.Words.{Row, Text, is_simple, first_of, one_of, subcommand_
 use Rattle.clap.specs.declared.parser.matches.ArgMatches.{ArgMatches}
 use Rattle.clap.specs.declared.parser.matches.ArgMatches.TheViews.{out-ArgMatches}
 use Rattle.clap.proofs.OnLiterals.{clap_on_literals}
-use Rattle.trace_lines.specs.declared.asking.Asked.{Asked}
+use Rattle.command_words.specs.declared.asking.Asked.{Asked}
 use Rattle.command_words.specs.declared.command.Command.{Command}
 use Rattle.command_words.specs.declared.command.Command.TheVariants.{Read, Batch, Execute}
 use Rattle.command_words.specs.declared.command.Reading.{Reading}

@@ -4,7 +4,7 @@ use Rattle.std.proofs.Common.{Option, Some, None, true, option_map, option_and_t
 use Rattle.std.proofs.Common.{◌∙◌}
 use Rattle.clap.specs.Words.{Row, Text, first_of, subcommand_of, takes}
 use Rattle.clap.proofs.OnLiterals.{clap_on_literals}
-use Rattle.trace_lines.specs.declared.asking.Asked.{Asked}
+use Rattle.command_words.specs.declared.asking.Asked.{Asked}
 use Rattle.command_words.specs.declared.command.Reading.{Reading}
 use Rattle.command_words.specs.declared.command.Reading.TheVariants.{Draw}
 use Rattle.command_words.specs.Words.{units_of, asked_from, asked_units, drawn}

@@ -1,6 +1,6 @@
 //! What a command line asks for.
 
-use trace_lines::Asked;
+use crate::asking::Asked;
 
 /// What a command line asks for.
 #[derive(Clone, Copy)]

@@ -8,11 +8,11 @@ ghost use Rattle.command_words.specs.Words.{value_in, front, unit_of, units_of, 
 ghost use Rattle.command_words.specs.Words.{execution_of, execution_named, execution_with, execution_with_value};
 ghost use Rattle.command_words.specs.Words.{asks_to_execute, asks_for_batch, asks_for_threads, command_of};
 
+use crate::asking::Asked;
 use crate::command::{Command, Execution, Reading};
 use crate::command_line::read_line;
 use sched_base::NoMemory;
 use std::alloc::Global;
-use trace_lines::Asked;
 use trace_text::read_number;
 
 /// Where no window is asked for, a lane may run up to that many rounds ahead.

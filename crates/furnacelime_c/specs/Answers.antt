@@ -1,7 +1,7 @@
 -- What a call over bytes gets.
 use Rattle.std.specs.Prelude.{◌≡◌, ◌⊎◌, ℕ, ◌<◌, ◌==◌, if◌then◌else◌, List, ◌++◌, length, drop, Some, None}
 use Rattle.std.specs.declared.option.Option.{Option}
-use Rattle.trace_lines.specs.declared.asking.Asked.{Asked}
+use Rattle.command_words.specs.declared.asking.Asked.{Asked}
 use Rattle.command_words.specs.declared.command.Reading.{Reading}
 use Rattle.command_words.specs.declared.command.Reading.TheVariants.{Rate, Tree, Trace, TraceMet, TraceWrap, Table, Check, Follow, Draw}
 use Rattle.still_commands.specs.declared.status.Status.{Status}

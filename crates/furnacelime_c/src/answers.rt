@@ -5,9 +5,9 @@ ghost use Rattle.furnacelime_c.specs.Answers.{reading_of, asked_by, Gives, IsNot
 
 use byte_calls::call;
 use c_handles::AnswerHandle;
+use command_words::Asked;
 use std::alloc::Global;
 use still_commands::Reading;
-use trace_lines::Asked;
 
 /// The status of a call that can't be done.
 const WRONG_CALL: u8 = 64;

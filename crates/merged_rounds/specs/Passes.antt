@@ -9,7 +9,7 @@ use Rattle.run_tree.specs.Tree.{leaf}
 use Rattle.run_tree.specs.Schedule.{shown}
 use Rattle.run_tree.specs.Plans.{PlanContents, schedule_of}
 use Rattle.event_core.specs.Rounds.{rows_of_round}
-use Rattle.trace_lines.specs.Merging.{merged}
+use Rattle.merged_rows.specs.Merging.{merged}
 use Rattle.merged_rows.specs.Columns.{ends_showing}
 
 -- these are the rows of a plan's schedule, each processor's merged

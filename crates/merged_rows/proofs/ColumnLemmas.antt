@@ -7,8 +7,8 @@ use Rattle.std.proofs.lemmas.Option.{slice_get-get_or}
 use Rattle.sched_base.specs.declared.rows.Leaf.{Leaf}
 use Rattle.sched_base.specs.declared.rows.Row.{Row}
 use Rattle.sched_base.specs.Tables.{IsRound, end_after, lane_of, with_round}
-use Rattle.trace_lines.specs.Merging.{shown, merged}
-use Rattle.trace_lines.proofs.MergeLemmas.{goes_on}
+use Rattle.merged_rows.specs.Merging.{shown, merged}
+use Rattle.merged_rows.proofs.MergeLemmas.{goes_on}
 use Rattle.merged_rows.specs.Columns.{Begun, begun_of, rows_up_to, lanes_up_to, shows_last, showing, showing_each, going_on, going_on_each, ends_showing, AreTold}
 use Rattle.merged_rows.proofs.PushLemmas.{merged_with, merged_round, round_push}
 

@@ -1,3 +1,4 @@
+pub mod MergeLemmas
 pub mod PushLemmas
 mod ColumnLemmas
 mod SumLemmas

@@ -10,8 +10,8 @@ use Rattle.sched_base.specs.Tables.{IsTable, all_rows, end_after, lane_of, round
 use Rattle.row_totals.specs.Sums.{NamesAmong, AreForward}
 use Rattle.row_totals.proofs.NameLemmas.{names_among}
 use Rattle.row_totals.proofs.TableSums.{ticks_fit}
-use Rattle.trace_lines.specs.Merging.{merged}
-use Rattle.trace_lines.proofs.MergeLemmas.{few_merged, forward_lanes, forward_merged, names_merged, ticks_merged_lanes}
+use Rattle.merged_rows.specs.Merging.{merged}
+use Rattle.merged_rows.proofs.MergeLemmas.{few_merged, forward_lanes, forward_merged, names_merged, ticks_merged_lanes}
 use Rattle.merged_rows.specs.Lawful.{AreLawful}
 use Rattle.merged_rows.specs.Sums.{TicksFit}
 use Rattle.merged_rows.proofs.PushLemmas.{all_merged}

@@ -5,8 +5,8 @@ use Rattle.std.proofs.lemmas.Bool.{cases_Bool, and_parts, cond-true, cond-false,
 use Rattle.sched_base.specs.declared.rows.Row.{Row}
 use Rattle.sched_base.specs.declared.rows.Leaf.{Leaf}
 use Rattle.sched_base.specs.Tables.{all_rows, lane_of, with_round}
-use Rattle.trace_lines.specs.Merging.{shown, lengthened, merge_onto, merged, merged_lanes}
-use Rattle.trace_lines.proofs.MergeLemmas.{goes_on}
+use Rattle.merged_rows.specs.Merging.{shown, lengthened, merge_onto, merged, merged_lanes}
+use Rattle.merged_rows.proofs.MergeLemmas.{goes_on}
 use Rattle.merged_rows.specs.Columns.{ends_showing}
 
 -- merged rows with one more row after them: where it goes on with the last of them, that one gets longer

@@ -4,7 +4,7 @@ use Rattle.std.specs.Prelude.{slice_get, slice_index_or}
 use Rattle.sched_base.specs.declared.rows.Leaf.{Leaf}
 use Rattle.sched_base.specs.declared.rows.Row.{Row}
 use Rattle.sched_base.specs.Tables.{lane_of}
-use Rattle.trace_lines.specs.Merging.{shown}
+use Rattle.merged_rows.specs.Merging.{shown}
 
 -- what is seen of merged rows: those of each processor, and the tick up to which they go
 pub record MergedContents : Type 0 where

@@ -1,3 +1,4 @@
+pub mod Merging
 pub mod Columns
 pub mod Sums
 pub mod Lawful

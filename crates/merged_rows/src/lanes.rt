@@ -2,10 +2,10 @@
 ghost use Rattle.std.specs.Prelude.{◌≡◌, ◌<◌, [], ◌∷◌, ◌++◌, length, OnOk, OnErr, Some, slice_get};
 ghost use Rattle.merged_rows.specs.Columns.{Begun, going_on, shows_last, showing};
 
+use crate::neighbours::is_shown_alike;
 use sched_base::{Leaf, NoMemory};
 use std::alloc::Global;
 use std::marker::Model;
-use trace_lines::is_shown_alike;
 
 /// The rows of one processor as they begin, each at a tick and with what it shows. A row goes on up to the next one's start.
 #[derive(Drop)]

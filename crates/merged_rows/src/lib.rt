@@ -4,7 +4,9 @@
 
 mod lanes;
 mod merging;
+mod neighbours;
 mod totals;
 
 pub use merging::MergedRows;
+pub use neighbours::{first_merged, is_shown_alike};
 pub use totals::totals_of;

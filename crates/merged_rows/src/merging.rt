@@ -2,7 +2,7 @@
 ghost use Rattle.std.specs.Prelude.{◌≡◌, ◌<◌, [], List, Some, length, map, replicate, slice_get, IfOk, OnOk};
 ghost use Rattle.sched_base.specs.declared.rows.Row.{Row as declared_row};
 ghost use Rattle.sched_base.specs.Tables.{IsRound, RowAt, end_after, lane_of, with_round};
-ghost use Rattle.trace_lines.specs.Merging.{merged};
+ghost use Rattle.merged_rows.specs.Merging.{merged};
 ghost use Rattle.merged_rows.specs.Columns.{rows_up_to, showing_each, going_on_each, AreTold};
 
 use crate::lanes::MergedLane;

@@ -20,7 +20,7 @@ use Rattle.event_core.specs.Rounds.{IsRoundStart, IsRoundUpTo, event_at, rows_be
 use Rattle.event_core.proofs.NextCores.{event_first}
 use Rattle.event_core.proofs.RoundsInOrder.{next_rows, no_rows}
 use Rattle.repeat_plans.specs.Again.{HasTree}
-use Rattle.trace_lines.specs.Merging.{merged, merged_lanes}
+use Rattle.merged_rows.specs.Merging.{merged, merged_lanes}
 use Rattle.trace_check.specs.RoundTrip.{row_as_read}
 use Rattle.trace_check.proofs.MergedLemmas.{merged_valid}
 use Rattle.trace_check.proofs.RowTripLemmas.{of_task_again}

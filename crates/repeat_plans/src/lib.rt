@@ -6,7 +6,7 @@ ghost use Rattle.sched_base.specs.Lanes.{lanes_of};
 ghost use Rattle.sched_base.specs.Tables.{IsTable, all_rows};
 ghost use Rattle.sched_base.specs.Valid.{IsValid};
 ghost use Rattle.run_tree.specs.Plans.{PlanContents, IsPlan, schedule_of, stop_of};
-ghost use Rattle.trace_lines.specs.Merging.{merged};
+ghost use Rattle.merged_rows.specs.Merging.{merged};
 ghost use Rattle.stat_report.specs.Report.{IsValidTrace};
 ghost use Rattle.trace_check.specs.Traces.{Trace};
 ghost use Rattle.repeat_laws.specs.Repeats.{repeated, up_to, CanRepeat};

@@ -16,7 +16,7 @@ use Rattle.event_core.proofs.RoundsInOrder.{rounds_is}
 use Rattle.rate_scale.proofs.ScaleLemmas.{some_scale, PassesAt-whole}
 use Rattle.run_compile.specs.Answers.{IsOverload}
 use Rattle.plan_rounds.specs.PlanRows.{plan_rows}
-use Rattle.trace_lines.specs.Merging.{merged_lanes}
+use Rattle.merged_rows.specs.Merging.{merged_lanes}
 use Rattle.trace_check.specs.Traces.{Trace}
 use Rattle.trace_check.specs.RoundTrip.{trace_again}
 use Rattle.stat_report.specs.Report.{IsValidTrace}

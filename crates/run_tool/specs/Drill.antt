@@ -7,7 +7,7 @@ use Rattle.sched_edges.specs.Lines.{word_line, number_line}
 use Rattle.run_tree.specs.Compiled.{tree_of}
 use Rattle.run_tree.specs.Plans.{PlanContents, rounds_of}
 use Rattle.plan_rounds.specs.PlanRows.{plan_rows}
-use Rattle.trace_lines.specs.Merging.{merged_lanes}
+use Rattle.merged_rows.specs.Merging.{merged_lanes}
 use Rattle.trace_check.specs.Traces.{Trace}
 use Rattle.trace_check.specs.RoundTrip.{trace_again}
 use Rattle.stat_report.specs.Report.{preemptions, migrations, IsValidTrace}

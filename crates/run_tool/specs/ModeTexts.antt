@@ -12,7 +12,7 @@ use Rattle.mode_join.specs.declared.mode.Mode.{Mode}
 use Rattle.mode_join.specs.Joining.{CanBeJoined, IsRefused}
 use Rattle.mode_join.specs.Modes.{ModesContents, AreModes, PeriodsEndIn, sets_of}
 use Rattle.trace_lines.specs.declared.versions.Version.TheVariants.{One}
-use Rattle.trace_lines.specs.Merging.{merged_lanes}
+use Rattle.merged_rows.specs.Merging.{merged_lanes}
 use Rattle.trace_lines.specs.Text.{trace_text}
 use Rattle.still_commands.specs.declared.mode_refusal.ModeRefusal.{ModeRefusal}
 use Rattle.still_commands.specs.declared.mode_refusal.ModeRefusal.TheVariants as mode

@@ -6,7 +6,7 @@ ghost use Rattle.sched_base.specs.Valid.{IsValid};
 ghost use Rattle.run_tree.specs.Plans.{rounds_of, stop_of};
 ghost use Rattle.sched_base.specs.Tables.{row_limit};
 ghost use Rattle.plan_rounds.specs.PlanRows.{plan_rows};
-ghost use Rattle.trace_lines.specs.Merging.{merged_lanes};
+ghost use Rattle.merged_rows.specs.Merging.{merged_lanes};
 ghost use Rattle.trace_check.specs.RoundTrip.{trace_again};
 ghost use Rattle.stat_report.specs.Report.{IsValidTrace};
 ghost use Rattle.run_tool.specs.Drill.{drilled, drill_plan, summary_by};

@@ -3,7 +3,7 @@ use Rattle.std.proofs.Common.{◌≡◌, ◌⊎◌, inl, inr, ℕ, ◌+◌, ◌*
 use Rattle.std.specs.Io.KnownBytes.{Keeps}
 use Rattle.sched_base.specs.Lanes.{lanes_of}
 use Rattle.sched_base.specs.Sets.{SetContents, IsLawful}
-use Rattle.sched_base.specs.Tables.{row_limit}
+use Rattle.sched_base.specs.Tables.{all_rows, row_limit}
 use Rattle.sched_base.specs.Valid.{IsValid}
 use Rattle.sched_base.specs.declared.rows.Row.{Row}
 use Rattle.event_core.specs.Counts.{IsCountFault}
@@ -14,7 +14,9 @@ use Rattle.run_tree.specs.Schedule.{schedule}
 use Rattle.run_tree.specs.Tree.{Tree}
 use Rattle.run_tree.specs.TreeOfSet.{IsTreeOf}
 use Rattle.trace_lines.specs.declared.versions.Version.TheVariants.{One}
-use Rattle.trace_lines.specs.Merging.{merged_lanes}
+use Rattle.merged_rows.specs.Merging.{merged_lanes}
+use Rattle.merged_rows.proofs.PushLemmas.{all_merged}
+use Rattle.merged_rounds.specs.Passes.{AreMergedOf}
 use Rattle.trace_lines.specs.Text.{trace_text}
 use Rattle.tree_check.specs.Written.{Written}
 use Rattle.tree_check.specs.Faults.{HasNoFault, IsFirstFault}
@@ -144,13 +146,13 @@ follows_trees valid bytes w reads =
           (valid w.set (set_read bytes w reads.read).lawful (text_tree w) is.tree);
     }
 
--- the same of a set and a scale that are those of the text
+-- the text of its merged rows, of a set and a scale that are those of the text
 pub followed_is : (w : Written) (p : PlanContents) (s : SetContents) (n : ℕ) (lanes : List (List Row)) → s ≡ w.set → n ≡ p.tree.scale
-    → p ≡ plan_told w → IsTextOfTree w → lanes ≡ lanes_of p.tree.processors (schedule_of p)
-    → trace_text One s n (merged_lanes lanes) ≡ followed_text w
-followed_is w p s n lanes set scale e is at =
+    → p ≡ plan_told w → IsTextOfTree w → AreMergedOf p lanes → trace_text One s n (all_rows lanes) ≡ followed_text w
+followed_is w p s n lanes set scale e is merged =
+    let own = lanes_of p.tree.processors (schedule_of p) in
     let same : s ≡ p.set = set ∙ sym (ap (λ (q : PlanContents). q.set) e) in
-    (λ i. trace_text One (same i) (scale i) (merged_lanes lanes)) ∙ text_is w p lanes e is at
+    ap (trace_text One s n) (ap all_rows merged ∙ all_merged own) ∙ (λ i. trace_text One (same i) (scale i) (merged_lanes own)) ∙ text_is w p own e is refl
 
 -- ---- of the bytes
 

@@ -10,7 +10,7 @@ use Rattle.run_tree.specs.Plans.{PlanContents, schedule_of, rounds_of}
 use Rattle.run_tree.specs.Schedule.{schedule, rounds}
 use Rattle.task_reader.specs.Reading.{set_read_from}
 use Rattle.trace_lines.specs.Conditions.{AreOnTime}
-use Rattle.trace_lines.specs.Merging.{merged_lanes}
+use Rattle.merged_rows.specs.Merging.{merged_lanes}
 use Rattle.trace_lines.specs.Text.{trace_text}
 use Rattle.trace_lines.specs.declared.versions.Version.TheVariants.{One, Two}
 use Rattle.tree_check.specs.Written.{Written, written_of}

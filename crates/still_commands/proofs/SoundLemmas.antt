@@ -15,7 +15,7 @@ use Rattle.run_tree.specs.Schedule.{schedule}
 use Rattle.repeat_laws.specs.Repeats.{ComesAgain, repeat_unit, up_to}
 use Rattle.repeat_plans.specs.Again.{HasTree}
 use Rattle.table_text.specs.Steps.{AreWhole, step_of}
-use Rattle.trace_lines.specs.Merging.{merged}
+use Rattle.merged_rows.specs.Merging.{merged}
 use Rattle.task_reader.specs.Reading.{set_read_from}
 use Rattle.still_commands.specs.Commands.{SetText, rates, server_tree, schedule_rows, wrapped_rows, c_table, repeating, plan_of, HasRoom, IsSound}
 use Rattle.still_commands.specs.SetTexts.{IsSchedulable, IsSoundTable, table_rows}

@@ -1,10 +1,10 @@
 -- What the rows of a plan are, as its trace text asks for.
-use Rattle.std.proofs.Common.{◌≡◌, ◌≤◌, ◌*◌, ◌||◌, ℕ, not, eqb, Bool, true, false, List, [], ◌∷◌, length, ap, ap₂, sym, subst, ◌∙◌, inl, inr, mul_comm}
+use Rattle.std.proofs.Common.{◌≡◌, ◌||◌, ℕ, not, eqb, Bool, true, false, List, [], ◌∷◌, ap, sym, ◌∙◌, inl, inr}
 use Rattle.std.proofs.lemmas.Bool.{cases_Bool, eqb-true}
 use Rattle.sched_base.specs.declared.rows.Row.{Row}
 use Rattle.sched_base.specs.declared.sets.Task as declared
 use Rattle.sched_base.specs.Lanes.{lanes_of}
-use Rattle.sched_base.specs.Tables.{all_rows, row_limit, rounds_of}
+use Rattle.sched_base.specs.Tables.{all_rows}
 use Rattle.run_tree.specs.Plans.{PlanContents, schedule_of}
 use Rattle.trace_lines.specs.Conditions.{AreOnTime}
 use Rattle.trace_lines.specs.Text.{trace_text}
@@ -31,9 +31,3 @@ pub merged_text : (met : Bool) (p : PlanContents) (lanes : List (List Row)) → 
     → trace_text (version_of met p.set.tasks) p.set p.tree.scale (all_rows lanes) ≡ schedule_text met p
 merged_text met p lanes is =
     ap (trace_text (version_of met p.set.tasks) p.set p.tree.scale) (ap all_rows is ∙ all_merged (lanes_of p.tree.processors (schedule_of p)))
-
--- a table of so many rounds, with a lane for each of so many processors, has few rows
-pub few_rows : (lanes : List (List Row)) (m rounds : ℕ) → length lanes ≡ m → rounds_of lanes ≡ rounds → rounds * m ≤ row_limit
-    → length lanes * rounds_of lanes ≤ row_limit
-few_rows lanes m rounds many are few =
-    subst (λ (n : ℕ). n ≤ row_limit) (sym (ap₂ ◌*◌ many are ∙ mul_comm m rounds)) few

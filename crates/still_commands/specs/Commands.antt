@@ -1,6 +1,6 @@
 -- What each command that executes nothing writes, and which bytes it refuses and why. A new such command adds its case to these definitions.
 use Rattle.std.specs.Prelude.{◌≡◌, ℕ, true, false, List}
-use Rattle.trace_lines.specs.declared.asking.Asked.{Asked}
+use Rattle.command_words.specs.declared.asking.Asked.{Asked}
 use Rattle.command_words.specs.declared.command.Reading.{Reading}
 use Rattle.command_words.specs.declared.command.Reading.TheVariants.{Rate, Tree, Trace, TraceMet, TraceWrap, TraceRepeat, Table, TableRepeat, Check, Follow, Draw}
 use Rattle.still_commands.specs.declared.refusal.Refusal.{Refusal}

@@ -2,7 +2,7 @@
 use Rattle.std.specs.Prelude.{ℕ, ◌≡◌, List, Ok}
 use Rattle.trace_check.specs.Traces.{Trace}
 use Rattle.trace_check.specs.Reading.{reading}
-use Rattle.trace_lines.specs.declared.asking.Asked.{Asked}
+use Rattle.command_words.specs.declared.asking.Asked.{Asked}
 use Rattle.trace_draw.specs.Drawing.{IsDrawing}
 use Rattle.still_commands.specs.declared.status.Status.{Status}
 use Rattle.still_commands.specs.declared.status.Status.TheVariants.{Done}

@@ -10,7 +10,7 @@ use Rattle.sched_edges.specs.Streams.{GaveAll, GaveAtMost, GaveCount, TookPart}
 use Rattle.run_tree.specs.Plans.{PlanContents, schedule_of, rounds_of}
 use Rattle.run_tree.specs.TreeOfSet.{IsTreeOf}
 use Rattle.trace_lines.specs.declared.versions.Version.TheVariants.{One}
-use Rattle.trace_lines.specs.Merging.{merged_lanes}
+use Rattle.merged_rows.specs.Merging.{merged_lanes}
 use Rattle.trace_lines.specs.Text.{trace_text}
 use Rattle.tree_check.specs.Written.{Written}
 use Rattle.tree_check.specs.Faults.{IsFirstFault}

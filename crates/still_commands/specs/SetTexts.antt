@@ -18,7 +18,7 @@ use Rattle.repeat_laws.specs.Repeats.{CanRepeat, ComesAgain, IsFirstTask, repeat
 use Rattle.sched_base.specs.Lanes.{lanes_of}
 use Rattle.trace_lines.specs.declared.versions.Version.{Version}
 use Rattle.trace_lines.specs.declared.versions.Version.TheVariants.{One, Two}
-use Rattle.trace_lines.specs.Merging.{merged, merged_lanes}
+use Rattle.merged_rows.specs.Merging.{merged, merged_lanes}
 use Rattle.trace_lines.specs.Text.{trace_text}
 use Rattle.table_text.specs.Steps.{AreWhole, step_of}
 use Rattle.table_text.specs.Table.{table_text}

@@ -8,10 +8,10 @@ ghost use Rattle.still_commands.specs.declared.status.Status.TheVariants.{Done};
 
 use crate::input::read_trace_input;
 use crate::refusal::Refusal;
+use command_words::Asked;
 use sched_edges::{Sink, Source};
 use std::alloc::Global;
 use trace_draw::draw_trace;
-use trace_lines::Asked;
 
 /// Reads a trace text, and draws the units of it that are asked for, whether its rows are a valid schedule or not.
 pub(crate) fn draw<R: Source, W: Sink>(

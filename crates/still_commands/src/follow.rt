@@ -1,9 +1,9 @@
 //! The command `follow`.
-ghost use Rattle.std.specs.Prelude.{◌≡◌, ◌≤◌, ◌*◌, length, IfOk, IfErr, OnOk};
-ghost use Rattle.sched_base.specs.Lanes.{lanes_of};
-ghost use Rattle.sched_base.specs.Tables.{row_limit, rounds_of};
+ghost use Rattle.std.specs.Prelude.{◌≡◌, ◌≤◌, length, IfOk, IfErr, OnOk};
+ghost use Rattle.sched_base.specs.Tables.{row_limit};
 ghost use Rattle.row_totals.specs.Sums.{totals_of};
-ghost use Rattle.run_tree.specs.Plans.{schedule_of};
+ghost use Rattle.merged_rows.specs.Lawful.{AreLawful};
+ghost use Rattle.merged_rounds.specs.Passes.{AreMergedOf};
 ghost use Rattle.tree_check.specs.TextTree.{IsTextOfTree};
 ghost use Rattle.trace_lines.specs.Conditions.{AreOnTime};
 ghost use Rattle.still_commands.specs.Commands.{set_limit};
@@ -13,16 +13,14 @@ ghost use Rattle.still_commands.specs.declared.status.Status.TheVariants.{Done};
 
 use crate::input::SET_LIMIT;
 use crate::refusal::Refusal;
-use crate::trace::rows_of;
+use crate::trace::merged_rows_of;
 use crate::unwritten::written;
-use event_core::count_rounds;
+use merged_rows::MergedRows;
 use reading_laws::form_law;
-use round_table::table_law;
 use run_tree::Plan;
-use sched_base::RowTable;
 use sched_edges::{Sink, Source, read_all};
 use std::alloc::Global;
-use trace_writer::write_trace;
+use trace_writer::write_merged;
 use tree_check::check_tree;
 use tree_reader::{ReadTree, read_tree};
 
@@ -77,16 +75,15 @@ fn write_plan<W: Sink>(
     ensures stops { IfErr result (StopsAtPlan (W.taken out.old) (W.taken out.new)
         (W.faults out.old) (W.faults out.new) tree.now) }
 {
-    let rounds = count_rounds(alloc, plan)?;
-    let (table, totals) = rows_of(alloc, plan, rounds)?;
-    write_table(tree, plan, &table, totals.as_slice(), out)
+    let (rows, totals) = merged_rows_of(alloc, plan)?;
+    write_plan_rows(tree, plan, &rows, totals.as_slice(), out)
 }
 
-// Writes the rows of the plan of a tree text.
-fn write_table<W: Sink>(
+// Writes the merged rows of the plan of a tree text.
+fn write_plan_rows<W: Sink>(
     tree: &ReadTree,
     plan: &Plan,
-    table: &RowTable,
+    rows: &MergedRows,
     totals: &[u128],
     out: &mut W,
 ) -> Result<(), Refusal>
@@ -94,13 +91,12 @@ fn write_table<W: Sink>(
     requires text { IsTextOfTree tree.now }
     requires plan { plan.now ≡ plan_told tree.now }
     requires room { rows_told tree.now ≤ row_limit }
-    requires lanes { table.now.lanes ≡ lanes_of plan.now.tree.processors (schedule_of plan.now) }
-    requires few { length table.now.lanes * rounds_of table.now.lanes ≤ row_limit }
-    requires totals { totals.now ≡ totals_of (length plan.now.set.tasks) table.now.lanes }
+    requires rows { AreMergedOf plan.now rows.now.lanes }
+    requires lawful { AreLawful plan.now.set rows.now.lanes }
+    requires totals { totals.now ≡ totals_of (length plan.now.set.tasks) rows.now.lanes }
     ensures done { OnOk result (WrotePlan (W.taken out.old) (W.taken out.new) tree.now) }
     ensures stops { IfErr result (StopsAtPlan (W.taken out.old) (W.taken out.new)
         (W.faults out.old) (W.faults out.new) tree.now) }
 {
-    table_law();
-    written(write_trace(out, tree.set(), plan.scale(), table, totals))
+    written(write_merged(out, tree.set(), plan.scale(), rows, totals))
 }

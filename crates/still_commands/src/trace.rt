@@ -10,7 +10,7 @@ ghost use Rattle.run_tree.specs.Compiled.{tree_of};
 ghost use Rattle.event_core.specs.Counts.{IsCountFault};
 ghost use Rattle.merged_rows.specs.Lawful.{AreLawful};
 ghost use Rattle.merged_rounds.specs.Passes.{AreMergedOf};
-ghost use Rattle.trace_lines.specs.Merging.{merged_lanes};
+ghost use Rattle.merged_rows.specs.Merging.{merged_lanes};
 ghost use Rattle.trace_lines.specs.Text.{trace_text};
 ghost use Rattle.trace_writer.specs.Finishes.{HaveRoomIf};
 ghost use Rattle.row_totals.specs.Sums.{totals_of};
@@ -26,10 +26,9 @@ use crate::unwritten::written;
 use event_core::CountFault;
 use merged_rounds::merged_of;
 use merged_rows::{MergedRows, totals_of as totals_of_merged};
-use round_table::{table_law, table_of};
-use row_totals::totals_of;
+use round_table::table_law;
 use run_tree::Plan;
-use sched_base::{NoMemory, RowTable, Task, TaskSet, Totals};
+use sched_base::{NoMemory, RowTable, Task, TaskSet};
 use sched_edges::{Failed, Sink, Source};
 use std::alloc::Global;
 use trace_writer::{Finishes, write_merged, write_merged_met, write_met, write_trace};
@@ -91,8 +90,11 @@ pub fn finishes_for(alloc: Global, set: &TaskSet, met: bool) -> Result<Finishes,
     }
 }
 
-// The merged rows of a plan, in one pass over its rounds, and the ticks of each task in them.
-fn merged_rows_of(alloc: Global, plan: &Plan) -> Result<(MergedRows, Vec<u128>), CountFault>
+/// The merged rows of a plan, in one pass over its rounds, and the ticks of each task in them.
+pub(crate) fn merged_rows_of(
+    alloc: Global,
+    plan: &Plan,
+) -> Result<(MergedRows, Vec<u128>), CountFault>
     ensures rows { IfOk result (λ made. AreMergedOf plan.now made.0.lanes) }
     ensures lawful { IfOk result (λ made. AreLawful plan.now.set made.0.lanes) }
     ensures totals { IfOk result (λ made. made.1.items ≡ totals_of (length plan.now.set.tasks) made.0.lanes) }
@@ -146,24 +148,6 @@ pub(crate) fn write_merged_rows<W: Sink>(
     } else {
         write_merged(out, set, scale, rows, totals)
     }
-}
-
-/// The rows of a plan, and the ticks of each task in them.
-pub(crate) fn rows_of(
-    alloc: Global,
-    plan: &Plan,
-    rounds: u64,
-) -> Result<(RowTable, Totals), NoMemory>
-    requires rounds { rounds ≡ rounds_of plan.now }
-    requires few { rounds * plan.now.tree.processors ≤ row_limit }
-    ensures lanes { IfOk result (λ made. made.0.lanes ≡ lanes_of plan.now.tree.processors (schedule_of plan.now)) }
-    ensures few { IfOk result (λ made. length made.0.lanes * rounds_in made.0.lanes ≤ row_limit) }
-    ensures totals { IfOk result (λ made. made.1.ticks ≡ totals_of (length plan.now.set.tasks) made.0.lanes) }
-{
-    table_law();
-    let table = table_of(alloc, plan, rounds)?;
-    let totals = totals_of(alloc, &table, plan.set().count())?;
-    Ok((table, totals))
 }
 
 /// Writes the rows of a plan, with room for when periods were done, where that is told.

@@ -12,8 +12,8 @@ use Rattle.sched_base.specs.Valid.{IsValid, period_start, served}
 use Rattle.sched_base.proofs.RowLemmas.{AllApart-by, task_ticks-append}
 use Rattle.trace_rows.proofs.EntryLemmas.{AllByRecursion-append, AllByRecursion-front, AllByRecursion-back}
 use Rattle.row_totals.specs.Sums.{AreForward}
-use Rattle.trace_lines.specs.Merging.{shown, lengthened, merge_onto, merged, merged_lanes}
-use Rattle.trace_lines.proofs.MergeLemmas.{goes_on, shown_same, forward_merged, forward_lanes}
+use Rattle.merged_rows.specs.Merging.{shown, lengthened, merge_onto, merged, merged_lanes}
+use Rattle.merged_rows.proofs.MergeLemmas.{goes_on, shown_same, forward_merged, forward_lanes}
 use Rattle.trace_check.specs.RoundTrip.{row_as_read}
 use Rattle.trace_check.proofs.RowTripLemmas.{of_task_again}
 

@@ -5,7 +5,7 @@ use Rattle.std.proofs.lemmas.Bool.{cases_Bool, cases_lt, both_ways, and_parts, a
 use Rattle.sched_base.specs.declared.rows.Row.{Row}
 use Rattle.trace_check.specs.Traces.{Trace}
 use Rattle.trace_draw.specs.declared.windows.Window.{Window}
-use Rattle.trace_lines.specs.declared.asking.Asked.{Asked}
+use Rattle.command_words.specs.declared.asking.Asked.{Asked}
 use Rattle.trace_draw.specs.Windows.{first_tick, end_tick, reaches, window_of_units, has_few, most_rows, greatest_passing}
 
 -- of two tests the one that passes less counts no more

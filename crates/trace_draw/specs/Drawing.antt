@@ -3,7 +3,7 @@ use Rattle.std.specs.Prelude.{ℕ, ◌≡◌, List}
 use Rattle.trace_rows.specs.declared.faults.Verdict.{Verdict}
 use Rattle.trace_rows.specs.Faults.{IsVerdict}
 use Rattle.trace_check.specs.Traces.{Trace}
-use Rattle.trace_lines.specs.declared.asking.Asked.{Asked}
+use Rattle.command_words.specs.declared.asking.Asked.{Asked}
 use Rattle.trace_draw.specs.Windows.{shown_window}
 use Rattle.trace_draw.specs.Picture.{picture}
 

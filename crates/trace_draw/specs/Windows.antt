@@ -5,7 +5,7 @@ use Rattle.sched_base.specs.declared.rows.Row.{Row}
 use Rattle.sched_base.specs.Sets.{SetContents}
 use Rattle.trace_check.specs.Traces.{Trace}
 use Rattle.trace_draw.specs.declared.windows.Window.{Window}
-use Rattle.trace_lines.specs.declared.asking.Asked.{Asked}
+use Rattle.command_words.specs.declared.asking.Asked.{Asked}
 
 -- where the plot begins
 abbrev pub plot_left : ℕ

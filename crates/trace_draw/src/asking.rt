@@ -3,8 +3,8 @@ ghost use Rattle.std.specs.Prelude.{◌≡◌, ◌≤◌, ◌<◌, ◌+◌, IfSo
 ghost use Rattle.trace_draw.specs.Windows.{first_unit, most_units, most_rows, shown_window, has_few, greatest_passing, IsWindow};
 
 use crate::windows::{MOST_DRAWN, Window};
+use command_words::Asked;
 use trace_check::ReadTrace;
-use trace_lines::Asked;
 
 /// The most rows in a window, where the number of units isn't asked for.
 const FEW: usize = 200;

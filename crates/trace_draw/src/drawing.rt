@@ -6,9 +6,9 @@ ghost use Rattle.trace_draw.specs.Drawing.{IsDrawing};
 
 use crate::asking::shown_window;
 use crate::picture::write_picture;
+use command_words::Asked;
 use sched_edges::{Failed, Sink};
 use trace_check::{ReadTrace, check_trace};
-use trace_lines::Asked;
 
 /// Draws a trace, valid or not: writes its picture with the verdict, over the window that is shown. It takes no memory. Where
 /// the sink fails, it has taken a first part of the picture.

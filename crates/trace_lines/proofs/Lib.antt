@@ -1,2 +1,1 @@
-pub mod MergeLemmas
 pub mod PeriodLemmas

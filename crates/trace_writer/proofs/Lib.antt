@@ -5,6 +5,7 @@ pub mod FinishLemmas
 pub mod MetLemmas
 pub mod NotedLemmas
 pub mod MergedLemmas
+pub mod ShownLemmas
 pub mod DigitLemmas
 pub mod HeldLemmas
 pub mod PageLemmas

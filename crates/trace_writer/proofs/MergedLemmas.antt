@@ -1,4 +1,4 @@
--- Rows that are merged already, lane by lane and row by row.
+-- All rows, lane by lane.
 use Rattle.std.proofs.Common.{ℕ, zero, suc, ◌+◌, ◌<◌, ◌≤◌, ◌≡◌, List, [], ◌∷◌, ◌++◌, length, take, get_or, Some, None, refl, ap, ◌∙◌, arith, length-append, add-one, subst}
 use Rattle.std.specs.Prelude.{slice_get}
 use Rattle.std.specs.List.{flat_map}
@@ -35,14 +35,3 @@ all_le (lane ∷ lanes) (suc p) =
     let all = length-append lane (all_rows lanes) in
     let rest = all_le lanes p in
     omega (arith, less, all, rest)
-
--- a row at its place
-pub row_there : (rows : List Row) (i : ℕ) (r : Row) → slice_get rows i ≡ Some r → r ≡ get_or rows i r
-row_there [] i r at = absurd (let e : None ≡ Some r = at in cc)
-row_there (q ∷ rows) zero r at = let e : Some q ≡ Some r = at in cc
-row_there (q ∷ rows) (suc i) r at = row_there rows i r at
-
-pub row_among : (n : ℕ) (rows : List Row) (i : ℕ) (r : Row) → slice_get rows i ≡ Some r → NamesAmong n rows → IsAmong n r.leaf
-row_among n [] i r at names = absurd (let e : None ≡ Some r = at in cc)
-row_among n (q ∷ rows) zero r at names = let e : Some q ≡ Some r = at in let e' : q ≡ r = cc in subst (λ (x : Row). IsAmong n x.leaf) e' names.0
-row_among n (q ∷ rows) (suc i) r at names = row_among n rows i r at names.1

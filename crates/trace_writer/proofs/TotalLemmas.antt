@@ -9,10 +9,10 @@ use Rattle.sched_base.specs.Sets.{SetContents}
 use Rattle.sched_base.specs.Tables.{IsTable, all_rows, ticks_in}
 use Rattle.sched_edges.specs.Lines.{named_line}
 use Rattle.row_totals.specs.Sums.{totals_of}
-use Rattle.trace_lines.specs.Merging.{merged_lanes}
+use Rattle.merged_rows.specs.Merging.{merged_lanes}
 use Rattle.trace_lines.specs.Text.{total_lines}
 use Rattle.trace_writer.specs.Parts.{text_of, lines_of_totals}
-use Rattle.trace_lines.proofs.MergeLemmas.{forward_lanes, ticks_merged_lanes}
+use Rattle.merged_rows.proofs.MergeLemmas.{forward_lanes, ticks_merged_lanes}
 
 -- the line of one task's total
 abbrev pub total_line : List ℕ → ℕ × Task → List ℕ

@@ -1,5 +1,5 @@
 -- The parts of a trace text that both versions have up to the totals.
-use Rattle.std.specs.Prelude.{ℕ, List, ◌++◌, codes, map, slice_index}
+use Rattle.std.specs.Prelude.{ℕ, ◌≡◌, List, ◌++◌, codes, map, length, slice_index}
 use Rattle.std.specs.List.{enumerate_from, flat_map}
 use Rattle.sched_base.specs.declared.rows.Row.{Row}
 use Rattle.sched_base.specs.declared.sets.Task.{Task}
@@ -25,3 +25,7 @@ lines_of_totals tasks totals = map (λ p. named_line (codes "total") p.1.name (s
 -- the line of a numbered period of the task of this name, which was done at this tick
 abbrev pub line_of_met : List ℕ → ℕ × ℕ → List ℕ
 line_of_met name p = met_line name p.0 p.1
+
+-- of these rows the first ones, so many, have their lines on the page, and those behind are left
+pub record IsPage (tasks : List Task) (rows left : List Row) (lines : ℕ) (page : List ℕ) : Type 0 where
+  pub parts : (shown : List Row) × (rows ≡ shown ++ left) × (page ≡ flat_map (row_line tasks) shown) × (lines ≡ length shown)

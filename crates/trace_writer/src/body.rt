@@ -1,66 +1,41 @@
 //! A trace text from its first line up to its totals.
-ghost use Rattle.std.specs.Prelude.{◌≡◌, ◌≤◌, ◌*◌, length, IfOk};
+ghost use Rattle.std.specs.Prelude.{◌≡◌, ◌≤◌, length, IfOk};
 ghost use Rattle.std.specs.List.{AllByRecursion, flat_map};
-ghost use Rattle.sched_base.specs.Tables.{all_rows, rounds_of, row_limit};
+ghost use Rattle.sched_base.specs.Tables.{all_rows, row_limit};
 ghost use Rattle.sched_edges.specs.Causes.{HasCause};
 ghost use Rattle.sched_edges.specs.Streams.{Wrote};
-ghost use Rattle.row_totals.specs.Sums.{NamesAmong, totals_of};
+ghost use Rattle.row_totals.specs.Sums.{NamesAmong};
 ghost use Rattle.trace_lines.specs.Lines.{task_line, version_number};
-ghost use Rattle.trace_lines.specs.Merging.{merged_lanes};
-ghost use Rattle.trace_lines.specs.Text.{head_lines};
+ghost use Rattle.trace_lines.specs.Text.{head_lines, total_lines};
 ghost use Rattle.trace_writer.specs.Parts.{text_of, body_text, lines_of_totals};
 
 use crate::lines::line_of_task;
-use crate::merged::write_merged_rows;
 use crate::rows::write_rows;
-use merged_rows::MergedRows;
-use sched_base::{RowTable, TaskSet};
+use crate::shown::ShownRows;
+use sched_base::TaskSet;
 use sched_edges::{Failed, Sink, named_line, number_line, write_all, write_lines};
 use trace_lines::Version;
 
 /// Writes the text up to the last total, and says how many lines of rows it has.
-pub(crate) fn write_body<W: Sink>(
+pub(crate) fn write_body<W: Sink, R: ShownRows>(
     sink: &mut W,
     version: Version,
     set: &TaskSet,
     scale: u128,
-    table: &RowTable,
+    rows: &R,
     totals: &[u128],
 ) -> Result<u64, Failed>
-    requires names { AllByRecursion (NamesAmong (length set.now.tasks)) table.now.lanes }
-    requires few { length table.now.lanes * rounds_of table.now.lanes ≤ row_limit }
-    requires totals { totals.now ≡ totals_of (length set.now.tasks) table.now.lanes }
-    ensures wrote { Wrote (W.taken sink.old) (W.taken sink.new) (body_text version set.now scale (merged_lanes table.now.lanes)) result }
-    ensures count { IfOk result (λ n. n ≡ length (merged_lanes table.now.lanes)) }
+    requires names { AllByRecursion (NamesAmong (length set.now.tasks)) (R.lanes rows.now) }
+    requires few { length (all_rows (R.lanes rows.now)) ≤ row_limit }
+    requires totals { length totals.now ≡ length set.now.tasks }
+    requires told { lines_of_totals set.now.tasks totals.now ≡ total_lines set.now (all_rows (R.lanes rows.now)) }
+    ensures wrote { Wrote (W.taken sink.old) (W.taken sink.new) (body_text version set.now scale (all_rows (R.lanes rows.now))) result }
+    ensures count { IfOk result (λ n. n ≡ length (all_rows (R.lanes rows.now))) }
     ensures cause { HasCause (W.faults sink.old) (W.faults sink.new) result }
 {
     write_head(sink, version, set, scale)?;
     write_tasks(sink, version, set)?;
-    let _processors = table.processors();
-    let rows = write_rows(sink, set, table)?;
-    write_totals(sink, set, totals)?;
-    Ok(rows)
-}
-
-/// The same of rows that are merged already.
-pub(crate) fn write_merged_body<W: Sink>(
-    sink: &mut W,
-    version: Version,
-    set: &TaskSet,
-    scale: u128,
-    rows: &MergedRows,
-    totals: &[u128],
-) -> Result<u64, Failed>
-    requires names { AllByRecursion (NamesAmong (length set.now.tasks)) rows.now.lanes }
-    requires few { length (all_rows rows.now.lanes) ≤ row_limit }
-    requires totals { totals.now ≡ totals_of (length set.now.tasks) rows.now.lanes }
-    ensures wrote { Wrote (W.taken sink.old) (W.taken sink.new) (body_text version set.now scale (all_rows rows.now.lanes)) result }
-    ensures count { IfOk result (λ n. n ≡ length (all_rows rows.now.lanes)) }
-    ensures cause { HasCause (W.faults sink.old) (W.faults sink.new) result }
-{
-    write_head(sink, version, set, scale)?;
-    write_tasks(sink, version, set)?;
-    let count = write_merged_rows(sink, set, rows)?;
+    let count = write_rows(sink, set, rows)?;
     write_totals(sink, set, totals)?;
     Ok(count)
 }

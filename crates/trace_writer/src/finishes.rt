@@ -169,14 +169,14 @@ fn begin_each(ends: &mut [u128], scale: u128, task: &Task)
 }
 
 // One row more of the task of this number went by, and no period before `first` goes on past its start.
-fn note_each(ends: &mut [u128], first: usize, scale: u128, task: &Task, number: u32, row: &Row)
+fn note_each(ends: &mut [u128], first: usize, scale: u128, task: &Task, _number: u32, row: &Row)
     requires scale { scale ≤ 2 ^ 94 }
     requires fits { task.now.offset + length ends.old * task.now.period < 2 ^ 33 }
-    requires own { is_of_task number row.now.leaf ≡ true }
+    requires own { is_of_task _number row.now.leaf ≡ true }
     requires within { first ≤ length ends.old }
     requires past { (k : ℕ) → k < first → period_start scale task.now (k + 1) ≤ row.now.start }
-    ensures { (rows : List declared_row) → IsDoneBy scale task.now number rows ends.old
-        → IsDoneBy scale task.now number (rows ++ row.now ∷ []) ends.new }
+    ensures { (rows : List declared_row) → IsDoneBy scale task.now _number rows ends.old
+        → IsDoneBy scale task.now _number (rows ++ row.now ∷ []) ends.new }
 {
     for k in first..ends.len() {
         let begin = period_start(task, scale, k as u64);

@@ -5,12 +5,12 @@ mod body;
 mod digits;
 mod finishes;
 mod lines;
-mod merged;
 mod mets;
 mod noting;
 mod pages;
 mod pens;
 mod rows;
+mod shown;
 mod text;
 
 pub use finishes::Finishes;

@@ -9,7 +9,7 @@ use Rattle.sched_base.specs.Sets.{IsLawful, SetContents}
 use Rattle.sched_base.specs.Tables.{IsRound, IsTable, end_after, end_of, rounds_of, row_limit, with_round}
 use Rattle.sched_base.proofs.ScheduleLanes.{lanes_of-none, length-lanes_of}
 use Rattle.sched_base.proofs.TableLemmas.{IsTable-none, IsTable-with_round}
-use Rattle.trace_lines.specs.Merging.{merged}
+use Rattle.merged_rows.specs.Merging.{merged}
 use Rattle.merged_rows.specs.Columns.{MergedContents}
 use Rattle.merged_rows.specs.Lawful.{AreLawful}
 use Rattle.merged_rows.proofs.MergedTables.{end_of_all, lawful_rows, merged_none}

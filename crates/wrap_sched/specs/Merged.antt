@@ -4,7 +4,7 @@ use Rattle.sched_base.specs.declared.rows.Row.{Row}
 use Rattle.sched_base.specs.Lanes.{lanes_of}
 use Rattle.sched_base.specs.Sets.{SetContents}
 use Rattle.sched_base.specs.Tables.{IsTable, end_of, rounds_of}
-use Rattle.trace_lines.specs.Merging.{merged}
+use Rattle.merged_rows.specs.Merging.{merged}
 use Rattle.merged_rows.specs.Columns.{MergedContents}
 use Rattle.wrap_sched.specs.Wrapped.{wrapped}
 

@@ -2,12 +2,12 @@
 //! program of its own, and looked at.
 ghost use Rattle.std.specs.Prelude.{◌≤◌, IfSome};
 
+use command_words::Asked;
 use sched_edges::MemSink;
 use std::alloc::Global;
 use std::process::Abort;
 use trace_check::{ReadTrace, check_trace, read_trace};
 use trace_draw::{shown_window, write_picture};
-use trace_lines::Asked;
 
 // ---- parts that several worked pictures share
 

@@ -14,7 +14,7 @@ use Rattle.std.proofs.lemmas.Option.{slice_get_within}
 use Rattle.run_tree.specs.Tree.{Tree}
 use Rattle.run_tree.specs.Plans.{rounds_of, stop_of}
 use Rattle.sched_laws.proofs.WholeRounds.{length-round, round_get}
-use Rattle.trace_lines.specs.Merging.{merged}
+use Rattle.merged_rows.specs.Merging.{merged}
 use Rattle.event_core.specs.Rounds.{rounds_before, rows_before, rows_of_round}
 use Rattle.event_core.proofs.NextCores.{event_before_end}
 use Rattle.event_core.proofs.RoundsInOrder.{next_rounds, no_rounds, no_rows, too_long}

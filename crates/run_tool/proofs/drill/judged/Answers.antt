@@ -6,7 +6,7 @@ use Rattle.row_totals.proofs.NameLemmas.{lanes_among}
 use Rattle.sched_base.specs.Tables.{IsTable}
 use Rattle.run_tree.specs.Plans.{stop_of}
 use Rattle.plan_rounds.specs.PlanRows.{plan_rows}
-use Rattle.trace_lines.specs.Merging.{merged_lanes}
+use Rattle.merged_rows.specs.Merging.{merged_lanes}
 use Rattle.trace_check.specs.RoundTrip.{trace_again}
 use Rattle.run_tool.proofs.DrillLemmas.{trace_valid}
 use Rattle.run_tool.proofs.drill.judged.Goals as goal

@@ -2,7 +2,7 @@ use Rattle.std.proofs.lemmas.Result.{IfOk-from_err}
 use Rattle.std.proofs.Common.{◌<◌, ◌≤◌, ◌*◌, length, map, vec_len, vec_capacity, sym, ap, ◌∙◌, subst}
 use Rattle.std.proofs.lemmas.List.{take_all}
 use Rattle.sched_base.specs.Tables.{rounds_of}
-use Rattle.trace_lines.specs.Merging.{merged_lanes}
+use Rattle.merged_rows.specs.Merging.{merged_lanes}
 use Rattle.trace_check.specs.RoundTrip.{row_as_read}
 use Rattle.trace_check.proofs.TableLemmas.{room_is, no_rows, has_room, few_more, rows_more}
 use Rattle.trace_check.proofs.tables.rows_as_read.Goals as goal

@@ -5,4 +5,4 @@ use Rattle.trace_writer.proofs.FinishLemmas.{IsNoted}
 use Rattle.trace_writer.proofs.finishes.note_each.Given as goal
 
 abbrev pub invariant-loop-k : goal.invariant-loop-k
-invariant-loop-k l = (rows : List Row) → IsDoneBy l.scale l.task l.number rows l.fn.ends → IsNoted l.scale l.task l.number rows l.row l.k l.ends
+invariant-loop-k l = (rows : List Row) → IsDoneBy l.scale l.task l._number rows l.fn.ends → IsNoted l.scale l.task l._number rows l.row l.k l.ends

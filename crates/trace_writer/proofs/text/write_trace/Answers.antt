@@ -1,33 +1,20 @@
-use Rattle.std.proofs.Common.{le_refl}
-use Rattle.sched_edges.proofs.Wrote.{wrote_then, wrote_cut}
-use Rattle.trace_lines.specs.declared.versions.Version.TheVariants.{One}
-use Rattle.trace_lines.specs.Merging.{merged_lanes}
-use Rattle.sched_edges.proofs.CauseLemmas.{cause_cut, cause_then}
-use Rattle.trace_writer.proofs.TextLemmas.{trace_parts}
+use Rattle.std.proofs.Common.{◌∙◌, ap, length}
+use Rattle.merged_rows.proofs.PushLemmas.{all_merged}
+use Rattle.trace_writer.proofs.ShownLemmas.{names_merged_lanes, few_merged_lanes}
+use Rattle.trace_writer.proofs.TotalLemmas.{length-totals_of, table_told}
 use Rattle.trace_writer.proofs.text.write_trace.Goals as goal
 
-pub returns-in_err-rows-clause-wrote : goal.returns-in_err-rows-clause-wrote
-returns-in_err-rows-clause-wrote g c =
-    rw (trace_parts One c.args.set.now c.args.scale (merged_lanes c.args.table.now.lanes))
-    (wrote_cut _ _ _ _ _ _ c.in_err-rows.ensures.wrote c.from_residual.ensures.0)
+pub write_first_version-requires-clause-names : goal.write_first_version-requires-clause-names
+write_first_version-requires-clause-names g c = names_merged_lanes (length c.args.set.now.tasks) c.args.table.now.lanes c.requires.names
+
+pub write_first_version-requires-clause-few : goal.write_first_version-requires-clause-few
+write_first_version-requires-clause-few g c = few_merged_lanes c.args.table.now.lanes _ c.know_whole.ensures.lawful c.requires.few
+
+pub write_first_version-requires-clause-totals : goal.write_first_version-requires-clause-totals
+write_first_version-requires-clause-totals g c = ap length c.requires.totals ∙ length-totals_of (length c.args.set.now.tasks) c.args.table.now.lanes
+
+pub write_first_version-requires-clause-told : goal.write_first_version-requires-clause-told
+write_first_version-requires-clause-told g c = rw (all_merged c.args.table.now.lanes) (table_told c.args.set.now c.args.totals.now c.args.table.now.lanes c.know_whole.ensures.lawful c.requires.totals)
 
 pub returns-clause-wrote : goal.returns-clause-wrote
-returns-clause-wrote g c =
-    let end = rw (c.as_slice.ensures.bytes, c.number_line-line.ensures, c.from.ensures, c.in_ok-rows.ensures.count) at c.write_all.ensures.wrote in
-    rw (trace_parts One c.args.set.now c.args.scale (merged_lanes c.args.table.now.lanes))
-    (wrote_then _ _ _ _ _ _ _ c.in_ok-rows.ensures.wrote end)
-
-pub returns-in_err-rows-clause-cause : goal.returns-in_err-rows-clause-cause
-returns-in_err-rows-clause-cause g c = cause_cut _ _ _ _ _ (le_refl _) c.in_err-rows.ensures.cause
-
-pub returns-clause-cause : goal.returns-clause-cause
-returns-clause-cause g c = cause_then _ _ _ _ c.write_body.ensures.cause.later c.write_all.ensures.cause
-
-pub write_body-requires-clause-names : goal.write_body-requires-clause-names
-write_body-requires-clause-names g c = c.requires.names
-
-pub write_body-requires-clause-few : goal.write_body-requires-clause-few
-write_body-requires-clause-few g c = c.requires.few
-
-pub write_body-requires-clause-totals : goal.write_body-requires-clause-totals
-write_body-requires-clause-totals g c = c.requires.totals
+returns-clause-wrote g c = rw (all_merged c.args.table.now.lanes) at c.write_first_version.ensures.wrote

@@ -2,7 +2,7 @@ use Rattle.std.proofs.Common.{List, ap, arith, length, map, subst, sym, ◌*◌,
 use Rattle.sched_base.specs.Tables.{IsRound, end_after, with_round}
 use Rattle.sched_base.specs.declared.rows.Row.{Row}
 use Rattle.sched_base.specs.Lanes.{lanes_of}
-use Rattle.trace_lines.specs.Merging.{merged}
+use Rattle.merged_rows.specs.Merging.{merged}
 use Rattle.wrap_sched.specs.Steps.{rates}
 use Rattle.wrap_sched.proofs.MergedLemmas.{first_part, last_part, next_part, part_round, part_whole}
 use Rattle.wrap_sched.proofs.TableLemmas.{item_at, item_bounds, item_fits, item_holders, next_rows, rows_up_to, written_rows}

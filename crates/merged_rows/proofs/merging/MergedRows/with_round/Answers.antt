@@ -1,6 +1,6 @@
 use Rattle.std.proofs.Common.{◌≡◌, ◌∙◌, ◌++◌, ap, sym, subst, length, map, take, drop}
 use Rattle.sched_base.specs.Tables.{IsRound, end_after}
-use Rattle.trace_lines.specs.Merging.{merged}
+use Rattle.merged_rows.specs.Merging.{merged}
 use Rattle.merged_rows.specs.Columns.{MergedContents, lanes_up_to, showing_each, going_on_each, AreTold}
 use Rattle.merged_rows.proofs.ColumnLemmas.{length-lanes_up_to, length-going_on_each, told_is, with_next, written_back}
 use Rattle.merged_rows.proofs.merging.MergedRows.with_round.Goals as goal

@@ -1,6 +1,6 @@
 use Rattle.std.proofs.Common.{◌≡◌, ◌∙◌, ◌++◌, ap, sym, subst, length, map, take, drop}
 use Rattle.sched_base.specs.Tables.{IsRound}
-use Rattle.trace_lines.specs.Merging.{merged}
+use Rattle.merged_rows.specs.Merging.{merged}
 use Rattle.merged_rows.specs.Columns.{MergedContents, lanes_up_to, showing_each}
 use Rattle.merged_rows.proofs.ColumnLemmas.{length-lanes_up_to, length-showing_each, with_next, written_back}
 use Rattle.merged_rows.proofs.merging.MergedRows.with_rows.Goals as goal
