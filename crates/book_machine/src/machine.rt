@@ -132,11 +132,7 @@ impl MachineState {
         requires few { length self.now.lanes ≤ 32 }
         ensures { IsLowest self.now.lanes result }
     {
-        lowest(
-            self.lanes.as_slice(),
-            self.lanes.len() as u32,
-            self.least,
-        )
+        lowest(self.lanes.as_slice(), self.lanes.len() as u32, self.least)
     }
 
     /// How many rows lane p has posted.
