@@ -23,5 +23,5 @@ pub use lanes::Lane;
 pub use room::Room;
 pub use same_plan::is_same_plan;
 pub use stage::{empty_lanes, fill_lanes, lay_jobs, lift_jobs};
-pub use waiters::{Waiters, lock_soon, tell, wait, wake};
+pub use waiters::{Waiters, lock_soon, note_calls, wait, wake};
 pub use working::{risen, work_on};

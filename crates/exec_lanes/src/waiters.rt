@@ -1,5 +1,6 @@
-//! Who waits for what, told beside the book, so that a worker that waits sleeps and is woken. It may be behind the book, and nothing
-//! rests on it: no sleep is longer than a millisecond, and a worker that wakes looks into the book again.
+//! Where workers sleep that wait. Which of them wait, and for which posted count, stands in the book: a worker that is told to wait is
+//! marked there in the same hold of the lock, and whoever posts what it waits for gets its lane to wake. No clause rests on it: a worker
+//! that wakes looks into the book again, and no sleep is longer than a twentieth of a second.
 
 use sched_base::NoMemory;
 use std::alloc::Global;
@@ -34,8 +35,9 @@ const TURNS: u32 = 400;
 /// A worker alone gives up after so many waits in a row.
 const PATIENCE: u32 = 10_000;
 
-/// No worker sleeps longer than this many nanoseconds before it looks again.
-const NAP: u64 = 1_000_000;
+/// No worker sleeps longer than this many nanoseconds before it looks again. A shorter sleep costs more: its end is before the next tick
+/// of the system's clock, so that a timer must be set for it.
+const NAP: u64 = 50_000_000;
 
 /// So long it sleeps until each lane has had a worker.
 const SHORT_NAP: u64 = 100_000;
@@ -43,15 +45,8 @@ const SHORT_NAP: u64 = 100_000;
 /// After so many short naps in a row a worker gives up: a thread may have been refused. It is longer than many threads take to begin.
 const SHORT_NAPS: u32 = 20;
 
-/// The count for which a lane waits that doesn't sleep.
-const AWAKE: u64 = u64::MAX;
-
-/// What is told beside the book of a run: the least posted count, and of each lane for which count its worker sleeps.
+/// The workers of a run, and where each sleeps.
 pub struct Waiters {
-    /// The least posted count.
-    least: AtomicU64,
-    /// The least of the counts for which lanes sleep.
-    first: AtomicU64,
     /// How many lanes have had a worker in this pass.
     begun: AtomicU64,
     /// 1 where some lane has no worker, as far as is known: then whoever must wait gives up.
@@ -61,22 +56,24 @@ pub struct Waiters {
     beds: Vec<Bed>,
 }
 
-/// Where the worker of one lane sleeps.
+/// Where the worker of one lane sleeps. Each has a line of the processor's cache of its own.
 struct Bed {
-    /// The least posted count at which it is to be woken.
-    count: AtomicU64,
     /// How often it was woken. The worker sleeps on it.
     calls: AtomicU64,
+    /// How often it had been woken when the worker last looked into the book. Only the lane's own worker changes it.
+    seen: AtomicU64,
     /// For how many waits in a row looking was in vain. Only the lane's own worker changes it.
     vain: AtomicU64,
+    _rest_of_line: [u64; 5],
 }
 
 impl Drop for Bed {
     fn drop(self) {
         let Self {
-            count: _,
             calls: _,
+            seen: _,
             vain: _,
+            _rest_of_line: _,
         } = self;
     }
 }
@@ -84,8 +81,6 @@ impl Drop for Bed {
 impl Drop for Waiters {
     fn drop(self) {
         let Self {
-            least: _,
-            first: _,
             begun: _,
             short: _,
             has_processors: _,
@@ -96,7 +91,7 @@ impl Drop for Waiters {
 }
 
 impl Waiters {
-    /// Nothing is posted on any lane, and nobody waits.
+    /// The lanes have no workers yet.
     pub(crate) fn of_lanes<X: Threads>(
         rt: &X,
         alloc: Global,
@@ -105,14 +100,13 @@ impl Waiters {
         let mut beds = Vec::with_capacity(alloc, lanes as usize)?;
         for _ in 0..lanes {
             beds.push(Bed {
-                count: AtomicU64::new(AWAKE),
                 calls: AtomicU64::new(0),
+                seen: AtomicU64::new(0),
                 vain: AtomicU64::new(0),
+                _rest_of_line: [0; 5],
             })?;
         }
         Ok(Waiters {
-            least: AtomicU64::new(0),
-            first: AtomicU64::new(AWAKE),
             begun: AtomicU64::new(0),
             short: AtomicU64::new(0),
             has_processors: has_processors(rt, lanes),
@@ -135,7 +129,7 @@ impl Waiters {
     /// Tells that a lane's worker has ended. All that sleep are woken: it may have halted the book.
     pub fn end(&self) {
         if !self.is_short() {
-            self.wake_up_to(AWAKE - 1);
+            self.wake_all();
         }
     }
 
@@ -147,57 +141,29 @@ impl Waiters {
     // Tells that some lane has no worker.
     fn give_up(&self) {
         self.short.store(1, Ordering::SeqCst);
-        self.wake_up_to(AWAKE - 1);
+        self.wake_all();
     }
 
-    // Wakes the lanes that wait for this count or a lower one.
-    fn wake_up_to(&self, least: u64) {
-        self.first.store(AWAKE, Ordering::SeqCst);
+    fn wake_all(&self) {
         for bed in self.beds.as_slice() {
-            let count = bed.count.load(Ordering::SeqCst);
-            if count <= least {
-                bed.count.store(AWAKE, Ordering::SeqCst);
-                bed.calls.fetch_add(1, Ordering::SeqCst);
-                bed.calls.wake_one();
-            } else if count != AWAKE {
-                self.first.fetch_min(count, Ordering::SeqCst);
-            }
+            bed.wake();
         }
     }
 
-    // Looks whether the least posted count is this one, for about as long as a sleep and its end take. Where lanes share processors,
-    // and where that was in vain for some waits in a row, it looks for a moment only.
-    fn is_soon(&self, bed: &Bed, count: u64) -> bool {
-        let vain = bed.vain.load(Ordering::SeqCst);
-        let is_long = self.has_processors && (vain < VAIN_WAITS || vain % TRIAL_WAITS == 0);
-        let looks = if is_long { LOOKS } else { FEW_LOOKS };
-        for _ in 0..looks {
-            if self.least.load(Ordering::SeqCst) >= count {
-                if vain != 0 {
-                    bed.vain.store(0, Ordering::SeqCst);
-                }
-                return true;
-            }
-            spin_loop();
-        }
-        bed.vain.fetch_add(1, Ordering::SeqCst);
-        false
-    }
-
-    // Waits until the least posted count is this one, or for a while: looks for it, and then sleeps. False where it gives up, since some
-    // lane seems to have no worker.
-    fn sleep<R: Wait>(&self, rt: &R, bed: &Bed, count: u64, waits: &mut u32) -> bool {
+    // Waits until the lane is woken, or for a while: looks for it, and then sleeps. False where it gives up, since some lane seems to have
+    // no worker.
+    fn sleep<R: Wait>(&self, rt: &R, bed: &Bed, waits: &mut u32) -> bool {
         if self.is_short() {
             return false;
         }
-        if self.is_soon(bed, count) {
+        if bed.is_woken_soon(self.has_processors) {
             return true;
         }
         if self.begun.load(Ordering::SeqCst) >= self.beds.len() as u64 {
-            self.sleep_till(rt, bed, count, NAP);
+            bed.sleep(rt, NAP);
             return true;
         }
-        self.sleep_till(rt, bed, count, SHORT_NAP);
+        bed.sleep(rt, SHORT_NAP);
         *waits = waits.saturating_add(1);
         if *waits < SHORT_NAPS {
             return true;
@@ -205,44 +171,72 @@ impl Waiters {
         self.give_up();
         false
     }
+}
 
-    // Sleeps until the least posted count is this one, or for so many nanoseconds.
-    fn sleep_till<R: Wait>(&self, rt: &R, bed: &Bed, count: u64, long: u64) {
-        let calls = bed.calls.load(Ordering::SeqCst);
-        bed.count.store(count, Ordering::SeqCst);
-        self.first.fetch_min(count, Ordering::SeqCst);
-        if self.least.load(Ordering::SeqCst) < count {
-            nap(rt, &bed.calls, calls, long);
-            if bed.calls.load(Ordering::SeqCst) == calls {
-                // Nobody woke it: where sleeps end at once, others get on at least.
-                thread::yield_now();
+impl Bed {
+    fn wake(&self) {
+        self.calls.fetch_add(1, Ordering::SeqCst);
+        self.calls.wake_one();
+    }
+
+    // Looks whether its worker is woken, for about as long as a sleep and its end take. Where lanes share processors, and where that was
+    // in vain for some waits in a row, it looks for a moment only.
+    fn is_woken_soon(&self, has_processors: bool) -> bool {
+        let seen = self.seen.load(Ordering::Relaxed);
+        let vain = self.vain.load(Ordering::Relaxed);
+        let is_long = has_processors && (vain < VAIN_WAITS || vain % TRIAL_WAITS == 0);
+        let looks = if is_long { LOOKS } else { FEW_LOOKS };
+        for _ in 0..looks {
+            if self.calls.load(Ordering::SeqCst) != seen {
+                self.vain.store(0, Ordering::Relaxed);
+                return true;
             }
+            spin_loop();
         }
-        bed.count.store(AWAKE, Ordering::SeqCst);
+        self.vain.store(vain.saturating_add(1), Ordering::Relaxed);
+        false
+    }
+
+    // Sleeps until its worker is woken, or for so many nanoseconds.
+    fn sleep<R: Wait>(&self, rt: &R, long: u64) {
+        let seen = self.seen.load(Ordering::Relaxed);
+        nap(rt, &self.calls, seen, long);
+        if self.calls.load(Ordering::SeqCst) == seen {
+            // Nobody woke it: where sleeps end at once, others get on at least.
+            thread::yield_now();
+        }
     }
 }
 
-/// Tells the least posted count, by who holds the lock. Where none wait beside the book it does nothing.
-pub fn tell(waiters: Option<&Waiters>, least: u64) {
+/// Notes how often the worker of a lane has been woken, before it looks into the book: if it is told to wait, it sleeps until it is woken
+/// once more.
+pub fn note_calls(waiters: Option<&Waiters>, lane: u32) {
     if let Some(waiters) = waiters {
-        if waiters.least.load(Ordering::SeqCst) != least {
-            waiters.least.store(least, Ordering::SeqCst);
+        if let Some(bed) = waiters.beds.get(lane as usize) {
+            bed.seen
+                .store(bed.calls.load(Ordering::SeqCst), Ordering::Relaxed);
         }
     }
 }
 
-/// Wakes those whose turn it is, by who held the lock: each lane that sleeps for the least posted count or a lower one.
-pub fn wake(waiters: Option<&Waiters>) {
+/// Wakes the workers of these lanes, a bit each, by who held the lock.
+pub fn wake(waiters: Option<&Waiters>, lanes: u32) {
     if let Some(waiters) = waiters {
-        let least = waiters.least.load(Ordering::SeqCst);
-        if least >= waiters.first.load(Ordering::SeqCst) {
-            waiters.wake_up_to(least);
+        let mut left = lanes;
+        for bed in waiters.beds.as_slice() {
+            if left == 0 {
+                return;
+            }
+            if left & 1 == 1 {
+                bed.wake();
+            }
+            left >>= 1;
         }
     }
 }
 
-/// Gives way until the least posted count is this one, or for a while: then all rows of earlier rounds are posted, and the lane may
-/// take a whole window of rows. `waits` counts waits in a row.
+/// Gives way until the lane is woken, or for a while: then all rows of earlier rounds are posted, and the lane may take a whole window of
+/// rows. `waits` counts waits in a row.
 ///
 /// False where it gives up: beside other workers where some lane seems to have no worker, since that may be the one that it waits for,
 /// and alone after 10,000 waits in a row.
@@ -250,12 +244,11 @@ pub fn wait<R: Wait>(
     rt: &R,
     waiters: Option<&Waiters>,
     lane: u32,
-    count: u64,
     waits: &mut u32,
 ) -> bool {
     if let Some(waiters) = waiters {
         if let Some(bed) = waiters.beds.get(lane as usize) {
-            return waiters.sleep(rt, bed, count, waits);
+            return waiters.sleep(rt, bed, waits);
         }
     }
     *waits = waits.saturating_add(1);

@@ -2,11 +2,11 @@
 use Rattle.std.specs.Prelude.{ℕ, ◌≡◌, ◌≢◌, ◌<◌, ◌+◌, List, Option, None, false, length}
 use Rattle.sched_base.specs.declared.rows.Row.{Row}
 use Rattle.sched_edges.specs.Jobs.{FaultsAre}
-use Rattle.run_tree.specs.Plans.{PlanContents}
+use Rattle.run_tree.specs.Plans.{PlanContents, IsPlan}
 use Rattle.unit_ledger.specs.Seats.{Seat}
 use Rattle.exec_lanes.specs.Lanes.{LaneContents, lane_in}
 use Rattle.book_machine.specs.Machine.{State, IsOut, HasTakeable, lane_at, posted_at}
-use Rattle.book_machine.specs.Reached.{OutRow, counts_of}
+use Rattle.book_machine.specs.Reached.{IsReached, OutRow, counts_of}
 use Rattle.plan_rounds.specs.PlanRows.{plan_rows}
 use Rattle.plan_rounds.specs.Parts.{posted_ticks}
 use Rattle.exec_book.specs.Jobs.{Made, IsJobOf}
@@ -20,7 +20,16 @@ pub record IsFreeAt {J : Type 0} (p : PlanContents) (b : BookContents J) (seat :
   pub free : (lane_at b.state.lanes seat.lane).out ≡ false
   pub count : posted_at b.state seat.lane ≡ seat.posted
 
--- the same, and the book is halted or its jobs have failed as often as is given
+-- the book is one of the plan that isn't dismissed, and stands at the seat's count with a row out on the seat's lane
+pub record IsBusyAt {J : Type 0} (p : PlanContents) (b : BookContents J) (seat : Seat) : Type 0 where
+  pub plan : b.plan ≡ p
+  pub lawful : IsPlan b.plan
+  pub undismissed : ¬ (IsDismissed b)
+  pub reached : IsReached (plan_rows b.plan) b.window b.state
+  pub out : IsOut b.state seat.lane
+  pub count : posted_at b.state seat.lane ≡ seat.posted
+
+-- a book that is free at the seat, and is halted or its jobs have failed as often as is given
 pub record IsToldAt {J : Type 0} (faults : J → ℕ) (p : PlanContents) (b : BookContents J) (seat : Seat) (counts : List ℕ) : Type 0 where
   pub free : IsFreeAt p b seat
   pub told : b.state.halted ≡ false → FaultsAre faults b.jobs.places counts

@@ -1,5 +1,5 @@
 -- What the calls that take the lock promise of what they hand out, whatever book they find.
-use Rattle.std.specs.Prelude.{ℕ, ◌≡◌, ◌<◌, List, Option, Some, None, slice_index, slice_index_or}
+use Rattle.std.specs.Prelude.{ℕ, ◌≡◌, ◌<◌, ◌+◌, ◌-◌, List, Option, Some, None, slice_index, slice_index_or}
 use Rattle.sched_base.specs.declared.rows.Leaf.{Leaf}
 use Rattle.sched_base.specs.declared.rows.Leaf.TheVariants.{Task}
 use Rattle.sched_base.specs.declared.rows.TaskId.{TaskId}
@@ -9,6 +9,8 @@ use Rattle.run_tree.specs.Plans.{PlanContents, rounds_of}
 use Rattle.unit_ledger.specs.Seats.{Seat}
 use Rattle.exec_book.specs.declared.looks.Look.{Look}
 use Rattle.exec_book.specs.declared.looks.Look.TheVariants.{Ready, NotYet, Done, Halted}
+use Rattle.exec_book.specs.declared.looks.Next.{Next}
+use Rattle.exec_book.specs.declared.looks.Next.TheVariants as next
 use Rattle.plan_rounds.specs.PlanRows.{plan_rows}
 use Rattle.exec_book.specs.Jobs.{Made, IsJobOf}
 
@@ -34,12 +36,18 @@ pub record IsNextRow {J : Type 0} (id used : J → ℕ) (made : J → Made) (all
   pub at : RowAt (plan_rows p) seat.lane seat.posted row
   pub own : IsJobOf id used made all_made (λ t. ticks_before t seat.posted (plan_rows p)) row.leaf job
 
--- what a look at a seat gives, where nothing is said of the job's count of faults
-abbrev pub GivesRow : {J : Type 0} → (J → ℕ) → (J → ℕ) → (J → Made) → List Made → PlanContents → Seat → Look J → Type 0
-GivesRow id used made all_made p seat (Ready row job) = IsNextRow id used made all_made p seat row job
-GivesRow id used made all_made p seat (NotYet lane posted) = posted < seat.posted
-GivesRow id used made all_made p seat Done = seat.posted ≡ rounds_of p
-GivesRow id used made all_made p seat Halted = Unit {0}
+-- the row is the next one of the seat's lane, and the job its task's, which has worked the row's ticks besides those of earlier rounds
+pub record HasWorked {J : Type 0} (id used : J → ℕ) (made : J → Made) (all_made : List Made) (p : PlanContents) (seat : Seat) (row : Row)
+    (job : Option J) : Type 0 where
+  pub at : RowAt (plan_rows p) seat.lane seat.posted row
+  pub own : IsJobOf id used made all_made (λ t. ticks_before t seat.posted (plan_rows p) + (row.end - row.start)) row.leaf job
+
+-- what a worker gets at its seat, where nothing is said of the job's count of faults
+abbrev pub GivesRow : {J : Type 0} → (J → ℕ) → (J → ℕ) → (J → Made) → List Made → PlanContents → Seat → Next J → Type 0
+GivesRow id used made all_made p seat (next.Ready row job) = IsNextRow id used made all_made p seat row job
+GivesRow id used made all_made p seat next.Waits = Unit {0}
+GivesRow id used made all_made p seat next.Done = seat.posted ≡ rounds_of p
+GivesRow id used made all_made p seat next.Halted = Unit {0}
 
 -- what a look at a seat gives
 abbrev pub Gives : {J : Type 0} → (J → ℕ) → (J → ℕ) → (J → Made) → (J → ℕ) → List Made → PlanContents → Seat → List ℕ →

@@ -7,7 +7,7 @@ ghost use Rattle.plan_rounds.specs.PlanRows.{IsCompiled, plan_rows};
 ghost use Rattle.plan_rounds.specs.Parts.{posted_ticks};
 ghost use Rattle.exec_book.specs.Jobs.{IsJobOf};
 ghost use Rattle.exec_book.specs.Books.{IsDismissed};
-ghost use Rattle.exec_workers.specs.Found.{AreDue, IsFreeAt, IsOutAt, IsWholeAt};
+ghost use Rattle.exec_workers.specs.Found.{AreDue, IsBusyAt, IsFreeAt, IsOutAt, IsWholeAt};
 ghost use Rattle.exec_workers.specs.Promises.{Agrees};
 
 use exec_book::Book;
@@ -71,6 +71,24 @@ pub(crate) fn is_halted_or_told<Q: PostLedger, J: Job>(book: &Book<Q, J>, counts
     ensures { IsTrue result → book.now.state.halted ≡ false → FaultsAre J.faults book.now.jobs.places counts.now }
 {
     book.halted() || book.faults_are(counts)
+}
+
+/// Whether the book is not dismissed, and stands at the seat's count with a row out on the seat's lane.
+pub(crate) fn is_busy_at<Q: PostLedger, J: Job>(
+    book: &Book<Q, J>,
+    plan: &Plan,
+    seat: &LaneSeat<Q>,
+) -> bool
+    requires compiled { IsCompiled plan.now }
+    requires set { plan.now.set ≡ Q.set }
+    ensures { IsTrue result → IsBusyAt plan.now book.now seat.now }
+{
+    if !is_of_run(book, plan) || seat.lane() >= plan.tree().processors() {
+        return false;
+    }
+    let _follows = book.log();
+    let lane = book.lane(seat.lane());
+    lane.out && lane.posted == seat.posted()
 }
 
 /// Whether this row is out on the seat's lane at the seat's count.

@@ -7,13 +7,13 @@ ghost use Rattle.run_tree.specs.Plans.{PlanContents};
 ghost use Rattle.book_machine.specs.declared.events.Event.TheVariants.{Halt};
 ghost use Rattle.plan_rounds.specs.Parts.{processor};
 ghost use Rattle.exec_book.specs.Books.{PutsBack};
-ghost use Rattle.exec_workers.specs.Found.{IsFreeAt, IsOutWith, IsToldAt};
-ghost use Rattle.exec_workers.specs.Promises.{Agrees, Gives, GivesRow};
+ghost use Rattle.exec_workers.specs.Found.{IsBusyAt, IsFreeAt, IsOutWith, IsToldAt};
+ghost use Rattle.exec_workers.specs.Promises.{Agrees, Gives, GivesRow, HasWorked};
 
-use crate::found::{is_free_at, is_halted_or_told, is_job_of, is_of_plan, is_out_at, ticks_of};
+use crate::found::{is_busy_at, is_free_at, is_halted_or_told, is_job_of, is_of_plan, is_out_at, ticks_of};
 use crate::turns::{TURNS, wait_for_good};
-use exec_book::{Book, Look};
-use exec_lanes::{Waiters, lock_soon, tell};
+use exec_book::{Book, Look, Next};
+use exec_lanes::{Waiters, lock_soon, note_calls, wake};
 use run_tree::Plan;
 use sched_base::Row;
 use sched_edges::Job;
@@ -162,17 +162,19 @@ pub(crate) fn agree<Q: PostLedger, J: Job, R: Wait>(rt: &R, book: &Mutex<Book<Q,
 /// It tries again until it finds a book that isn't dismissed, has no row out on the lane and stands at the seat's count.
 pub(crate) fn take_next<Q: PostLedger, J: Job, R: Wait>(
     rt: &R,
+    waiters: Option<&Waiters>,
     book: &Mutex<Book<Q, J>>,
     plan: &Plan,
     seat: &LaneSeat<Q>,
-) -> Look<J>
+) -> Next<J>
     requires compiled { IsCompiled plan.now }
     requires set { plan.now.set ≡ Q.set }
     ensures { GivesRow J.id J.used J.made Q.made plan.now seat.now result }
 {
+    note_calls(waiters, seat.lane());
     let mut guard = lock_free_at(rt, book, plan, seat);
     let held = &mut *guard;
-    held.take(seat.lane())
+    held.take_next(seat.lane())
 }
 
 // Takes the lock of a book that isn't dismissed, and stands at the seat's count with no row out on the seat's lane.
@@ -196,27 +198,53 @@ fn lock_free_at<'a, Q: PostLedger, J: Job, R: Wait>(
     wait_for_good(rt)
 }
 
-/// Posts a row that is out on a seat's lane, as `post_row` does, and takes the lane's next row, as `take_next` does: two events
-/// while the lock is held once.
+/// Posts the row that was taken on a seat's lane, with its job, which has worked the row's ticks, and takes the lane's next row: two
+/// events while the lock is held once. Then it wakes the lanes that waited for the post.
+///
+/// It tries again until it finds a book that isn't dismissed, has a row out on the lane and stands at the seat's count: that is the row.
 pub(crate) fn post_and_take<Q: PostLedger, J: Job, R: Wait>(
     rt: &R,
     waiters: Option<&Waiters>,
     book: &Mutex<Book<Q, J>>,
     plan: &Plan,
     seat: &mut LaneSeat<Q>,
-    row: &Row,
     job: Option<J>,
-) -> Look<J>
+) -> Next<J>
     requires compiled { IsCompiled plan.now }
     requires set { plan.now.set ≡ Q.set }
-    requires agrees { Agrees J.made Q.made row.now.leaf job }
+    requires worked { (row : DeclaredRow) × HasWorked J.id J.used J.made Q.made plan.now seat.old row job }
     ensures seat { seat.new ≡ record seat.old { posted = seat.old.posted + 1 } }
     ensures gives { GivesRow J.id J.used J.made Q.made plan.now seat.new result }
 {
     let lane = seat.lane();
-    let mut guard = lock_out_at(rt, book, plan, seat, row, &job, ticks_of(row));
+    note_calls(waiters, lane);
+    let mut guard = lock_busy_at(rt, book, plan, seat);
     let held = &mut *guard;
     held.post(lane, seat, job);
-    tell(waiters, held.least());
-    held.take(lane)
+    let woken = held.woken();
+    let next = held.take_next(lane);
+    drop(guard);
+    wake(waiters, woken);
+    next
+}
+
+// Takes the lock of a book that isn't dismissed, and stands at the seat's count with a row out on the seat's lane.
+fn lock_busy_at<'a, Q: PostLedger, J: Job, R: Wait>(
+    rt: &R,
+    book: &'a Mutex<Book<Q, J>>,
+    plan: &Plan,
+    seat: &LaneSeat<Q>,
+) -> MutexGuard<'a, Book<Q, J>>
+    requires compiled { IsCompiled plan.now }
+    requires set { plan.now.set ≡ Q.set }
+    ensures { IsBusyAt plan.now (mutex_guard_value result) seat.now }
+{
+    for _ in 0..TURNS {
+        let guard = lock_soon(rt, book);
+        let held = &*guard;
+        if is_busy_at(held, plan, seat) {
+            return guard;
+        }
+    }
+    wait_for_good(rt)
 }

@@ -7,8 +7,8 @@ ghost use Rattle.exec_workers.specs.Promises.{IsNextRow, GivesRow};
 use crate::found::ticks_of;
 use crate::rows::{agree, halt_row, post_and_take, take_next};
 use crate::turns::{TURNS, wait_for_good};
-use exec_book::{Book, Look};
-use exec_lanes::{Cause, Lane, Waiters, risen, wait, wake, work_on};
+use exec_book::{Book, Next};
+use exec_lanes::{Cause, Lane, Waiters, risen, wait, work_on};
 use run_tree::Plan;
 use sched_base::Row;
 use sched_edges::{Failed, Gate, Job};
@@ -71,19 +71,18 @@ fn serve_rows<G: Gate, Q: PostLedger, J: Job, R: Wait>(
     ensures { Served (plan_rows plan.now) counts.now lane.old lane.new }
 {
     let mut waits = 0;
-    let mut look = take_next(rt, book, plan, &lane.seat);
+    let mut next = take_next(rt, waiters, book, plan, &lane.seat);
     for _ in 0..TURNS {
-        wake(waiters);
-        match follow(rt, waiters, book, plan, lane, counts, &mut waits, look) {
-            Some(next) => look = next,
+        match follow(rt, waiters, book, plan, lane, counts, &mut waits, next) {
+            Some(other) => next = other,
             None => return,
         }
     }
     wait_for_good(rt)
 }
 
-// Does what a look at the lane says: runs the row that was taken, or waits. It gives the lane's next look, and None where the lane
-// has come to an end. `waits` says how often in a row the lane was found waiting.
+// Does what a take on the lane says: runs the row that was taken, or waits. It gives what the lane's next take says, and None where the
+// lane has come to an end. `waits` says how often in a row the lane was found waiting.
 fn follow<G: Gate, Q: PostLedger, J: Job, R: Wait>(
     rt: &R,
     waiters: Option<&Waiters>,
@@ -92,33 +91,33 @@ fn follow<G: Gate, Q: PostLedger, J: Job, R: Wait>(
     lane: &mut Lane<G, Q>,
     counts: &[u64],
     waits: &mut u32,
-    look: Look<J>,
-) -> Option<Look<J>>
+    next: Next<J>,
+) -> Option<Next<J>>
     requires compiled { IsCompiled plan.now }
     requires set { plan.now.set ≡ Q.set }
     requires counts { length counts.now ≡ length plan.now.set.tasks }
     requires fresh { lane.old.cause ≡ None }
-    requires look { GivesRow J.id J.used J.made Q.made plan.now lane.old.seat look }
+    requires gives { GivesRow J.id J.used J.made Q.made plan.now lane.old.seat next }
     ensures served { Served (plan_rows plan.now) counts.now lane.old lane.new }
-    ensures more { IfSome result (λ look. lane.new.cause ≡ None) }
-    ensures look { IfSome result (λ look. GivesRow J.id J.used J.made Q.made plan.now lane.new.seat look) }
+    ensures more { IfSome result (λ next. lane.new.cause ≡ None) }
+    ensures gives { IfSome result (λ next. GivesRow J.id J.used J.made Q.made plan.now lane.new.seat next) }
 {
-    match look {
-        Look::Ready { row, job } => {
+    match next {
+        Next::Ready { row, job } => {
             *waits = 0;
             run_row(rt, waiters, book, plan, lane, counts, row, job)
         }
-        Look::NotYet { lane: _, posted: _ } => {
-            if !wait(rt, waiters, lane.seat.lane(), lane.seat.posted(), waits) {
+        Next::Waits => {
+            if !wait(rt, waiters, lane.seat.lane(), waits) {
                 return None;
             }
-            Some(take_next(rt, book, plan, &lane.seat))
+            Some(take_next(rt, waiters, book, plan, &lane.seat))
         }
-        Look::Done | Look::Halted => None,
+        Next::Done | Next::Halted => None,
     }
 }
 
-// Runs a row that was taken, posts it and looks for the lane's next one. None where the gate or the job failed.
+// Runs a row that was taken, posts it and takes the lane's next one. None where the gate or the job failed.
 fn run_row<G: Gate, Q: PostLedger, J: Job, R: Wait>(
     rt: &R,
     waiters: Option<&Waiters>,
@@ -128,15 +127,15 @@ fn run_row<G: Gate, Q: PostLedger, J: Job, R: Wait>(
     counts: &[u64],
     row: Row,
     job: Option<J>,
-) -> Option<Look<J>>
+) -> Option<Next<J>>
     requires compiled { IsCompiled plan.now }
     requires set { plan.now.set ≡ Q.set }
     requires counts { length counts.now ≡ length plan.now.set.tasks }
     requires fresh { lane.old.cause ≡ None }
     requires next { IsNextRow J.id J.used J.made Q.made plan.now lane.old.seat row job }
     ensures served { Served (plan_rows plan.now) counts.now lane.old lane.new }
-    ensures more { IfSome result (λ look. lane.new.cause ≡ None) }
-    ensures look { IfSome result (λ look. GivesRow J.id J.used J.made Q.made plan.now lane.new.seat look) }
+    ensures more { IfSome result (λ next. lane.new.cause ≡ None) }
+    ensures gives { IfSome result (λ next. GivesRow J.id J.used J.made Q.made plan.now lane.new.seat next) }
 {
     plan.know_lawful();
     let mut job = job;
@@ -151,5 +150,5 @@ fn run_row<G: Gate, Q: PostLedger, J: Job, R: Wait>(
         lane.cause = Some(Cause::Job { row, faults });
         return None;
     }
-    Some(post_and_take(rt, waiters, book, plan, &mut lane.seat, &row, job))
+    Some(post_and_take(rt, waiters, book, plan, &mut lane.seat, job))
 }
