@@ -178,7 +178,7 @@ module _ (p : PlanContents) (h : IsPlan p) where
       let (rest, ahead) = rows_ahead p h n begins below in
       let here : lane_of (lanes_at p n) q ≡ rows_on q (rows_before p n) = lane_of-lanes_of processors (rows_before p n) q within in
       let lane : lane_of all q ≡ lane_of (lanes_at p n) q ++ rows_on q rest =
-          lane_of-lanes_of processors (schedule_of p) q within ∙ ap (rows_on q) ahead ∙ filter-append (λ x. x.processor == q) (rows_before p n) rest ∙ ap (λ rows. rows ++ rows_on q rest) (sym here) in
+      lane_of-lanes_of processors (schedule_of p) q within ∙ ap (rows_on q) ahead ∙ filter-append (λ x. x.processor == q) (rows_before p n) rest ∙ ap (λ rows. rows ++ rows_on q rest) (sym here) in
       subst (λ (rows : List Row). slice_get rows k ≡ Some r) (sym lane) (slice_get-append (lane_of (lanes_at p n) q) (rows_on q rest) k r at)
 
   -- ---- before the first event

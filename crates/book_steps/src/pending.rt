@@ -125,8 +125,10 @@ impl Pending {
     /// Lets the first pending row of processor q go.
     pub(crate) fn pop(&mut self, q: u32)
         requires processor { q < length self.old.rings }
-        ensures { self.new ≡ record self.old { rings = slice_set self.old.rings q
-            (buffer (drop 1 (ring_at self.old.rings q).items) (ring_at self.old.rings q).capacity) } }
+        ensures { self.new ≡ record self.old {
+          rings = slice_set self.old.rings q
+              (buffer (drop 1 (ring_at self.old.rings q).items) (ring_at self.old.rings q).capacity);
+        } }
     {
         self.rings[q as usize].pop();
     }

@@ -83,8 +83,7 @@ impl StepBook {
         ensures held { posted_at self.now.state p ≤ rounds_in self.now.table.lanes }
     {
         let posted = self.state.posted(p);
-        posted - self.state.least() < u64::from(self.window)
-            && self.pending.computed() <= posted
+        posted - self.state.least() < u64::from(self.window) && self.pending.computed() <= posted
     }
 
     // Computes one round more.

@@ -44,7 +44,7 @@ loop-q-preserved c =
     let many = c.loop-q.invariant.many in
     let inside : q < length c.loop-q.rings = omega (arith, low, whole, many) in
     rw c.push.ensures (ArePushed-next c.args.given.now rows c.args.rings.now q c.loop-q.rings c.loop-q.invariant inside (get_or rows q blank) (slice_get-get_or rows q blank low)
-        (get_or c.loop-q.rings q c.index-rings-q.result) (ring_is c.loop-q.rings q c.index-rings-q.result inside) c.given_to.result c.given_to.ensures)
+    (get_or c.loop-q.rings q c.index-rings-q.result) (ring_is c.loop-q.rings q c.index-rings-q.result inside) c.given_to.result c.given_to.ensures)
 
 pub returns : goal.returns
 returns c =

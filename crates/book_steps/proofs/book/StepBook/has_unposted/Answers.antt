@@ -50,7 +50,7 @@ returns-clause-some c = λ yes.
     let posted = c.posted-posted.ensures in
     let count = c.saturating_sub.ensures in
     rw (← c.self.view_is) (row_of_pending c.self.inside.plan c.know_lawful.ensures.lawful c.self.inside.window c.self.inside.state c.self.inside.pending (pending r) c.args.q c.args.round c.args.leaf (inside r) (most r)
-        i next (omega (arith, low, posted, count)) at is)
+    i next (omega (arith, low, posted, count)) at is)
 
 pub returns-clause-none : goal.returns-clause-none
 returns-clause-none c = λ no.
@@ -58,4 +58,4 @@ returns-clause-none c = λ no.
     let posted = c.posted-posted.ensures in
     let count = c.saturating_sub.ensures in
     rw (← c.self.view_is) (none_unposted c.self.inside.plan c.know_lawful.ensures.lawful c.self.inside.window c.self.inside.state c.self.inside.pending (pending r) c.args.q c.args.round c.args.leaf (inside r) (most r)
-        (λ i next low at. c.has.ensures.none no i next (omega (arith, low, posted, count)) at))
+    (λ i next low at. c.has.ensures.none no i next (omega (arith, low, posted, count)) at))

@@ -46,8 +46,14 @@ module _ (c : After-know_lawful) where
   waits_in next close got round posted found waited =
       let near : posted_at c.args.self.now.state c.args.p < least_posted c.args.self.now.state + c.args.self.now.window = rw (← c.self.view_is) close in
       let here : round ≡ posted_at c.args.self.now.state c.args.p = rw (← c.self.view_is) posted in
-      IfSome-by found _ _ (λ q w. inr (near, (next.row, (next_is next close got).row,
-          subst (λ n. IsWaitedFor (plan_rows c.args.self.now.plan) c.args.self.now.state.lanes c.args.p n next.row.leaf q) here w))) waited
+      IfSome-by found _ _ (λ q w. inr (
+        near,
+        (
+          next.row,
+          (next_is next close got).row,
+          subst (λ n. IsWaitedFor (plan_rows c.args.self.now.plan) c.args.self.now.state.lanes c.args.p n next.row.leaf q) here w,
+        ),
+      )) waited
 
 pub posted-round-requires : goal.posted-round-requires
 posted-round-requires c = within (goal.at.posted-round-requires c).After-know_lawful
@@ -180,6 +186,9 @@ returns-else-is_clear-clause-none c =
     let here : c.posted-round.result ≡ posted_at c.args.self.now.state c.args.p = rw (← c.self.view_is) posted in
     IfNone-by c.lowest_with.result _ _ (λ earlier. record {
       in_window = rw (← c.self.view_is) close;
-      next = (c.first-next.result.row, (next_is r c.first-next.result close c.first-next.ensures).row,
-        subst (λ n. EarlierPosted (plan_rows c.args.self.now.plan) c.args.self.now.state.lanes c.args.p n c.first-next.result.row.leaf) here earlier);
+      next = (
+        c.first-next.result.row,
+        (next_is r c.first-next.result close c.first-next.ensures).row,
+        subst (λ n. EarlierPosted (plan_rows c.args.self.now.plan) c.args.self.now.state.lanes c.args.p n c.first-next.result.row.leaf) here earlier,
+      );
     }) c.lowest_with.ensures.none
