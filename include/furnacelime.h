@@ -35,13 +35,14 @@ enum fl_status {
     FL_BAD_INPUT = 6,       /* the bytes are no task set, for fl_check and fl_draw no trace text, for fl_follow no tree text */
     FL_OVERLOAD = 7,        /* the tasks ask for more than the processors have */
     FL_SCALE_TOO_LARGE = 8, /* a unit would have more than 2^94 ticks */
-    FL_TOO_LONG = 9,        /* fl_trace, fl_table, fl_exec_open ..: the schedule has more than 2,097,152 rows, one for each processor and round */
+    FL_TOO_LONG = 9,        /* fl_trace, fl_table ..: the schedule has more than 2,097,152 rows, one for each processor and round */
     FL_INPUT_TOO_LONG = 12, /* more than 1,048,576 bytes, or for fl_check and fl_draw more than 536,870,912 */
     FL_BAD_TREE = 16,       /* fl_follow: the tree is no reduction tree of its set */
     FL_TOO_WIDE = 17,       /* fl_table: the schedule has 2^64 ticks or more */
     FL_WRONG_CALL = 64,     /* a null pointer beside a length that isn't 0, a length past PTRDIFF_MAX, a plan that is open already or isn't
                                open, or too little room for the tasks; of a book a window that isn't from 1 to 1024, a processor that
-                               isn't there, a take while the processor's row is out, a post or halt while none is: nothing was done */
+                               isn't there, a take while the processor's row is out or after 2^64 - 1 rounds, a post or halt while none
+                               is: nothing was done */
     FL_OVER = 65,           /* fl_next: the last round was told before; fl_take: all rows of the processor are posted */
     FL_WAIT = 66,           /* fl_take: an earlier row must be posted first */
     FL_HALTED = 67          /* fl_take: a row failed before */
@@ -297,12 +298,13 @@ struct fl_exec {
 /* The window of the program's `exec`; a window is from 1 to 1024. */
 #define FL_WINDOW 32
 
-/* As fl_about, with the number of tasks. */
+/* As fl_about, with the number of tasks, and whether the schedule can be run again and again: no period is open at its start or at its end. */
 struct fl_exec_about {
     struct fl_ticks scale;
     struct fl_ticks end;
     uint32_t processors;
     uint32_t tasks;
+    uint32_t repeats; /* 1 or 0 */
 };
 
 /* A row: from `start` up to `end` the processor runs `task`, or FL_NO_TASK. At FL_WAIT `waits_for` is a processor, and the rest is as

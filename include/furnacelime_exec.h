@@ -16,6 +16,9 @@
  *    earlier call wrote is seen by a later one;
  *  - gates of different processors and jobs of different tasks are called at once;
  *  - no processor is `window` rounds or more ahead of the one that is furthest behind.
+ * With `frames` the schedule is run so often, one time after the other: rows are told later by a frame's length each time, so that no tick lies
+ * between two frames, and what ran stays a valid schedule. That wants a set of which no period is open where a frame begins or ends. The next
+ * frame's book is opened at the end of the one before, which takes as long as fl_exec_open.
  * A gate or a job that answers another number than 0 has failed: rows that are out are finished, and nothing new is handed out. Either may
  * block; the others go on at least half a window ahead of it, at most a window, then sleep. Neither may leave by longjmp, pthread_exit or an
  * exception.
@@ -47,6 +50,9 @@ extern "C" {
  * why, as errno does. */
 #define FL_NO_THREAD 68
 
+/* fl_execute: there is to be more than one frame, and the set can't be repeated (`about.repeats` is 0). */
+#define FL_NO_REPEAT 69
+
 /* Who runs the rows, and how. Set it to FL_NO_CREW, then the members that matter. */
 struct fl_crew {
     int (*gate)(uint32_t processor, const struct fl_row *row, void *user);        /* or NULL */
@@ -60,16 +66,18 @@ struct fl_crew {
     pthread_mutex_t *lock;                                                        /* NULL, or the lock that the program holds around
                                                                                      its other calls of the library meanwhile; it isn't
                                                                                      held by the caller, and isn't recursive */
+    uint64_t frames;                                                              /* how often the schedule is run; 0 is once */
 };
 
-#define FL_NO_CREW {NULL, NULL, NULL, NULL, 0, 0, NULL, NULL}
+#define FL_NO_CREW {NULL, NULL, NULL, NULL, 0, 0, NULL, NULL, 0}
 
 /* How an execution ended. Where nothing ran, `about` is told if the set was opened, `error` at FL_NO_THREAD, and all else is 0. */
 struct fl_ended {
     struct fl_exec_about about;
     struct fl_exec_end end;          /* whether a gate or job failed; if so the row of the lowest processor at which one did */
-    uint64_t posted[FL_PROCESSORS];  /* of each processor the number of its rows that ran: the first ones */
+    uint64_t posted[FL_PROCESSORS];  /* of each processor the number of its rows that ran: the first ones, over all frames */
     struct fl_ticks ticks[FL_TASKS]; /* of each task the ticks of its rows that ran */
+    uint64_t frames;                 /* how many frames ran whole */
     uint64_t waits;                  /* how often a thread slept for another one's post */
     int error;
 };
@@ -114,8 +122,30 @@ struct fl_execution {
     int looks;      /* FL_LOOKS, or 0 */
     uint64_t waits;
     int begun;
-    int stopped; /* a thread could not be started, or a row failed */
+    int stopped; /* a thread could not be started, a row failed, or the next frame could not be opened */
+    int status;  /* that of the last opening */
+    const void *set;
+    size_t length;
+    uint64_t frames;
+    struct fl_ticks shift; /* the tick at which the frame begins; it is written where no row is out */
+    uint32_t ended;        /* how many threads are at the end of the frame */
+    uint32_t at_end;       /* a bit for each of these that sleeps */
+    struct fl_ended *told;
+    uint64_t posted[FL_PROCESSORS];
+    struct fl_ticks ticks[FL_TASKS];
 };
+
+/* Ticks later by others, below 2^128. */
+static inline struct fl_ticks fl_later(struct fl_ticks at, struct fl_ticks by)
+{
+    struct fl_ticks sum;
+    sum.low = at.low + by.low;
+    sum.high = at.high + by.high + (sum.low < at.low);
+    return sum;
+}
+
+/* All processors. */
+static inline uint32_t fl_everybody(const struct fl_execution *in) { return UINT32_MAX >> (FL_PROCESSORS - in->processors); }
 
 /* Has the threads of these processors sleep no more. The lock is held. */
 static inline void fl_wake(struct fl_execution *in, struct fl_lane *lane, uint32_t sleepers)
@@ -222,20 +252,23 @@ static inline void fl_stop(struct fl_execution *in, uint32_t processor, uint32_t
 {
     fl_halt(&in->exec, processor, why);
     in->stopped = 1;
-    fl_wake(in, &in->lanes[processor], UINT32_MAX >> (FL_PROCESSORS - in->processors));
+    fl_wake(in, &in->lanes[processor], fl_everybody(in));
 }
 
 /* Runs a row without the lock, and posts it and takes the next one, or halts the book. The lock is held when it is called, and at its end. */
 static inline int fl_run_and_take(struct fl_execution *in, uint32_t processor, struct fl_row *row)
 {
     const struct fl_crew *crew = in->crew;
+    struct fl_row shown = *row;
     int status, why = 0;
+    shown.start = fl_later(row->start, in->shift);
+    shown.end = fl_later(row->end, in->shift);
     pthread_mutex_unlock(in->lock);
     fl_signal(in, &in->lanes[processor]);
     if (crew->gate)
-        why = crew->gate(processor, row, crew->user);
-    if (why == 0 && crew->job && row->task != FL_NO_TASK)
-        why = crew->job(row->task, row, crew->user);
+        why = crew->gate(processor, &shown, crew->user);
+    if (why == 0 && crew->job && shown.task != FL_NO_TASK)
+        why = crew->job(shown.task, &shown, crew->user);
     pthread_mutex_lock(in->lock);
     if (why != 0) {
         fl_stop(in, processor, (uint32_t)why);
@@ -244,6 +277,49 @@ static inline int fl_run_and_take(struct fl_execution *in, uint32_t processor, s
     status = fl_post_and_take(&in->exec, processor, row);
     fl_note_post(in, processor);
     return status;
+}
+
+/* Counts what the book's frame ran. The lock is held. */
+static inline void fl_count_frame(struct fl_execution *in)
+{
+    struct fl_ended *told = in->told;
+    uint32_t k;
+    fl_exec_tell(&in->exec, in->posted, FL_PROCESSORS, in->ticks, FL_TASKS, &told->end);
+    for (k = 0; k < told->about.processors; k++)
+        told->posted[k] += in->posted[k];
+    for (k = 0; k < told->about.tasks; k++)
+        told->ticks[k] = fl_later(told->ticks[k], in->ticks[k]);
+    told->frames += !told->end.halted;
+    if (told->end.halted) {
+        told->end.start = fl_later(told->end.start, in->shift);
+        told->end.end = fl_later(told->end.end, in->shift);
+    }
+}
+
+/* Opens the book of the next frame in place of the one that ended. The lock is held, and no row is out. */
+static inline void fl_open_frame(struct fl_execution *in, uint32_t processor)
+{
+    uint32_t p;
+    fl_count_frame(in);
+    fl_exec_close(&in->exec);
+    in->status = fl_exec_open(&in->exec, in->set, in->length, in->window, &in->told->about);
+    in->stopped = in->status != FL_DONE;
+    in->shift = fl_later(in->shift, in->told->about.end);
+    in->ended = 0;
+    fl_set_least(in, 0);
+    for (p = 0; p < in->processors; p++)
+        in->lanes[p].posted = 0;
+    fl_wake(in, &in->lanes[processor], fl_everybody(in));
+}
+
+/* At the end of a frame: waits until all are there, and takes the first row of the next one. The lock is held, but while it waits. */
+static inline int fl_next_frame(struct fl_execution *in, uint32_t processor, struct fl_row *row)
+{
+    if (++in->ended == in->processors)
+        fl_open_frame(in, processor);
+    else
+        fl_sleep(in, processor, &in->at_end);
+    return in->stopped ? FL_HALTED : fl_take(&in->exec, processor, row);
 }
 
 /* Serves one processor: all its rows, or those up to a failure. */
@@ -261,8 +337,16 @@ static inline void *fl_serve(void *argument)
         pthread_cond_wait(&lane->woken, in->lock);
     if (!in->stopped)
         status = fl_take(&in->exec, lane->processor, &row);
-    while (status == FL_DONE || status == FL_WAIT)
-        status = (status == FL_DONE ? fl_run_and_take : fl_wait_and_take)(in, lane->processor, &row);
+    for (;;) {
+        if (status == FL_DONE)
+            status = fl_run_and_take(in, lane->processor, &row);
+        else if (status == FL_WAIT)
+            status = fl_wait_and_take(in, lane->processor, &row);
+        else if (status == FL_OVER && in->told->frames + 1 < in->frames)
+            status = fl_next_frame(in, lane->processor, &row);
+        else
+            break;
+    }
     pthread_mutex_unlock(in->lock);
     fl_signal(in, lane);
     return NULL;
@@ -378,16 +462,19 @@ static inline int fl_execute_open(struct fl_execution *in, struct fl_ended *ende
     ended->waits = in->waits;
     if (ended->error)
         return FL_NO_THREAD;
+    if (in->status != FL_DONE)
+        return in->status;
     pthread_mutex_lock(in->lock);
-    fl_exec_tell(&in->exec, ended->posted, FL_PROCESSORS, ended->ticks, FL_TASKS, &ended->end);
+    fl_count_frame(in);
     pthread_mutex_unlock(in->lock);
     return ended->end.halted ? FL_HALTED : FL_DONE;
 }
 
 /* Executes the schedule of a task set.
  *  FL_DONE: all rows ran. FL_HALTED: a gate or a job failed, and `end` tells where; the rows that `posted` counts ran.
- *  FL_NO_THREAD, and each other status of fl_exec_open: nothing ran, and no gate or job was called. FL_WRONG_CALL is told besides where
- *  `crew` or `ended` is a null pointer. At each status all threads have ended and all memory is given back. */
+ *  FL_NO_THREAD, FL_NO_REPEAT, and each other status of fl_exec_open: nothing ran, and no gate or job was called. But FL_NO_MEMORY is told
+ *  also where `frames` counts some: these ran, and there was no memory for the next one's book. FL_WRONG_CALL is told besides where `crew` or
+ *  `ended` is a null pointer. At each status all threads have ended and all memory is given back. */
 static inline int fl_execute(const void *set, size_t length, const struct fl_crew *crew, struct fl_ended *ended)
 {
     struct fl_execution in;
@@ -398,6 +485,10 @@ static inline int fl_execute(const void *set, size_t length, const struct fl_cre
     memset(ended, 0, sizeof *ended);
     memset(&in, 0, sizeof in);
     in.crew = crew;
+    in.set = set;
+    in.length = length;
+    in.told = ended;
+    in.frames = crew->frames;
     in.window = crew->window ? crew->window : FL_WINDOW;
     in.lock = crew->lock ? crew->lock : &own;
     if (!crew->lock) {
@@ -409,7 +500,7 @@ static inline int fl_execute(const void *set, size_t length, const struct fl_cre
     status = fl_exec_open(&in.exec, set, length, in.window, &ended->about);
     pthread_mutex_unlock(in.lock);
     if (status == FL_DONE) {
-        status = fl_execute_open(&in, ended);
+        status = crew->frames > 1 && !ended->about.repeats ? FL_NO_REPEAT : fl_execute_open(&in, ended);
         pthread_mutex_lock(in.lock);
         fl_exec_close(&in.exec);
         pthread_mutex_unlock(in.lock);

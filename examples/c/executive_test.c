@@ -21,15 +21,45 @@ enum { THREE = sizeof three - 1, FIVE = sizeof five - 1 };
 
 /* ---- The statuses of the book. */
 
-/* A set with more rows than a table may have: a book that keeps them all refuses it, one that keeps a window of them doesn't. */
-static void try_long_set(void)
+/* Takes and posts that many rows, for the processors in turn, and answers how many there were before all were over. */
+static uint64_t run_rows(struct fl_exec *exec, uint32_t processors, uint64_t most)
 {
+    int out[FL_PROCESSORS] = {0}, over[FL_PROCESSORS] = {0};
+    uint32_t left = processors, p;
+    uint64_t rows = 0;
+    struct fl_row row;
+    while (left > 0 && rows < most)
+        for (p = 0; p < processors; p++)
+            if (!over[p]) {
+                const int status = out[p] ? fl_post_and_take(exec, p, &row) : fl_take(exec, p, &row);
+                out[p] = status == FL_DONE;
+                over[p] = status == FL_OVER;
+                rows += status == FL_DONE;
+                left -= status == FL_OVER;
+                WANT(status == FL_DONE || status == FL_OVER || status == FL_WAIT);
+            }
+    return rows;
+}
+
+/* Sets with more rows than a table may have: one runs past them, the other to its end. */
+static void try_long_sets(void)
+{
+    static const char longest[] = "processors = 2\nhorizon = 4294967295\ntask = [{name = \"a\", work = 1, period = 2}, "
+                                  "{name = \"b\", work = 1, period = 3}]\n";
+    static const char long_one[] = "processors = 2\nhorizon = 1100001\ntask = [{name = \"a\", work = 2, period = 3}, "
+                                   "{name = \"b\", work = 2, period = 3}, {name = \"c\", work = 2, period = 3}]\n";
     struct fl_exec exec = FL_NO_EXEC;
     struct fl_exec_about about;
-    struct fl_row row;
-    const char set[] = "processors = 2\nhorizon = 4294967295\ntask = [{name = \"a\", work = 1, period = 2}, {name = \"b\", work = 1, period = 3}]\n";
-    const int status = fl_exec_open(&exec, set, sizeof set - 1, FL_WINDOW, &about);
-    WANT(status == FL_DONE ? exec.at && fl_take(&exec, 1, &row) == FL_DONE && row.start.low == 0 : status == FL_TOO_LONG && !exec.at);
+    struct fl_exec_end end;
+    uint64_t posted[2];
+    struct fl_ticks ticks[3];
+    WANT(fl_exec_open(&exec, longest, sizeof longest - 1, 1024, &about) == FL_DONE);
+    WANT(run_rows(&exec, about.processors, 2097154) >= 2097154);
+    fl_exec_close(&exec);
+    WANT(fl_exec_open(&exec, long_one, sizeof long_one - 1, FL_WINDOW, &about) == FL_DONE && about.repeats == 1);
+    WANT(run_rows(&exec, about.processors, UINT64_MAX) == 2200002);
+    WANT(fl_exec_tell(&exec, posted, 2, ticks, 3, &end) == FL_DONE && !end.halted && posted[0] == 1100001 && posted[1] == 1100001);
+    WANT(ticks[0].low == 2200002 && ticks[1].low == 2200002 && ticks[2].low == 2200002);
     fl_exec_close(&exec);
 }
 
@@ -60,7 +90,7 @@ static void try_opening(void)
     }
     free(set);
     WANT(fl_exec_open(&exec, three, THREE, 1, &about) == FL_DONE && exec.at);
-    WANT(about.processors == 2 && about.tasks == 3 && about.end.low == 36 && about.scale.low == 3 && about.end.high == 0);
+    WANT(about.processors == 2 && about.tasks == 3 && about.end.low == 36 && about.scale.low == 3 && about.end.high == 0 && about.repeats == 1);
     WANT(fl_exec_open(&exec, three, THREE, 1, &about) == FL_WRONG_CALL && exec.at);
     fl_exec_close(&exec);
     WANT(!exec.at);
@@ -440,6 +470,34 @@ static void try_failures(struct crew_notes *notes)
     }
 }
 
+/* Frames: the schedule one time after the other; a failure in a later one; and a set that can't be repeated. */
+static void try_frames(struct crew_notes *notes)
+{
+    static const char open_end[] = "processors = 1\nhorizon = 4\ntask = [{name = \"a\", work = 1, period = 3}]\n";
+    static struct fl_ended once, ended;
+    struct fl_crew crew = crew_of(notes, 3);
+    uint32_t p, t;
+    WANT(fl_execute(five, FIVE, &crew, &once) == FL_DONE && once.frames == 1 && !notes->wrong);
+    crew = crew_of(notes, 3);
+    crew.frames = 7;
+    WANT(fl_execute(five, FIVE, &crew, &ended) == FL_DONE && ended.frames == 7 && ended.about.repeats == 1 && !notes->wrong);
+    for (p = 0; p < 3; p++)
+        WANT(ended.posted[p] == 7 * once.posted[p] && notes->rows[p] == ended.posted[p] && notes->ends[p] == 7 * ended.about.end.low);
+    for (t = 0; t < 5; t++)
+        WANT(ended.ticks[t].low == 7 * once.ticks[t].low && notes->ticks[t] == ended.ticks[t].low);
+    crew = crew_of(notes, 3);
+    crew.frames = 7;
+    notes->bad_processor = 1;
+    notes->bad_row = 2 * once.posted[1] + 1;
+    WANT(fl_execute(five, FIVE, &crew, &ended) == FL_HALTED && ended.frames == 2 && ended.end.processor == 1 && ended.end.why == 7);
+    WANT(ended.posted[1] == notes->bad_row && ended.end.start.low == notes->ends[1] && ended.end.start.low > 2 * ended.about.end.low && !notes->wrong);
+    crew = crew_of(notes, 0);
+    crew.frames = 2;
+    WANT(fl_execute(open_end, sizeof open_end - 1, &crew, &ended) == FL_NO_REPEAT && ended.about.repeats == 0 && notes->begun == 0);
+    crew.frames = 1;
+    WANT(fl_execute(open_end, sizeof open_end - 1, &crew, &ended) == FL_DONE && ended.frames == 1);
+}
+
 /* What isn't executed: nothing ran, and no gate or job was called. */
 static void try_refusals(struct crew_notes *notes)
 {
@@ -540,7 +598,7 @@ int main(void)
     pthread_mutex_init(&notes.lock, NULL);
     pthread_cond_init(&notes.met, NULL);
     try_opening();
-    try_long_set();
+    try_long_sets();
     try_closed_calls();
     try_by_hand();
     for (seed = 1; seed <= 64; seed++) {
@@ -550,6 +608,7 @@ int main(void)
     try_windows(&notes);
     try_blocking(&notes);
     try_failures(&notes);
+    try_frames(&notes);
     try_refusals(&notes);
     try_crews(&notes);
     try_lock(&notes);

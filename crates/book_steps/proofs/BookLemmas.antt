@@ -38,7 +38,7 @@ IsLed-start p h window s begins = ([], LogPart-start p h window s [] (most_event
 pub is_task : (leaf : Leaf) (task : TaskId) → leaf ≡ Task task → is_of_task task.0 leaf ≡ true
 is_task leaf task e = ap (is_of_task task.0) e ∙ eq-eqb task.0 task.0 refl
 
-with_ticks-at : (totals : List ℕ) (leaf : Leaf) (n t : ℕ) → t < length totals → slice_index (with_ticks totals leaf n) t ≡ slice_index totals t + bit (is_of_task t leaf) * n
+pub with_ticks-at : (totals : List ℕ) (leaf : Leaf) (n t : ℕ) → t < length totals → slice_index (with_ticks totals leaf n) t ≡ slice_index totals t + bit (is_of_task t leaf) * n
 with_ticks-at totals (Task task) n t within = elim (cases_Bool (is_of_task t (Task task))) [
   | inl on ↦ (
       let same : task.0 ≡ t = eqb-true task.0 t on in
@@ -57,7 +57,7 @@ with_ticks-at totals (Wait task) n t within = omega arith
 with_ticks-at totals (Idle number) n t within = omega arith
 with_ticks-at totals Empty n t within = omega arith
 
-length-with_ticks : (totals : List ℕ) (leaf : Leaf) (n : ℕ) → length (with_ticks totals leaf n) ≡ length totals
+pub length-with_ticks : (totals : List ℕ) (leaf : Leaf) (n : ℕ) → length (with_ticks totals leaf n) ≡ length totals
 length-with_ticks totals (Task task) n = length-set totals task.0 (slice_index totals task.0 + n)
 length-with_ticks totals (Wait task) n = refl
 length-with_ticks totals (Idle number) n = refl

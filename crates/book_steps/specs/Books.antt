@@ -7,15 +7,16 @@ use Rattle.book_machine.specs.Machine.{State, lane_at, posted_at, least_posted, 
 use Rattle.book_machine.specs.Rounds.{AreFirstRounds}
 use Rattle.round_steps.specs.declared.halves.Halves.{Halves}
 use Rattle.round_steps.specs.Steps.{IsPlanOf}
-use Rattle.plan_rounds.specs.PlanRows.{RoundsContents, plan_rows}
-use Rattle.plan_rounds.specs.Parts.{RowsPart, LogPart, posted_ticks}
+use Rattle.plan_rounds.specs.PlanRows.{IsCompiled, plan_rows}
+use Rattle.plan_rounds.specs.Parts.{LogPart, posted_ticks}
 use Rattle.plan_rounds.specs.Laws.{FollowsPlan}
+use Rattle.book_steps.specs.Pending.{PendingContents, PendingKept}
 
 pub record BookHeld : Type 0 where
   pub plan : PlanContents
   pub window : ℕ
   pub state : State
-  -- the rounds computed so far
+  -- the rounds computed so far, and how many are left
   pub table : Table
   -- of each task the ticks of its posted rows
   pub totals : List ℕ
@@ -48,14 +49,17 @@ pub record AreFaults (s : State) (rounds : ℕ) (faults : List (Option ℕ)) : T
   pub some : s.halted ≡ true → (p : ℕ) × (why : ℕ) × HadFault faults p why
 
 -- what the type of a book keeps
-pub record BookKept (p : PlanContents) (count window : ℕ) (s : State) (r : RoundsContents) (ticks : List ℕ) (whys : List (Option ℕ)) : Type 0 where
-  pub rows : RowsPart p count window s (Some r)
+pub record BookKept (p : PlanContents) (window : ℕ) (s : State) (r : PendingContents) (ticks : List ℕ) (whys : List (Option ℕ)) : Type 0 where
+  pub compiled : IsCompiled p
+  pub some_window : 1 ≤ window
+  pub small_window : window ≤ 1024
+  pub pending : PendingKept p window s r
   pub led : IsLed p window s
   pub totals : AreTotals p s ticks
-  pub faults : AreFaults s (rounds_in r.table.lanes) whys
+  pub faults : AreFaults s r.computed whys
 
 -- what holds of a book whenever nobody is inside it: some list of legal events leads to its state, so that its posted rows are a front of
--- the plan's schedule, which is valid; its table holds the first rounds, and none at or past the window
+-- the plan's schedule, which is valid; the first rounds are computed, and none at or past the window
 pub record IsSound (b : BookHeld) : Type 0 where
   pub follows : (log : List Event) × FollowsPlan b.plan b.window log b.state
   pub first : AreFirstRounds b.table.lanes (plan_rows b.plan)
@@ -76,6 +80,10 @@ begun p window = record {
   totals = replicate (length p.set.tasks) 0;
   faults = replicate p.tree.processors None;
 }
+
+-- one round more couldn't be counted
+abbrev pub IsFull : BookHeld → Type 0
+IsFull b = 2 ^ 64 ≤ rounds_in b.table.lanes + 1
 
 -- the book of the set of these bytes, before the first event
 pub record IsBookOf (bytes : List ℕ) (window : ℕ) (b : BookHeld) : Type 0 where

@@ -10,10 +10,10 @@ use Rattle.book_machine.specs.Machine.{posted_at, MayTake, IsLegal, WaitsFor, af
 use Rattle.book_machine.specs.Reached.{OutRow}
 use Rattle.plan_rounds.specs.PlanRows.{plan_rows}
 use Rattle.plan_rounds.specs.Parts.{processor}
-use Rattle.book_steps.specs.Books.{BookHeld, HadFault}
+use Rattle.book_steps.specs.Books.{BookHeld, HadFault, IsFull}
 use Rattle.book_steps.specs.declared.tell.Fault.{Fault}
 use Rattle.book_steps.specs.declared.turns.Turn.{Turn}
-use Rattle.book_steps.specs.declared.turns.Turn.TheVariants.{Ready, Wait, Over, Halted}
+use Rattle.book_steps.specs.declared.turns.Turn.TheVariants.{Ready, Wait, Over, Halted, Full}
 
 -- a take hands this row of processor p out
 pub record Hands (old new : BookHeld) (p : ℕ) (row : Row) : Type 0 where
@@ -35,6 +35,7 @@ Says old new p (Ready row) = Hands old new p row
 Says old new p (Wait lane) = Waits old new p lane
 Says old new p Over = (old.state.halted ≡ false) × (posted_at old.state p ≡ rounds_of old.plan) × (new ≡ old)
 Says old new p Halted = (old.state.halted ≡ true) × (new ≡ old)
+Says old new p Full = IsFull old × (new ≡ old)
 
 -- the totals, with the ticks of a row of this leaf
 abbrev pub with_ticks : List ℕ → Leaf → ℕ → List ℕ

@@ -1,16 +1,15 @@
 //! The book, how it begins, and what holds of it.
-ghost use Rattle.std.specs.Prelude.{◌≡◌, ◌≤◌, ◌*◌, ◌^◌, ◌<◌, None, length, replicate, IfOk, IfErr};
-ghost use Rattle.sched_base.specs.Tables.{row_limit};
-ghost use Rattle.run_tree.specs.Plans.{rounds_of};
+ghost use Rattle.std.specs.Prelude.{◌≡◌, ◌≤◌, [], None, length, replicate, IfOk, IfErr};
+ghost use Rattle.circular_buffer.specs.Buffer.{buffer};
+ghost use Rattle.event_core.specs.Cores.{IsCoreOf};
 ghost use Rattle.book_machine.specs.Machine.{start};
-ghost use Rattle.plan_rounds.specs.PlanRows.{IsCompiled, AreRoundsOf};
-ghost use Rattle.book_steps.specs.Books.{IsBookOf, IsSound, begun, no_rows};
+ghost use Rattle.plan_rounds.specs.PlanRows.{IsCompiled};
+ghost use Rattle.book_steps.specs.Books.{IsBookOf, IsSound, begun};
 ghost use Rattle.book_steps.specs.Refusals.{IsNotBooked};
 
 use crate::faults::BookFault;
+use crate::pending::Pending;
 use book_machine::MachineState;
-use event_core::count_rounds;
-use plan_rounds::Rounds;
 use round_steps::read_plan;
 use run_tree::Plan;
 use sched_base::NoMemory;
@@ -19,20 +18,20 @@ use std::marker::Model;
 
 /// The book of a task set: which rows of its schedule are out and which are posted.
 ///
-/// Rounds are computed on demand: its table holds the first rounds of the schedule, and never one past the window.
+/// Rounds are computed on demand, and never one past the window. It holds the rows that are not posted yet, so its memory goes by the window.
 #[derive(Drop)]
 pub struct StepBook {
     pub(crate) plan: Plan,
-    pub(crate) count: u64,
     pub(crate) window: u32,
     pub(crate) state: MachineState,
-    pub(crate) rounds: Rounds,
+    pub(crate) pending: Pending,
     pub(crate) totals: Vec<u128>,
     pub(crate) faults: Vec<Option<u32>>,
 }
 
 impl Model for StepBook {
     ghost use Rattle.book_steps.specs.Books.{BookHeld, BookKept};
+    ghost use Rattle.book_steps.specs.Pending.{rounds_up_to};
 
     ghost Value = { BookHeld };
 
@@ -40,29 +39,31 @@ impl Model for StepBook {
       plan = b.plan;
       window = b.window;
       state = b.state;
-      table = b.rounds.table;
+      table = rounds_up_to b.plan b.pending.core.tick;
       totals = b.totals.items;
       faults = b.faults.items;
     } };
 
-    ghost invariant = { λ b. BookKept b.plan b.count b.window b.state b.rounds b.totals.items b.faults.items };
+    ghost invariant = { λ b. BookKept b.plan b.window b.state b.pending b.totals.items b.faults.items };
 }
 
 // What a book needs memory for.
 #[derive(Drop)]
 struct Parts {
-    rounds: Rounds,
+    pending: Pending,
     state: MachineState,
     totals: Vec<u128>,
     faults: Vec<Option<u32>>,
 }
 
 impl Parts {
-    fn new(alloc: Global, plan: &Plan, count: u64) -> Result<Parts, NoMemory>
-        requires count { count ≡ rounds_of plan.now }
-        requires few { count < 2 ^ 32 }
-        ensures rounds { IfOk result (λ q. AreRoundsOf plan.now q.rounds) }
-        ensures none { IfOk result (λ q. q.rounds.table ≡ no_rows plan.now) }
+    fn new(alloc: Global, plan: &Plan, window: u32) -> Result<Parts, NoMemory>
+        ensures core { IfOk result (λ q. IsCoreOf plan.now q.pending.core) }
+        ensures start { IfOk result (λ q. q.pending.core.tick ≡ 0) }
+        ensures width { IfOk result (λ q. q.pending.width ≡ plan.now.tree.processors) }
+        ensures rings { IfOk result (λ q. q.pending.rings ≡ replicate plan.now.tree.processors (buffer [] window)) }
+        ensures computed { IfOk result (λ q. q.pending.computed ≡ 0) }
+        ensures given { IfOk result (λ q. q.pending.given ≡ replicate (length plan.now.set.tasks) 0) }
         ensures state { IfOk result (λ q. q.state ≡ start plan.now.tree.processors) }
         ensures totals { IfOk result (λ q. q.totals.items ≡ replicate (length plan.now.set.tasks) 0) }
         ensures faults { IfOk result (λ q. q.faults.items ≡ replicate plan.now.tree.processors None) }
@@ -70,7 +71,7 @@ impl Parts {
         let processors = plan.tree().processors();
         let tasks = plan.set().count();
         Ok(Parts {
-            rounds: Rounds::new(alloc, plan, count)?,
+            pending: Pending::new(alloc, plan, window)?,
             state: MachineState::new(alloc, processors)?,
             totals: vec![in alloc; 0u128; tasks as usize]?,
             faults: vec![in alloc; None; processors as usize]?,
@@ -87,32 +88,28 @@ impl StepBook {
         ensures refused { IfErr result (IsNotBooked bytes.now) }
     {
         let plan = read_plan(alloc, bytes)?;
-        let count = count_rounds(alloc, &plan)?;
-        Ok(StepBook::begin(alloc, plan, count, window)?)
+        Ok(StepBook::begin(alloc, plan, window)?)
     }
 
-    /// The book of a plan with this number of rounds, before the first event.
-    pub fn begin(alloc: Global, plan: Plan, count: u64, window: u32) -> Result<StepBook, NoMemory>
+    /// The book of a plan, before the first event.
+    pub fn begin(alloc: Global, plan: Plan, window: u32) -> Result<StepBook, NoMemory>
         requires compiled { IsCompiled plan }
-        requires count { count ≡ rounds_of plan }
-        requires few { count * plan.tree.processors ≤ row_limit }
         requires some_window { 1 ≤ window }
         requires small_window { window ≤ 1024 }
         ensures { IfOk result (λ b. b ≡ begun plan window) }
     {
         plan.know_lawful();
         let Parts {
-            rounds,
+            pending,
             state,
             totals,
             faults,
-        } = Parts::new(alloc, &plan, count)?;
+        } = Parts::new(alloc, &plan, window)?;
         Ok(StepBook {
             plan,
-            count,
             window,
             state,
-            rounds,
+            pending,
             totals,
             faults,
         })

@@ -1,19 +1,22 @@
 //! Handing rows out.
-ghost use Rattle.std.specs.Prelude.{◌≡◌, ◌<◌, ◌≤◌, ◌+◌, ◌↔◌, length, false, IfSome, IfNone, IsTrue};
-ghost use Rattle.sched_base.specs.Tables.{rounds_of as rounds_in};
+ghost use Rattle.std.specs.Prelude.{◌≡◌, ◌<◌, ◌≤◌, ◌+◌, ◌↔◌, ℕ, length, true, false, IfSome, IfNone, IsTrue};
+ghost use Rattle.sched_base.specs.declared.rows.Row.{Row as DeclaredRow};
+ghost use Rattle.sched_base.specs.Tables.{RowAt, rounds_of as rounds_in};
 ghost use Rattle.run_tree.specs.Plans.{rounds_of};
-ghost use Rattle.book_machine.specs.Machine.{HasTakeable, WaitsFor, lane_at, posted_at, least_posted};
+ghost use Rattle.book_machine.specs.Machine.{EarlierPosted, HasTakeable, IsWaitedFor, PostedBefore, WaitsFor, lane_at, posted_at, least_posted};
 ghost use Rattle.plan_rounds.specs.PlanRows.{plan_rows};
+ghost use Rattle.book_steps.specs.Books.{IsFull};
+ghost use Rattle.book_steps.specs.Pending.{IsPending};
 ghost use Rattle.book_steps.specs.Turns.{Hands, Says};
 
 use crate::book::StepBook;
+use crate::ring::PendingRow;
 use crate::turns::Turn;
-use book_machine::Event;
-use sched_base::{ProcId, Row};
+use sched_base::{Leaf, Row};
 
 impl StepBook {
-    /// Hands the next row of processor p out, where the machine allows it. It computes the row's round first where the table
-    /// doesn't hold it.
+    /// Hands the next row of processor p out, where the machine allows it. It computes the row's round first where it isn't
+    /// computed.
     pub fn take(&mut self, p: u32) -> Turn
         requires lane { p < length self.old.state.lanes }
         requires free { (lane_at self.old.state.lanes p).out ≡ false }
@@ -25,7 +28,9 @@ impl StepBook {
         if self.is_done(p) {
             return Turn::Over;
         }
-        self.compute_for(p);
+        if !self.compute_for(p) {
+            return Turn::Full;
+        }
         if let Some(lane) = self.waits_for(p) {
             return Turn::Wait(lane);
         }
@@ -40,23 +45,37 @@ impl StepBook {
         ensures left { result ≡ false → posted_at self.now.state p < rounds_of self.now.plan }
     {
         self.plan.know_lawful();
-        self.state.posted(p) == self.count
+        self.state.posted(p) == self.pending.computed()
+            && self.pending.tick() == self.plan.rounds_end()
     }
 
-    // Computes the next round of processor p, where a take wants it.
-    fn compute_for(&mut self, p: u32)
+    // Computes the next round of processor p, where a take wants it. It is false where the book is full.
+    fn compute_for(&mut self, p: u32) -> bool
         requires lane { p < length self.old.state.lanes }
         requires left { posted_at self.old.state p < rounds_of self.old.plan }
         ensures book { self.new ≡ record self.old { table = self.new.table } }
-        ensures held { posted_at self.old.state p < least_posted self.old.state + self.old.window →
+        ensures held { result ≡ true → posted_at self.old.state p < least_posted self.old.state + self.old.window →
             posted_at self.old.state p < rounds_in self.new.table.lanes }
+        ensures full { result ≡ false → IsFull self.old × (self.new ≡ self.old) }
     {
-        if self.wants_round(p) {
-            self.compute_next();
+        if !self.wants_round(p) {
+            return true;
         }
+        if self.is_full() {
+            return false;
+        }
+        self.compute_next();
+        true
     }
 
-    // Whether the next round of processor p is in the window, and the table doesn't hold it.
+    /// Whether one round more couldn't be counted. No program sees it: at a million rounds a second it takes half a million years.
+    pub fn is_full(&self) -> bool
+        ensures { IsTrue result ↔ IsFull self.now }
+    {
+        self.pending.computed() == u64::MAX
+    }
+
+    // Whether the next round of processor p is in the window, and isn't computed.
     fn wants_round(&self, p: u32) -> bool
         requires lane { p < length self.now.state.lanes }
         ensures wants { IsTrue result ↔ ((posted_at self.now.state p < least_posted self.now.state + self.now.window)
@@ -64,18 +83,19 @@ impl StepBook {
         ensures held { posted_at self.now.state p ≤ rounds_in self.now.table.lanes }
     {
         let posted = self.state.posted(p);
-        posted - self.state.least() < u64::from(self.window)
-            && self.rounds.table().rounds() <= posted
+        posted - self.state.least() < u64::from(self.window) && self.pending.computed() <= posted
     }
 
     // Computes one round more.
     fn compute_next(&mut self)
         requires left { rounds_in self.old.table.lanes < rounds_of self.old.plan }
         requires in_window { rounds_in self.old.table.lanes < least_posted self.old.state + self.old.window }
+        requires counted { ¬ (IsFull self.old) }
         ensures book { self.new ≡ record self.old { table = self.new.table } }
         ensures one_more { rounds_in self.new.table.lanes ≡ rounds_in self.old.table.lanes + 1 }
     {
-        self.rounds.compute_next(&self.plan);
+        self.plan.know_lawful();
+        self.pending.compute_next(&self.plan);
     }
 
     // The processor for which processor p waits.
@@ -88,8 +108,67 @@ impl StepBook {
         ensures none { IfNone result (HasTakeable (plan_rows self.now.plan) self.now.window self.now.state p) }
     {
         self.plan.know_lawful();
-        self.state
-            .waits_by_link(self.rounds.linked(), self.window, p)
+        let round = self.state.posted(p);
+        if round - self.state.least() >= u64::from(self.window) {
+            return Some(self.state.lowest());
+        }
+        let next = self.pending.first(p);
+        if self.is_clear(p, next) {
+            None
+        } else {
+            self.lowest_with(p, round, next.row.leaf)
+        }
+    }
+
+    // Whether one look tells that the next row of processor p waits for none: its task has the ticks of its earlier rows, or all rows of
+    // earlier rounds are posted.
+    fn is_clear(&self, p: u32, next: PendingRow) -> bool
+        requires lane { p < length self.now.state.lanes }
+        requires next { IsPending (plan_rows self.now.plan) p (posted_at self.now.state p) next }
+        ensures { IsTrue result → EarlierPosted (plan_rows self.now.plan) self.now.state.lanes p (posted_at self.now.state p) next.row.leaf }
+    {
+        self.plan.know_lawful();
+        match next.row.leaf {
+            Leaf::Task(task) => self.total(task.0) == next.before,
+            Leaf::Wait(_) => self.is_least(p),
+            Leaf::Idle(_) => self.is_least(p),
+            Leaf::Empty => self.is_least(p),
+        }
+    }
+
+    // Whether processor p has the least posted count.
+    fn is_least(&self, p: u32) -> bool
+        requires { p < length self.now.state.lanes }
+        ensures { IsTrue result → posted_at self.now.state p ≡ least_posted self.now.state }
+    {
+        self.state.posted(p) == self.state.least()
+    }
+
+    // The lowest other processor that has an unposted row of the leaf before the round.
+    fn lowest_with(&self, p: u32, round: u64, leaf: Leaf) -> Option<u32>
+        requires round { round ≤ rounds_in self.now.table.lanes }
+        ensures none { IfNone result (EarlierPosted (plan_rows self.now.plan) self.now.state.lanes p round leaf) }
+        ensures some { IfSome result (λ q. IsWaitedFor (plan_rows self.now.plan) self.now.state.lanes p round leaf q) }
+    {
+        self.plan.know_lawful();
+        for q in 0..self.processors() {
+            if q != p && self.has_unposted(q, round, leaf) {
+                return Some(q);
+            }
+        }
+        None
+    }
+
+    // Whether processor q has an unposted row of the leaf before the round.
+    fn has_unposted(&self, q: u32, round: u64, leaf: Leaf) -> bool
+        requires processor { q < length self.now.state.lanes }
+        requires round { round ≤ rounds_in self.now.table.lanes }
+        ensures some { result ≡ true → (j : ℕ) × (r : DeclaredRow) × (posted_at self.now.state q ≤ j) × (j < round) × RowAt (plan_rows self.now.plan) q j r × (r.leaf ≡ leaf) }
+        ensures none { result ≡ false → PostedBefore (plan_rows self.now.plan) self.now.state.lanes q round leaf }
+    {
+        self.plan.know_lawful();
+        let posted = self.state.posted(q);
+        self.pending.has(q, round.saturating_sub(posted), leaf)
     }
 
     // Hands the next row of processor p out, which may be taken.
@@ -101,9 +180,8 @@ impl StepBook {
         ensures { Hands self.old self.new p result }
     {
         self.plan.know_lawful();
-        let row = self.rounds.table().row(p, self.state.posted(p));
-        self.state
-            .step(self.rounds.table(), self.window, Event::Take(ProcId(p)));
-        row
+        let next = self.pending.first(p);
+        self.state.hand_out(p);
+        next.row
     }
 }

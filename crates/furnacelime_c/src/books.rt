@@ -4,7 +4,7 @@ ghost use Rattle.book_steps.specs.Books.{IsBookOf};
 ghost use Rattle.book_steps.specs.Refusals.{IsNotBooked};
 ghost use Rattle.book_steps.specs.Turns.{Posts, Halts, Waits};
 ghost use Rattle.furnacelime_c.specs.Books.{TellsBook, IsBookOpened, IsBookNotOpened, Goes, IsRowTold, IsAllPosted, IsHalted, CantTake};
-ghost use Rattle.furnacelime_c.specs.Books.{CantPost, PostsAndTakes, PostsAndWaits, PostsAndEnds, PostsAndHalts, TellsEnd, TellsFault, IsShortOf};
+ghost use Rattle.furnacelime_c.specs.Books.{CantPost, CantPostAndTake, PostsAndTakes, PostsAndWaits, PostsAndEnds, PostsAndHalts, TellsEnd, TellsFault, IsShortOf};
 
 use book_steps::{BookFault, StepBook, Turn};
 use c_handles::BookHandle;
@@ -23,7 +23,8 @@ const WAIT: u8 = 66;
 /// The status of a take after a failure.
 const HALTED: u8 = 67;
 
-/// What a book is about: the ticks of a unit, the tick at which the last round ends, and the numbers of processors and tasks.
+/// What a book is about: the ticks of a unit, the tick at which the last round ends, the numbers of processors and tasks, and 1 where the schedule
+/// can be run again and again, else 0.
 #[repr(C)]
 #[derive(Clone, Copy, Debug, PartialEq, Eq)]
 pub struct BookAbout {
@@ -31,6 +32,7 @@ pub struct BookAbout {
     pub end: Halves,
     pub processors: u32,
     pub tasks: u32,
+    pub repeats: u32,
 }
 
 /// A row, in ticks, or for whom a processor waits.
@@ -142,7 +144,7 @@ pub extern "C" fn furnacelime_post_and_take(
     ensures wait { result ≡ 66 → Goes book.book kept.new.book (λ old new. PostsAndWaits old new processor row.new.waits_for) }
     ensures over { result ≡ 65 → Goes book.book kept.new.book (λ old new. PostsAndEnds old new processor) }
     ensures halted { result ≡ 67 → Goes book.book kept.new.book (λ old new. PostsAndHalts old new processor) }
-    ensures wrong { result ≡ 64 → Goes book.book kept.new.book (λ old new. CantPost old new processor) }
+    ensures wrong { result ≡ 64 → Goes book.book kept.new.book (λ old new. CantPostAndTake old new processor) }
     ensures status { (result ≡ 0) ⊎ ((result ≡ 64) ⊎ ((result ≡ 65) ⊎ ((result ≡ 66) ⊎ (result ≡ 67)))) }
 {
     let mut steps = book.into_box(alloc);
@@ -227,6 +229,7 @@ fn about_of(book: &StepBook) -> BookAbout
         end: halves_of(book.end()),
         processors: book.processors(),
         tasks: book.tasks(),
+        repeats: u32::from(book.can_repeat()),
     }
 }
 
@@ -258,6 +261,7 @@ fn take_turn(book: &mut StepBook, processor: u32, row: &mut BookRow) -> u8
         }
         Turn::Over => OVER,
         Turn::Halted => HALTED,
+        Turn::Full => WRONG_CALL,
     }
 }
 
@@ -279,10 +283,13 @@ fn post_and_take(book: &mut StepBook, processor: u32, row: &mut BookRow) -> u8
     ensures wait { result ≡ 66 → PostsAndWaits book.old book.new processor row.new.waits_for }
     ensures over { result ≡ 65 → PostsAndEnds book.old book.new processor }
     ensures halted { result ≡ 67 → PostsAndHalts book.old book.new processor }
-    ensures wrong { result ≡ 64 → CantPost book.old book.new processor }
+    ensures wrong { result ≡ 64 → CantPostAndTake book.old book.new processor }
     ensures status { (result ≡ 0) ⊎ ((result ≡ 64) ⊎ ((result ≡ 65) ⊎ ((result ≡ 66) ⊎ (result ≡ 67)))) }
 {
     if processor >= book.processors() || !book.is_out(processor) {
+        return WRONG_CALL;
+    }
+    if book.is_full() {
         return WRONG_CALL;
     }
     book.post(processor);
@@ -299,6 +306,7 @@ fn post_and_take(book: &mut StepBook, processor: u32, row: &mut BookRow) -> u8
         }
         Turn::Over => OVER,
         Turn::Halted => HALTED,
+        Turn::Full => unreachable!(),
     }
 }
 

@@ -1,19 +1,40 @@
-use Rattle.std.proofs.Common.{◌*◌, ap, arith}
-use Rattle.sched_base.specs.Tables.{Table, rounds_of as rounds_in}
-use Rattle.run_tree.specs.Plans.{IsPlan}
-use Rattle.plan_rounds.proofs.RowLemmas.{RowsPart-start}
+use Rattle.std.proofs.Common.{ℕ, List, Option, ◌∙◌, ap, length, replicate}
+use Rattle.sched_base.specs.Tables.{Table}
+use Rattle.run_tree.specs.Plans.{IsPlan, PlanContents}
+use Rattle.book_machine.specs.Machine.{State, start}
+use Rattle.book_steps.specs.Books.{BookHeld, no_rows}
+use Rattle.book_steps.specs.Pending.{rounds_up_to}
 use Rattle.book_steps.proofs.BookLemmas.{AreFaults-start, AreTotals-start, IsLed-start}
+use Rattle.book_steps.proofs.PendingLemmas.{PendingKept-start, no_rows_yet}
 use Rattle.book_steps.proofs.book.StepBook.begin.Goals as goal
 
 pub invariant_of-result : goal.invariant_of-result
 invariant_of-result c =
     let p = c.args.plan in
     let lawful : IsPlan p = c.know_lawful.ensures.lawful in
-    let parts = c.in_ok-rounds.field-0 in
-    let are = c.in_ok-rounds.ensures in
+    let parts = c.in_ok-pending.field-0 in
+    let are = c.in_ok-pending.ensures in
     record {
-      rows = RowsPart-start p c.args.count c.args.window parts.state parts.rounds c.requires.compiled c.requires.count (let few = c.requires.few in let all = ap (λ n. n * p.tree.processors) c.requires.count in omega (arith, few, all)) c.requires.some_window c.requires.small_window are.rounds (ap (λ (t : Table). t.lanes) are.none) are.state;
+      compiled = c.requires.compiled;
+      some_window = c.requires.some_window;
+      small_window = c.requires.small_window;
+      pending = PendingKept-start p lawful c.args.window parts.state are.state parts.pending are.core are.start are.width are.rings are.computed are.given;
       led = IsLed-start p lawful c.args.window parts.state are.state;
       totals = AreTotals-start p parts.state parts.totals.items p.tree.processors are.state are.totals;
-      faults = AreFaults-start parts.state (rounds_in parts.rounds.table.lanes) parts.faults.items p.tree.processors are.state are.faults;
+      faults = AreFaults-start parts.state parts.pending.computed parts.faults.items p.tree.processors are.state are.faults;
     }
+
+abbrev held : PlanContents → ℕ → State → Table → List ℕ → List (Option ℕ) → BookHeld
+held p window s table ticks whys = record { plan = p; window = window; state = s; table = table; totals = ticks; faults = whys }
+
+pub returns : goal.returns
+returns c =
+    let p = c.args.plan in
+    let w = c.args.window in
+    let parts = c.in_ok-pending.field-0 in
+    let are = c.in_ok-pending.ensures in
+    let table = rounds_up_to p parts.pending.core.tick in
+    ap (λ s. held p w s table parts.totals.items parts.faults.items) are.state
+    ∙ ap (λ t. held p w (start p.tree.processors) t parts.totals.items parts.faults.items) (no_rows_yet p c.know_lawful.ensures.lawful parts.pending.core.tick are.start)
+    ∙ ap (λ ticks. held p w (start p.tree.processors) (no_rows p) ticks parts.faults.items) are.totals
+    ∙ ap (held p w (start p.tree.processors) (no_rows p) (replicate (length p.set.tasks) 0)) are.faults

@@ -1,26 +1,18 @@
-use Rattle.std.proofs.Common.{◌≡◌, ◌<◌, true, false, refl, arith, length}
-use Rattle.sched_base.specs.declared.rows.Row.{Row}
-use Rattle.sched_base.specs.Tables.{RowAt, rounds_of as rounds_in}
+use Rattle.std.proofs.Common.{◌≡◌, ◌<◌, false, true, refl, arith, length}
 use Rattle.book_machine.specs.declared.machine.LaneState.{LaneState}
 use Rattle.book_machine.specs.declared.events.Event.TheVariants.{Halt}
 use Rattle.book_machine.specs.Machine.{posted_at, IsOut}
-use Rattle.book_machine.specs.Rounds.{AreFirstRounds}
 use Rattle.book_machine.proofs.Lanes.{out_within}
-use Rattle.book_machine.proofs.RoundLemmas.{row_of_all}
-use Rattle.plan_rounds.specs.PlanRows.{plan_rows}
-use Rattle.plan_rounds.specs.Parts.{RowsKept, processor}
-use Rattle.plan_rounds.proofs.RoundLemmas.{first_rounds}
-use Rattle.plan_rounds.proofs.RowLemmas.{RowsPart-set}
+use Rattle.plan_rounds.specs.Parts.{processor}
+use Rattle.book_steps.specs.Pending.{PendingKept}
 use Rattle.book_steps.proofs.BookLemmas.{AreFaults-halt, AreTotals-same, IsLed-next}
+use Rattle.book_steps.proofs.PendingLemmas.{PendingKept-same}
 use Rattle.book_steps.proofs.book.StepBook.halt.Goals.{After-know_lawful}
 use Rattle.book_steps.proofs.book.StepBook.halt.Goals as goal
 
 module _ (c : After-know_lawful) where
-  kept : RowsKept c.self.inside.plan c.self.inside.window c.self.inside.state c.self.inside.rounds
-  kept = c.self.invariant.rows.kept
-
-  first : AreFirstRounds c.self.inside.rounds.table.lanes (plan_rows c.self.inside.plan)
-  first = first_rounds c.self.inside.plan c.know_lawful.ensures.lawful c.self.inside.rounds kept.rounds
+  pending : PendingKept c.self.inside.plan c.self.inside.window c.self.inside.state c.self.inside.pending
+  pending = c.self.invariant.pending
 
   out : IsOut c.self.inside.state c.args.p
   out = rw (← c.self.view_is) at c.requires
@@ -28,19 +20,30 @@ module _ (c : After-know_lawful) where
   within : c.args.p < length c.self.inside.state.lanes
   within = out_within c.self.inside.state.lanes c.args.p out
 
-  on_plan : (row : Row) → RowAt c.self.inside.rounds.table.lanes c.args.p (posted_at c.self.inside.state c.args.p) row → RowAt (plan_rows c.self.inside.plan) c.args.p (posted_at c.self.inside.state c.args.p) row
-  on_plan row at = row_of_all c.self.inside.rounds.table.lanes (plan_rows c.self.inside.plan) first c.args.p (posted_at c.self.inside.state c.args.p) row at
+  below : posted_at c.self.inside.state c.args.p < c.self.inside.pending.computed
+  below =
+      let low = pending.kept.out c.args.p out in
+      let seen = pending.kept.rounds.count in
+      let is = pending.computed in
+      omega (arith, low, seen, is)
+
+pub put_back-requires : goal.put_back-requires
+put_back-requires c = out (goal.at.put_back-requires c).After-know_lawful
 
 pub invariant_of-self : goal.invariant_of-self
 invariant_of-self c =
     let r = (goal.at.invariant_of-self c).After-know_lawful in
     let q = c.args.p in
     let plan = c.self.inside.plan in
+    let lawful = c.know_lawful.ensures.lawful in
     let s = c.self.inside.state in
     let lane : LaneState = record { posted = posted_at s q; out = false } in
-    rw c.step.ensures (record {
-      rows = RowsPart-set plan c.self.inside.window s q lane true c.self.inside.count c.self.inside.rounds c.self.invariant.rows (within r) (omega arith) ((kept r).posted q) (λ o. let e : false ≡ true = o in absurd (cc));
-      led = IsLed-next plan c.know_lawful.ensures.lawful c.self.inside.window s c.self.invariant.led (Halt (processor q)) (out r);
+    rw c.put_back.ensures (record {
+      compiled = c.self.invariant.compiled;
+      some_window = c.self.invariant.some_window;
+      small_window = c.self.invariant.small_window;
+      pending = PendingKept-same plan lawful c.self.inside.window s q lane true c.self.inside.pending (pending r) (within r) refl (λ o. let e : false ≡ true = o in absurd (cc));
+      led = IsLed-next plan lawful c.self.inside.window s c.self.invariant.led (Halt (processor q)) (out r);
       totals = AreTotals-same plan s c.self.inside.totals.items q lane true (within r) refl c.self.invariant.totals;
-      faults = AreFaults-halt s (rounds_in c.self.inside.rounds.table.lanes) q c.args.why lane c.self.inside.faults.items refl ((kept r).out q (out r)) (within r) c.self.invariant.faults;
+      faults = AreFaults-halt s c.self.inside.pending.computed q c.args.why lane c.self.inside.faults.items refl (below r) (within r) c.self.invariant.faults;
     })

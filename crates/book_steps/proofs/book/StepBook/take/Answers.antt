@@ -19,7 +19,7 @@ waits_for-requires-clause-held c in_window =
     let new : BookHeld = c.compute_for.new.self in
     let same = c.compute_for.ensures.book in
     subst (λ n. n < rounds_in new.table.lanes) (sym (ap (λ (b : BookHeld). posted_at b.state c.args.p) same))
-    (c.compute_for.ensures.held (subst (λ (b : BookHeld). posted_at b.state c.args.p < least_posted b.state + b.window) same in_window))
+    (c.compute_for.ensures.held c.if-not-compute_for.false (subst (λ (b : BookHeld). posted_at b.state c.args.p < least_posted b.state + b.window) same in_window))
 
 pub hand_out-row-requires-clause-free : goal.hand_out-row-requires-clause-free
 hand_out-row-requires-clause-free c = ap (λ (b : BookHeld). (lane_at b.state.lanes c.args.p).out) c.compute_for.ensures.book ∙ c.requires.free
@@ -32,7 +32,7 @@ hand_out-row-requires-clause-held c =
     let new : BookHeld = c.compute_for.new.self in
     let same = c.compute_for.ensures.book in
     subst (λ n. n < rounds_in new.table.lanes) (sym (ap (λ (b : BookHeld). posted_at b.state c.args.p) same))
-    (c.compute_for.ensures.held (subst (λ (b : BookHeld). posted_at b.state c.args.p < least_posted b.state + b.window) same c.in_default.ensures.none.in_window))
+    (c.compute_for.ensures.held c.if-not-compute_for.false (subst (λ (b : BookHeld). posted_at b.state c.args.p < least_posted b.state + b.window) same c.in_default.ensures.none.in_window))
 
 pub hand_out-row-requires-clause-running : goal.hand_out-row-requires-clause-running
 hand_out-row-requires-clause-running c = ap (λ (b : BookHeld). b.state.halted) c.compute_for.ensures.book ∙ not_halted c.args.self.now.state.halted c.halted.result c.halted.ensures.1 c.if-halted.false
@@ -73,3 +73,6 @@ returns-then-is_done c = (not_halted c.args.self.now.state.halted c.halted.resul
 
 pub compute_for-requires-clause-left : goal.compute_for-requires-clause-left
 compute_for-requires-clause-left c = c.is_done.ensures.left c.if-is_done.false
+
+pub returns-then-not-compute_for : goal.returns-then-not-compute_for
+returns-then-not-compute_for c = c.compute_for.ensures.full c.if-not-compute_for.true

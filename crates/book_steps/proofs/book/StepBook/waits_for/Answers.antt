@@ -1,59 +1,194 @@
-use Rattle.std.proofs.Common.{◌∙◌, IfSome, IfNone, sym}
-use Rattle.run_tree.specs.Plans.{PlanContents}
-use Rattle.book_machine.specs.Machine.{HasTakeable, WaitsFor}
-use Rattle.book_machine.specs.Rounds.{AreFirstRounds}
-use Rattle.plan_rounds.specs.PlanRows.{RoundsContents, plan_rows}
-use Rattle.plan_rounds.specs.Parts.{RowsKept}
-use Rattle.plan_rounds.proofs.RoundLemmas.{first_rounds}
-use Rattle.plan_rounds.proofs.RowLemmas.{IfNone-by, IfSome-by, HasTakeable-all, WaitsFor-all, in_order_first, waited_is_behind}
-use Rattle.book_steps.proofs.book.StepBook.waits_for.Goals.{After-waits_by_link}
+use Rattle.std.proofs.Common.{◌≡◌, ◌<◌, ◌≤◌, ◌+◌, ℕ, inl, inr, Option, Some, IfSome, length, subst, arith}
+use Rattle.std.specs.Prelude.{slice_get}
+use Rattle.book_machine.specs.Machine.{EarlierPosted, IsWaitedFor, WaitsFor, least_posted, posted_at}
+use Rattle.book_machine.proofs.Lanes.{least_le}
+use Rattle.plan_rounds.specs.PlanRows.{plan_rows}
+use Rattle.plan_rounds.proofs.RoundLemmas.{plan_lanes}
+use Rattle.plan_rounds.proofs.RowLemmas.{IfNone-by, IfSome-by, waited_is_behind}
+use Rattle.book_steps.specs.declared.ring.PendingRow.{PendingRow}
+use Rattle.book_steps.specs.Pending.{IsPending, PendingKept, ring_at}
+use Rattle.book_steps.proofs.PendingLemmas.{computed_is, first_is, some_pending}
+use Rattle.book_steps.proofs.book.StepBook.waits_for.Goals.{After-know_lawful}
 use Rattle.book_steps.proofs.book.StepBook.waits_for.Goals as goal
 
-module _ (c : After-waits_by_link) where
-  abbrev plan : PlanContents
-  plan = c.self.inside.plan
+module _ (c : After-know_lawful) where
+  pending : PendingKept c.self.inside.plan c.self.inside.window c.self.inside.state c.self.inside.pending
+  pending = c.self.invariant.pending
 
-  abbrev held : RoundsContents
-  held = c.self.inside.rounds
+  within : c.args.p < length c.self.inside.state.lanes
+  within = rw (← c.self.view_is) at c.requires.lane
 
-  kept : RowsKept plan c.self.inside.window c.self.inside.state held
-  kept = c.self.invariant.rows.kept
+  inside : c.args.p < c.self.inside.plan.tree.processors
+  inside =
+      let low = within in
+      let long = c.self.invariant.led.1.reached.lanes in
+      let many = plan_lanes c.self.inside.plan c.know_lawful.ensures.lawful in
+      omega (arith, low, long, many)
 
-  first : AreFirstRounds held.table.lanes (plan_rows plan)
-  first = first_rounds plan c.know_lawful.ensures.lawful held kept.rounds
+  low : least_posted c.self.inside.state ≤ posted_at c.self.inside.state c.args.p
+  low = least_le c.self.inside.state.lanes c.args.p within
 
-  found : IfSome c.waits_by_link.result (λ q. WaitsFor held.table.lanes c.self.inside.window c.self.inside.state c.args.p q)
-  found = rw c.linked.ensures at c.waits_by_link.ensures.some
+  -- in the window the next row is computed
+  below : posted_at c.self.inside.state c.args.p < least_posted c.self.inside.state + c.self.inside.window → posted_at c.self.inside.state c.args.p < c.self.inside.pending.computed
+  below near =
+      let held = (rw (← c.self.view_is) at c.requires.held) near in
+      let is = computed_is c.self.inside.plan c.know_lawful.ensures.lawful c.self.inside.window c.self.inside.state c.self.inside.pending pending in
+      omega (arith, held, is)
 
-  ready : IfNone c.waits_by_link.result (HasTakeable held.table.lanes c.self.inside.window c.self.inside.state c.args.p)
-  ready = rw c.linked.ensures at c.waits_by_link.ensures.none
+  next_is : (next : PendingRow) → posted_at c.self.inside.state c.args.p < least_posted c.self.inside.state + c.self.inside.window → slice_get (ring_at c.self.inside.pending.rings c.args.p).items 0 ≡ Some next
+      → IsPending (plan_rows c.args.self.now.plan) c.args.p (posted_at c.args.self.now.state c.args.p) next
+  next_is next near got = rw (← c.self.view_is) (first_is c.self.inside.plan c.know_lawful.ensures.lawful c.self.inside.window c.self.inside.state c.self.inside.pending pending c.args.p inside (below near) next got)
 
-pub waits_by_link-requires-clause-in_order : goal.waits_by_link-requires-clause-in_order
-waits_by_link-requires-clause-in_order c =
-    let p = c.self.inside.plan in
-    let rounds = c.self.inside.rounds in
-    let kept : RowsKept p c.self.inside.window c.self.inside.state rounds = c.self.invariant.rows.kept in
-    rw c.linked.ensures (in_order_first rounds.table.lanes (plan_rows p) (first_rounds p c.know_lawful.ensures.lawful rounds kept.rounds) c.self.inside.state c.self.invariant.led.1.reached.posted_after_earlier)
+  -- the lane that is found is the one waited for
+  waits_in : (next : PendingRow) → posted_at c.self.inside.state c.args.p < least_posted c.self.inside.state + c.self.inside.window → slice_get (ring_at c.self.inside.pending.rings c.args.p).items 0 ≡ Some next
+      → (round : ℕ) → round ≡ posted_at c.self.inside.state c.args.p → (found : Option ℕ) → IfSome found (λ q. IsWaitedFor (plan_rows c.args.self.now.plan) c.args.self.now.state.lanes c.args.p round next.row.leaf q)
+      → IfSome found (λ q. WaitsFor (plan_rows c.args.self.now.plan) c.args.self.now.window c.args.self.now.state c.args.p q)
+  waits_in next close got round posted found waited =
+      let near : posted_at c.args.self.now.state c.args.p < least_posted c.args.self.now.state + c.args.self.now.window = rw (← c.self.view_is) close in
+      let here : round ≡ posted_at c.args.self.now.state c.args.p = rw (← c.self.view_is) posted in
+      IfSome-by found _ _ (λ q w. inr (
+        near,
+        (
+          next.row,
+          (next_is next close got).row,
+          subst (λ n. IsWaitedFor (plan_rows c.args.self.now.plan) c.args.self.now.state.lanes c.args.p n next.row.leaf q) here w,
+        ),
+      )) waited
 
-pub returns-clause-some : goal.returns-clause-some
-returns-clause-some c = rw (← c.self.view_is) (IfSome-by c.waits_by_link.result _ _ (λ q. WaitsFor-all (held c).table.lanes (plan_rows (plan c)) (first c) (kept c).rounds.table c.self.inside.window c.self.inside.state c.args.p q) (found c))
+pub posted-round-requires : goal.posted-round-requires
+posted-round-requires c = within (goal.at.posted-round-requires c).After-know_lawful
 
-pub returns-clause-behind : goal.returns-clause-behind
-returns-clause-behind c = rw (← c.self.view_is) (IfSome-by c.waits_by_link.result _ _ (λ q. waited_is_behind (held c).table.lanes c.self.inside.window c.self.inside.state c.args.p q c.self.invariant.rows.some_window) (found c))
+pub overflow_sub-round : goal.overflow_sub-round
+overflow_sub-round c =
+    let most = low (goal.at.overflow_sub-round c).After-know_lawful in
+    let posted = c.posted-round.ensures in
+    let least = c.least.ensures in
+    omega (arith, most, posted, least)
 
-pub returns-clause-none : goal.returns-clause-none
-returns-clause-none c = rw (← c.self.view_is) (IfNone-by c.waits_by_link.result _ _ (HasTakeable-all (held c).table.lanes (plan_rows (plan c)) (first c) (kept c).rounds.table c.self.inside.window c.self.inside.state c.args.p) (ready c))
+pub lowest-requires-clause-some : goal.lowest-requires-clause-some
+lowest-requires-clause-some c =
+    let inside = within (goal.at.lowest-requires-clause-some c).After-know_lawful in
+    omega (arith, inside)
 
-pub waits_by_link-requires-clause-lane : goal.waits_by_link-requires-clause-lane
-waits_by_link-requires-clause-lane c = rw (← c.self.view_is) at c.requires.lane
+pub lowest-requires-clause-few : goal.lowest-requires-clause-few
+lowest-requires-clause-few c =
+    let long = c.self.invariant.led.1.reached.lanes in
+    let many = plan_lanes c.self.inside.plan c.know_lawful.ensures.lawful in
+    let few = c.know_lawful.ensures.lawful.sized.few_processors in
+    omega (arith, long, many, few)
 
-pub waits_by_link-requires-clause-round : goal.waits_by_link-requires-clause-round
-waits_by_link-requires-clause-round c =
-    let held = rw (← c.self.view_is) at c.requires.held in
-    rw c.linked.ensures held
+pub returns-then-round-least-clause-some : goal.returns-then-round-least-clause-some
+returns-then-round-least-clause-some c =
+    let most = low (goal.at.returns-then-round-least-clause-some c).After-know_lawful in
+    let posted = c.posted-round.ensures in
+    let least = c.least.ensures in
+    let window = c.from.ensures in
+    let far = c.if-round-least.true in
+    rw (← c.self.view_is) (inl (omega (arith, most, posted, least, window, far), c.lowest.ensures))
 
-pub waits_by_link-requires-clause-lanes : goal.waits_by_link-requires-clause-lanes
-waits_by_link-requires-clause-lanes c =
-    let p = c.self.inside.plan in
-    let kept : RowsKept p c.self.inside.window c.self.inside.state c.self.inside.rounds = c.self.invariant.rows.kept in
-    rw c.linked.ensures (c.self.invariant.led.1.reached.lanes ∙ sym (first_rounds p c.know_lawful.ensures.lawful c.self.inside.rounds kept.rounds).same_lanes)
+pub returns-then-round-least-clause-behind : goal.returns-then-round-least-clause-behind
+returns-then-round-least-clause-behind c =
+    let most = low (goal.at.returns-then-round-least-clause-behind c).After-know_lawful in
+    let posted = c.posted-round.ensures in
+    let least = c.least.ensures in
+    let window = c.from.ensures in
+    let far = c.if-round-least.true in
+    rw (← c.self.view_is) (waited_is_behind (plan_rows c.self.inside.plan) c.self.inside.window c.self.inside.state c.args.p c.lowest.result c.self.invariant.some_window (inl (omega (arith, most, posted, least, window, far), c.lowest.ensures)))
+
+pub first-next-requires-clause-processor : goal.first-next-requires-clause-processor
+first-next-requires-clause-processor c =
+    let held = inside (goal.at.first-next-requires-clause-processor c).After-know_lawful in
+    let many = c.self.invariant.pending.many in
+    omega (arith, held, many)
+
+pub first-next-requires-clause-some : goal.first-next-requires-clause-some
+first-next-requires-clause-some c =
+    let r = (goal.at.first-next-requires-clause-some c).After-know_lawful in
+    let most = low r in
+    let posted = c.posted-round.ensures in
+    let least = c.least.ensures in
+    let window = c.from.ensures in
+    let near = c.if-round-least.false in
+    some_pending c.self.inside.plan c.know_lawful.ensures.lawful c.self.inside.window c.self.inside.state c.self.inside.pending (pending r) c.args.p (inside r) (below r (omega (arith, most, posted, least, window, near)))
+
+pub is_clear-requires-clause-lane : goal.is_clear-requires-clause-lane
+is_clear-requires-clause-lane c = c.requires.lane
+
+pub is_clear-requires-clause-next : goal.is_clear-requires-clause-next
+is_clear-requires-clause-next c =
+    let r = (goal.at.is_clear-requires-clause-next c).After-know_lawful in
+    let most = low r in
+    let posted = c.posted-round.ensures in
+    let least = c.least.ensures in
+    let window = c.from.ensures in
+    let near = c.if-round-least.false in
+    next_is r c.first-next.result (omega (arith, most, posted, least, window, near)) c.first-next.ensures
+
+pub lowest_with-requires : goal.lowest_with-requires
+lowest_with-requires c =
+    let r = (goal.at.lowest_with-requires c).After-know_lawful in
+    let most = low r in
+    let posted = c.posted-round.ensures in
+    let least = c.least.ensures in
+    let window = c.from.ensures in
+    let near = c.if-round-least.false in
+    let held = below r (omega (arith, most, posted, least, window, near)) in
+    let is = computed_is c.self.inside.plan c.know_lawful.ensures.lawful c.self.inside.window c.self.inside.state c.self.inside.pending (pending r) in
+    record { round = rw (← c.self.view_is) (omega (arith, held, posted, is)) }
+
+pub returns-then-is_clear-clause-none : goal.returns-then-is_clear-clause-none
+returns-then-is_clear-clause-none c =
+    let r = (goal.at.returns-then-is_clear-clause-none c).After-know_lawful in
+    let most = low r in
+    let posted = c.posted-round.ensures in
+    let least = c.least.ensures in
+    let window = c.from.ensures in
+    let near = c.if-round-least.false in
+    let close : posted_at c.self.inside.state c.args.p < least_posted c.self.inside.state + c.self.inside.window = omega (arith, most, posted, least, window, near) in
+    record {
+      in_window = rw (← c.self.view_is) close;
+      next = (c.first-next.result.row, (next_is r c.first-next.result close c.first-next.ensures).row, c.is_clear.ensures c.if-is_clear.true);
+    }
+
+pub returns-else-is_clear-clause-some : goal.returns-else-is_clear-clause-some
+returns-else-is_clear-clause-some c =
+    let r = (goal.at.returns-else-is_clear-clause-some c).After-know_lawful in
+    let most = low r in
+    let posted = c.posted-round.ensures in
+    let least = c.least.ensures in
+    let window = c.from.ensures in
+    let near = c.if-round-least.false in
+    let close : posted_at c.self.inside.state c.args.p < least_posted c.self.inside.state + c.self.inside.window = omega (arith, most, posted, least, window, near) in
+    waits_in r c.first-next.result close c.first-next.ensures c.posted-round.result posted c.lowest_with.result c.lowest_with.ensures.some
+
+pub returns-else-is_clear-clause-behind : goal.returns-else-is_clear-clause-behind
+returns-else-is_clear-clause-behind c =
+    let r = (goal.at.returns-else-is_clear-clause-behind c).After-know_lawful in
+    let most = low r in
+    let posted = c.posted-round.ensures in
+    let least = c.least.ensures in
+    let window = c.from.ensures in
+    let near = c.if-round-least.false in
+    let close : posted_at c.self.inside.state c.args.p < least_posted c.self.inside.state + c.self.inside.window = omega (arith, most, posted, least, window, near) in
+    let some : 1 ≤ c.args.self.now.window = rw (← c.self.view_is) c.self.invariant.some_window in
+    IfSome-by c.lowest_with.result _ _ (λ q. waited_is_behind (plan_rows c.args.self.now.plan) c.args.self.now.window c.args.self.now.state c.args.p q some)
+    (waits_in r c.first-next.result close c.first-next.ensures c.posted-round.result posted c.lowest_with.result c.lowest_with.ensures.some)
+
+pub returns-else-is_clear-clause-none : goal.returns-else-is_clear-clause-none
+returns-else-is_clear-clause-none c =
+    let r = (goal.at.returns-else-is_clear-clause-none c).After-know_lawful in
+    let most = low r in
+    let posted = c.posted-round.ensures in
+    let least = c.least.ensures in
+    let window = c.from.ensures in
+    let near = c.if-round-least.false in
+    let close : posted_at c.self.inside.state c.args.p < least_posted c.self.inside.state + c.self.inside.window = omega (arith, most, posted, least, window, near) in
+    let here : c.posted-round.result ≡ posted_at c.args.self.now.state c.args.p = rw (← c.self.view_is) posted in
+    IfNone-by c.lowest_with.result _ _ (λ earlier. record {
+      in_window = rw (← c.self.view_is) close;
+      next = (
+        c.first-next.result.row,
+        (next_is r c.first-next.result close c.first-next.ensures).row,
+        subst (λ n. EarlierPosted (plan_rows c.args.self.now.plan) c.args.self.now.state.lanes c.args.p n c.first-next.result.row.leaf) here earlier,
+      );
+    }) c.lowest_with.ensures.none

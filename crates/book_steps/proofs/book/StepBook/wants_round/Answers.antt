@@ -1,6 +1,5 @@
 use Rattle.std.proofs.Common.{arith}
 use Rattle.book_machine.proofs.Lanes.{least_le}
-use Rattle.plan_rounds.specs.Parts.{RowsKept}
 use Rattle.book_steps.proofs.book.StepBook.wants_round.Goals as goal
 
 pub overflow_sub-posted : goal.overflow_sub-posted
@@ -15,11 +14,7 @@ pub posted-posted-requires : goal.posted-posted-requires
 posted-posted-requires c = rw (← c.self.view_is) at c.requires.lane
 
 pub returns-then-posted-least-clause-held : goal.returns-then-posted-least-clause-held
-returns-then-posted-least-clause-held c =
-    let kept : RowsKept c.self.inside.plan c.self.inside.window c.self.inside.state c.self.inside.rounds = c.self.invariant.rows.kept in
-    rw (← c.self.view_is) (kept.posted c.args.p)
+returns-then-posted-least-clause-held c = rw (← c.self.view_is) (c.self.invariant.pending.kept.posted c.args.p)
 
 pub returns-else-posted-least-clause-held : goal.returns-else-posted-least-clause-held
-returns-else-posted-least-clause-held c =
-    let kept : RowsKept c.self.inside.plan c.self.inside.window c.self.inside.state c.self.inside.rounds = c.self.invariant.rows.kept in
-    rw (← c.self.view_is) (kept.posted c.args.p)
+returns-else-posted-least-clause-held c = rw (← c.self.view_is) (c.self.invariant.pending.kept.posted c.args.p)
