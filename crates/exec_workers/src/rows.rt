@@ -10,7 +10,9 @@ ghost use Rattle.exec_book.specs.Books.{PutsBack};
 ghost use Rattle.exec_workers.specs.Found.{IsBusyAt, IsFreeAt, IsOutWith, IsToldAt};
 ghost use Rattle.exec_workers.specs.Promises.{Agrees, Gives, GivesRow, HasWorked};
 
-use crate::found::{is_busy_at, is_free_at, is_halted_or_told, is_job_of, is_of_plan, is_out_at, ticks_of};
+use crate::found::{
+    is_busy_at, is_free_at, is_halted_or_told, is_job_of, is_of_plan, is_out_at, ticks_of,
+};
 use crate::turns::{TURNS, wait_for_good};
 use exec_book::{Book, Look, Next};
 use exec_lanes::{Waiters, lock_soon, note_calls, wake};

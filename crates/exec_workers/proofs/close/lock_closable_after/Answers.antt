@@ -1,7 +1,3 @@
-use Rattle.std.proofs.Common.{◌≡◌, ◌∙◌, length, ap, sym, subst}
-use Rattle.run_tree.specs.Plans.{PlanContents}
-use Rattle.run_tree.specs.Tree.{Tree}
-use Rattle.exec_workers.specs.Found.{IsClosable, IsClosableAfter}
 use Rattle.exec_workers.proofs.close.lock_closable_after.Goals as goal
 
 pub lock_closable-guard-requires-clause-compiled : goal.lock_closable-guard-requires-clause-compiled

@@ -1,4 +1,4 @@
-use Rattle.std.proofs.Common.{ap, refl}
+use Rattle.std.proofs.Common.{refl}
 use Rattle.exec_workers.proofs.LookLemmas.{out_on, unworked_job}
 use Rattle.exec_workers.proofs.rows.halt_found.Goals as goal
 
