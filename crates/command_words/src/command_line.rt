@@ -84,7 +84,7 @@ fn trace_in(options: &ArgMatches<'_>) -> Option<Reading>
     trace_unmet(options)
 }
 
-// The same without `--met`.
+// `trace` with its options, where `--met` isn't one of them.
 fn trace_unmet(options: &ArgMatches<'_>) -> Option<Reading>
     ensures repeat { one_of (codes "repeat") (rows_of (found_of options.now)) ≡ Some (codes "true") → result ≡ Some TraceRepeat }
     ensures plain { one_of (codes "repeat") (rows_of (found_of options.now)) ≡ Some (codes "false")

@@ -46,7 +46,7 @@ pub fn reading_of(alloc: Global, words: &[String]) -> Result<Option<Reading>, No
     }
 }
 
-/// The same for `batch`, where the words ask for many sets: whether they are its line.
+/// Whether these words, which ask for many sets, are the command line of `batch`. The only error is want of memory.
 pub fn is_batch(alloc: Global, words: &[String]) -> Result<bool, NoMemory>
     requires batch { asks_for_batch (map string_bytes words.now) ≡ true }
     ensures line { IfOk result (λ is. is ≡ true → command_of (map string_bytes words.now) ≡ Some Batch) }
@@ -60,7 +60,7 @@ pub fn is_batch(alloc: Global, words: &[String]) -> Result<bool, NoMemory>
     }
 }
 
-/// The same for a command that executes, where the words ask for one.
+/// The command that executes that these words are, where they ask for one; none where they are no command line.
 pub fn execution_of(alloc: Global, words: &[String]) -> Result<Option<Execution>, NoMemory>
     requires executes { asks_to_execute (map string_bytes words.now) ≡ true }
     ensures line { IfOk result (λ execution. option_map Execute execution ≡ command_of (map string_bytes words.now)) }

@@ -76,7 +76,7 @@ fn change_over(tree: &Tree, p: NodeId, was: Option<u32>, next: Option<u32>, dues
     start_place(tree, p, next, dues);
 }
 
-// The same, and nothing where it is the same member.
+// Of pack p, the member at `was` stops, and the one at `next` starts; nothing happens where it is one member.
 fn change_if(tree: &Tree, p: NodeId, was: Option<u32>, next: Option<u32>, dues: &mut Dues)
     requires tree { IsTree tree.now }
     requires pack { IsPack tree.now p.0 }

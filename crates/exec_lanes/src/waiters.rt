@@ -14,13 +14,13 @@ use std::time::Duration;
 /// A worker that waits looks this often before it sleeps, where each lane has a processor: about as long as a sleep and its end take.
 const LOOKS: u32 = 2_000;
 
-/// It looks only this often where lanes share processors, and where looking longer was in vain.
+/// A worker that waits looks only this often where lanes share processors, and where looking longer was in vain.
 const FEW_LOOKS: u32 = 20;
 
 /// After this many waits in a row for which looking was in vain, a worker looks long only once in a while.
 const VAIN_WAITS: u64 = 4;
 
-/// Then it looks long at each of so many waits.
+/// A worker for whom looking was in vain looks long again at each of so many waits.
 const TRIAL_WAITS: u64 = 64;
 
 /// A worker that finds the lock held tries this often, with a pause twice as long each time, before it gives way to others.
@@ -29,7 +29,7 @@ const TRIES: u32 = 24;
 /// The longest pause between two tries: a worker that has the lock often gets through several rows meanwhile, with the book at hand.
 const PAUSE: u32 = 256;
 
-/// Then it gives way to others this often, and tries again, before it sleeps until the lock is its own.
+/// After its pauses, a worker that wants the lock gives way to others this often, and tries again, before it sleeps until it has the lock.
 const TURNS: u32 = 400;
 
 /// A worker alone gives up after so many waits in a row.
@@ -39,7 +39,7 @@ const PATIENCE: u32 = 10_000;
 /// of the system's clock, so that a timer must be set for it.
 const NAP: u64 = 50_000_000;
 
-/// So long it sleeps until each lane has had a worker.
+/// A worker sleeps this many nanoseconds at most until each lane has had a worker.
 const SHORT_NAP: u64 = 100_000;
 
 /// After so many short naps in a row a worker gives up: a thread may have been refused. It is longer than many threads take to begin.

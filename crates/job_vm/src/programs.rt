@@ -45,7 +45,7 @@ impl ReadProgram {
         self.line
     }
 
-    /// Its words.
+    /// The program's words.
     pub(crate) fn code(&self) -> &[u64]
         ensures { result.now ≡ self.now.code }
     {

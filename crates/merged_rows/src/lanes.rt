@@ -46,7 +46,7 @@ impl MergedLane {
         self.begin(start, leaf)
     }
 
-    /// The same, where a leaf is told; else the last row goes on.
+    /// What is shown from tick `start` on, where a leaf is told; else the last row goes on.
     pub(crate) fn go_on(&mut self, start: u128, told: Option<Leaf>) -> Result<(), NoMemory>
         ensures shown { OnOk result (self.new ≡ going_on self.old start told) }
     {

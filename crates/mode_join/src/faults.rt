@@ -10,7 +10,7 @@ use thiserror::Error;
 /// each period divides the horizon, so the scale is at most that.
 #[derive(Clone, Copy, Debug, PartialEq, Eq)]
 pub enum ModeKind {
-    /// It has not as many processors as the first set.
+    /// The set has not as many processors as the first one.
     Processors,
     /// This task, the first such one, isn't released at unit 0.
     Offset { task: u32 },

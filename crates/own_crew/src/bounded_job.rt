@@ -43,7 +43,7 @@ impl Job for BoundedJob {
 
     ghost faults = { λ j. j.faults };
 
-    // It has no program.
+    // The job has no program.
     ghost made = { λ _. None };
 
     fn id(&self) -> u32 {

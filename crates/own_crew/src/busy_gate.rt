@@ -29,7 +29,7 @@ impl BusyGate {
 }
 
 impl Gate for BusyGate {
-    // It keeps no list of its rows, and never fails.
+    // The gate keeps no list of its rows, and never fails.
     ghost ran = { λ _. None };
 
     ghost faults = { λ _. 0 };

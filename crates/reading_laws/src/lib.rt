@@ -23,7 +23,7 @@ pub fn form_law()
 pub fn again_law()
     ensures tree { (s : SetContents) (t : Tree) → IsLawful s → AreOnTime s.tasks → IsTreeOf s t → t.scale ≤ 2 ^ 94 → idle_count t ≤ 1024 →
         IsReadAgain (record { set = s; tree = t }) }
-    // So is that of the compiled tree, which has at most 256 idle leaves.
+    // The text of the compiled tree, which has at most 256 idle leaves, is read so too.
     ensures compiled { (s : SetContents) (scale : ℕ) → IsLawful s → AreOnTime s.tasks → IsScale s.tasks scale → scale ≤ 2 ^ 94 → Fits scale s →
         IsReadAgain (record { set = s; tree = tree_of scale s }) }
 {}

@@ -22,7 +22,7 @@ pub struct Calendar {
     next: u64,
     begins: Vec<u64>,
     ends: Vec<u128>,
-    // The same ends, of which the first is known.
+    // The windows' ends, of which the first is known.
     order: Knockout,
     // Of these, the first `turned` have windows that began at the present unit.
     begun: Vec<NodeId>,

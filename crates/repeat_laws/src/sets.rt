@@ -55,7 +55,7 @@ fn is_closed(set: &TaskSet) -> bool
     true
 }
 
-/// The same set up to another horizon, in units.
+/// The set's copy up to another horizon, in units.
 pub fn up_to(alloc: Global, set: &TaskSet, horizon: u64) -> Result<TaskSet, NoMemory>
     requires some { 1 ≤ horizon }
     requires fits { horizon < 2 ^ 32 }

@@ -40,7 +40,7 @@ pub fn close_run<W: Write + Drop, E: Sink>(
     close_flushed(status, flushed, err)
 }
 
-/// The same, where `flushed` says how handing on went.
+/// The status at the end of a run, where `flushed` says how handing on what `out` kept back went.
 pub fn close_flushed<E: Sink>(status: Status, flushed: Result<(), Failed>, err: &mut E) -> Status
     ensures status { result ≡ closed status flushed }
     ensures told { TellsClosed status flushed (error_of E.Sink err.old) (error_of E.Sink err.new) }

@@ -115,7 +115,7 @@ fn mark_duals(nodes: &mut Vec<Node>, number: u32, level: &[Node])
     }
 }
 
-// The same nodes again.
+// A copy of these nodes.
 fn copies(nodes: &Vec<Node>) -> Result<Vec<Node>, NoMemory>
     ensures { IfOk result (λ copied. copied.items ≡ nodes.now.items) }
 {
@@ -139,7 +139,7 @@ impl Growth {
         }
     }
 
-    /// The same again.
+    /// A copy of the nodes so far.
     pub(crate) fn copy(&self) -> Result<Growth, NoMemory>
         ensures { IfOk result (λ g. g ≡ self.now) }
     {

@@ -73,7 +73,7 @@ impl Model for TreeMaker {
     }) };
 }
 
-// The same levels again.
+// A copy of these levels.
 fn copies(levels: &Vec<Packs>) -> Result<Vec<Packs>, NoMemory>
     ensures { IfOk result (λ copied. copied.items ≡ levels.now.items) }
 {
@@ -228,7 +228,7 @@ impl TreeMaker {
         Tree::of_maker(self)
     }
 
-    /// The same maker again.
+    /// A copy of the maker.
     pub(crate) fn copy(&self) -> Result<TreeMaker, NoMemory>
         ensures { IfOk result (λ m. m ≡ self.now) }
     {

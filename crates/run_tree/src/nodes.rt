@@ -77,7 +77,7 @@ impl Node {
         }
     }
 
-    /// The same node again.
+    /// A copy of the node.
     pub(crate) fn copy(&self) -> Result<Node, NoMemory>
         ensures { IfOk result (λ n. n ≡ self.now) }
     {

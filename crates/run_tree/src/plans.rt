@@ -85,7 +85,7 @@ impl Plan {
         u128::from(self.set.horizon()) * self.tree.scale()
     }
 
-    /// The same plan again.
+    /// A copy of the plan.
     pub fn copy(&self) -> Result<Plan, NoMemory>
         ensures { IfOk result (λ p. p ≡ self.now) }
     {

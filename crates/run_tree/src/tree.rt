@@ -44,7 +44,7 @@ impl Tree {
         Tree { made }
     }
 
-    /// The same tree again.
+    /// A copy of the tree.
     pub(crate) fn copy(&self) -> Result<Tree, NoMemory>
         ensures { IfOk result (λ t. t ≡ self.now) }
     {

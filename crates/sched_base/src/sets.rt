@@ -120,7 +120,7 @@ impl TaskSet {
         Ok(())
     }
 
-    /// The same set again.
+    /// A copy of the set.
     pub fn copy(&self) -> Result<TaskSet, NoMemory>
         ensures { IfOk result (λ s. s ≡ self.now) }
     {

@@ -87,7 +87,7 @@ impl Dues {
         give_at(&mut self.marks, &self.runs, self.tick, n.0 as usize, due);
     }
 
-    /// So many ticks pass, which each node that runs has left.
+    /// This many ticks pass. Each node that runs must have them left.
     pub fn pass(&mut self, ticks: u128)
         requires fits { self.old.tick + ticks < 2 ^ 128 }
         requires enough { (x : ℕ) → slice_index_or self.old.runs x false ≡ true → ticks ≤ slice_index self.old.remains x }

@@ -12,7 +12,7 @@ use std::marker::Model;
 pub struct Server {
     /// The rates of its members and of its idle client together, in ticks per unit.
     pub rate: u128,
-    /// Its members, in rising order.
+    /// The pack's members, in rising order.
     pub members: Members,
     /// The rate of its idle client, 0 where it has none.
     pub idle: u128,

@@ -38,7 +38,7 @@ pub(crate) fn read_trace_input<R: Source>(
     Ok(read_trace(alloc, bytes.as_slice())?)
 }
 
-/// The same for whoever asks for no order of the rows.
+/// Reads the source to its end, as a trace text, for whoever asks for no order of the rows.
 pub(crate) fn read_checked_input<R: Source>(
     alloc: Global,
     source: &mut R,

@@ -12,7 +12,7 @@ use task_reader::ReadSet;
 pub enum ModeRefusal {
     /// The bytes of its piece are no task set, for this reason.
     BadSet(ReadSet),
-    /// Its set can't be a mode behind those before it, for this reason.
+    /// The piece's set can't be a mode behind those before it, for this reason.
     NotJoined(ModeKind),
     /// The gate of the row's processor failed at this row, of the task of this name; of no task where there is none. The row
     /// counts the ticks of its mode.

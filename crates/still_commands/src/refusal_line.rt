@@ -70,7 +70,7 @@ fn write_refusal<W: Sink>(refusal: &Refusal, out: &mut W) -> Result<(), Failed>
     write_line(line, out)
 }
 
-/// The same for bytes that are no set.
+/// Writes the line of a refusal of bytes that are no set.
 pub(crate) fn write_set_refusal<W: Sink>(refusal: &ReadSet, out: &mut W) -> Result<(), Failed>
     ensures wrote { Wrote (W.taken out.old) (W.taken out.new) (refusal_line (BadSet refusal.now)) result }
     ensures cause { HasCause (W.faults out.old) (W.faults out.new) result }

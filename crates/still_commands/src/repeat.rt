@@ -30,7 +30,7 @@ pub(crate) fn trace_repeat<R: Source, W: Sink>(
     write_trace_again(alloc, &set, out)
 }
 
-/// The same as C source.
+/// Reads a task set, and writes its schedule up to the least horizon at which it repeats as C source, whatever the set's horizon is.
 pub(crate) fn table_repeat<R: Source, W: Sink>(
     alloc: Global,
     source: &mut R,
@@ -55,7 +55,7 @@ fn write_trace_again<W: Sink>(alloc: Global, set: &TaskSet, out: &mut W) -> Resu
     write_trace(alloc, again, false, out)
 }
 
-// The same as C source.
+// Writes the schedule of a set up to the least horizon at which it repeats as C source.
 fn write_table_again<W: Sink>(alloc: Global, set: &TaskSet, out: &mut W) -> Result<(), Refusal>
     ensures done { OnOk result (WroteSet (repeating c_table) (W.taken out.old) (W.taken out.new) set.now) }
     ensures stops { IfErr result (StopsAtSet (repeating c_table) (W.taken out.old) (W.taken out.new)

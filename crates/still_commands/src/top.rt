@@ -68,7 +68,7 @@ pub fn run_still<R: Source, W: Sink, E: Sink>(
     }
 }
 
-/// The same for a command that reads, given as such: a caller that has no command line needs no words.
+/// Runs a command that reads, given as such: a caller that has no command line needs no words.
 pub fn run_reading<R: Source, W: Sink, E: Sink>(
     alloc: Global,
     reading: Reading,

@@ -35,7 +35,7 @@ fn common_step(ticks: u128, rows: &MergedRows) -> u128
     step
 }
 
-// The same of the rows of processor p.
+// The greatest number that divides this one, and each start and end of the rows of processor p.
 fn lane_step(before: u128, rows: &MergedRows, p: u32) -> u128
     requires { p < length rows.now.lanes }
     ensures { IsStep before (lane_of rows.now.lanes p) result }

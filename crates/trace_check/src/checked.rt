@@ -60,7 +60,7 @@ impl CheckedTrace {
         Ok(CheckedTrace::of(set, scale, rows, judged))
     }
 
-    /// The same where the rows are judged.
+    /// The trace of this set and these rows, which are judged.
     pub(crate) fn of(set: TaskSet, scale: u128, rows: Vec<Row>, judged: Judged) -> CheckedTrace
         requires trace { IsTrace set scale rows.items }
         requires told { AreTold set scale rows.items judged.found.items }

@@ -59,7 +59,7 @@ pub(crate) fn row_holds(periods: &Periods, done: u128, row: &Stretch) -> bool
             && is_due(periods, done, row.from, row.after))
 }
 
-// The same of all gaps and rows from the first period on.
+// Whether the ticks done meet the dues in all gaps and rows from the first period on.
 fn holds_from_base(periods: &Periods, rows: &[Entry]) -> bool
     requires lawful { AreLawful periods.now }
     requires begun { periods.now.base ≤ periods.now.stop }

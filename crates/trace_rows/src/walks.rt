@@ -180,7 +180,7 @@ fn walk_on(
     }
 }
 
-// The same where there are no rows.
+// What is found of a task without rows.
 fn walk_none(periods: &Periods) -> Option<Findings>
     requires lawful { AreLawful periods.now }
     requires begun { periods.now.base ≤ periods.now.stop }
@@ -193,7 +193,7 @@ fn walk_none(periods: &Periods) -> Option<Findings>
     }
 }
 
-// The same of all places.
+// What is found of a task whose rows stand at these places.
 fn walk_all(periods: &Periods, task: u32, rows: &[Row], places: &[u32]) -> Option<Findings>
     requires lawful { AreLawful periods.now }
     requires begun { periods.now.base ≤ periods.now.stop }

@@ -4,7 +4,7 @@ ghost use Rattle.trace_writer.specs.Digits.{low_digits, worth_of_four};
 
 use itoa::write_digits;
 
-/// As many digits are cut off at once from a number past 64 bits.
+/// This many digits are cut off at once from a number past 64 bits.
 const CUT: usize = 19;
 
 /// 10 ^ 19, the greatest power of 10 within 64 bits.
@@ -22,7 +22,7 @@ pub(crate) fn put_number(bytes: &mut [u8], at: usize, number: u128) -> usize
     put_long(bytes, at, number)
 }
 
-// The same of a number past 64 bits: one division leaves two numbers, of which the second has 64 bits.
+// Writes the digits of a number past 64 bits: one division leaves two numbers, of which the second has 64 bits.
 fn put_long(bytes: &mut [u8], at: usize, number: u128) -> usize
     requires room { at + 40 ≤ length bytes.old }
     requires long { 10 ^ 19 ≤ number }
@@ -36,7 +36,7 @@ fn put_long(bytes: &mut [u8], at: usize, number: u128) -> usize
     end + CUT
 }
 
-// The same of what is left of a number in front of its last 19 digits: at most one digit stands before the last 19 of these.
+// Writes what is left of a number in front of its last 19 digits: at most one digit stands before the last 19 of these.
 fn put_high(bytes: &mut [u8], at: usize, high: u128) -> usize
     requires room { at + 21 ≤ length bytes.old }
     requires few { high < 10 ^ 20 }
@@ -51,7 +51,7 @@ fn put_high(bytes: &mut [u8], at: usize, high: u128) -> usize
     end + CUT
 }
 
-/// The same of a number within 64 bits.
+/// Writes the digits of a number within 64 bits from place `at` on, and says where they end.
 pub(crate) fn put_short(bytes: &mut [u8], at: usize, number: u64) -> usize
     requires room { at + length (decimal number) ≤ length bytes.old }
     ensures end { result ≡ at + length (decimal number) }
@@ -136,7 +136,7 @@ fn four_digits(number: u32) -> u64
     two_digits(number / 100) + two_digits(number % 100) * 65_536
 }
 
-// The same of two digits.
+// Two digits as the bytes of a number, the first digit lowest.
 fn two_digits(number: u32) -> u64
     requires { number < 100 }
     ensures { result ≡ 48 + number / 10 + 256 * (48 + number % 10) }

@@ -31,7 +31,7 @@ fn add_members(
     Ok(())
 }
 
-// The same of the members of these packs, one pack after the other.
+// Adds the numbers of the members of these packs, and those of the packs, one pack after the other.
 fn add_packs(order: &mut Vec<u32>, homes: &mut Vec<u32>, packs: &[Pack]) -> Result<(), NoMemory>
     requires few { length packs.now ≤ 1280 }
     requires order { order.old.items ≡ [] }

@@ -14,7 +14,7 @@ ghost use Rattle.tree_laws.specs.Raised.{RatesFit, raised, IsRaised, lower_duals
 /// roots alone.
 pub fn tree_law()
     ensures is { (s : SetContents) (scale : ℕ) → IsLawful s → IsScale s.tasks scale → Fits scale s → IsTreeOf s (tree_of scale s) }
-    // It has the set's scale.
+    // The compiled tree has the set's scale.
     ensures scale { (s : SetContents) (scale : ℕ) → IsLawful s → IsScale s.tasks scale → Fits scale s → (tree_of scale s).scale ≡ scale }
     // The rates of the set's tasks are those of which the other laws speak.
     ensures rates { (s : SetContents) (scale : ℕ) → IsLawful s → IsScale s.tasks scale → Fits scale s →
@@ -28,14 +28,14 @@ pub fn sizes_law()
     // Level 0 has as many packs as first fit needs, or as there are processors.
     ensures packs { (processors scale : ℕ) (rates : List ℕ) → RatesFit processors scale rates →
         length (first_level processors scale rates).last ≤ max processors (length (packed scale rates)) }
-    // It has a leaf for each task, and at most one idle leaf for each pack.
+    // Level 0 has a leaf for each task, and at most one idle leaf for each pack.
     ensures leaves { (processors scale : ℕ) (rates : List ℕ) → RatesFit processors scale rates →
         leaf_count (first_level processors scale rates).tree ≤ length rates + max processors (length (packed scale rates)) }
     // A further level has fewer packs than the one below has packs that aren't roots.
     ensures fewer { (processors scale : ℕ) (rates : List ℕ) (n : ℕ) → RatesFit processors scale rates →
         let first = first_level processors scale rates in
         IsRaised (suc n) first → length (raised (suc n) first).last < length (lower_packs (raised n first)) }
-    // So the levels above level 0, together with the packs of the last one, are at most as many as the packs of level 0.
+    // The levels above level 0, together with the packs of the last one, are at most as many as the packs of level 0.
     ensures few { (processors scale : ℕ) (rates : List ℕ) (n : ℕ) → RatesFit processors scale rates →
         let first = first_level processors scale rates in IsRaised n first → n + length (raised n first).last ≤ length first.last }
     ensures levels { (processors scale : ℕ) (rates : List ℕ) (n : ℕ) → RatesFit processors scale rates →

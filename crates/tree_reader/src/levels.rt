@@ -15,7 +15,7 @@ use trace_check::number_after;
 use trace_text::{after_word, first_line};
 use tree_check::{Level, Pack};
 
-// So many packs of this level, the first of which stands on line `first`, and the lines that follow.
+// This many packs of a level, the first of which stands on line `first`, and the lines that follow.
 fn read_packs<'a>(
     alloc: Global,
     scale: u128,
