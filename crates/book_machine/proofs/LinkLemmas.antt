@@ -7,15 +7,15 @@ use Rattle.sched_base.specs.declared.rows.Row.{Row}
 use Rattle.sched_base.specs.declared.rows.Leaf.{Leaf}
 use Rattle.sched_base.specs.declared.rows.Leaf.TheVariants.{Task}
 use Rattle.sched_base.specs.declared.rows.TaskId.{TaskId}
-use Rattle.sched_base.specs.Tables.{Table, RowAt, IsTable, rounds_of, with_round}
+use Rattle.sched_base.specs.Tables.{Table, RowAt, IsTable, rounds_in, with_round}
 use Rattle.sched_base.proofs.TableLemmas.{RowAt-with_round, lane_within, length-with_round, length-lane_of-with_round}
 use Rattle.book_machine.specs.declared.links.Link.{Link}
 use Rattle.book_machine.specs.declared.links.Link.TheVariants.{First, After, Unknown}
-use Rattle.book_machine.specs.declared.links.Trail.{Trail}
-use Rattle.book_machine.specs.declared.links.Trail.TheVariants.{NoRow, Last}
+use Rattle.book_machine.specs.declared.links.Latest.{Latest}
+use Rattle.book_machine.specs.declared.links.Latest.TheVariants.{NoRow, Last}
 use Rattle.book_machine.specs.declared.links.Place.{Place}
 use Rattle.book_machine.specs.Machine.{State, posted_at, least_posted, EarlierPosted, WaitsFor, HasTakeable}
-use Rattle.book_machine.specs.Links.{IsBefore, Says, IsTrail, link_at, AreLinked, KeepsLink, link_of, posted_by, AreEarlierPosted, ArePostedInOrder, IsLinkedTable}
+use Rattle.book_machine.specs.Links.{IsBefore, LinkMeans, IsLatest, link_at, AreLinked, KeepsLink, link_of, posted_by, AreEarlierPosted, ArePostedInOrder, IsLinkedTable}
 use Rattle.book_machine.proofs.Lanes.{least_le}
 
 -- ---- places before others
@@ -45,7 +45,7 @@ module _ (rows new : List (List Row)) (forth : (u i : ℕ) (r : Row) → RowAt r
   says-by : (task : TaskId) (lane n p n' p' : ℕ)
       → ((u i : ℕ) → IsBefore n p u i → IsBefore n' p' u i)
       → ((u i : ℕ) (r : Row) → u ≢ lane → IsBefore n' p' u i → RowAt new u i r → r.leaf ≡ Task task → IsBefore n p u i × RowAt rows u i r)
-      → (link : Link) → Says rows task lane n p link → Says new task lane n' p' link
+      → (link : Link) → LinkMeans rows task lane n p link → LinkMeans new task lane n' p' link
   says-by task lane n p n' p' later back First says = λ u i r other before at is. let b = back u i r other before at is in says u i r other b.0 b.1 is
   says-by task lane n p n' p' later back (After place) link = record {
     other = link.other;
@@ -57,12 +57,12 @@ module _ (rows new : List (List Row)) (forth : (u i : ℕ) (r : Row) → RowAt r
   }
   says-by task lane n p n' p' later back Unknown says = tt
 
-  trail-by : (task : TaskId) (n p n' p' : ℕ)
+  latest-by : (task : TaskId) (n p n' p' : ℕ)
       → ((u i : ℕ) → IsBefore n p u i → IsBefore n' p' u i)
       → ((u i : ℕ) (r : Row) → IsBefore n' p' u i → RowAt new u i r → r.leaf ≡ Task task → IsBefore n p u i × RowAt rows u i r)
-      → (trail : Trail) → IsTrail rows task n p trail → IsTrail new task n' p' trail
-  trail-by task n p n' p' later back NoRow none = λ u i r before at is. let b = back u i r before at is in none u i r b.0 b.1 is
-  trail-by task n p n' p' later back (Last place link) h = (
+      → (latest : Latest) → IsLatest rows task n p latest → IsLatest new task n' p' latest
+  latest-by task n p n' p' later back NoRow none = λ u i r before at is. let b = back u i r before at is in none u i r b.0 b.1 is
+  latest-by task n p n' p' later back (Last place link) h = (
     record {
       row = h.0.row;
       before = later place.lane place.round h.0.before;
@@ -73,15 +73,15 @@ module _ (rows new : List (List Row)) (forth : (u i : ℕ) (r : Row) → RowAt r
     says-by task place.lane n p n' p' later (λ u i r other. back u i r) link h.1,
   )
 
-  linked-by : (n p n' p' : ℕ) (links : List (List Link)) (trails : List Trail) → length rows ≡ length new
+  linked-by : (n p n' p' : ℕ) (links : List (List Link)) (latest_rows : List Latest) → length rows ≡ length new
       → ((u i : ℕ) → IsBefore n p u i → IsBefore n' p' u i)
       → ((u i : ℕ) (r : Row) → IsBefore n' p' u i → RowAt new u i r → IsBefore n p u i × RowAt rows u i r)
-      → AreLinked rows n p links trails → AreLinked new n' p' links trails
-  linked-by n p n' p' links trails same later back l = record {
+      → AreLinked rows n p links latest_rows → AreLinked new n' p' links latest_rows
+  linked-by n p n' p' links latest_rows same later back l = record {
     lanes = l.lanes ∙ same;
     says = λ u k r task before at is. let b = back u k r before at in
         says-by task u k u k u (λ v i early. early) (λ v i s other early there of. (early, (back v i s (before_trans n' p' u k v i early before) there).1)) (link_at links u k) (l.says u k r task b.0 b.1 is);
-    ends = λ task trail at. trail-by task n p n' p' later (λ u i r before there of. back u i r before there) trail (l.ends task trail at);
+    ends = λ task latest at. latest-by task n p n' p' later (λ u i r before there of. back u i r before there) latest (l.ends task latest at);
   }
 
 -- ---- no round yet
@@ -100,7 +100,7 @@ pub linked_none : (rows : List (List Row)) (m n tasks : ℕ) (links : List (List
 linked_none rows m n tasks links none many = record {
   lanes = many ∙ sym (length-replicate m []) ∙ ap length (sym none);
   says = λ u k r task before at is. absurd (replicate_none m u k r (subst (λ (ls : List (List Row)). RowAt ls u k r) none at));
-  ends = λ task trail there. subst (IsTrail rows task n 0) (slice_get-replicate tasks task.0 NoRow trail there) (λ u i r before at is. replicate_none m u i r (subst (λ (ls : List (List Row)). RowAt ls u i r) none at));
+  ends = λ task latest there. subst (IsLatest rows task n 0) (slice_get-replicate tasks task.0 NoRow latest there) (λ u i r before at is. replicate_none m u i r (subst (λ (ls : List (List Row)). RowAt ls u i r) none at));
 }
 
 -- ---- one round more
@@ -117,19 +117,19 @@ RowAt-kept (lane ∷ lanes) [] p k r at = at
 RowAt-kept (lane ∷ lanes) (s ∷ rows) zero k r at = slice_get-append_left lane s k r at
 RowAt-kept (lane ∷ lanes) (s ∷ rows) (suc p) k r at = RowAt-kept lanes rows p k r at
 
-pub linked-with_round : (lanes : List (List Row)) (rows : List Row) (links : List (List Link)) (trails : List Trail) → IsTable lanes
-    → AreLinked lanes (rounds_of lanes) 0 links trails → AreLinked (with_round lanes rows) (rounds_of lanes) 0 links trails
-linked-with_round lanes rows links trails table l =
-    linked-by lanes (with_round lanes rows) (RowAt-kept lanes rows) (rounds_of lanes) 0 (rounds_of lanes) 0 links trails (sym (length-with_round lanes rows)) (λ u i before. before)
+pub linked-with_round : (lanes : List (List Row)) (rows : List Row) (links : List (List Link)) (latest_rows : List Latest) → IsTable lanes
+    → AreLinked lanes (rounds_in lanes) 0 links latest_rows → AreLinked (with_round lanes rows) (rounds_in lanes) 0 links latest_rows
+linked-with_round lanes rows links latest_rows table l =
+    linked-by lanes (with_round lanes rows) (RowAt-kept lanes rows) (rounds_in lanes) 0 (rounds_in lanes) 0 links latest_rows (sym (length-with_round lanes rows)) (λ u i before. before)
     (λ u i r before at. elim (RowAt-with_round lanes rows u i r at) [
       | inl a ↦ (before, a.1)
       | inr b ↦ absurd (let whole = table.whole u b.0 in elim before [ inl early ↦ omega (arith, early, whole, b.1) | inr never ↦ omega (arith, never.1) ])
     ]) l
 
 -- all rows of a round are linked
-pub linked_round : (rows : List (List Row)) (n : ℕ) (links : List (List Link)) (trails : List Trail) → AreLinked rows n (length rows) links trails → AreLinked rows (n + 1) 0 links trails
-linked_round rows n links trails l =
-    linked-by rows rows (λ u i r at. at) n (length rows) (n + 1) 0 links trails refl
+pub linked_round : (rows : List (List Row)) (n : ℕ) (links : List (List Link)) (latest_rows : List Latest) → AreLinked rows n (length rows) links latest_rows → AreLinked rows (n + 1) 0 links latest_rows
+linked_round rows n links latest_rows l =
+    linked-by rows rows (λ u i r at. at) n (length rows) (n + 1) 0 links latest_rows refl
     (λ u i before. elim before [ inl early ↦ inl (omega (arith, early)) | inr here ↦ inl (omega (arith, here.0)) ])
     (λ u i r before at. (
       elim (cases_order i n) [
@@ -197,15 +197,15 @@ link_at-other links lane p n u k link within keeps before = elim (cases_eq u p) 
 
 -- what the new link says holds of what stands there afterwards, which is the link, or nothing
 says_kept : (rows : List (List Row)) (task : TaskId) (links : List (List Link)) (lane : List Link) (p n : ℕ) (link : Link) → p < length links → KeepsLink (get_or links p []) lane n link
-    → Says rows task p n p link → Says rows task p n p (link_at (set links p lane) p n)
+    → LinkMeans rows task p n p link → LinkMeans rows task p n p (link_at (set links p lane) p n)
 says_kept rows task links lane p n link within keeps says =
     let here : link_at (set links p lane) p n ≡ get_or lane n Unknown = ap (λ (l : List Link). get_or l n Unknown) (get_or-set_same links p lane [] within) in
     elim keeps.here [
-      | inl is ↦ subst (Says rows task p n p) (sym (here ∙ is)) says
-      | inr none ↦ subst (Says rows task p n p) (sym (here ∙ none)) tt
+      | inl is ↦ subst (LinkMeans rows task p n p) (sym (here ∙ is)) says
+      | inr none ↦ subst (LinkMeans rows task p n p) (sym (here ∙ none)) tt
     ]
 
-module _ (rows : List (List Row)) (n p : ℕ) (links : List (List Link)) (trails : List Trail) (r : Row) (at : RowAt rows p n r) (l : AreLinked rows n p links trails) where
+module _ (rows : List (List Row)) (n p : ℕ) (links : List (List Link)) (latest_rows : List Latest) (r : Row) (at : RowAt rows p n r) (l : AreLinked rows n p links latest_rows) where
   within : p < length links
   within = let inside = lane_within rows p n r at in let many = l.lanes in omega (arith, inside, many)
 
@@ -216,27 +216,27 @@ module _ (rows : List (List Row)) (n p : ℕ) (links : List (List Link)) (trails
       cc
 
   -- the links with the row's link, which says what it should where the row is of a task
-  says_next : (lane : List Link) (link : Link) → KeepsLink (get_or links p []) lane n link → ((task : TaskId) → r.leaf ≡ Task task → Says rows task p n p link)
-      → (u k : ℕ) (s : Row) (task : TaskId) → IsBefore n (p + 1) u k → RowAt rows u k s → s.leaf ≡ Task task → Says rows task u k u (link_at (set links p lane) u k)
+  says_next : (lane : List Link) (link : Link) → KeepsLink (get_or links p []) lane n link → ((task : TaskId) → r.leaf ≡ Task task → LinkMeans rows task p n p link)
+      → (u k : ℕ) (s : Row) (task : TaskId) → IsBefore n (p + 1) u k → RowAt rows u k s → s.leaf ≡ Task task → LinkMeans rows task u k u (link_at (set links p lane) u k)
   says_next lane link keeps says u k s task before there is = elim (before_next n p u k before) [
-    | inl b ↦ subst (Says rows task u k u) (sym (link_at-other links lane p n u k link within keeps b)) (l.says u k s task b there is)
+    | inl b ↦ subst (LinkMeans rows task u k u) (sym (link_at-other links lane p n u k link within keeps b)) (l.says u k s task b there is)
     | inr e ↦ (
         let same : s ≡ r = same_row u k s e.0 e.1 there in
         let of : r.leaf ≡ Task task = ap (λ (x : Row). x.leaf) (sym same) ∙ is in
-        subst (λ v. Says rows task v k v (link_at (set links p lane) v k)) (sym e.0) (subst (λ i. Says rows task p i p (link_at (set links p lane) p i)) (sym e.1) (says_kept rows task links lane p n link within keeps (says task of)))
+        subst (λ v. LinkMeans rows task v k v (link_at (set links p lane) v k)) (sym e.0) (subst (λ i. LinkMeans rows task p i p (link_at (set links p lane) p i)) (sym e.1) (says_kept rows task links lane p n link within keeps (says task of)))
         )
   ]
 
-  -- the trail of a task that the row isn't of
-  trail_past : (task : TaskId) (trail : Trail) → r.leaf ≢ Task task → IsTrail rows task n p trail → IsTrail rows task n (p + 1) trail
-  trail_past task trail off h = trail-by rows rows (λ u i s there. there) task n p n (p + 1) (before_later n p)
+  -- the latest of a task that the row isn't of
+  trail_past : (task : TaskId) (latest : Latest) → r.leaf ≢ Task task → IsLatest rows task n p latest → IsLatest rows task n (p + 1) latest
+  trail_past task latest off h = latest-by rows rows (λ u i s there. there) task n p n (p + 1) (before_later n p)
       (λ u i s before there is. elim (before_next n p u i before) [
         | inl b ↦ (b, there)
         | inr e ↦ absurd (off (ap (λ (x : Row). x.leaf) (sym (same_row u i s e.0 e.1 there)) ∙ is))
-      ]) trail h
+      ]) latest h
 
-  -- the trail of the row's task
-  trail_here : (task : TaskId) (place : Place) (link : Link) → place.lane ≡ p → place.round ≡ n → r.leaf ≡ Task task → Says rows task p n p link → IsTrail rows task n (p + 1) (Last place link)
+  -- the latest of the row's task
+  trail_here : (task : TaskId) (place : Place) (link : Link) → place.lane ≡ p → place.round ≡ n → r.leaf ≡ Task task → LinkMeans rows task p n p link → IsLatest rows task n (p + 1) (Last place link)
   trail_here task place link lane round is says = (
     record {
       row = r;
@@ -245,40 +245,40 @@ module _ (rows : List (List Row)) (n p : ℕ) (links : List (List Link)) (trails
       of_task = is;
       last = λ u i s before there of. elim before [ inl a ↦ omega (arith, a, round) | inr b ↦ omega (arith, b.0, round) ];
     },
-    subst (λ v. Says rows task v n (p + 1) link) (sym lane) (says-by rows rows (λ u i s there. there) task p n p n (p + 1) (before_later n p)
+    subst (λ v. LinkMeans rows task v n (p + 1) link) (sym lane) (says-by rows rows (λ u i s there. there) task p n p n (p + 1) (before_later n p)
         (λ u i s other before there of. elim (before_next n p u i before) [ inl b ↦ (b, there) | inr e ↦ absurd (other e.0) ]) link says),
   )
 
   -- the row is of no task
   pub linked_other : (lane : List Link) (link : Link) → KeepsLink (get_or links p []) lane n link → ((task : TaskId) → r.leaf ≢ Task task)
-      → AreLinked rows n (p + 1) (set links p lane) trails
+      → AreLinked rows n (p + 1) (set links p lane) latest_rows
   linked_other lane link keeps none = record {
     lanes = length-set links p lane ∙ l.lanes;
     says = says_next lane link keeps (λ task is. absurd (none task is));
-    ends = λ task trail there. trail_past task trail (none task) (l.ends task trail there);
+    ends = λ task latest there. trail_past task latest (none task) (l.ends task latest there);
   }
 
   -- the row is of this task
-  pub linked_task : (task : TaskId) (place : Place) (lane : List Link) (link : Link) → KeepsLink (get_or links p []) lane n link → place.lane ≡ p → place.round ≡ n → r.leaf ≡ Task task → Says rows task p n p link
-      → AreLinked rows n (p + 1) (set links p lane) (set trails task.0 (Last place link))
+  pub linked_task : (task : TaskId) (place : Place) (lane : List Link) (link : Link) → KeepsLink (get_or links p []) lane n link → place.lane ≡ p → place.round ≡ n → r.leaf ≡ Task task → LinkMeans rows task p n p link
+      → AreLinked rows n (p + 1) (set links p lane) (set latest_rows task.0 (Last place link))
   linked_task task place lane link keeps on round is says = record {
     lanes = length-set links p lane ∙ l.lanes;
-    says = says_next lane link keeps (λ other of. let e : Task task ≡ Task other = sym is ∙ of in let same : task ≡ other = cc in subst (λ (t : TaskId). Says rows t p n p link) same says);
-    ends = λ other trail there. elim (cases_eq other.0 task.0) [
+    says = says_next lane link keeps (λ other of. let e : Task task ≡ Task other = sym is ∙ of in let same : task ≡ other = cc in subst (λ (t : TaskId). LinkMeans rows t p n p link) same says);
+    ends = λ other latest there. elim (cases_eq other.0 task.0) [
       | inl same ↦ (
           let number : other ≡ task = ap (λ (i : ℕ). record { 0 = i }) same in
-          let new : Last place link ≡ trail = slice_get-set_is trails task.0 (Last place link) trail (subst (λ i. slice_get (set trails task.0 (Last place link)) i ≡ Some trail) same there) in
-          subst (λ (t : TaskId). IsTrail rows t n (p + 1) trail) (sym number) (subst (IsTrail rows task n (p + 1)) new (trail_here task place link on round is says))
+          let new : Last place link ≡ latest = slice_get-set_is latest_rows task.0 (Last place link) latest (subst (λ i. slice_get (set latest_rows task.0 (Last place link)) i ≡ Some latest) same there) in
+          subst (λ (t : TaskId). IsLatest rows t n (p + 1) latest) (sym number) (subst (IsLatest rows task n (p + 1)) new (trail_here task place link on round is says))
           )
-      | inr apart ↦ trail_past other trail (λ of. let e : Task task ≡ Task other = sym is ∙ of in let same : task ≡ other = cc in apart (ap (λ (t : TaskId). t.0) (sym same)))
-          (l.ends other trail (sym (slice_get-set_other trails task.0 other.0 (Last place link) apart) ∙ there))
+      | inr apart ↦ trail_past other latest (λ of. let e : Task task ≡ Task other = sym is ∙ of in let same : task ≡ other = cc in apart (ap (λ (t : TaskId). t.0) (sym same)))
+          (l.ends other latest (sym (slice_get-set_other latest_rows task.0 other.0 (Last place link) apart) ∙ there))
     ];
   }
 
 -- ---- what a look at a link tells
 
 -- the row to which the link leads is posted, and so are the earlier rows of the task
-pub earlier_by_link : (rows : List (List Row)) (s : State) → IsTable rows → ArePostedInOrder rows s → (task : TaskId) (p k : ℕ) (link : Link) → Says rows task p k p link → posted_by s link ≡ Some true
+pub earlier_by_link : (rows : List (List Row)) (s : State) → IsTable rows → ArePostedInOrder rows s → (task : TaskId) (p k : ℕ) (link : Link) → LinkMeans rows task p k p link → posted_by s link ≡ Some true
     → EarlierPosted rows s.lanes p k (Task task)
 earlier_by_link rows s table order task p k First says told = λ u other i r early at is. absurd (says u i r other (inl early) at is)
 earlier_by_link rows s table order task p k (After place) link told = λ u other i r early at is.
@@ -297,7 +297,7 @@ earlier_by_link rows s table order task p k (After place) link told = λ u other
 earlier_by_link rows s table order task p k Unknown says told = absurd (let e : None ≡ Some true = told in cc)
 
 -- the row to which the link leads isn't posted, and is an earlier one of the task
-pub behind_by_link : (rows : List (List Row)) (s : State) → IsTable rows → (task : TaskId) (p k : ℕ) (link : Link) → Says rows task p k p link → posted_by s link ≡ Some false
+pub behind_by_link : (rows : List (List Row)) (s : State) → IsTable rows → (task : TaskId) (p k : ℕ) (link : Link) → LinkMeans rows task p k p link → posted_by s link ≡ Some false
     → (r : Row) → RowAt rows p k r → r.leaf ≡ Task task → EarlierPosted rows s.lanes p k (Task task) → ⊥
 behind_by_link rows s table task p k First says told r at is earlier = absurd (let e : Some true ≡ Some false = told in cc)
 behind_by_link rows s table task p k (After place) link told r at is earlier =
@@ -313,7 +313,7 @@ behind_by_link rows s table task p k (After place) link told r at is earlier =
 behind_by_link rows s table task p k Unknown says told r at is earlier = absurd (let e : None ≡ Some false = told in cc)
 
 -- what a look at the link of a task's row tells, as far as it does
-pub told_by_task : (rows : List (List Row)) (s : State) → IsTable rows → ArePostedInOrder rows s → (task : TaskId) (p k : ℕ) (link : Link) → Says rows task p k p link
+pub told_by_task : (rows : List (List Row)) (s : State) → IsTable rows → ArePostedInOrder rows s → (task : TaskId) (p k : ℕ) (link : Link) → LinkMeans rows task p k p link
     → (r : Row) → RowAt rows p k r → r.leaf ≡ Task task → (told : Option Bool) → told ≡ posted_by s link → IfSome told (λ posted. AreEarlierPosted rows s p k posted)
 told_by_task rows s table order task p k link says r at is None told = tt
 told_by_task rows s table order task p k link says r at is (Some true) told =
@@ -345,24 +345,24 @@ earlier_at_least rows s p k leaf many low q other j r early at is =
     omega (arith, early, low, least)
 
 -- the link that a table's fields hold for a row
-pub linked_says : (table : Table) (links : List (List Link)) (trails : List Trail) → IsLinkedTable table links trails → (seen : Table) → table ≡ seen → (p k : ℕ) (r : Row) (task : TaskId) (lane : List Link) (link : Link)
-    → k < rounds_of seen.lanes → lane ≡ get_or links p lane → link ≡ get_or lane k Unknown → RowAt seen.lanes p k r → r.leaf ≡ Task task → Says seen.lanes task p k p link
-linked_says table links trails h seen view p k r task lane link round lane_is link_is at is =
-    subst (λ (t : Table). Says t.lanes task p k p link) view (
-    let early : k < rounds_of table.lanes = subst (λ (t : Table). k < rounds_of t.lanes) (sym view) round in
+pub linked_says : (table : Table) (links : List (List Link)) (latest_rows : List Latest) → IsLinkedTable table links latest_rows → (seen : Table) → table ≡ seen → (p k : ℕ) (r : Row) (task : TaskId) (lane : List Link) (link : Link)
+    → k < rounds_in seen.lanes → lane ≡ get_or links p lane → link ≡ get_or lane k Unknown → RowAt seen.lanes p k r → r.leaf ≡ Task task → LinkMeans seen.lanes task p k p link
+linked_says table links latest_rows h seen view p k r task lane link round lane_is link_is at is =
+    subst (λ (t : Table). LinkMeans t.lanes task p k p link) view (
+    let early : k < rounds_in table.lanes = subst (λ (t : Table). k < rounds_in t.lanes) (sym view) round in
     let there : RowAt table.lanes p k r = subst (λ (t : Table). RowAt t.lanes p k r) (sym view) at in
     let many = h.linked.lanes in
     let inside = lane_within table.lanes p k r there in
     let here : link ≡ link_at links p k = link_is ∙ ap (λ (l : List Link). get_or l k Unknown) (lane_is ∙ get_or_default links p lane [] (omega (arith, many, inside))) in
-    subst (Says table.lanes task p k p) (sym here) (h.linked.says p k r task (inl early) there is)
+    subst (LinkMeans table.lanes task p k p) (sym here) (h.linked.says p k r task (inl early) there is)
     )
 
-pub rounds_of-with_round : (lanes : List (List Row)) (rows : List Row) → length rows ≡ length lanes → 1 ≤ length lanes → rounds_of (with_round lanes rows) ≡ rounds_of lanes + 1
-rounds_of-with_round lanes rows whole some = length-lane_of-with_round lanes rows 0 whole (omega (arith, some))
+pub rounds_in-with_round : (lanes : List (List Row)) (rows : List Row) → length rows ≡ length lanes → 1 ≤ length lanes → rounds_in (with_round lanes rows) ≡ rounds_in lanes + 1
+rounds_in-with_round lanes rows whole some = length-lane_of-with_round lanes rows 0 whole (omega (arith, some))
 
-none_of_none : (m : ℕ) → rounds_of (replicate m []) ≡ 0
+none_of_none : (m : ℕ) → rounds_in (replicate m []) ≡ 0
 none_of_none zero = refl
 none_of_none (suc m) = refl
 
-pub rounds_of-none : (lanes : List (List Row)) (m : ℕ) → lanes ≡ replicate m [] → rounds_of lanes ≡ 0
-rounds_of-none lanes m none = ap rounds_of none ∙ none_of_none m
+pub rounds_in-none : (lanes : List (List Row)) (m : ℕ) → lanes ≡ replicate m [] → rounds_in lanes ≡ 0
+rounds_in-none lanes m none = ap rounds_in none ∙ none_of_none m

@@ -4,12 +4,12 @@ use Rattle.std.specs.Prelude.{List, [], Option, Some, None, Bool, true, IsTrue, 
 use Rattle.sched_base.specs.declared.rows.Row.{Row}
 use Rattle.sched_base.specs.declared.rows.Leaf.TheVariants.{Task}
 use Rattle.sched_base.specs.declared.rows.TaskId.{TaskId}
-use Rattle.sched_base.specs.Tables.{Table, RowAt, rounds_of}
+use Rattle.sched_base.specs.Tables.{Table, RowAt, rounds_in}
 use Rattle.book_machine.specs.Machine.{State, posted_at, EarlierPosted}
 use Rattle.book_machine.specs.declared.links.Link.{Link}
 use Rattle.book_machine.specs.declared.links.Link.TheVariants.{First, After, Unknown}
-use Rattle.book_machine.specs.declared.links.Trail.{Trail}
-use Rattle.book_machine.specs.declared.links.Trail.TheVariants.{NoRow, Last}
+use Rattle.book_machine.specs.declared.links.Latest.{Latest}
+use Rattle.book_machine.specs.declared.links.Latest.TheVariants.{NoRow, Last}
 
 -- the link of four bytes: the lane above the round, as far as there are 255 lanes and 2^24 rounds
 abbrev pub link_of : ℕ → Link
@@ -32,10 +32,10 @@ pub record IsLink (rows : List (List Row)) (task : TaskId) (lane n p q j : ℕ) 
   pub last : (u i : ℕ) (r : Row) → u ≢ lane → IsBefore n p u i → RowAt rows u i r → r.leaf ≡ Task task → i ≤ j
 
 -- what a link says of the task's rows before (n, p) on other processors than `lane`
-abbrev pub Says : List (List Row) → TaskId → ℕ → ℕ → ℕ → Link → Type 0
-Says rows task lane n p First = (u i : ℕ) (r : Row) → u ≢ lane → IsBefore n p u i → RowAt rows u i r → r.leaf ≢ Task task
-Says rows task lane n p (After place) = IsLink rows task lane n p place.lane place.round
-Says rows task lane n p Unknown = Unit {0}
+abbrev pub LinkMeans : List (List Row) → TaskId → ℕ → ℕ → ℕ → Link → Type 0
+LinkMeans rows task lane n p First = (u i : ℕ) (r : Row) → u ≢ lane → IsBefore n p u i → RowAt rows u i r → r.leaf ≢ Task task
+LinkMeans rows task lane n p (After place) = IsLink rows task lane n p place.lane place.round
+LinkMeans rows task lane n p Unknown = Unit {0}
 
 -- no row of the task before (n, p) stands after round j
 abbrev pub NoneAfter : List (List Row) → TaskId → ℕ → ℕ → ℕ → Type 0
@@ -49,21 +49,21 @@ pub record IsLast (rows : List (List Row)) (task : TaskId) (n p q j : ℕ) : Typ
   pub of_task : row.leaf ≡ Task task
   pub last : NoneAfter rows task n p j
 
--- what a trail says of the task's rows before (n, p): its last one, and the last one on another processor than that
-abbrev pub IsTrail : List (List Row) → TaskId → ℕ → ℕ → Trail → Type 0
-IsTrail rows task n p NoRow = (u i : ℕ) (r : Row) → IsBefore n p u i → RowAt rows u i r → r.leaf ≢ Task task
-IsTrail rows task n p (Last place link) = IsLast rows task n p place.lane place.round × Says rows task place.lane n p link
+-- what a latest says of the task's rows before (n, p): its last one, and the last one on another processor than that
+abbrev pub IsLatest : List (List Row) → TaskId → ℕ → ℕ → Latest → Type 0
+IsLatest rows task n p NoRow = (u i : ℕ) (r : Row) → IsBefore n p u i → RowAt rows u i r → r.leaf ≢ Task task
+IsLatest rows task n p (Last place link) = IsLast rows task n p place.lane place.round × LinkMeans rows task place.lane n p link
 
 -- the link of the row of processor p in round k
 abbrev pub link_at : List (List Link) → ℕ → ℕ → Link
 link_at links p k = slice_index_or (slice_index_or links p []) k Unknown
 
--- the rows before (n, p) have their links, and each task its trail up to there
-pub record AreLinked (rows : List (List Row)) (n p : ℕ) (links : List (List Link)) (trails : List Trail) : Type 0 where
+-- the rows before (n, p) have their links, and each task its latest up to there
+pub record AreLinked (rows : List (List Row)) (n p : ℕ) (links : List (List Link)) (latest_rows : List Latest) : Type 0 where
   pub lanes : length links ≡ length rows
   pub says : (u k : ℕ) (r : Row) (task : TaskId) → IsBefore n p u k → RowAt rows u k r → r.leaf ≡ Task task →
-      Says rows task u k u (link_at links u k)
-  pub ends : (task : TaskId) (trail : Trail) → slice_get trails task.0 ≡ Some trail → IsTrail rows task n p trail
+      LinkMeans rows task u k u (link_at links u k)
+  pub ends : (task : TaskId) (latest : Latest) → slice_get latest_rows task.0 ≡ Some latest → IsLatest rows task n p latest
 
 -- a lane's links keep those before row n, and have this one there, or nothing
 pub record KeepsLink (old new : List Link) (n : ℕ) (link : Link) : Type 0 where
@@ -85,7 +85,7 @@ abbrev pub ArePostedInOrder : List (List Row) → State → Type 0
 ArePostedInOrder rows s = (p k : ℕ) (r : Row) → k < posted_at s p → RowAt rows p k r → EarlierPosted rows s.lanes p k r.leaf
 
 -- what the fields of a linked table keep
-pub record IsLinkedTable (table : Table) (links : List (List Link)) (trails : List Trail) : Type 0 where
+pub record IsLinkedTable (table : Table) (links : List (List Link)) (latest_rows : List Latest) : Type 0 where
   pub some : 1 ≤ length table.lanes
-  pub few : rounds_of table.lanes + table.room < 2 ^ 32
-  pub linked : AreLinked table.lanes (rounds_of table.lanes) 0 links trails
+  pub few : rounds_in table.lanes + table.room < 2 ^ 32
+  pub linked : AreLinked table.lanes (rounds_in table.lanes) 0 links latest_rows

@@ -4,11 +4,11 @@ ghost use Rattle.std.specs.Prelude.{slice_index_or, IfOk};
 ghost use Rattle.sched_base.specs.declared.rows.Row.{Row};
 ghost use Rattle.sched_base.specs.declared.rows.Leaf.TheVariants.{Task};
 ghost use Rattle.sched_base.specs.declared.rows.TaskId.{TaskId};
-ghost use Rattle.sched_base.specs.Tables.{rounds_of, end_of, RowAt, IsRound, with_round};
+ghost use Rattle.sched_base.specs.Tables.{rounds_in, end_of, RowAt, IsRound, with_round};
 ghost use Rattle.book_machine.specs.declared.links.Link.TheVariants.{Unknown};
-ghost use Rattle.book_machine.specs.declared.links.Trail.{Trail};
-ghost use Rattle.book_machine.specs.declared.links.Trail.TheVariants.{NoRow, Last};
-ghost use Rattle.book_machine.specs.Links.{IsTrail, Says, AreLinked, KeepsLink, link_of};
+ghost use Rattle.book_machine.specs.declared.links.Latest.{Latest};
+ghost use Rattle.book_machine.specs.declared.links.Latest.TheVariants.{NoRow, Last};
+ghost use Rattle.book_machine.specs.Links.{IsLatest, LinkMeans, AreLinked, KeepsLink, link_of};
 
 use sched_base::{Leaf, NoMemory, Row, RowTable, TaskId};
 use std::alloc::Global;
@@ -34,21 +34,21 @@ pub enum Link {
 
 /// Where a task's last row stands so far.
 #[derive(Clone, Copy)]
-pub(crate) enum Trail {
+pub(crate) enum Latest {
     /// There is none.
     NoRow,
     /// There, with its link.
     Last(Place, Link),
 }
 
-impl Trail {
+impl Latest {
     // The link of the task's next row, on lane p.
     fn link(&self, p: u32) -> Link
-        ensures { (rows : List (List Row)) (task : TaskId) (n : ℕ) → IsTrail rows task n p self.now → Says rows task p n p result }
+        ensures { (rows : List (List Row)) (task : TaskId) (n : ℕ) → IsLatest rows task n p self.now → LinkMeans rows task p n p result }
     {
         match *self {
-            Trail::NoRow => Link::First,
-            Trail::Last(place, link) => {
+            Latest::NoRow => Link::First,
+            Latest::Last(place, link) => {
                 if place.lane == p {
                     link
                 } else {
@@ -65,7 +65,7 @@ pub struct LinkedTable {
     table: RowTable,
     links: Vec<LaneLinks>,
     // of each task where its last row stands
-    trails: Vec<Trail>,
+    latest_rows: Vec<Latest>,
 }
 
 impl Model for LinkedTable {
@@ -76,7 +76,7 @@ impl Model for LinkedTable {
 
     ghost view = { λ t. t.table };
 
-    ghost invariant = { λ t. IsLinkedTable t.table t.links.items t.trails.items };
+    ghost invariant = { λ t. IsLinkedTable t.table t.links.items t.latest_rows.items };
 }
 
 impl LinkedTable {
@@ -94,11 +94,11 @@ impl LinkedTable {
     {
         let table = RowTable::new(alloc, processors, rounds)?;
         let links = no_links(alloc, processors, rounds)?;
-        let trails = no_trails(alloc, tasks)?;
+        let latest_rows = no_trails(alloc, tasks)?;
         Ok(LinkedTable {
             table,
             links,
-            trails,
+            latest_rows,
         })
     }
 
@@ -112,7 +112,7 @@ impl LinkedTable {
     {
         let round = self.table.rounds() as u32;
         self.table.push_round(rows);
-        link_round(&self.table, round, &mut self.links, &mut self.trails);
+        link_round(&self.table, round, &mut self.links, &mut self.latest_rows);
     }
 
     /// The table alone.
@@ -132,8 +132,8 @@ impl LinkedTable {
     /// The link of the row of processor p in round k.
     pub(crate) fn link(&self, p: u32, k: u64) -> Link
         requires processor { p < length self.now.lanes }
-        requires round { k < rounds_of self.now.lanes }
-        ensures { (r : Row) (task : TaskId) → RowAt self.now.lanes p k r → r.leaf ≡ Task task → Says self.now.lanes task p k p result }
+        requires round { k < rounds_in self.now.lanes }
+        ensures { (r : Row) (task : TaskId) → RowAt self.now.lanes p k r → r.leaf ≡ Task task → LinkMeans self.now.lanes task p k p result }
     {
         self.links[p as usize].get(k)
     }
@@ -236,20 +236,20 @@ fn no_links(alloc: Global, processors: u32, rounds: u64) -> Result<Vec<LaneLinks
     Ok(links)
 }
 
-fn no_trails(alloc: Global, tasks: u32) -> Result<Vec<Trail>, NoMemory>
+fn no_trails(alloc: Global, tasks: u32) -> Result<Vec<Latest>, NoMemory>
     ensures { IfOk result (λ v. v.items ≡ replicate tasks NoRow) }
 {
-    Ok(vec![in alloc; Trail::NoRow; tasks as usize]?)
+    Ok(vec![in alloc; Latest::NoRow; tasks as usize]?)
 }
 
 // Links the rows of the last round.
-fn link_round(table: &RowTable, round: u32, links: &mut Vec<LaneLinks>, trails: &mut Vec<Trail>)
-    requires last { round + 1 ≡ rounds_of table.now.lanes }
-    requires before { AreLinked table.now.lanes round 0 links.old.items trails.old.items }
-    ensures { AreLinked table.now.lanes (round + 1) 0 links.new.items trails.new.items }
+fn link_round(table: &RowTable, round: u32, links: &mut Vec<LaneLinks>, latest_rows: &mut Vec<Latest>)
+    requires last { round + 1 ≡ rounds_in table.now.lanes }
+    requires before { AreLinked table.now.lanes round 0 links.old.items latest_rows.old.items }
+    ensures { AreLinked table.now.lanes (round + 1) 0 links.new.items latest_rows.new.items }
 {
     for p in 0..table.processors() {
-        link_row(table, round, p, links, trails);
+        link_row(table, round, p, links, latest_rows);
     }
 }
 
@@ -259,15 +259,15 @@ fn link_row(
     round: u32,
     p: u32,
     links: &mut Vec<LaneLinks>,
-    trails: &mut Vec<Trail>,
+    latest_rows: &mut Vec<Latest>,
 )
     requires lane { p < length table.now.lanes }
-    requires round { round < rounds_of table.now.lanes }
-    requires before { AreLinked table.now.lanes round p links.old.items trails.old.items }
-    ensures { AreLinked table.now.lanes round (p + 1) links.new.items trails.new.items }
+    requires round { round < rounds_in table.now.lanes }
+    requires before { AreLinked table.now.lanes round p links.old.items latest_rows.old.items }
+    ensures { AreLinked table.now.lanes round (p + 1) links.new.items latest_rows.new.items }
 {
     let link = match table.row(p, u64::from(round)).leaf {
-        Leaf::Task(task) => follow(trails, task, Place { lane: p, round }),
+        Leaf::Task(task) => follow(latest_rows, task, Place { lane: p, round }),
         Leaf::Wait(_) => Link::Unknown,
         Leaf::Idle(_) => Link::Unknown,
         Leaf::Empty => Link::Unknown,
@@ -275,16 +275,16 @@ fn link_row(
     links[p as usize].put(round, link);
 }
 
-// Moves the task's trail to its next row, which stands there, and gives the row's link.
-fn follow(trails: &mut Vec<Trail>, task: TaskId, place: Place) -> Link
-    ensures link { (rows : List (List Row)) → ((trail : Trail) → slice_get trails.old.items task.0 ≡ Some trail →
-        IsTrail rows task place.round place.lane trail) → Says rows task place.lane place.round place.lane result }
-    ensures trails { trails.new.items ≡ slice_set trails.old.items task.0 (Last place result) }
+// Moves the task's latest to its next row, which stands there, and gives the row's link.
+fn follow(latest_rows: &mut Vec<Latest>, task: TaskId, place: Place) -> Link
+    ensures link { (rows : List (List Row)) → ((latest : Latest) → slice_get latest_rows.old.items task.0 ≡ Some latest →
+        IsLatest rows task place.round place.lane latest) → LinkMeans rows task place.lane place.round place.lane result }
+    ensures latest_rows { latest_rows.new.items ≡ slice_set latest_rows.old.items task.0 (Last place result) }
 {
-    match trails.get_mut(task.0 as usize) {
-        Some(trail) => {
-            let link = trail.link(place.lane);
-            *trail = Trail::Last(place, link);
+    match latest_rows.get_mut(task.0 as usize) {
+        Some(latest) => {
+            let link = latest.link(place.lane);
+            *latest = Latest::Last(place, link);
             link
         }
         None => Link::Unknown,

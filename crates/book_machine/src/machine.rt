@@ -6,7 +6,7 @@ ghost use Rattle.book_machine.specs.Machine.{after, start, posted_at, least_post
 ghost use Rattle.book_machine.specs.Links.{ArePostedInOrder, AreEarlierPosted, posted_by};
 ghost use Rattle.sched_base.specs.Limits.{processor_limit, window_limit};
 ghost use Rattle.sched_base.specs.declared.rows.Row.{Row};
-ghost use Rattle.sched_base.specs.Tables.{rounds_of};
+ghost use Rattle.sched_base.specs.Tables.{rounds_in};
 
 use crate::events::Event;
 use crate::links::{Link, LinkedTable};
@@ -198,7 +198,7 @@ impl MachineState {
     /// leaf. The table needs to hold the lane's next round only where the window isn't the reason.
     pub fn waits_for(&self, table: &RowTable, window: u32, p: u32) -> Option<u32>
         requires lanes { length self.now.lanes ≡ length table.now.lanes }
-        requires round { posted_at self.now p < least_count self.now + window → posted_at self.now p < rounds_of table.now.lanes }
+        requires round { posted_at self.now p < least_count self.now + window → posted_at self.now p < rounds_in table.now.lanes }
         requires lane { p < length self.now.lanes }
         ensures some { IfSome result (λ q. WaitsFor table.now.lanes window self.now p q) }
         ensures none { IfNone result (HasTakeable table.now.lanes window self.now p) }
@@ -217,7 +217,7 @@ impl MachineState {
     /// or where rows of no task are behind.
     pub fn waits_by_link(&self, linked: &LinkedTable, window: u32, p: u32) -> Option<u32>
         requires lanes { length self.now.lanes ≡ length linked.now.lanes }
-        requires round { posted_at self.now p < least_count self.now + window → posted_at self.now p < rounds_of linked.now.lanes }
+        requires round { posted_at self.now p < least_count self.now + window → posted_at self.now p < rounds_in linked.now.lanes }
         requires lane { p < length self.now.lanes }
         requires in_order { ArePostedInOrder linked.now.lanes self.now }
         ensures some { IfSome result (λ q. WaitsFor linked.now.lanes window self.now p q) }
@@ -234,7 +234,7 @@ impl MachineState {
     /// link of a task's row tells. It searches only for a row of no task that is ahead of other lanes.
     pub fn is_due(&self, linked: &LinkedTable, window: u32, p: u32) -> bool
         requires lanes { length self.now.lanes ≡ length linked.now.lanes }
-        requires round { posted_at self.now p < least_count self.now + window → posted_at self.now p < rounds_of linked.now.lanes }
+        requires round { posted_at self.now p < least_count self.now + window → posted_at self.now p < rounds_in linked.now.lanes }
         requires lane { p < length self.now.lanes }
         requires in_order { ArePostedInOrder linked.now.lanes self.now }
         ensures { IsTrue result ↔ HasTakeable linked.now.lanes window self.now p }
@@ -253,7 +253,7 @@ impl MachineState {
     fn told_by_link(&self, linked: &LinkedTable, p: u32, round: u64) -> Option<bool>
         requires lanes { length self.now.lanes ≡ length linked.now.lanes }
         requires lane { p < length self.now.lanes }
-        requires round { round < rounds_of linked.now.lanes }
+        requires round { round < rounds_in linked.now.lanes }
         requires in_order { ArePostedInOrder linked.now.lanes self.now }
         ensures { IfSome result (λ told. AreEarlierPosted linked.now.lanes self.now p round told) }
     {

@@ -12,7 +12,7 @@ use Rattle.sched_base.specs.declared.rows.Row.{Row}
 use Rattle.sched_base.specs.declared.rows.TaskId.{TaskId}
 use Rattle.sched_base.specs.Lanes.{rows_on}
 use Rattle.sched_base.specs.Rows.{is_of_task}
-use Rattle.sched_base.specs.Tables.{Table, lane_of, RowAt, IsTable, end_after, rounds_of as rounds_in, ticks_in, ticks_before, with_round}
+use Rattle.sched_base.specs.Tables.{Table, lane_of, RowAt, IsTable, end_after, rounds_in, ticks_in, ticks_before, with_round}
 use Rattle.sched_base.proofs.ScheduleLanes.{lane_of-lanes_of, length-lanes_of}
 use Rattle.sched_base.proofs.TableLemmas.{no_row, row_within, slice_get-push}
 use Rattle.sched_base.proofs.TickLemmas.{ticks_before-le}

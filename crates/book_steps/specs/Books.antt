@@ -1,6 +1,6 @@
 -- What a contract sees of a book of steps, and what its type keeps.
 use Rattle.std.specs.Prelude.{ℕ, ◌≡◌, ◌<◌, ◌≤◌, ◌+◌, ◌*◌, ◌^◌, List, [], Option, Some, None, false, true, length, replicate, slice_get, slice_index}
-use Rattle.sched_base.specs.Tables.{Table, rounds_of as rounds_in}
+use Rattle.sched_base.specs.Tables.{Table, rounds_in}
 use Rattle.run_tree.specs.Plans.{PlanContents, rounds_of}
 use Rattle.book_machine.specs.declared.events.Event.{Event}
 use Rattle.book_machine.specs.Machine.{State, lane_at, posted_at, least_posted, start}

@@ -30,12 +30,12 @@ pub record Waits (old new : BookHeld) (p lane : ℕ) : Type 0 where
   pub book : new ≡ record old { table = new.table }
 
 -- what a take on processor p says
-abbrev pub Says : BookHeld → BookHeld → ℕ → Turn → Type 0
-Says old new p (Ready row) = Hands old new p row
-Says old new p (Wait lane) = Waits old new p lane
-Says old new p Over = (old.state.halted ≡ false) × (posted_at old.state p ≡ rounds_of old.plan) × (new ≡ old)
-Says old new p Halted = (old.state.halted ≡ true) × (new ≡ old)
-Says old new p Full = IsFull old × (new ≡ old)
+abbrev pub TurnMeans : BookHeld → BookHeld → ℕ → Turn → Type 0
+TurnMeans old new p (Ready row) = Hands old new p row
+TurnMeans old new p (Wait lane) = Waits old new p lane
+TurnMeans old new p Over = (old.state.halted ≡ false) × (posted_at old.state p ≡ rounds_of old.plan) × (new ≡ old)
+TurnMeans old new p Halted = (old.state.halted ≡ true) × (new ≡ old)
+TurnMeans old new p Full = IsFull old × (new ≡ old)
 
 -- the totals, with the ticks of a row of this leaf
 abbrev pub with_ticks : List ℕ → Leaf → ℕ → List ℕ

@@ -1,13 +1,13 @@
 //! Handing rows out.
 ghost use Rattle.std.specs.Prelude.{◌≡◌, ◌<◌, ◌≤◌, ◌+◌, ◌↔◌, ℕ, length, true, false, IfSome, IfNone, IsTrue};
 ghost use Rattle.sched_base.specs.declared.rows.Row.{Row as DeclaredRow};
-ghost use Rattle.sched_base.specs.Tables.{RowAt, rounds_of as rounds_in};
+ghost use Rattle.sched_base.specs.Tables.{RowAt, rounds_in};
 ghost use Rattle.run_tree.specs.Plans.{rounds_of};
 ghost use Rattle.book_machine.specs.Machine.{EarlierPosted, HasTakeable, IsWaitedFor, PostedBefore, WaitsFor, lane_at, posted_at, least_posted};
 ghost use Rattle.plan_rounds.specs.PlanRows.{plan_rows};
 ghost use Rattle.book_steps.specs.Books.{IsFull};
 ghost use Rattle.book_steps.specs.Pending.{IsPending};
-ghost use Rattle.book_steps.specs.Turns.{Hands, Says};
+ghost use Rattle.book_steps.specs.Turns.{Hands, TurnMeans};
 
 use crate::book::StepBook;
 use crate::ring::PendingRow;
@@ -20,7 +20,7 @@ impl StepBook {
     pub fn take(&mut self, p: u32) -> Turn
         requires lane { p < length self.old.state.lanes }
         requires free { (lane_at self.old.state.lanes p).out ≡ false }
-        ensures { Says self.old self.new p result }
+        ensures { TurnMeans self.old self.new p result }
     {
         if self.halted() {
             return Turn::Halted;

@@ -4,13 +4,13 @@ use Rattle.std.proofs.Common.{sym, ◌∙◌, ap, subst, arith, append-nil, leng
 use Rattle.sched_edges.specs.Causes.{Rose}
 use Rattle.sched_edges.specs.Streams.{GaveAll, GaveCount}
 use Rattle.command_words.specs.declared.command.Reading.{Reading}
-use Rattle.still_commands.specs.declared.refusal.Refusal.{Refusal}
-use Rattle.still_commands.specs.declared.refusal.Refusal.TheVariants as why
-use Rattle.still_commands.specs.declared.status.Status.{Status}
-use Rattle.still_commands.specs.declared.status.Status.TheVariants as status
-use Rattle.still_commands.specs.Commands.{Output, output_of, limit_of, Writes, Refuses}
-use Rattle.still_commands.specs.Ends.{Streams, ErrorStream, streams, error_stream, Tells, StopsAs, Stops, IsAnswer, Answers, Ends}
-use Rattle.still_commands.specs.Refusals.{status_of, refusal_line}
+use Rattle.pure_commands.specs.declared.refusal.Refusal.{Refusal}
+use Rattle.pure_commands.specs.declared.refusal.Refusal.TheVariants as why
+use Rattle.pure_commands.specs.declared.status.Status.{Status}
+use Rattle.pure_commands.specs.declared.status.Status.TheVariants as status
+use Rattle.pure_commands.specs.Commands.{Output, output_of, limit_of, Writes, Refuses}
+use Rattle.pure_commands.specs.Ends.{Streams, ErrorStream, streams, error_stream, Tells, StopsAs, Stops, IsAnswer, Answers, Ends}
+use Rattle.pure_commands.specs.Refusals.{status_of, refusal_line}
 use Rattle.byte_calls.specs.Answers.{IsWhyNot, IsAnswered}
 
 -- ---- what was read and written

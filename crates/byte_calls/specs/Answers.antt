@@ -1,13 +1,13 @@
 -- What is answered to bytes: the command's text, or the line of a refusal.
 use Rattle.std.specs.Prelude.{◌≡◌, ℕ, ◌+◌, ◌≤◌, ◌<◌, List, [], length}
-use Rattle.still_commands.specs.declared.refusal.Refusal.{Refusal}
-use Rattle.still_commands.specs.declared.refusal.Refusal.TheVariants.{Usage, ReadFault, WriteFault, NoMemory, InputTooLong}
-use Rattle.still_commands.specs.declared.status.Status.{Status}
-use Rattle.still_commands.specs.declared.status.Status.TheVariants as status
-use Rattle.still_commands.specs.Commands.{Output, of_set, of_tree, limit_of, Writes, Refuses}
-use Rattle.still_commands.specs.SetTexts.{WritesSoundly}
-use Rattle.still_commands.specs.Follow.{WritesFollowed}
-use Rattle.still_commands.specs.Refusals.{status_of, refusal_line}
+use Rattle.pure_commands.specs.declared.refusal.Refusal.{Refusal}
+use Rattle.pure_commands.specs.declared.refusal.Refusal.TheVariants.{Usage, ReadFault, WriteFault, NoMemory, InputTooLong}
+use Rattle.pure_commands.specs.declared.status.Status.{Status}
+use Rattle.pure_commands.specs.declared.status.Status.TheVariants as status
+use Rattle.pure_commands.specs.Commands.{Output, of_set, of_tree, limit_of, Writes, Refuses}
+use Rattle.pure_commands.specs.SetTexts.{WritesSoundly}
+use Rattle.pure_commands.specs.Follow.{WritesFollowed}
+use Rattle.pure_commands.specs.Refusals.{status_of, refusal_line}
 
 -- this text is written for these bytes, and what it tells of a set or of a tree is sound
 abbrev pub TellsSoundly : Output → List ℕ → Status → List ℕ → Type 0

@@ -1,15 +1,15 @@
 //! A command over bytes.
 ghost use Rattle.std.specs.Prelude.{◌≡◌, ◌⊎◌, []};
-ghost use Rattle.command_words.specs.Words.{ShowsSome};
-ghost use Rattle.still_commands.specs.Commands.{output_of};
-ghost use Rattle.still_commands.specs.Ends.{IsAnswer};
-ghost use Rattle.still_commands.specs.declared.status.Status.{Status as Ended};
+ghost use Rattle.command_words.specs.Words.{DrawsSomeUnit};
+ghost use Rattle.pure_commands.specs.Commands.{output_of};
+ghost use Rattle.pure_commands.specs.Ends.{IsAnswer};
+ghost use Rattle.pure_commands.specs.declared.status.Status.{Status as Ended};
 ghost use Rattle.byte_calls.specs.Answers.{IsAnswered};
 
 use crate::streams::{ByteSink, ByteSource};
 use std::alloc::Global;
 use std::marker::Model;
-use still_commands::{Reading, Status, run_reading};
+use pure_commands::{Reading, Status, run_reading};
 
 /// What a command answers to bytes: its status, and its text, or the line that says why there is none.
 #[derive(Drop)]
@@ -56,7 +56,7 @@ impl Answer {
 /// Does a command that reads over these bytes: what it answers is what the program writes for them, and with which status it ends.
 /// Where memory is refused at any point, also for the text, the status says so, and there is no text.
 pub fn call(alloc: Global, reading: Reading, bytes: &[u8]) -> Answer
-    requires some { ShowsSome reading }
+    requires some { DrawsSomeUnit reading }
 
     // The text is that of the command, what it tells of a set or of a tree is sound, and each refusal has its cause and its line.
     ensures told { IsAnswered (output_of reading) bytes.now result.status result.text }

@@ -12,7 +12,7 @@ use Rattle.command_words.specs.declared.command.Execution.{Execution}
 use Rattle.command_words.specs.declared.command.Execution.TheVariants.{Exec, ExecMet, Drill, Jobs, Modes}
 use Rattle.command_words.specs.Words.{window_of, exec_with, exec_by, drill_of, drill_with, after_text, HasWindow}
 use Rattle.command_words.specs.Words.{reading_of, reading_by, reading_named, reading_with, reading_with_value, batch_of, execution_of, execution_named, execution_with, execution_with_value}
-use Rattle.command_words.specs.Words.{value_in, met_at, front, units_of, asked_units, drawn, draw_at_end, draw_of, ShowsSome}
+use Rattle.command_words.specs.Words.{value_in, met_at, front, units_of, asked_units, drawn, draw_at_end, draw_of, DrawsSomeUnit}
 use Rattle.command_words.specs.Words.{asks_to_execute, asks_for_batch, asks_for_threads, command_of}
 use Rattle.command_words.specs.CommandLine.{Spells, SpellsExec, SpellsOption}
 use Rattle.command_words.proofs.WordLemmas.{executes, reads, batches, only_batch, if_is, same_text}
@@ -193,10 +193,10 @@ units_some (Some w) n e =
     let (m, is, same) = mapped (λ m. Some m) (units_of w) n e in
     subst (λ (o : Option ℕ). IfSome o (λ k. 1 ≤ k)) same (units_bound w m is)
 
-some_by : (x : Reading) (words : List Text) → Spells (Read x) words → ShowsSome x
+some_by : (x : Reading) (words : List Text) → Spells (Read x) words → DrawsSomeUnit x
 some_by (Draw asked) words spells =
     let (u, n, from_given, units_given, same) = (asked_by spells.0 spells.1 (Draw asked) spells.4).asks in
-    subst ShowsSome same (units_some spells.1 n units_given)
+    subst DrawsSomeUnit same (units_some spells.1 n units_given)
 some_by Rate words spells = tt
 some_by Tree words spells = tt
 some_by Trace words spells = tt
@@ -208,7 +208,7 @@ some_by TableRepeat words spells = tt
 some_by Check words spells = tt
 some_by Follow words spells = tt
 
-pub shows_some : (words : List Text) (x : Reading) → reading_of words ≡ Some x → ShowsSome x
+pub shows_some : (words : List Text) (x : Reading) → reading_of words ≡ Some x → DrawsSomeUnit x
 shows_some words x e = some_by x words (reading_spelled words x e)
 
 execution_named_spelled : (w : Text) (x : Execution) → execution_named w ≡ Some x → Spells (Execute x) (w ∷ [])

@@ -2,7 +2,7 @@
 use Rattle.std.proofs.Common.{◌≡◌, ◌≢◌, ℕ, ◌≤◌, List, [], ◌∷◌, Option, Some, true, false, eqb, ne_eqb, arith, rules, tests}
 use Rattle.std.specs.Prelude.{option_and_then}
 use Rattle.std.specs.Char.{is_ascii_digit}
-use Rattle.trace_text.specs.Words.{number_of}
+use Rattle.text_words.specs.Words.{number_of}
 use Rattle.command_words.proofs.WordLemmas.{no_some, and_then_some}
 
 -- the word begins, and with no hyphen

@@ -3,7 +3,7 @@ use Rattle.std.specs.Prelude.{ℕ, ◌≤◌, ◌^◌, ◌&&◌, ◌||◌, nat_l
 use Rattle.std.specs.Prelude.{length, take, drop, Option}
 use Rattle.std.specs.Prelude.{Some, None, IfSome, option_map, option_and_then, codes}
 use Rattle.std.specs.Str.{bytes_eq}
-use Rattle.trace_text.specs.Words.{number_of}
+use Rattle.text_words.specs.Words.{number_of}
 use Rattle.command_words.specs.declared.command.Command.{Command}
 use Rattle.command_words.specs.declared.command.Command.TheVariants.{Read, Batch, Execute}
 use Rattle.command_words.specs.declared.command.Reading.{Reading}
@@ -70,9 +70,9 @@ abbrev pub draw_of : List (List ℕ) → Option Reading
 draw_of words = draw_behind (front (codes "--from") words).0 (front (codes "--units") (front (codes "--from") words).1)
 
 -- a picture shows one unit at least, where their number is asked for
-abbrev pub ShowsSome : Reading → Type 0
-ShowsSome (Draw asked) = IfSome asked.units (λ n. 1 ≤ n)
-ShowsSome _ = Unit {0}
+abbrev pub DrawsSomeUnit : Reading → Type 0
+DrawsSomeUnit (Draw asked) = IfSome asked.units (λ n. 1 ≤ n)
+DrawsSomeUnit _ = Unit {0}
 
 -- ---- commands that read
 

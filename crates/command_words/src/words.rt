@@ -4,7 +4,7 @@ ghost use Rattle.command_words.specs.declared.command.Command.TheVariants.{Read,
 ghost use Rattle.command_words.specs.declared.command.Execution.TheVariants.{Exec, Drill};
 ghost use Rattle.command_words.specs.Words.{window_of, exec_with, exec_by, drill_of, drill_with, HasWindow};
 ghost use Rattle.command_words.specs.Words.{reading_of, reading_by, reading_named, reading_with, reading_with_value};
-ghost use Rattle.command_words.specs.Words.{value_in, front, unit_of, units_of, asked_from, asked_units, drawn, draw_of, ShowsSome};
+ghost use Rattle.command_words.specs.Words.{value_in, front, unit_of, units_of, asked_from, asked_units, drawn, draw_of, DrawsSomeUnit};
 ghost use Rattle.command_words.specs.Words.{execution_of, execution_named, execution_with, execution_with_value};
 ghost use Rattle.command_words.specs.Words.{asks_to_execute, asks_for_batch, asks_for_threads, command_of};
 
@@ -13,7 +13,7 @@ use crate::command::{Command, Execution, Reading};
 use crate::command_line::read_line;
 use sched_base::NoMemory;
 use std::alloc::Global;
-use trace_text::read_number;
+use text_words::read_number;
 
 /// Where no window is asked for, a lane may run up to that many rounds ahead.
 pub const USUAL_WINDOW: u32 = 32;
@@ -35,7 +35,7 @@ const UNIT_LIMIT: u128 = 4_294_967_295;
 pub fn reading_of(alloc: Global, words: &[String]) -> Result<Option<Reading>, NoMemory>
     requires still { asks_for_threads (map string_bytes words.now) ≡ false }
     ensures line { IfOk result (λ reading. option_map Read reading ≡ command_of (map string_bytes words.now)) }
-    ensures some { IfOk result (λ reading. IfSome reading ShowsSome) }
+    ensures some { IfOk result (λ reading. IfSome reading DrawsSomeUnit) }
 {
     match read_line(alloc, words)? {
         Some(Command::Read(reading)) if is_reading(reading, words) => Ok(Some(reading)),

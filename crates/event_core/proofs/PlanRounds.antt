@@ -2,7 +2,7 @@
 use Rattle.std.proofs.Common.{◌≡◌, ℕ, ◌*◌, ◌+◌, [], ◌<◌, ◌≤◌, ◌^◌, List, length, ap, sym, ◌∙◌, arith, lit<, zero-add, le_of_lt}
 use Rattle.std.proofs.Math.Nat.{mul-le-mul}
 use Rattle.sched_base.specs.declared.rows.Row.{Row}
-use Rattle.sched_base.specs.Tables.{IsRound, end_of, end_after, rounds_of as rounds_in, with_round}
+use Rattle.sched_base.specs.Tables.{IsRound, end_of, end_after, rounds_in, with_round}
 use Rattle.sched_base.proofs.TableLemmas.{length-lane_of-with_round}
 use Rattle.run_tree.specs.Plans.{IsPlan, PlanContents, stop_of}
 use Rattle.sched_laws.proofs.WholeRounds.{length-round, round_get, set_round}

@@ -3,7 +3,7 @@ use Rattle.std.proofs.Common.{◌≡◌, ℕ, ◌<◌, ◌*◌, ◌∙◌, true,
 use Rattle.std.specs.Prelude.{sum, slice_get}
 use Rattle.sched_base.specs.declared.rows.Row.{Row}
 use Rattle.sched_base.specs.Rows.{is_of_task}
-use Rattle.sched_base.specs.Tables.{RowAt, rounds_of as rounds_in, row_limit}
+use Rattle.sched_base.specs.Tables.{RowAt, rounds_in, row_limit}
 use Rattle.sched_base.proofs.TableLemmas.{row_within}
 use Rattle.run_tree.specs.Plans.{PlanContents, IsPlan, rounds_of}
 use Rattle.book_machine.specs.Machine.{State, posted_at, IsOut}
@@ -12,7 +12,7 @@ use Rattle.book_machine.specs.Rounds.{AreFirstRounds}
 use Rattle.book_machine.proofs.Lanes.{out_within}
 use Rattle.book_machine.proofs.RoundLemmas.{row_of_all}
 use Rattle.plan_rounds.specs.PlanRows.{RoundsContents, plan_rows}
-use Rattle.exec_book.specs.Jobs.{DeskContents, JobsKept, Made}
+use Rattle.exec_book.specs.Jobs.{JobStoreContents, JobsKept, Made}
 use Rattle.plan_rounds.specs.Parts.{RowsPart}
 use Rattle.plan_rounds.proofs.RoundLemmas.{first_rounds, plan_count, plan_lanes, plan_table}
 use Rattle.exec_book.proofs.PostLemmas.{posts_below}
@@ -20,27 +20,27 @@ use Rattle.exec_book.proofs.JobLemmas.{away_for}
 
 -- a book that holds these keeps their parts
 pub record Keeps {J : Type 0} (id used : J → ℕ) (made : J → Made) (all_made : List Made) (p : PlanContents) (count window : ℕ) (s : State)
-    (rounds : RoundsContents) (desk : DeskContents J) (side : ℕ) : Type 0 where
+    (rounds : RoundsContents) (store : JobStoreContents J) (side : ℕ) : Type 0 where
   pub rows : RowsPart p count window s (Some rounds)
   pub counted : side ≡ sum (counts_of s.lanes)
-  pub jobs : JobsKept id used made all_made (plan_rows p) (length p.set.tasks) s desk
+  pub jobs : JobsKept id used made all_made (plan_rows p) (length p.set.tasks) s store
 
 -- what is known where a row is out on the lane
-pub record LaneOut {J : Type 0} (p : PlanContents) (s : State) (rounds : RoundsContents) (desk : DeskContents J) (lane : ℕ) : Type 0 where
+pub record LaneOut {J : Type 0} (p : PlanContents) (s : State) (rounds : RoundsContents) (store : JobStoreContents J) (lane : ℕ) : Type 0 where
   pub out : IsOut s lane
   pub within : lane < length s.lanes
   pub same_lanes : length s.lanes ≡ length rounds.table.lanes
   pub in_table : lane < length rounds.table.lanes
   pub round : posted_at s lane < rounds_in rounds.table.lanes
   pub out_row : (row : Row) → RowAt rounds.table.lanes lane (posted_at s lane) row → OutRow (plan_rows p) s lane row
-  pub away : (row : Row) → RowAt rounds.table.lanes lane (posted_at s lane) row → (t : ℕ) → is_of_task t row.leaf ≡ true → slice_get desk.jobs.places t ≡ Some None
+  pub away : (row : Row) → RowAt rounds.table.lanes lane (posted_at s lane) row → (t : ℕ) → is_of_task t row.leaf ≡ true → slice_get store.jobs.places t ≡ Some None
   -- the posts are fewer than the rows
   pub few : sum (counts_of s.lanes) < row_limit
 
 pub lane_out : {J : Type 0} (id used : J → ℕ) (made : J → Made) (all_made : List Made) (p : PlanContents) (count window : ℕ) (s : State)
-    (rounds : RoundsContents) (desk : DeskContents J) (side lane : ℕ)
-    → Keeps id used made all_made p count window s rounds desk side → IsPlan p → IsReached (plan_rows p) window s → IsOut s lane → LaneOut p s rounds desk lane
-lane_out id used made all_made p count window s rounds desk side lane keeps lawful reached out =
+    (rounds : RoundsContents) (store : JobStoreContents J) (side lane : ℕ)
+    → Keeps id used made all_made p count window s rounds store side → IsPlan p → IsReached (plan_rows p) window s → IsOut s lane → LaneOut p s rounds store lane
+lane_out id used made all_made p count window s rounds store side lane keeps lawful reached out =
     let all = plan_rows p in
     let first : AreFirstRounds rounds.table.lanes all = first_rounds p lawful rounds keeps.rows.kept.rounds in
     let within : lane < length s.lanes = out_within s.lanes lane out in
@@ -55,7 +55,7 @@ lane_out id used made all_made p count window s rounds desk side lane keeps lawf
       in_table = omega (arith, within, long, wide);
       round = keeps.rows.kept.out lane out;
       out_row = row_out;
-      away = λ row at t on. away_for id used made all_made all (length p.set.tasks) window s desk lane row (plan_table p lawful) reached keeps.jobs (row_out row at) within t on;
+      away = λ row at t on. away_for id used made all_made all (length p.set.tasks) window s store lane row (plan_table p lawful) reached keeps.jobs (row_out row at) within t on;
       few =
           let (row, here) = reached.out_is_row lane out in
           let inside = (row_within all (plan_table p lawful) lane (posted_at s lane) row here).1 in

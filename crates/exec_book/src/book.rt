@@ -3,7 +3,7 @@ ghost use Rattle.std.specs.Prelude.{◌≡◌, ◌<◌, ◌≤◌, ◌+◌, ◌*
 ghost use Rattle.std.specs.Prelude.{IfErr, IsTrue, true};
 ghost use Rattle.sched_base.specs.declared.rows.Row.{Row};
 ghost use Rattle.sched_base.specs.Rows.{is_of_task};
-ghost use Rattle.sched_base.specs.Tables.{rounds_of as rounds_in};
+ghost use Rattle.sched_base.specs.Tables.{rounds_in};
 ghost use Rattle.sched_edges.specs.Jobs.{FaultsAre};
 ghost use Rattle.run_tree.specs.Plans.{IsPlan, rounds_of};
 ghost use Rattle.sched_base.specs.Tables.{row_limit};
@@ -17,7 +17,7 @@ ghost use Rattle.exec_book.specs.Books.{IsDismissed, AreParts};
 ghost use Rattle.plan_rounds.specs.Laws.{FollowsPlan};
 
 use crate::held::Held;
-use crate::jobs::{JobDesk, no_notes};
+use crate::jobs::{JobStore, no_notes};
 use crate::log::EventLog;
 use crate::waits::Waits;
 use book_machine::{LaneState, MachineState};
@@ -70,7 +70,7 @@ impl<Q: PostLedger, J: Job> Model for Book<Q, J> {
       state = b.state;
       log = b.log.events;
       table = table_in (option_map (λ h. h.rounds) b.held);
-      jobs = jobs_in (option_map (λ h. h.desk) b.held);
+      jobs = jobs_in (option_map (λ h. h.store) b.held);
       side = option_map (λ h. h.side) b.held;
     } };
 
@@ -78,7 +78,7 @@ impl<Q: PostLedger, J: Job> Model for Book<Q, J> {
       rows : RowsPart b.plan b.rounds b.window b.state (option_map (λ h. h.rounds) b.held);
       log : LogPart b.plan b.window b.state b.log.events b.log.room;
       posts : PostsPart b.state (option_map (λ h. h.side) b.held);
-      jobs : JobsPart J.id J.used J.made Q.made b.plan b.state (option_map (λ h. h.desk) b.held);
+      jobs : JobsPart J.id J.used J.made Q.made b.plan b.state (option_map (λ h. h.store) b.held);
       set : b.plan.set ≡ Q.set;
     } };
 }
@@ -131,7 +131,7 @@ impl<Q: PostLedger, J: Job> Book<Q, J> {
         } = parts;
         let held = Held {
             rounds: computed,
-            desk: JobDesk::new(jobs, handed),
+            store: JobStore::new(jobs, handed),
             side,
         };
         Ok(Book {
@@ -241,7 +241,7 @@ impl<Q: PostLedger, J: Job> Book<Q, J> {
         let Some(held) = &self.held else {
             unreachable!()
         };
-        held.desk.faults_are(counts)
+        held.store.faults_are(counts)
     }
 
     /// What the job that went with the row that is out on lane p had used then: the ticks of its task's posted rows.
@@ -253,7 +253,7 @@ impl<Q: PostLedger, J: Job> Book<Q, J> {
         let Some(held) = &self.held else {
             unreachable!()
         };
-        held.desk.handed(p)
+        held.store.handed(p)
     }
 }
 

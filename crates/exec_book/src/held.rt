@@ -3,7 +3,7 @@ ghost use Rattle.std.specs.Prelude.{◌≡◌, ◌≤◌, ◌<◌, ◌+◌, None
 ghost use Rattle.sched_base.specs.declared.rows.Row.{Row};
 ghost use Rattle.sched_base.specs.declared.rows.Leaf.TheVariants.{Task};
 ghost use Rattle.sched_base.specs.declared.rows.TaskId.{TaskId};
-ghost use Rattle.sched_base.specs.Tables.{RowAt, rounds_of as rounds_in, row_limit};
+ghost use Rattle.sched_base.specs.Tables.{RowAt, rounds_in, row_limit};
 ghost use Rattle.sched_edges.specs.Jobs.{JobAt};
 ghost use Rattle.run_tree.specs.Plans.{rounds_of};
 ghost use Rattle.book_machine.specs.declared.events.Event.TheVariants.{Take};
@@ -12,7 +12,7 @@ ghost use Rattle.plan_rounds.specs.PlanRows.{AreRoundsOf};
 ghost use Rattle.exec_book.specs.Jobs.{WasAt, noted, with_job};
 ghost use Rattle.plan_rounds.specs.Parts.{processor};
 
-use crate::jobs::JobDesk;
+use crate::jobs::JobStore;
 use book_machine::{Event, MachineState};
 use plan_rounds::Rounds;
 use run_tree::Plan;
@@ -24,7 +24,7 @@ use unit_ledger::{BookSide, LaneSeat, PostLedger};
 #[derive(Drop)]
 pub(crate) struct Held<Q: PostLedger, J: Job> {
     pub(crate) rounds: Rounds,
-    pub(crate) desk: JobDesk<J>,
+    pub(crate) store: JobStore<J>,
     pub(crate) side: BookSide<Q>,
 }
 
@@ -53,18 +53,18 @@ impl<Q: PostLedger, J: Job> Held<Q, J> {
         requires lane { p < length self.old.rounds.table.lanes }
         requires round { posted_at state.old p < rounds_in self.old.rounds.table.lanes }
         requires legal { IsLegal self.old.rounds.table.lanes window state.old (Take (processor p)) }
-        requires notes { p < length self.old.desk.handed }
+        requires notes { p < length self.old.store.handed }
         requires job { (r : Row) (task : TaskId) → RowAt self.old.rounds.table.lanes p (posted_at state.old p) r → r.leaf ≡ Task task →
-            (j : J) × JobAt self.old.desk.jobs.places task.0 j }
+            (j : J) × JobAt self.old.store.jobs.places task.0 j }
         ensures row { RowAt self.old.rounds.table.lanes p (posted_at state.old p) result.0 }
-        ensures job { WasAt self.old.desk.jobs.places result.0.leaf result.1 }
+        ensures job { WasAt self.old.store.jobs.places result.0.leaf result.1 }
         ensures held { self.new ≡ record self.old {
-          desk = record { jobs = with_job self.old.desk.jobs result.0.leaf None; handed = noted J.used self.old.desk.handed p result.1 };
+          store = record { jobs = with_job self.old.store.jobs result.0.leaf None; handed = noted J.used self.old.store.handed p result.1 };
         } }
         ensures state { state.new ≡ after state.old (Take (processor p)) }
     {
         let row = self.rounds.table().row(p, state.posted(p));
-        let job = self.desk.lift(p, row.leaf);
+        let job = self.store.lift(p, row.leaf);
         state.step(self.rounds.table(), window, Event::Take(ProcId(p)));
         (row, job)
     }
@@ -85,13 +85,13 @@ impl<Q: PostLedger, J: Job> Held<Q, J> {
         requires round { posted_at state.old p < rounds_in self.old.rounds.table.lanes }
         requires legal { IsLegal self.old.rounds.table.lanes window state.old event }
         requires job { (r : Row) (task : TaskId) → RowAt self.old.rounds.table.lanes p (posted_at state.old p) r → r.leaf ≡ Task task →
-            (slice_get self.old.desk.jobs.places task.0 ≡ Some None) × ((j : J) × (job ≡ Some j)) }
+            (slice_get self.old.store.jobs.places task.0 ≡ Some None) × ((j : J) × (job ≡ Some j)) }
         ensures held { (r : Row) × RowAt self.old.rounds.table.lanes p (posted_at state.old p) r ×
-            (self.new ≡ record self.old { desk = record self.old.desk { jobs = with_job self.old.desk.jobs r.leaf job } }) }
+            (self.new ≡ record self.old { store = record self.old.store { jobs = with_job self.old.store.jobs r.leaf job } }) }
         ensures state { state.new ≡ after state.old event }
     {
         let row = self.rounds.table().row(p, state.posted(p));
-        self.desk.lay(row.leaf, job);
+        self.store.lay(row.leaf, job);
         state.step(self.rounds.table(), window, event);
     }
 

@@ -53,11 +53,11 @@ pub struct Waiters {
     short: AtomicU64,
     /// Whether each lane has a processor.
     has_processors: bool,
-    beds: Vec<Bed>,
+    sleepers: Vec<Sleeper>,
 }
 
 /// Where the worker of one lane sleeps. Each has a line of the processor's cache of its own.
-struct Bed {
+struct Sleeper {
     /// How often it was woken. The worker sleeps on it.
     calls: AtomicU64,
     /// How often it had been woken when the worker last looked into the book. Only the lane's own worker changes it.
@@ -67,7 +67,7 @@ struct Bed {
     _rest_of_line: [u64; 5],
 }
 
-impl Drop for Bed {
+impl Drop for Sleeper {
     fn drop(self) {
         let Self {
             calls: _,
@@ -84,9 +84,9 @@ impl Drop for Waiters {
             begun: _,
             short: _,
             has_processors: _,
-            beds,
+            sleepers,
         } = self;
-        drop(beds);
+        drop(sleepers);
     }
 }
 
@@ -97,9 +97,9 @@ impl Waiters {
         alloc: Global,
         lanes: u32,
     ) -> Result<Waiters, NoMemory> {
-        let mut beds = Vec::with_capacity(alloc, lanes as usize)?;
+        let mut sleepers = Vec::with_capacity(alloc, lanes as usize)?;
         for _ in 0..lanes {
-            beds.push(Bed {
+            sleepers.push(Sleeper {
                 calls: AtomicU64::new(0),
                 seen: AtomicU64::new(0),
                 vain: AtomicU64::new(0),
@@ -110,14 +110,14 @@ impl Waiters {
             begun: AtomicU64::new(0),
             short: AtomicU64::new(0),
             has_processors: has_processors(rt, lanes),
-            beds,
+            sleepers,
         })
     }
 
     /// Tells that a pass over the lanes begins, in so many threads at most. Where lanes share one, whoever must wait gives up at once.
     pub fn begin_pass(&self, threads: usize) {
         self.begun.store(0, Ordering::SeqCst);
-        let short = if threads < self.beds.len() { 1 } else { 0 };
+        let short = if threads < self.sleepers.len() { 1 } else { 0 };
         self.short.store(short, Ordering::SeqCst);
     }
 
@@ -145,25 +145,25 @@ impl Waiters {
     }
 
     fn wake_all(&self) {
-        for bed in self.beds.as_slice() {
-            bed.wake();
+        for sleeper in self.sleepers.as_slice() {
+            sleeper.wake();
         }
     }
 
     // Waits until the lane is woken, or for a while: looks for it, and then sleeps. False where it gives up, since some lane seems to have
     // no worker.
-    fn sleep<R: Wait>(&self, rt: &R, bed: &Bed, waits: &mut u32) -> bool {
+    fn sleep<R: Wait>(&self, rt: &R, sleeper: &Sleeper, waits: &mut u32) -> bool {
         if self.is_short() {
             return false;
         }
-        if bed.is_woken_soon(self.has_processors) {
+        if sleeper.is_woken_soon(self.has_processors) {
             return true;
         }
-        if self.begun.load(Ordering::SeqCst) >= self.beds.len() as u64 {
-            bed.sleep(rt, NAP);
+        if self.begun.load(Ordering::SeqCst) >= self.sleepers.len() as u64 {
+            sleeper.sleep(rt, NAP);
             return true;
         }
-        bed.sleep(rt, SHORT_NAP);
+        sleeper.sleep(rt, SHORT_NAP);
         *waits = waits.saturating_add(1);
         if *waits < SHORT_NAPS {
             return true;
@@ -173,7 +173,7 @@ impl Waiters {
     }
 }
 
-impl Bed {
+impl Sleeper {
     fn wake(&self) {
         self.calls.fetch_add(1, Ordering::SeqCst);
         self.calls.wake_one();
@@ -212,9 +212,9 @@ impl Bed {
 /// once more.
 pub fn note_calls(waiters: Option<&Waiters>, lane: u32) {
     if let Some(waiters) = waiters {
-        if let Some(bed) = waiters.beds.get(lane as usize) {
-            bed.seen
-                .store(bed.calls.load(Ordering::SeqCst), Ordering::Relaxed);
+        if let Some(sleeper) = waiters.sleepers.get(lane as usize) {
+            sleeper.seen
+                .store(sleeper.calls.load(Ordering::SeqCst), Ordering::Relaxed);
         }
     }
 }
@@ -223,12 +223,12 @@ pub fn note_calls(waiters: Option<&Waiters>, lane: u32) {
 pub fn wake(waiters: Option<&Waiters>, lanes: u32) {
     if let Some(waiters) = waiters {
         let mut left = lanes;
-        for bed in waiters.beds.as_slice() {
+        for sleeper in waiters.sleepers.as_slice() {
             if left == 0 {
                 return;
             }
             if left & 1 == 1 {
-                bed.wake();
+                sleeper.wake();
             }
             left >>= 1;
         }
@@ -247,8 +247,8 @@ pub fn wait<R: Wait>(
     waits: &mut u32,
 ) -> bool {
     if let Some(waiters) = waiters {
-        if let Some(bed) = waiters.beds.get(lane as usize) {
-            return waiters.sleep(rt, bed, waits);
+        if let Some(sleeper) = waiters.sleepers.get(lane as usize) {
+            return waiters.sleep(rt, sleeper, waits);
         }
     }
     *waits = waits.saturating_add(1);

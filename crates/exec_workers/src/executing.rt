@@ -6,7 +6,7 @@ ghost use Rattle.exec_workers.specs.Runs.{IsExecutable, OutcomeOf, AreFresh, Are
 
 use crate::opening::open_book;
 use crate::run::{Ended, run_gates};
-use exec_lanes::{ExecFault, Executed, Kit, Room, answer_of, lay_jobs};
+use exec_lanes::{ExecFault, Executed, Kit, RunMemory, answer_of, lay_jobs};
 use run_tree::Plan;
 use sched_edges::{BoxedJob, Gate, Job, JobList, Jobs};
 use std::alloc::Global;
@@ -100,9 +100,9 @@ fn execute_in<G: Gate + Send, Q: PostLedger + Send + Sync, J: Job + Send, X: Thr
     ensures { OutcomeOf G.Gate J.Job plan.now window kits.old kits.new jobs.old jobs.new result }
 {
     let n = plan.set().count();
-    let room = Room::of_plan(rt, alloc, plan, jobs)?;
+    let room = RunMemory::of_plan(rt, alloc, plan, jobs)?;
     let (book, seats) = open_book::<Q, J>(alloc, blank, plan, rounds, window, jobs)?;
-    let Room {
+    let RunMemory {
         mut counts,
         mut posted,
         waiters,

@@ -8,7 +8,7 @@ ghost use Rattle.book_machine.specs.declared.events.Event.TheVariants.{Halt};
 ghost use Rattle.plan_rounds.specs.Parts.{processor};
 ghost use Rattle.exec_book.specs.Books.{PutsBack};
 ghost use Rattle.exec_workers.specs.Found.{IsBusyAt, IsFreeAt, IsOutWith, IsToldAt};
-ghost use Rattle.exec_workers.specs.Promises.{Agrees, Gives, GivesRow, HasWorked};
+ghost use Rattle.exec_workers.specs.Promises.{Agrees, TakeGives, GivesRow, HasWorked};
 
 use crate::found::{
     is_busy_at, is_free_at, is_halted_or_told, is_job_of, is_of_plan, is_out_at, ticks_of,
@@ -34,7 +34,7 @@ pub fn take_row<Q: PostLedger, J: Job, R: Wait>(
     counts: &[u64],
 ) -> Look<J>
     requires counts { length counts.now ≡ length plan.now.set.tasks }
-    ensures { Gives J.id J.used J.made J.faults Q.made plan.now seat.now counts.now result }
+    ensures { TakeGives J.id J.used J.made J.faults Q.made plan.now seat.now counts.now result }
 {
     plan.know_lawful();
     agree(rt, book, plan);

@@ -1,6 +1,6 @@
 //! One run over a book.
 ghost use Rattle.std.specs.Prelude.{◌≡◌, ◌≤◌, ◌<◌, ℕ, List, length, slice_index, sum, IfSome, IfNone, vec_len, vec_capacity};
-ghost use Rattle.sched_base.specs.Tables.{rounds_of as rounds_in, ticks_of};
+ghost use Rattle.sched_base.specs.Tables.{rounds_in, ticks_of};
 ghost use Rattle.sched_edges.specs.Jobs.{FaultsAre};
 ghost use Rattle.run_tree.specs.Plans.{rounds_of};
 ghost use Rattle.book_machine.specs.Rounds.{AreFirstRounds};

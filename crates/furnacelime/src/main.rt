@@ -5,7 +5,7 @@
 ghost use Rattle.std.specs.Prelude.{◌≡◌, ◌≢◌, ◌↔◌, [], None, Some, map, drop, string_bytes, IfOk, OnErr};
 ghost use Rattle.command_words.specs.Words.{command_of};
 ghost use Rattle.sched_edges.specs.StdStreams.{kept_back};
-ghost use Rattle.still_commands.specs.Ends.{streams_of, error_of, IsUsage};
+ghost use Rattle.pure_commands.specs.Ends.{streams_of, error_of, IsUsage};
 ghost use Rattle.run_tool.specs.Alone.{EndsAlone, IsDoneWithOwn};
 ghost use Rattle.run_tool.specs.Executions.{gates_of};
 ghost use Rattle.run_tool.specs.Ready.{AreFirstGates};

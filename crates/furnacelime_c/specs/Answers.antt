@@ -4,11 +4,11 @@ use Rattle.std.specs.declared.option.Option.{Option}
 use Rattle.command_words.specs.declared.asking.Asked.{Asked}
 use Rattle.command_words.specs.declared.command.Reading.{Reading}
 use Rattle.command_words.specs.declared.command.Reading.TheVariants.{Rate, Tree, Trace, TraceMet, TraceWrap, Table, Check, Follow, Draw}
-use Rattle.still_commands.specs.declared.status.Status.{Status}
-use Rattle.still_commands.specs.declared.status.Status.TheVariants.{NoMemory}
-use Rattle.still_commands.specs.Commands.{output_of}
-use Rattle.still_commands.specs.Ends.{IsAnswer}
-use Rattle.still_commands.specs.Status.{code_of}
+use Rattle.pure_commands.specs.declared.status.Status.{Status}
+use Rattle.pure_commands.specs.declared.status.Status.TheVariants.{NoMemory}
+use Rattle.pure_commands.specs.Commands.{output_of}
+use Rattle.pure_commands.specs.Ends.{IsAnswer}
+use Rattle.pure_commands.specs.Status.{code_of}
 use Rattle.byte_calls.specs.Held.{AnswerHeld}
 use Rattle.byte_calls.specs.Answers.{IsAnswered}
 use Rattle.furnacelime_c.specs.declared.answers.Question.{Question}
@@ -37,8 +37,8 @@ pub record IsAnswerOf (reading : Reading) (bytes : List ℕ) (answer : AnswerHel
   pub answered : (status : Status) → IsAnswer (output_of reading) bytes status → (answer.status ≡ status) ⊎ (answer.status ≡ NoMemory)
 
 -- a handle has the answer of the command that was asked for, and its status and the length of its text are told
-abbrev pub Gives : Question → List ℕ → Option AnswerHeld → ℕ → ℕ → Type 0
-Gives q bytes kept text_length code =
+abbrev pub AnswerGives : Question → List ℕ → Option AnswerHeld → ℕ → ℕ → Type 0
+AnswerGives q bytes kept text_length code =
     (reading : Reading) × (answer : AnswerHeld) × (reading_of q ≡ Some reading) × (kept ≡ Some answer) × IsAnswerOf reading bytes answer
     × (text_length ≡ length answer.text) × (code ≡ code_of answer.status)
 

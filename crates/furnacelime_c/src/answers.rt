@@ -1,13 +1,13 @@
 //! The commands that take no lock, over bytes in memory.
 ghost use Rattle.std.specs.Prelude.{◌≡◌, ◌≢◌, ◌<◌, length, Some, None, IfSome};
-ghost use Rattle.command_words.specs.Words.{ShowsSome};
-ghost use Rattle.furnacelime_c.specs.Answers.{reading_of, asked_by, Gives, IsNotCalled, IsCopied, IsShort};
+ghost use Rattle.command_words.specs.Words.{DrawsSomeUnit};
+ghost use Rattle.furnacelime_c.specs.Answers.{reading_of, asked_by, AnswerGives, IsNotCalled, IsCopied, IsShort};
 
 use byte_calls::call;
 use c_handles::AnswerHandle;
 use command_words::Asked;
 use std::alloc::Global;
-use still_commands::Reading;
+use pure_commands::Reading;
 
 /// The status of a call that can't be done.
 const WRONG_CALL: u8 = 64;
@@ -35,7 +35,7 @@ pub extern "C" fn furnacelime_ask(
     text_length: &mut usize,
 ) -> u8
     requires empty { kept.old.answer ≡ None }
-    ensures given { kept.new.answer ≢ None → Gives question.now bytes.now kept.new.answer text_length.new result }
+    ensures given { kept.new.answer ≢ None → AnswerGives question.now bytes.now kept.new.answer text_length.new result }
     ensures nothing { kept.new.answer ≡ None → IsNotCalled question.now text_length.new result }
 {
     *text_length = 0;
@@ -75,7 +75,7 @@ pub extern "C" fn furnacelime_tell(alloc: Global, answer: AnswerHandle, text: &m
 // The command of this number, with the units that are asked for.
 fn reading_of(question: &Question) -> Option<Reading>
     ensures reading { result ≡ reading_of question.now }
-    ensures some { IfSome result ShowsSome }
+    ensures some { IfSome result DrawsSomeUnit }
 {
     match question.command {
         1 => Some(Reading::Rate),

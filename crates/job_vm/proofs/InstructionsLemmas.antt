@@ -2,7 +2,7 @@
 use Rattle.std.proofs.Common.{ℕ, ◌+◌, ◌^◌, ◌≡◌, true, false, min, List, Option, None, Some, option_map, option_and_then, codes, sym, ap, ◌∙◌}
 use Rattle.std.specs.Str.{bytes_eq}
 use Rattle.std.proofs.lemmas.Bool.{cond-true, cond-false}
-use Rattle.trace_text.specs.Words.{cut_space}
+use Rattle.text_words.specs.Words.{cut_space}
 use Rattle.job_vm.specs.Instructions.{word_of, operand, on_register, instruction_named, instruction_of}
 
 -- the name isn't this word

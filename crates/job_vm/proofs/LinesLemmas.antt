@@ -4,7 +4,7 @@ use Rattle.std.specs.Prelude.{◌==◌}
 use Rattle.std.proofs.lemmas.List.{take_all, drop_all, length-drop, length-take}
 use Rattle.std.proofs.Math.Nat.{eq-or-lt_of_le}
 use Rattle.std.specs.List.{after_first, position_or_len}
-use Rattle.trace_text.specs.Words.{onto_first_line, lines_of}
+use Rattle.text_words.specs.Words.{onto_first_line, lines_of}
 
 -- the place of the first line feed, or the length where there is none
 abbrev pub feed_place : List ℕ → ℕ

@@ -3,24 +3,24 @@ use Rattle.std.proofs.Common.{ℕ, zero, suc, ◌+◌, ◌-◌, ◌*◌, ◌/◌
 use Rattle.std.specs.Prelude.{slice_get, slice_index}
 use Rattle.std.proofs.Math.Nat.{zero-div}
 use Rattle.std.proofs.lemmas.Option.{slice_get-get_or, slice_get_past}
-use Rattle.sched_edges.specs.Machine.{Machine, started, put, jump, obeyed, step, alone}
+use Rattle.sched_edges.specs.JobMachine.{JobMachine, started, put, jump, obeyed, step, alone}
 
 -- where the counter of this state is that of the other, both are the same
-abbrev pub Rests : Machine → Machine → Type 0
+abbrev pub Rests : JobMachine → JobMachine → Type 0
 Rests n m = n.counter ≡ m.counter → n ≡ m
 
-rests_cond : (b : Bool) (x y m : Machine) → Rests x m → Rests y m → Rests (cond b x y) m
+rests_cond : (b : Bool) (x y m : JobMachine) → Rests x m → Rests y m → Rests (cond b x y) m
 rests_cond true x y m p q e = p e
 rests_cond false x y m p q e = q e
 
-put_rests : (a n : ℕ) (m : Machine) → Rests (put a n m) m
+put_rests : (a n : ℕ) (m : JobMachine) → Rests (put a n m) m
 put_rests a n m e = absurd (omega (arith, e))
 
-jump_rests : (b : ℕ) (m : Machine) → Rests (jump b m) m
+jump_rests : (b : ℕ) (m : JobMachine) → Rests (jump b m) m
 jump_rests b m e = ap (λ c. record m { counter = c }) e
 
 -- whatever an instruction changes, it moves the counter
-pub obeyed_rests : (operation a b : ℕ) (m : Machine) → Rests (obeyed operation a b m) m
+pub obeyed_rests : (operation a b : ℕ) (m : JobMachine) → Rests (obeyed operation a b m) m
 unfolding obeyed
 obeyed_rests operation a b m =
     let x = slice_index m.registers a in
@@ -41,30 +41,30 @@ obeyed_rests operation a b m =
     rests_cond (eqb operation 0 && ltb a 8) (put a b m) m1 m (put_rests a b m) r1
 
 -- the state after the word that was found
-abbrev pub taken : Option ℕ → Machine → Machine
+abbrev pub taken : Option ℕ → JobMachine → JobMachine
 taken None m = m
 taken (Some word) m = obeyed (word / 2 ^ 40) (word / 2 ^ 32 % 2 ^ 8) (word % 2 ^ 32) m
 
-taken_rests : (found : Option ℕ) (m : Machine) → Rests (taken found m) m
+taken_rests : (found : Option ℕ) (m : JobMachine) → Rests (taken found m) m
 taken_rests None m e = refl
 taken_rests (Some word) m e = obeyed_rests (word / 2 ^ 40) (word / 2 ^ 32 % 2 ^ 8) (word % 2 ^ 32) m e
 
-step_taken : (code : List ℕ) (m : Machine) (found : Option ℕ) → slice_get code m.counter ≡ found → step code m ≡ taken found m
+step_taken : (code : List ℕ) (m : JobMachine) (found : Option ℕ) → slice_get code m.counter ≡ found → step code m ≡ taken found m
 unfolding step
 step_taken code m None e = ap (λ o. elim o [ Some word ↦ obeyed (word / 2 ^ 40) (word / 2 ^ 32 % 2 ^ 8) (word % 2 ^ 32) m | None ↦ m ]) e
 step_taken code m (Some w) e = ap (λ o. elim o [ Some word ↦ obeyed (word / 2 ^ 40) (word / 2 ^ 32 % 2 ^ 8) (word % 2 ^ 32) m | None ↦ m ]) e
 
 -- a step does what the word at the counter says
-pub step_within : (code : List ℕ) (m : Machine) (at : ℕ) → at ≡ m.counter → at < length code
+pub step_within : (code : List ℕ) (m : JobMachine) (at : ℕ) → at ≡ m.counter → at < length code
     → step code m ≡ obeyed (get_or code at 0 / 2 ^ 40) (get_or code at 0 / 2 ^ 32 % 2 ^ 8) (get_or code at 0 % 2 ^ 32) m
 step_within code m at e within = step_taken code m (Some (get_or code at 0)) (ap (slice_get code) (sym e) ∙ slice_get-get_or code at 0 within)
 
 -- and nothing behind the program
-pub step_past : (code : List ℕ) (m : Machine) (at : ℕ) → at ≡ m.counter → length code ≤ at → step code m ≡ m
+pub step_past : (code : List ℕ) (m : JobMachine) (at : ℕ) → at ≡ m.counter → length code ≤ at → step code m ≡ m
 step_past code m at e past = step_taken code m None (ap (slice_get code) (sym e) ∙ slice_get_past code at past)
 
 -- a step that leaves the counter leaves all
-pub step_rests : (code : List ℕ) (m : Machine) → Rests (step code m) m
+pub step_rests : (code : List ℕ) (m : JobMachine) → Rests (step code m) m
 step_rests code m e =
     let found = slice_get code m.counter in
     let is : step code m ≡ taken found m = step_taken code m found refl in
@@ -82,7 +82,7 @@ unfolding alone
 alone_more code n = ap (alone code) (add-one n)
 
 -- the state behind a step that left the counter is the last one
-pub alone_last : (code : List ℕ) (n to : ℕ) (m : Machine) → m ≡ alone code n → n ≤ to → (step code m).counter ≡ m.counter → step code m ≡ alone code to
+pub alone_last : (code : List ℕ) (n to : ℕ) (m : JobMachine) → m ≡ alone code n → n ≤ to → (step code m).counter ≡ m.counter → step code m ≡ alone code to
 alone_last code n to m is on same =
     let still : step code m ≡ m = step_rests code m same in
     let at : step code (alone code n) ≡ alone code n = ap (step code) (sym is) ∙ (still ∙ is) in

@@ -1,7 +1,7 @@
 -- The instructions of a program, as lines of a text.
 use Rattle.std.specs.Prelude.{ℕ, ◌+◌, ◌*◌, ◌^◌, nat_lt, min, if◌then◌else◌, List, Option, Some, None, option_map, option_and_then, codes}
 use Rattle.std.specs.Str.{bytes_eq}
-use Rattle.trace_text.specs.Words.{cut_space, number_of}
+use Rattle.text_words.specs.Words.{cut_space, number_of}
 
 -- the word of an instruction
 abbrev pub word_of : ℕ → ℕ → ℕ → ℕ

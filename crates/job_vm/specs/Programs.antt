@@ -6,7 +6,7 @@ use Rattle.std.specs.List.{list_all, after_first, position_or_len}
 use Rattle.std.specs.Str.{bytes_eq}
 use Rattle.sched_base.specs.Bytes.{line_feed}
 use Rattle.sched_base.specs.Names.{is_lawful_name}
-use Rattle.trace_text.specs.Words.{lines_of, after_word}
+use Rattle.text_words.specs.Words.{lines_of, after_word}
 use Rattle.job_vm.specs.Instructions.{instruction_of}
 
 -- a program: the name of its task, the number of the line that begins it, and its words

@@ -3,7 +3,7 @@ ghost use Rattle.std.specs.Prelude.{◌≡◌, ◌≤◌, ◌<◌, ◌+◌, ◌^
 ghost use Rattle.job_vm.specs.Instructions.{word_of, operand, on_register, instruction_named, instruction_of};
 
 use crate::operations::{ADD, HALT, JUMP, JUMP_IF_ZERO, MUL, SET, SUB};
-use trace_text::{cut_space, read_number};
+use text_words::{cut_space, read_number};
 
 // The words of these operations keep their parts apart, since a register is below 8 and a number below 2^32.
 const REGISTERS: u64 = 8;

@@ -2,7 +2,7 @@
 ghost use Rattle.std.specs.Prelude.{◌≡◌, ◌<◌, ◌^◌, ◌++◌, ◌∷◌, [], ◌==◌, length, Some, OnOk, IfOk, IfErr};
 ghost use Rattle.std.specs.List.{after_first};
 ghost use Rattle.sched_base.specs.Bytes.{line_feed};
-ghost use Rattle.trace_text.specs.Words.{lines_of};
+ghost use Rattle.text_words.specs.Words.{lines_of};
 ghost use Rattle.job_vm.specs.Faults.{NamesUnreadLine};
 ghost use Rattle.job_vm.specs.Programs.{is_tasks, ends_program, instructions, is_new, begun, lengthened, line_read};
 
@@ -12,7 +12,7 @@ use sched_base::{Name, lawful_name};
 use std::alloc::Global;
 use std::collections::BTreeSet;
 use std::marker::Model;
-use trace_text::{after_word, first_line};
+use text_words::{after_word, first_line};
 
 /// A program that was read.
 #[derive(Drop)]

@@ -1,6 +1,6 @@
 //! The machine that runs a job's program, step by step.
 ghost use Rattle.std.specs.Prelude.{◌≡◌, ◌≤◌, ◌<◌, ◌+◌, ◌-◌, ◌/◌, ◌%◌, ◌^◌, slice_index, slice_set};
-ghost use Rattle.sched_edges.specs.Machine.{started, jump, obeyed, step, alone, numbers};
+ghost use Rattle.sched_edges.specs.JobMachine.{started, jump, obeyed, step, alone, numbers};
 
 use crate::operations::{ADD, JUMP, JUMP_IF_ZERO, MUL, SET, SUB};
 use std::marker::Model;
@@ -13,9 +13,9 @@ pub(crate) struct Vm {
 }
 
 impl Model for Vm {
-    ghost use Rattle.sched_edges.specs.Machine.{Machine};
+    ghost use Rattle.sched_edges.specs.JobMachine.{JobMachine};
 
-    ghost Value = { Machine };
+    ghost Value = { JobMachine };
 
     ghost view = { λ m. record { counter = m.counter; registers = m.registers } };
 }

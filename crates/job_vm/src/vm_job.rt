@@ -20,7 +20,7 @@ pub struct VmJob {
 
 impl Model for VmJob {
     ghost use Rattle.std.specs.Prelude.{◌≡◌, ◌≤◌, ◌/◌};
-    ghost use Rattle.sched_edges.specs.Machine.{alone};
+    ghost use Rattle.sched_edges.specs.JobMachine.{alone};
     ghost use Rattle.job_vm.specs.VmJobs.{VmHeld};
 
     ghost Value = { VmHeld };

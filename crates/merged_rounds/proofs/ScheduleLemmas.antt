@@ -2,7 +2,7 @@
 use Rattle.std.proofs.Common.{ℕ, ◌*◌, ◌≤◌, ◌≡◌, List, sym, subst, ◌∙◌}
 use Rattle.sched_base.specs.declared.rows.Row.{Row}
 use Rattle.sched_base.specs.Lanes.{NamesOneOf, lanes_of}
-use Rattle.sched_base.specs.Tables.{IsTable, rounds_of as rounds_in, row_limit}
+use Rattle.sched_base.specs.Tables.{IsTable, rounds_in, row_limit}
 use Rattle.sched_base.proofs.ScheduleLanes.{lanes_of-all, length-lanes_of}
 use Rattle.run_tree.specs.Plans.{IsPlan, PlanContents, schedule_of}
 use Rattle.sched_laws.proofs.RowNames.{schedule_names}

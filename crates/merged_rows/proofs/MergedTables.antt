@@ -6,7 +6,7 @@ use Rattle.std.proofs.lemmas.List.{length-map}
 use Rattle.sched_base.specs.declared.rows.Row.{Row}
 use Rattle.sched_base.specs.Lanes.{NamesOneOf}
 use Rattle.sched_base.specs.Sets.{SetContents}
-use Rattle.sched_base.specs.Tables.{IsTable, all_rows, end_after, lane_of, rounds_of as rounds_in, row_limit, ticks_in}
+use Rattle.sched_base.specs.Tables.{IsTable, all_rows, end_after, lane_of, rounds_in, row_limit, ticks_in}
 use Rattle.row_totals.specs.Sums.{NamesAmong, AreForward}
 use Rattle.row_totals.proofs.NameLemmas.{names_among}
 use Rattle.row_totals.proofs.TableSums.{ticks_fit}

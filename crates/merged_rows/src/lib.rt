@@ -9,4 +9,4 @@ mod totals;
 
 pub use merging::MergedRows;
 pub use neighbours::{first_merged, is_shown_alike};
-pub use totals::totals_of;
+pub use totals::totals_of_merged;

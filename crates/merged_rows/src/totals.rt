@@ -12,7 +12,7 @@ use std::alloc::Global;
 
 /// For each of the first `tasks` tasks, in order, the ticks of its rows. Rows of waiting tasks and of idle leaves count for no task.
 /// The only error is want of memory.
-pub fn totals_of(alloc: Global, rows: &MergedRows, tasks: u32) -> Result<Vec<u128>, NoMemory>
+pub fn totals_of_merged(alloc: Global, rows: &MergedRows, tasks: u32) -> Result<Vec<u128>, NoMemory>
     requires names { AllByRecursion (NamesAmong tasks) rows.now.lanes }
     requires forward { AllByRecursion AreForward rows.now.lanes }
     requires fit { TicksFit (all_rows rows.now.lanes) }

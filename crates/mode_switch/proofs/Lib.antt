@@ -1,3 +1,3 @@
 pub mod MadeLemmas
-pub mod RosterLemmas
+pub mod CrewHeldLemmas
 pub mod RunLemmas

@@ -21,9 +21,9 @@ use Rattle.mode_switch.specs.declared.answers.ModesFault.{ModesFault}
 use Rattle.mode_switch.specs.declared.answers.ModesFault.TheVariants as fault
 use Rattle.mode_join.specs.Joining.{rows_of}
 use Rattle.mode_join.specs.Modes.{ModesContents, AreModes, IsMode, all_rows_of}
-use Rattle.mode_switch.specs.Runs.{Roster, HaveOwnJobs, RanMode, RanModes, StopsIn, ModesOutcome, GatesGrewThrough, GatesGrewFirst, IsRunOf, JobsUsedLast}
+use Rattle.mode_switch.specs.Runs.{CrewHeld, HaveOwnJobs, RanMode, RanModes, StopsIn, ModesOutcome, GatesGrewThrough, GatesGrewFirst, IsRunOf, JobsUsedLast}
 use Rattle.mode_switch.specs.Runs.{AreBack, NamesRisen, fault_in, rows_through, used_after}
-use Rattle.mode_switch.proofs.RosterLemmas.{back_same, back_on, back_mode, mode_gates, mode_jobs, mode_run, mode_first, gate_risen, job_risen, risen_later}
+use Rattle.mode_switch.proofs.CrewHeldLemmas.{back_same, back_on, back_mode, mode_gates, mode_jobs, mode_run, mode_first, gate_risen, job_risen, risen_later}
 
 -- ---- lists
 
@@ -80,30 +80,30 @@ wide_as m mode is = is.lawful.tree.processors ∙ is.can_join.same_processors
 
 module _ {G J : Type 0} (gate : GateTells G) (job : JobTells J) where
   -- one mode more
-  pub ran_next : (modes : List Mode) (runs : List Executed) (m : Mode) (e : Executed) (old between new : Roster G J) → RanModes gate job modes runs old between
+  pub ran_next : (modes : List Mode) (runs : List Executed) (m : Mode) (e : Executed) (old between new : CrewHeld G J) → RanModes gate job modes runs old between
       → RanMode gate job m.plan (Ok e) between new → RanModes gate job (modes ++ m ∷ []) (runs ++ e ∷ []) old new
-  ran_next [] [] m e old between new ran run = (new, subst (λ (r : Roster G J). RanMode gate job m.plan (Ok e) r new) ran run, refl)
+  ran_next [] [] m e old between new ran run = (new, subst (λ (r : CrewHeld G J). RanMode gate job m.plan (Ok e) r new) ran run, refl)
   ran_next [] (x ∷ runs) m e old between new ran run = absurd ran
   ran_next (x ∷ modes) [] m e old between new ran run = absurd ran
   ran_next (x ∷ modes) (y ∷ runs) m e old between new ran run = (ran.0, ran.1, ran_next modes runs m e ran.0 between new ran.2 run)
 
   -- as many answers as modes
-  pub as_many : (modes : List Mode) (runs : List Executed) (old new : Roster G J) → RanModes gate job modes runs old new → length runs ≡ length modes
+  pub as_many : (modes : List Mode) (runs : List Executed) (old new : CrewHeld G J) → RanModes gate job modes runs old new → length runs ≡ length modes
   as_many [] [] old new ran = refl
   as_many [] (e ∷ runs) old new ran = absurd ran
   as_many (m ∷ modes) [] old new ran = absurd ran
   as_many (m ∷ modes) (e ∷ runs) old new ran = ap suc (as_many modes runs ran.0 new ran.2)
 
-  pub modes_back : (modes : List Mode) (runs : List Executed) (old new : Roster G J) → RanModes gate job modes runs old new → AreBack gate job old new
-  modes_back [] [] old new ran = subst (λ (r : Roster G J). AreBack gate job old r) (sym ran) (back_same gate job old)
+  pub modes_back : (modes : List Mode) (runs : List Executed) (old new : CrewHeld G J) → RanModes gate job modes runs old new → AreBack gate job old new
+  modes_back [] [] old new ran = subst (λ (r : CrewHeld G J). AreBack gate job old r) (sym ran) (back_same gate job old)
   modes_back [] (e ∷ runs) old new ran = absurd ran
   modes_back (m ∷ modes) [] old new ran = absurd ran
   modes_back (m ∷ modes) (e ∷ runs) old new ran =
       back_on gate job old ran.0 new (back_mode gate job m.plan (Ok e) old ran.0 ran.1) (modes_back modes runs ran.0 new ran.2)
 
-  pub grew_through : (m : ℕ) (modes : List Mode) → AllByRecursion (IsMode m) modes → (runs : List Executed) (old new : Roster G J) → RanModes gate job modes runs old new
+  pub grew_through : (m : ℕ) (modes : List Mode) → AllByRecursion (IsMode m) modes → (runs : List Executed) (old new : CrewHeld G J) → RanModes gate job modes runs old new
       → GatesGrewThrough gate.ran m modes old.kits new.kits
-  grew_through m [] all [] old new ran q g within at = (g, ap (λ (r : Roster G J). slice_get r.kits q) ran ∙ at, sym (grown-nil (gate.ran g)))
+  grew_through m [] all [] old new ran q g within at = (g, ap (λ (r : CrewHeld G J). slice_get r.kits q) ran ∙ at, sym (grown-nil (gate.ran g)))
   grew_through m [] all (e ∷ runs) old new ran q g within at = absurd ran
   grew_through m (mode ∷ modes) all [] old new ran q g within at = absurd ran
   grew_through m (mode ∷ modes) all (e ∷ runs) old new ran q g within at =
@@ -115,15 +115,15 @@ module _ {G J : Type 0} (gate : GateTells G) (job : JobTells J) where
         more ∙ ap (λ o. grown o (rows_through modes q)) first ∙ grown-grown (gate.ran g) (lane_of (plan_rows mode.plan) q) (rows_through modes q),
       )
 
-  pub runs_whole : (modes : List Mode) (runs : List Executed) (old new : Roster G J) → RanModes gate job modes runs old new → AllZip IsRunOf modes runs
+  pub runs_whole : (modes : List Mode) (runs : List Executed) (old new : CrewHeld G J) → RanModes gate job modes runs old new → AllZip IsRunOf modes runs
   runs_whole [] [] old new ran = tt
   runs_whole [] (e ∷ runs) old new ran = absurd ran
   runs_whole (m ∷ modes) [] old new ran = absurd ran
   runs_whole (m ∷ modes) (e ∷ runs) old new ran = (mode_run gate job m e old ran.0 ran.1, runs_whole modes runs ran.0 new ran.2)
 
-  pub jobs_last : (m : ℕ) (modes : List Mode) → AllByRecursion (IsMode m) modes → (runs : List Executed) (old new : Roster G J) → RanModes gate job modes runs old new
+  pub jobs_last : (m : ℕ) (modes : List Mode) → AllByRecursion (IsMode m) modes → (runs : List Executed) (old new : CrewHeld G J) → RanModes gate job modes runs old new
       → JobsUsedLast job modes old.places new.places
-  jobs_last m [] all [] old new ran i j at = (j, ap (λ (r : Roster G J). slice_get r.places i) ran ∙ at, refl, refl)
+  jobs_last m [] all [] old new ran i j at = (j, ap (λ (r : CrewHeld G J). slice_get r.places i) ran ∙ at, refl, refl)
   jobs_last m [] all (e ∷ runs) old new ran i j at = absurd ran
   jobs_last m (mode ∷ modes) all [] old new ran i j at = absurd ran
   jobs_last m (mode ∷ modes) all (e ∷ runs) old new ran i j at =
@@ -133,7 +133,7 @@ module _ {G J : Type 0} (gate : GateTells G) (job : JobTells J) where
 
   -- ---- whatever is answered
 
-  stopped_first : (m : ℕ) (modes : List Mode) → AllByRecursion (IsMode m) modes → (j : ℕ) (why : ExecFault) (old new : Roster G J) → StopsIn gate job modes j why old new
+  stopped_first : (m : ℕ) (modes : List Mode) → AllByRecursion (IsMode m) modes → (j : ℕ) (why : ExecFault) (old new : CrewHeld G J) → StopsIn gate job modes j why old new
       → GatesGrewFirst gate.ran m modes old.kits new.kits
   stopped_first m modes all j why old new stops q g within at =
       let mode = stops.mode in
@@ -148,7 +148,7 @@ module _ {G J : Type 0} (gate : GateTells G) (job : JobTells J) where
       )
 
   -- each gate ran first rows of all
-  pub ran_first : (m : ℕ) (modes : List Mode) → AllByRecursion (IsMode m) modes → (old new : Roster G J) (answer : Result (List Executed) ModesFault)
+  pub ran_first : (m : ℕ) (modes : List Mode) → AllByRecursion (IsMode m) modes → (old new : CrewHeld G J) (answer : Result (List Executed) ModesFault)
       → ModesOutcome gate job modes old new answer → GatesGrewFirst gate.ran m modes old.kits new.kits
   ran_first m modes all old new (Ok runs) o q g within at =
       let (now, there, grew) = grew_through m modes all runs old new o q g within at in
@@ -157,37 +157,37 @@ module _ {G J : Type 0} (gate : GateTells G) (job : JobTells J) where
   ran_first m modes all old new (Err (fault.Gate j x r)) o q g within at = stopped_first m modes all j (exec.Gate x r o.0) old new o.1 q g within at
   ran_first m modes all old new (Err (fault.Job j t x r)) o q g within at = stopped_first m modes all j (exec.Job t x r o.0) old new o.1 q g within at
   ran_first m modes all old new (Err fault.NoMemory) (inl same) q g within at =
-      (g, ap (λ (r : Roster G J). slice_get r.kits q) same ∙ at, (0, sym (grown-nil (gate.ran g))))
+      (g, ap (λ (r : CrewHeld G J). slice_get r.kits q) same ∙ at, (0, sym (grown-nil (gate.ran g))))
   ran_first m modes all old new (Err fault.NoMemory) (inr (j, stops)) q g within at = stopped_first m modes all j exec.NoMemory old new stops q g within at
 
-  stopped_back : (modes : List Mode) (j : ℕ) (why : ExecFault) (old new : Roster G J) → StopsIn gate job modes j why old new → AreBack gate job old new
+  stopped_back : (modes : List Mode) (j : ℕ) (why : ExecFault) (old new : CrewHeld G J) → StopsIn gate job modes j why old new → AreBack gate job old new
   stopped_back modes j why old new stops =
       back_on gate job old stops.between new (modes_back (take j modes) stops.runs old stops.between stops.whole)
       (back_mode gate job stops.mode.plan (Err why) stops.between new stops.stopped)
 
   -- all are back
-  pub are_back : (modes : List Mode) (old new : Roster G J) (answer : Result (List Executed) ModesFault) → ModesOutcome gate job modes old new answer → AreBack gate job old new
+  pub are_back : (modes : List Mode) (old new : CrewHeld G J) (answer : Result (List Executed) ModesFault) → ModesOutcome gate job modes old new answer → AreBack gate job old new
   are_back modes old new (Ok runs) o = modes_back modes runs old new o
   are_back modes old new (Err (fault.Gate j x r)) o = stopped_back modes j (exec.Gate x r o.0) old new o.1
   are_back modes old new (Err (fault.Job j t x r)) o = stopped_back modes j (exec.Job t x r o.0) old new o.1
-  are_back modes old new (Err fault.NoMemory) (inl same) = subst (λ (r : Roster G J). AreBack gate job old r) (sym same) (back_same gate job old)
+  are_back modes old new (Err fault.NoMemory) (inl same) = subst (λ (r : CrewHeld G J). AreBack gate job old r) (sym same) (back_same gate job old)
   are_back modes old new (Err fault.NoMemory) (inr (j, stops)) = stopped_back modes j exec.NoMemory old new stops
 
   -- kits that were filled are filled again, and jobs are in their own places
-  pub filled_after : (n : ℕ) (old new : Roster G J) → AreBack gate job old new → AreFilled n old.kits → AreFilled n new.kits
+  pub filled_after : (n : ℕ) (old new : CrewHeld G J) → AreBack gate job old new → AreFilled n old.kits → AreFilled n new.kits
   filled_after n old new back filled q within =
       let (g, at) = filled q within in
       let (now, there, later) = back.gates q g at in
       (now, there)
 
-  pub own_after : (n : ℕ) (old new : Roster G J) → AreBack gate job old new → HaveOwnJobs job.id n old.places → HaveOwnJobs job.id n new.places
+  pub own_after : (n : ℕ) (old new : CrewHeld G J) → AreBack gate job old new → HaveOwnJobs job.id n old.places → HaveOwnJobs job.id n new.places
   own_after n old new back own t within =
       let (j, at, is) = own t within in
       let (now, there, same, later) = back.jobs t j at in
       (now, there, same ∙ is)
 
   -- the gate or the job that is named failed
-  pub names_risen : (m : ℕ) (modes : List Mode) → AllByRecursion (IsMode m) modes → (old new : Roster G J) → AreFilled m old.kits → (f : ModesFault)
+  pub names_risen : (m : ℕ) (modes : List Mode) → AllByRecursion (IsMode m) modes → (old new : CrewHeld G J) → AreFilled m old.kits → (f : ModesFault)
       → ModesOutcome gate job modes old new (Err f) → NamesRisen gate job old new f
   names_risen m modes all old new filled (fault.Gate j q r) (n, stops) = λ g now at there.
       let before = modes_back (take j modes) stops.runs old stops.between stops.whole in
@@ -204,7 +204,7 @@ module _ {G J : Type 0} (gate : GateTells G) (job : JobTells J) where
   names_risen m modes all old new filled fault.NoMemory o = tt
 
   -- a mode that stopped behind whole modes
-  pub stops_at : (modes : List Mode) (j : ℕ) (m : Mode) (runs : List Executed) (why : ExecFault) (old between new : Roster G J) → slice_get modes j ≡ Some m
+  pub stops_at : (modes : List Mode) (j : ℕ) (m : Mode) (runs : List Executed) (why : ExecFault) (old between new : CrewHeld G J) → slice_get modes j ≡ Some m
       → RanModes gate job (take j modes) runs old between → RanMode gate job m.plan (Err why) between new → ModesOutcome gate job modes old new (Err (fault_in j why))
   stops_at modes j m runs (exec.Gate q r n) old between new at ran run =
       (n, record { mode = m; at = at; runs = runs; between = between; whole = ran; stopped = run })
@@ -280,7 +280,7 @@ enough_jobs id places m (x ∷ modes) all own = (
 -- ---- one step of the run
 
 module _ {G J : Type 0} (gate : GateTells G) (job : JobTells J) (m : ModesContents) (j : ℕ) (p : PlanContents) (n : ℕ) (next : IsNext m j p n) (runs : List Executed)
-    (old between new : Roster G J) (ran : RanModes gate job (take j m.modes) runs old between) (answer : Result Executed ExecFault) (run : RanMode gate job p answer between new) where
+    (old between new : CrewHeld G J) (ran : RanModes gate job (take j m.modes) runs old between) (answer : Result Executed ExecFault) (run : RanMode gate job p answer between new) where
   of_mode : RanMode gate job next.mode.plan answer between new
   of_mode = subst (λ q. RanMode gate job q answer between new) (sym next.plan) run
 
@@ -299,19 +299,19 @@ module _ {G J : Type 0} (gate : GateTells G) (job : JobTells J) (m : ModesConten
       subst (λ x. ModesOutcome gate job m.modes old new (Err x)) (sym is) (stops_at gate job m.modes j next.mode runs why old between new next.at ran stopped)
 
 -- all modes were run
-pub ran_to_end : {G J : Type 0} (gate : GateTells G) (job : JobTells J) (modes : List Mode) (j : ℕ) (runs : List Executed) (old new : Roster G J)
+pub ran_to_end : {G J : Type 0} (gate : GateTells G) (job : JobTells J) (modes : List Mode) (j : ℕ) (runs : List Executed) (old new : CrewHeld G J)
     → length modes ≤ j → RanModes gate job (take j modes) runs old new → RanModes gate job modes runs old new
 ran_to_end gate job modes j runs old new past ran = subst (λ xs. RanModes gate job xs runs old new) (take_all j modes past) ran
 
 -- all modes were run whole
-pub record RunThrough {G J : Type 0} (gate : GateTells G) (job : JobTells J) (m : ℕ) (modes : List Mode) (runs : List Executed) (old new : Roster G J) : Type 0 where
+pub record RunThrough {G J : Type 0} (gate : GateTells G) (job : JobTells J) (m : ℕ) (modes : List Mode) (runs : List Executed) (old new : CrewHeld G J) : Type 0 where
   pub gates : GatesGrewThrough gate.ran m modes old.kits new.kits
   pub whole : AllZip IsRunOf modes runs
   pub jobs : JobsUsedLast job modes old.places new.places
   pub first : GatesGrewFirst gate.ran m modes old.kits new.kits
   pub back : AreBack gate job old new
 
-pub run_through : {G J : Type 0} (gate : GateTells G) (job : JobTells J) (m : ℕ) (modes : List Mode) → AllByRecursion (IsMode m) modes → (j : ℕ) (runs : List Executed) (old new : Roster G J)
+pub run_through : {G J : Type 0} (gate : GateTells G) (job : JobTells J) (m : ℕ) (modes : List Mode) → AllByRecursion (IsMode m) modes → (j : ℕ) (runs : List Executed) (old new : CrewHeld G J)
     → length modes ≤ j → RanModes gate job (take j modes) runs old new → RunThrough gate job m modes runs old new
 run_through gate job m modes all j runs old new past some =
     let ran = ran_to_end gate job modes j runs old new past some in
@@ -324,12 +324,12 @@ run_through gate job m modes all j runs old new past some =
     }
 
 -- no mode was begun yet
-pub ran_none : {G J : Type 0} (gate : GateTells G) (job : JobTells J) (modes : List Mode) (runs : List Executed) (start : Roster G J) → runs ≡ []
+pub ran_none : {G J : Type 0} (gate : GateTells G) (job : JobTells J) (modes : List Mode) (runs : List Executed) (start : CrewHeld G J) → runs ≡ []
     → RanModes gate job (take 0 modes) runs start start
 ran_none gate job modes runs start none = subst (λ rs. RanModes gate job [] rs start start) (sym none) refl
 
 -- where memory was refused before the first mode all is as it was
-pub refused_outcome : {G J : Type 0} (gate : GateTells G) (job : JobTells J) (modes : List Mode) (old : Roster G J) (answer : Result (List Executed) ModesFault) →
+pub refused_outcome : {G J : Type 0} (gate : GateTells G) (job : JobTells J) (modes : List Mode) (old : CrewHeld G J) (answer : Result (List Executed) ModesFault) →
     IsErrAnd answer (λ e. e ≡ fault.NoMemory) → ModesOutcome gate job modes old old answer
 refused_outcome gate job modes old (Ok runs) refused = absurd refused
 refused_outcome gate job modes old (Err (fault.Gate j q r)) refused = absurd (let e = refused in cc)

@@ -25,52 +25,52 @@ use Rattle.mode_switch.specs.declared.answers.ModesFault.{ModesFault}
 use Rattle.mode_switch.specs.declared.answers.ModesFault.TheVariants as fault
 
 -- the gates in their kits and the jobs in their places, at one moment
-pub record Roster (G J : Type 0) : Type 0 where
+pub record CrewHeld (G J : Type 0) : Type 0 where
   pub kits : List (Kit G)
   pub places : List (Option J)
 
 -- the gates in these kits and the jobs in these places
-abbrev pub roster_of : {G J A : Type 0} → Vec (Kit G) A → JobPlaces J → Roster G J
-roster_of kits jobs = record { kits = kits.items; places = jobs.places }
+abbrev pub crew_held : {G J A : Type 0} → Vec (Kit G) A → JobPlaces J → CrewHeld G J
+crew_held kits jobs = record { kits = kits.items; places = jobs.places }
 
 -- each of the first n places holds the job of its own number
 abbrev pub HaveOwnJobs : {J : Type 0} → (J → ℕ) → ℕ → List (Option J) → Type 0
 HaveOwnJobs {J} id n places = (t : ℕ) → t < n → (job : J) × JobAt places t job × (id job ≡ t)
 
 -- the job of each of these tasks began anew with the empty program, in units of one tick, and all else is as it was
-pub record HasBegun {G J : Type 0} (tells : JobTells J) (tasks : List Task) (old new : Roster G J) : Type 0 where
+pub record HasBegun {G J : Type 0} (tells : JobTells J) (tasks : List Task) (old new : CrewHeld G J) : Type 0 where
   pub gates : new.kits ≡ old.kits
   pub jobs : seen tells new.places ≡ loaded 1 [] tasks (seen tells old.places)
 
 -- a mode of this plan was run, with this answer: the jobs of its tasks began anew, and then its plan was executed
 pub record RanMode {G J : Type 0} (gate : GateTells G) (job : JobTells J) (p : PlanContents) (answer : Result Executed ExecFault)
-    (old new : Roster G J) : Type 0 where
-  pub begun : Roster G J
+    (old new : CrewHeld G J) : Type 0 where
+  pub begun : CrewHeld G J
   pub begins : HasBegun job p.set.tasks old begun
   pub window : ℕ
   pub outcome : Outcome gate.ran gate.faults job.id job.used job.made job.faults p window begun.kits new.kits begun.places new.places answer
 
 -- modes were run whole, one after the other, with these answers
-abbrev pub RanModes : {G J : Type 0} → GateTells G → JobTells J → List Mode → List Executed → Roster G J → Roster G J → Type 0
+abbrev pub RanModes : {G J : Type 0} → GateTells G → JobTells J → List Mode → List Executed → CrewHeld G J → CrewHeld G J → Type 0
 RanModes gate job [] [] old new = new ≡ old
 RanModes gate job [] (e ∷ runs) old new = ⊥
 RanModes gate job (m ∷ modes) [] old new = ⊥
 RanModes {G} {J} gate job (m ∷ modes) (e ∷ runs) old new =
-    (between : Roster G J) × RanMode gate job m.plan (Ok e) old between × RanModes gate job modes runs between new
+    (between : CrewHeld G J) × RanMode gate job m.plan (Ok e) old between × RanModes gate job modes runs between new
 
 -- the modes before mode j were run whole, mode j was run with this fault, and none after it was begun
 pub record StopsIn {G J : Type 0} (gate : GateTells G) (job : JobTells J) (modes : List Mode) (j : ℕ) (why : ExecFault)
-    (old new : Roster G J) : Type 0 where
+    (old new : CrewHeld G J) : Type 0 where
   pub mode : Mode
   pub at : slice_get modes j ≡ Some mode
   pub runs : List Executed
-  pub between : Roster G J
+  pub between : CrewHeld G J
   pub whole : RanModes gate job (take j modes) runs old between
   pub stopped : RanMode gate job mode.plan (Err why) between new
 
 -- what a run of modes does, with what it answers. Where memory was refused, nothing was begun, or in some mode the jobs of its
 -- tasks alone
-abbrev pub ModesOutcome : {G J : Type 0} → GateTells G → JobTells J → List Mode → Roster G J → Roster G J → Result (List Executed) ModesFault → Type 0
+abbrev pub ModesOutcome : {G J : Type 0} → GateTells G → JobTells J → List Mode → CrewHeld G J → CrewHeld G J → Result (List Executed) ModesFault → Type 0
 ModesOutcome gate job modes old new (Ok runs) = RanModes gate job modes runs old new
 ModesOutcome gate job modes old new (Err (fault.Gate mode processor row)) =
     (posts : ℕ) × StopsIn gate job modes mode (exec.Gate processor row posts) old new
@@ -111,12 +111,12 @@ JobsUsedLast {J} tells modes places places' = (i : ℕ) (job : J) → JobAt plac
     (now : J) × JobAt places' i now × (tells.id now ≡ tells.id job) × (tells.used now ≡ used_after modes i (tells.used job))
 
 -- each kit that held a gate holds it again, and each job is in its place. No count of faults fell
-pub record AreBack {G J : Type 0} (gate : GateTells G) (job : JobTells J) (old new : Roster G J) : Type 0 where
+pub record AreBack {G J : Type 0} (gate : GateTells G) (job : JobTells J) (old new : CrewHeld G J) : Type 0 where
   pub gates : (q : ℕ) (g : G) → KitAt old.kits q g → (now : G) × KitAt new.kits q now × (gate.faults g ≤ gate.faults now)
   pub jobs : (i : ℕ) (j : J) → JobAt old.places i j → (now : J) × JobAt new.places i now × (job.id now ≡ job.id j) × (job.faults j ≤ job.faults now)
 
 -- the count of faults of the gate or of the job that is named rose
-abbrev pub NamesRisen : {G J : Type 0} → GateTells G → JobTells J → Roster G J → Roster G J → ModesFault → Type 0
+abbrev pub NamesRisen : {G J : Type 0} → GateTells G → JobTells J → CrewHeld G J → CrewHeld G J → ModesFault → Type 0
 NamesRisen {G} gate job old new (fault.Gate mode processor row) =
     (g h : G) → KitAt old.kits processor g → KitAt new.kits processor h → HasRisen (gate.faults g) (gate.faults h)
 NamesRisen {G} {J} gate job old new (fault.Job mode task processor row) =

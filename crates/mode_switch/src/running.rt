@@ -7,7 +7,7 @@ ghost use Rattle.job_vm.specs.Loading.{anew, loaded};
 ghost use Rattle.exec_lanes.specs.Kits.{AreFilled};
 ghost use Rattle.exec_workers.specs.Runs.{IsExecutable};
 ghost use Rattle.mode_switch.specs.Runs.{ModesOutcome, RanMode, GatesGrewThrough, GatesGrewFirst, IsRunOf, JobsUsedLast};
-ghost use Rattle.mode_switch.specs.Runs.{AreBack, NamesRisen, HaveOwnJobs, roster_of};
+ghost use Rattle.mode_switch.specs.Runs.{AreBack, NamesRisen, HaveOwnJobs, crew_held};
 
 use crate::answers::{ModesFault, ModesRun};
 use exec_workers::{ExecFault, Executed, Kit, execute_on};
@@ -38,7 +38,7 @@ pub fn run_modes<G: Gate + Send, X: Threads + Wait + Sync>(
     requires small_window { window ≤ 1024 }
     requires kits { AreFilled modes.now.processors kits.old.items }
     requires jobs { AllByRecursion (λ m. HaveOwnJobs ⟦<BoxedJob as Job>⟧.id (length m.plan.set.tasks) jobs.old.places) modes.now.modes }
-    ensures outcome { ModesOutcome G.Gate ⟦<BoxedJob as Job>⟧ modes.now.modes (roster_of kits.old jobs.old) (roster_of kits.new jobs.new) result }
+    ensures outcome { ModesOutcome G.Gate ⟦<BoxedJob as Job>⟧ modes.now.modes (crew_held kits.old jobs.old) (crew_held kits.new jobs.new) result }
 
     // Each gate ran its processor's rows of all modes, one mode after the other, and each mode's rows are a valid schedule.
     ensures gates { OnOk result (GatesGrewThrough G.ran modes.now.processors modes.now.modes kits.old.items kits.new.items) }
@@ -47,8 +47,8 @@ pub fn run_modes<G: Gate + Send, X: Threads + Wait + Sync>(
 
     // Whatever is answered, what each gate ran are first rows of its processor's, mode after mode.
     ensures first { GatesGrewFirst G.ran modes.now.processors modes.now.modes kits.old.items kits.new.items }
-    ensures risen { IfErr result (λ fault. NamesRisen G.Gate ⟦<BoxedJob as Job>⟧ (roster_of kits.old jobs.old) (roster_of kits.new jobs.new) fault) }
-    ensures back { AreBack G.Gate ⟦<BoxedJob as Job>⟧ (roster_of kits.old jobs.old) (roster_of kits.new jobs.new) }
+    ensures risen { IfErr result (λ fault. NamesRisen G.Gate ⟦<BoxedJob as Job>⟧ (crew_held kits.old jobs.old) (crew_held kits.new jobs.new) fault) }
+    ensures back { AreBack G.Gate ⟦<BoxedJob as Job>⟧ (crew_held kits.old jobs.old) (crew_held kits.new jobs.new) }
 {
     let mut runs = Vec::with_capacity(alloc, modes.count() as usize)?;
     for j in 0..modes.count() {
@@ -81,7 +81,7 @@ fn run_mode<G: Gate + Send, X: Threads + Wait + Sync>(
     requires executable { IsExecutable plan.now rounds window }
     requires kits { AreFilled plan.now.tree.processors kits.old.items }
     requires jobs { HaveOwnJobs ⟦<BoxedJob as Job>⟧.id (length plan.now.set.tasks) jobs.old.places }
-    ensures { RanMode G.Gate ⟦<BoxedJob as Job>⟧ plan.now result (roster_of kits.old jobs.old) (roster_of kits.new jobs.new) }
+    ensures { RanMode G.Gate ⟦<BoxedJob as Job>⟧ plan.now result (crew_held kits.old jobs.old) (crew_held kits.new jobs.new) }
 {
     begin_anew(jobs, plan.set());
     execute_on(rt, alloc, plan, rounds, window, kits, jobs)

@@ -2,7 +2,7 @@
 use Rattle.std.specs.Prelude.{ℕ, ◌≡◌, ◌<◌, ◌≤◌, ◌+◌, ◌*◌, List, Option, IfSome, length}
 use Rattle.sched_base.specs.declared.rows.Row.{Row}
 use Rattle.sched_base.specs.declared.rows.ProcId.{ProcId}
-use Rattle.sched_base.specs.Tables.{rounds_of as rounds_in, row_limit, ticks_of}
+use Rattle.sched_base.specs.Tables.{rounds_in, row_limit, ticks_of}
 use Rattle.run_tree.specs.Plans.{PlanContents, rounds_of}
 use Rattle.book_machine.specs.declared.events.Event.{Event}
 use Rattle.book_machine.specs.Machine.{State, posted_at, least_posted, IsOut, Replays, start}

@@ -7,10 +7,10 @@ use Rattle.sched_base.specs.declared.sets.Task.{Task}
 use Rattle.sched_base.specs.Names.{is_lawful_name, starts_name, continues_name}
 use Rattle.sched_base.specs.Sets.{IsFree}
 use Rattle.sched_edges.specs.Lines.{number_line, numbers_line}
-use Rattle.trace_text.specs.Words.{cut_space, after_word, number_of}
-use Rattle.trace_text.proofs.RoundTrip.{number_of_decimal}
-use Rattle.trace_lines.specs.declared.versions.Version.TheVariants.{One}
-use Rattle.trace_lines.specs.Lines.{task_line}
+use Rattle.text_words.specs.Words.{cut_space, after_word, number_of}
+use Rattle.text_words.proofs.RoundTrip.{number_of_decimal}
+use Rattle.trace_format.specs.declared.versions.Version.TheVariants.{One}
+use Rattle.trace_format.specs.Lines.{task_line}
 use Rattle.trace_check.specs.declared.head_lines.Head.{Head}
 use Rattle.trace_check.specs.Steps.{and_then, step, next_line, within}
 use Rattle.trace_check.proofs.ScaleTest.{is_scale_from}
@@ -25,7 +25,7 @@ use Rattle.tree_reader.specs.Reading.{tree_head, idles_from, packs_from, level_f
 use Rattle.tree_reader.proofs.WordLemmas.{words_cut, words_last}
 use Rattle.tree_reader.proofs.ReadingLemmas.{head_is, idles_more, packs_more, levels_more, levels_done, body_levels, reading_tasks, judged}
 use Rattle.reading_laws.proofs.TreeLines.{word_at, line_of_pack, lines_of_levels, lines_of_idles, last_lines, tree_lines, IsWritable, IsPackLine, IsLevelLines, AreLevels, IsText}
-use Rattle.trace_text.proofs.Parts.{behind, onto_first}
+use Rattle.text_words.proofs.Parts.{behind, onto_first}
 
 -- ---- words
 

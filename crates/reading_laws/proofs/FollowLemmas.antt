@@ -10,7 +10,7 @@ use Rattle.run_tree.proofs.SetBoundaryLemmas.{set_leaves}
 use Rattle.tree_laws.proofs.SetRates.{rates_fit}
 use Rattle.tree_laws.proofs.SetTree.{set_tree, set_tree_scale}
 use Rattle.tree_numbers.proofs.SameSchedule.{schedule_same, rounds_count_same}
-use Rattle.trace_lines.specs.Conditions.{AreOnTime}
+use Rattle.trace_format.specs.Conditions.{AreOnTime}
 use Rattle.tree_check.specs.Written.{Written, written_of}
 use Rattle.tree_check.specs.TextTree.{text_tree}
 use Rattle.tree_check.proofs.WrittenFaultless.{written_faultless}

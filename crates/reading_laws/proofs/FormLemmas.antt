@@ -5,9 +5,9 @@ use Rattle.std.proofs.lemmas.Bool.{and_parts, leb-true, ltb-true}
 use Rattle.sched_base.specs.declared.sets.Task.{Task}
 use Rattle.sched_base.specs.Names.{is_lawful_name}
 use Rattle.sched_base.specs.Sets.{SetContents, IsLawful, IsLawfulTask, IsFree, NamesDiffer}
-use Rattle.trace_text.specs.Words.{lines_of, after_word, cut_space, number_of}
-use Rattle.trace_lines.specs.declared.versions.Version.TheVariants.{One}
-use Rattle.trace_lines.specs.Conditions.{AreOnTime}
+use Rattle.text_words.specs.Words.{lines_of, after_word, cut_space, number_of}
+use Rattle.trace_format.specs.declared.versions.Version.TheVariants.{One}
+use Rattle.trace_format.specs.Conditions.{AreOnTime}
 use Rattle.trace_check.specs.declared.head_lines.Head.{Head}
 use Rattle.trace_check.specs.Steps.{and_then, step, next_line, number_after, number_within, within}
 use Rattle.trace_check.specs.TaskLines.{is_new, are_lawful, task_from, task_of, tasks_from, is_scale}

@@ -23,7 +23,7 @@ use Rattle.run_tree.specs.Plans.{PlanContents}
 use Rattle.run_tree.proofs.TreeLemmas.{pack_at}
 use Rattle.sched_laws.proofs.LevelBound.{packs_of, members_pair, duals-le-packs, levels_bound_at}
 use Rattle.sched_laws.proofs.LevelCounts.{first_rate}
-use Rattle.trace_lines.specs.Conditions.{AreOnTime}
+use Rattle.trace_format.specs.Conditions.{AreOnTime}
 use Rattle.tree_laws.specs.Raised.{RatesFit}
 use Rattle.tree_laws.proofs.CompiledTree.{each, fit, given, tree_leaves}
 use Rattle.tree_laws.proofs.FewPacks.{amounts_long}

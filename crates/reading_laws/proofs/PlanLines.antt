@@ -16,8 +16,8 @@ use Rattle.run_tree.specs.Tree.{Tree, IsPack, IsMember, kind_at, is_leaf, is_pac
 use Rattle.run_tree.specs.TreeOfSet.{IsTreeOf, idle_count, is_real}
 use Rattle.run_tree.specs.Schedule.{packs_at}
 use Rattle.run_tree.specs.Plans.{PlanContents}
-use Rattle.trace_lines.specs.declared.versions.Version.TheVariants.{One}
-use Rattle.trace_lines.specs.Lines as lines
+use Rattle.trace_format.specs.declared.versions.Version.TheVariants.{One}
+use Rattle.trace_format.specs.Lines as lines
 use Rattle.tree_text.specs.Text.{task_line, idle_node, idle_line, idles_text, kind_word, member_word, pack_line, level_text, tree_text}
 use Rattle.tree_check.specs.Written.{Pack, kind_written, pack_written, written_of}
 use Rattle.tree_check.proofs.LevelNodes.{pack_in}

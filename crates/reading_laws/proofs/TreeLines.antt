@@ -5,9 +5,9 @@ use Rattle.sched_base.specs.Names.{is_lawful_name}
 use Rattle.sched_base.specs.Scale.{IsScale}
 use Rattle.sched_base.specs.Sets.{IsLawful}
 use Rattle.sched_edges.specs.Lines.{line_of, number_line, numbers_line}
-use Rattle.trace_lines.specs.declared.versions.Version.TheVariants.{One}
-use Rattle.trace_lines.specs.Lines.{task_line}
-use Rattle.trace_lines.specs.Conditions.{AreOnTime}
+use Rattle.trace_format.specs.declared.versions.Version.TheVariants.{One}
+use Rattle.trace_format.specs.Lines.{task_line}
+use Rattle.trace_format.specs.Conditions.{AreOnTime}
 use Rattle.tree_check.specs.declared.written.Member.{Member}
 use Rattle.tree_check.specs.declared.written.Member.TheVariants.{Name, Number}
 use Rattle.tree_check.specs.Written.{Pack, Written}

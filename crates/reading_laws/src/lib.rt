@@ -7,7 +7,7 @@ ghost use Rattle.sched_base.specs.Sets.{SetContents, IsLawful};
 ghost use Rattle.run_tree.specs.Compiled.{tree_of};
 ghost use Rattle.run_tree.specs.Tree.{Tree};
 ghost use Rattle.run_tree.specs.TreeOfSet.{IsTreeOf, idle_count};
-ghost use Rattle.trace_lines.specs.Conditions.{AreOnTime};
+ghost use Rattle.trace_format.specs.Conditions.{AreOnTime};
 ghost use Rattle.tree_check.specs.Written.{Written};
 ghost use Rattle.tree_reader.specs.Reading.{reading};
 ghost use Rattle.reading_laws.specs.Again.{IsReadAgain};

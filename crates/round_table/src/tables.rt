@@ -1,6 +1,6 @@
 //! The table of a plan's rounds.
 ghost use Rattle.std.specs.Prelude.{◌≡◌, [], length, replicate, IfOk};
-ghost use Rattle.sched_base.specs.Tables.{all_rows, rounds_of as rounds_in};
+ghost use Rattle.sched_base.specs.Tables.{all_rows, rounds_in};
 ghost use Rattle.sched_base.specs.Valid.{IsValid};
 ghost use Rattle.run_tree.specs.Plans.{rounds_of, schedule_of, stop_of};
 ghost use Rattle.event_core.specs.Cores.{IsCoreOf};

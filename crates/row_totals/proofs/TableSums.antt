@@ -2,7 +2,7 @@
 use Rattle.std.proofs.Common.{ℕ, zero, suc, ◌^◌, ◌<◌, ◌≡◌, List, [], ◌∷◌, length, take, sym, ap, refl, arith}
 use Rattle.std.proofs.lemmas.List.{take_all}
 use Rattle.sched_base.specs.declared.rows.Row.{Row}
-use Rattle.sched_base.specs.Tables.{lane_of, rounds_of, end_after, end_of, IsTable, all_rows, ticks_in, ticks_before}
+use Rattle.sched_base.specs.Tables.{lane_of, rounds_in, end_after, end_of, IsTable, all_rows, ticks_in, ticks_before}
 use Rattle.sched_base.proofs.TableLemmas.{row_at, end_after-last}
 use Rattle.sched_base.proofs.TickLemmas.{ticks_before-le}
 use Rattle.row_totals.proofs.SumLemmas.{ticks_in-append}
@@ -18,7 +18,7 @@ ticks_before-all j k (lane ∷ lanes) whole =
     omega (arith, here, rest, all)
 
 -- the last round of a table ends below 2^127
-end_fits : (lanes : List (List Row)) (k : ℕ) → IsTable lanes → rounds_of lanes ≡ k → 0 < length lanes → end_of lanes < 2 ^ 127
+end_fits : (lanes : List (List Row)) (k : ℕ) → IsTable lanes → rounds_in lanes ≡ k → 0 < length lanes → end_of lanes < 2 ^ 127
 end_fits lanes zero table rounds some =
     let e : end_of lanes ≡ 0 = ap (end_after 0) (sym (take_all 0 (lane_of lanes 0) (omega (arith, rounds)))) in
     omega (arith, e)
@@ -32,8 +32,8 @@ end_fits lanes (suc k) table rounds some =
 pub ticks_fit : (j : ℕ) (lanes : List (List Row)) → IsTable lanes → ticks_in j (all_rows lanes) < 2 ^ 127
 ticks_fit j [] table = omega arith
 ticks_fit j (lane ∷ lanes) table =
-    let all = ticks_before-all j (rounds_of (lane ∷ lanes)) (lane ∷ lanes) table.whole in
-    let passed = ticks_before-le (lane ∷ lanes) table j (rounds_of (lane ∷ lanes)) (omega arith) in
-    let whole : end_after 0 (take (rounds_of (lane ∷ lanes)) lane) ≡ end_of (lane ∷ lanes) = ap (end_after 0) (take_all (rounds_of (lane ∷ lanes)) lane (omega arith)) in
-    let end = end_fits (lane ∷ lanes) (rounds_of (lane ∷ lanes)) table refl (omega arith) in
+    let all = ticks_before-all j (rounds_in (lane ∷ lanes)) (lane ∷ lanes) table.whole in
+    let passed = ticks_before-le (lane ∷ lanes) table j (rounds_in (lane ∷ lanes)) (omega arith) in
+    let whole : end_after 0 (take (rounds_in (lane ∷ lanes)) lane) ≡ end_of (lane ∷ lanes) = ap (end_after 0) (take_all (rounds_in (lane ∷ lanes)) lane (omega arith)) in
+    let end = end_fits (lane ∷ lanes) (rounds_in (lane ∷ lanes)) table refl (omega arith) in
     omega (arith, all, passed, whole, end)

@@ -6,12 +6,12 @@ use Rattle.command_words.specs.declared.command.Command.{Command}
 use Rattle.command_words.specs.declared.command.Command.TheVariants.{Read}
 use Rattle.command_words.specs.declared.command.Reading.TheVariants.{Check}
 use Rattle.exec_lanes.proofs.ErrorLemmas.{untrue}
-use Rattle.still_commands.specs.Commands.{of_trace}
-use Rattle.still_commands.specs.Ends.{Streams, ErrorStream, IsDone, IsUnread, IsUsage}
-use Rattle.still_commands.specs.Refuse.{IsRefused}
-use Rattle.still_commands.specs.declared.refusal.Refusal.TheVariants as why
-use Rattle.still_commands.specs.declared.status.Status.{Status}
-use Rattle.still_commands.specs.declared.status.Status.TheVariants.{Done, Invalid, Usage, NoMemory}
+use Rattle.pure_commands.specs.Commands.{of_trace}
+use Rattle.pure_commands.specs.Ends.{Streams, ErrorStream, IsDone, IsUnread, IsUsage}
+use Rattle.pure_commands.specs.Refuse.{IsRefused}
+use Rattle.pure_commands.specs.declared.refusal.Refusal.TheVariants as why
+use Rattle.pure_commands.specs.declared.status.Status.{Status}
+use Rattle.pure_commands.specs.declared.status.Status.TheVariants.{Done, Invalid, Usage, NoMemory}
 use Rattle.run_tool.specs.Alone.{EndsAlone, EndsWithOwn}
 use Rattle.run_tool.specs.Ends.{IsCommandDone}
 use Rattle.run_tool.specs.Executed.{EndsWith}

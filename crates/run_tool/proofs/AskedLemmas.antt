@@ -6,17 +6,17 @@ use Rattle.command_words.specs.declared.command.Command.TheVariants.{Execute}
 use Rattle.command_words.specs.declared.command.Execution.{Execution}
 use Rattle.command_words.proofs.WordLemmas.{some_is}
 use Rattle.exec_lanes.proofs.ErrorLemmas.{untrue}
-use Rattle.still_commands.specs.Commands.{SetText}
-use Rattle.still_commands.specs.Ends.{Streams, ErrorStream, IsUnread, IsQuiet, IsAlwaysSound}
-use Rattle.still_commands.specs.Follow.{FollowsTrees}
-use Rattle.still_commands.specs.Refusals.{status_of}
-use Rattle.still_commands.specs.Refuse.{IsRefused}
-use Rattle.still_commands.specs.declared.refusal.Refusal.{Refusal}
-use Rattle.still_commands.specs.declared.refusal.Refusal.TheVariants as why
-use Rattle.still_commands.specs.declared.status.Status.{Status}
-use Rattle.still_commands.specs.declared.status.Status.TheVariants.{Done, Invalid, Usage}
-use Rattle.still_commands.proofs.EndLemmas.{is_fault, not_fault, no_none}
-use Rattle.run_tool.specs.Asked.{EndsAsked}
+use Rattle.pure_commands.specs.Commands.{SetText}
+use Rattle.pure_commands.specs.Ends.{Streams, ErrorStream, IsUnread, IsQuiet, IsAlwaysSound}
+use Rattle.pure_commands.specs.Follow.{FollowsTrees}
+use Rattle.pure_commands.specs.Refusals.{status_of}
+use Rattle.pure_commands.specs.Refuse.{IsRefused}
+use Rattle.pure_commands.specs.declared.refusal.Refusal.{Refusal}
+use Rattle.pure_commands.specs.declared.refusal.Refusal.TheVariants as why
+use Rattle.pure_commands.specs.declared.status.Status.{Status}
+use Rattle.pure_commands.specs.declared.status.Status.TheVariants.{Done, Invalid, Usage}
+use Rattle.pure_commands.proofs.EndLemmas.{is_fault, not_fault, no_none}
+use Rattle.run_tool.specs.ExecutionWords.{EndsAsked}
 use Rattle.run_tool.specs.Executed.{ToldRun, StopsRun, may_have_run}
 use Rattle.run_tool.specs.Executions.{Crew, AreBack}
 use Rattle.run_tool.proofs.ExecutionAnswerLemmas.{done_answered, stops_answered, wanting_answered, none_asked, execution_soundly}

@@ -6,10 +6,10 @@ use Rattle.command_words.specs.declared.command.Command.{Command}
 use Rattle.command_words.specs.declared.command.Command.TheVariants.{Read, Batch, Execute}
 use Rattle.command_words.specs.declared.command.Execution.{Execution}
 use Rattle.command_words.specs.declared.command.Execution.TheVariants.{Exec, ExecMet, Drill, Jobs, Modes}
-use Rattle.still_commands.specs.declared.status.Status.{Status}
-use Rattle.still_commands.specs.declared.status.Status.TheVariants.{Done, Invalid, Usage, WriteFault, NoMemory}
-use Rattle.still_commands.specs.Commands.{Output, of_set, of_tree, of_batch, output_of}
-use Rattle.still_commands.specs.Ends.{Streams, IsUnread, IsTold, IsDoneSoundly}
+use Rattle.pure_commands.specs.declared.status.Status.{Status}
+use Rattle.pure_commands.specs.declared.status.Status.TheVariants.{Done, Invalid, Usage, WriteFault, NoMemory}
+use Rattle.pure_commands.specs.Commands.{Output, of_set, of_tree, of_batch, output_of}
+use Rattle.pure_commands.specs.Ends.{Streams, IsUnread, IsTold, IsDoneSoundly}
 use Rattle.run_tool.specs.Closing.{closed}
 use Rattle.run_tool.specs.Executions.{Crew}
 use Rattle.run_tool.specs.Ends.{IsDrilled, IsExecutionDone, IsCommandDone}

@@ -2,11 +2,11 @@
 use Rattle.std.proofs.Common.{◌≡◌, ◌≢◌, ◌⊎◌, inl, inr, ◌∙◌, ℕ, Bool, true, false, Result, Ok, Err, OnOk, refl, ap, sym}
 use Rattle.sched_edges.specs.Causes.{Rose, HasCause}
 use Rattle.sched_edges.specs.declared.streams.Failed.{Failed}
-use Rattle.still_commands.specs.declared.refusal.Refusal.TheVariants as why
-use Rattle.still_commands.specs.declared.status.Status.{Status}
-use Rattle.still_commands.specs.declared.status.Status.TheVariants.{Done, Invalid, WriteFault}
-use Rattle.still_commands.specs.Refusals.{refusal_line}
-use Rattle.still_commands.specs.Ends.{ErrorStream, IsQuiet, Tells}
+use Rattle.pure_commands.specs.declared.refusal.Refusal.TheVariants as why
+use Rattle.pure_commands.specs.declared.status.Status.{Status}
+use Rattle.pure_commands.specs.declared.status.Status.TheVariants.{Done, Invalid, WriteFault}
+use Rattle.pure_commands.specs.Refusals.{refusal_line}
+use Rattle.pure_commands.specs.Ends.{ErrorStream, IsQuiet, Tells}
 use Rattle.run_tool.specs.Closing.{closed, after_fault, TellsClosed}
 
 module _ (before now : ℕ) (old new : ErrorStream) where

@@ -12,7 +12,7 @@ use Rattle.sched_base.specs.declared.rows.TaskId.{TaskId}
 use Rattle.sched_base.specs.declared.sets.Task as declared
 use Rattle.sched_base.specs.Counting.{bit}
 use Rattle.sched_base.specs.Rows.{is_of_task}
-use Rattle.sched_base.specs.Tables.{all_rows, lane_of, rounds_of as rounds_in, row_ticks, ticks_in, ticks_of, RowAt}
+use Rattle.sched_base.specs.Tables.{all_rows, lane_of, rounds_in, row_ticks, ticks_in, ticks_of, RowAt}
 use Rattle.sched_edges.specs.Gates.{grown}
 use Rattle.sched_base.proofs.RowLemmas.{AllByRecursion-append}
 use Rattle.run_tree.specs.Plans.{PlanContents, IsPlan, rounds_of}

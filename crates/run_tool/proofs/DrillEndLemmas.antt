@@ -7,9 +7,9 @@ use Rattle.sched_base.specs.Scale.{IsScale}
 use Rattle.sched_edges.specs.Causes.{Rose}
 use Rattle.sched_edges.specs.Streams.{TookPart}
 use Rattle.run_tree.specs.Plans.{PlanContents}
-use Rattle.still_commands.specs.declared.refusal.Refusal.{Refusal}
-use Rattle.still_commands.specs.declared.refusal.Refusal.TheVariants as why
-use Rattle.still_commands.proofs.EndLemmas.{keeps_same}
+use Rattle.pure_commands.specs.declared.refusal.Refusal.{Refusal}
+use Rattle.pure_commands.specs.declared.refusal.Refusal.TheVariants as why
+use Rattle.pure_commands.proofs.EndLemmas.{keeps_same}
 use Rattle.run_tool.specs.Drill.{drilled, drill_plan, IsDrill, drill_text}
 use Rattle.run_tool.specs.Executions.{Crew, RanAll, usual_window}
 use Rattle.run_tool.specs.Executed.{RanDrill, StopsAtDrill, StopsInRun, WroteDrill, StopsAtText}

@@ -9,18 +9,18 @@ use Rattle.command_words.specs.declared.command.Command.TheVariants.{Read, Batch
 use Rattle.command_words.specs.declared.command.Execution.{Execution}
 use Rattle.command_words.specs.declared.command.Execution.TheVariants.{Exec, ExecMet, Drill, Jobs, Modes}
 use Rattle.command_words.proofs.WordLemmas.{not_executing}
-use Rattle.still_commands.specs.declared.refusal.Refusal.{Refusal}
-use Rattle.still_commands.specs.declared.refusal.Refusal.TheVariants as why
-use Rattle.still_commands.specs.declared.status.Status.{Status}
-use Rattle.still_commands.specs.declared.status.Status.TheVariants.{Done, NoMemory}
-use Rattle.still_commands.specs.Commands.{SetText, of_set, schedule_rows, set_limit}
-use Rattle.still_commands.specs.Follow.{FollowsTrees}
-use Rattle.still_commands.specs.Refusals.{status_of}
-use Rattle.still_commands.specs.Refuse.{IsRefused}
-use Rattle.still_commands.specs.Ends.{Streams, ErrorStream, IsUnread, IsTold, StopsAs, IsAlwaysSound, AnswersAs, IsAnswered}
-use Rattle.still_commands.proofs.AnswerLemmas.{set_writes_or_refuses, one_text_status, unread_answered}
-use Rattle.still_commands.proofs.OneAnswerLemmas.{HaveOneAnswer, wanting_asked, done_asked, stops_asked}
-use Rattle.still_commands.proofs.SoundLemmas.{done_soundly}
+use Rattle.pure_commands.specs.declared.refusal.Refusal.{Refusal}
+use Rattle.pure_commands.specs.declared.refusal.Refusal.TheVariants as why
+use Rattle.pure_commands.specs.declared.status.Status.{Status}
+use Rattle.pure_commands.specs.declared.status.Status.TheVariants.{Done, NoMemory}
+use Rattle.pure_commands.specs.Commands.{SetText, of_set, schedule_rows, set_limit}
+use Rattle.pure_commands.specs.Follow.{FollowsTrees}
+use Rattle.pure_commands.specs.Refusals.{status_of}
+use Rattle.pure_commands.specs.Refuse.{IsRefused}
+use Rattle.pure_commands.specs.Ends.{Streams, ErrorStream, IsUnread, IsTold, StopsAs, IsAlwaysSound, AnswersAs, IsAnswered}
+use Rattle.pure_commands.proofs.AnswerLemmas.{set_writes_or_refuses, one_text_status, unread_answered}
+use Rattle.pure_commands.proofs.OneAnswerLemmas.{HaveOneAnswer, wanting_asked, done_asked, stops_asked}
+use Rattle.pure_commands.proofs.SoundLemmas.{done_soundly}
 use Rattle.run_tool.specs.Commands.{WritesExecution, CallsForExecution, RefusesExecution}
 use Rattle.run_tool.specs.Drill.{WritesDrill}
 use Rattle.run_tool.specs.JobPrograms.{WritesResult}

@@ -15,9 +15,9 @@ use Rattle.job_vm.specs.Programs.{JobTextHeld, reading}
 use Rattle.job_vm.specs.Strays.{first_stray}
 use Rattle.job_vm.specs.declared.faults.JobTextFault.{JobTextFault}
 use Rattle.job_vm.specs.declared.faults.JobTextFault.TheVariants as job_text
-use Rattle.still_commands.specs.Faults.{of_take, of_read_set, of_read_jobs}
-use Rattle.still_commands.specs.declared.refusal.Refusal.{Refusal}
-use Rattle.still_commands.specs.declared.refusal.Refusal.TheVariants as why
+use Rattle.pure_commands.specs.Faults.{of_take, of_read_set, of_read_jobs}
+use Rattle.pure_commands.specs.declared.refusal.Refusal.{Refusal}
+use Rattle.pure_commands.specs.declared.refusal.Refusal.TheVariants as why
 use Rattle.run_tool.specs.JobPrograms.{ReadsJobs, set_bytes}
 use Rattle.run_tool.specs.JobInput.{GaveJobs, GaveNoJobs, RefusesJobText}
 

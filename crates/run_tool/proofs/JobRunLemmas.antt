@@ -20,22 +20,22 @@ use Rattle.job_vm.specs.Programs.{JobTextHeld, reading}
 use Rattle.job_vm.specs.Loading.{loaded}
 use Rattle.job_vm.specs.Results.{told_at, jobs_text}
 use Rattle.command_words.specs.declared.command.Execution.TheVariants.{Jobs}
-use Rattle.still_commands.specs.declared.refusal.Refusal.{Refusal}
-use Rattle.still_commands.specs.declared.refusal.Refusal.TheVariants as why
-use Rattle.still_commands.specs.declared.status.Status.TheVariants.{Done}
-use Rattle.still_commands.specs.Commands.{set_limit, schedule_rows, plan_of, rows_of, HasRoom}
+use Rattle.pure_commands.specs.declared.refusal.Refusal.{Refusal}
+use Rattle.pure_commands.specs.declared.refusal.Refusal.TheVariants as why
+use Rattle.pure_commands.specs.declared.status.Status.TheVariants.{Done}
+use Rattle.pure_commands.specs.Commands.{set_limit, schedule_rows, plan_of, rows_of, HasRoom}
 use Rattle.event_core.specs.declared.counts.CountFault.{CountFault}
 use Rattle.event_core.specs.declared.counts.CountFault.TheVariants as count_fault
 use Rattle.event_core.specs.Counts.{IsCountFault}
-use Rattle.still_commands.specs.Faults.{of_take, of_read_set, of_read_jobs, of_count}
-use Rattle.still_commands.specs.Input.{IsSchedulable, IsRefusedSet}
-use Rattle.still_commands.proofs.EndLemmas.{keeps_same}
+use Rattle.pure_commands.specs.Faults.{of_take, of_read_set, of_read_jobs, of_count}
+use Rattle.pure_commands.specs.Input.{IsSchedulable, IsRefusedSet}
+use Rattle.pure_commands.proofs.EndLemmas.{keeps_same}
 use Rattle.run_tool.specs.JobPrograms.{ReadsJobs, IsJobsToRun, set_bytes, result_text}
-use Rattle.still_commands.specs.Ends.{Streams}
+use Rattle.pure_commands.specs.Ends.{Streams}
 use Rattle.run_tool.specs.Executions.{GateSeen, JobSeen, Crew, crew, IsFreshCrew, RanAll, usual_window}
 use Rattle.run_tool.proofs.LoadedLemmas.{results_are}
 use Rattle.run_tool.specs.Executed.{StopsInRun, loaded_crew, ToldRun, StopsRun, may_have_run}
-use Rattle.still_commands.specs.Refusals.{status_of}
+use Rattle.pure_commands.specs.Refusals.{status_of}
 use Rattle.command_words.specs.declared.command.Command.TheVariants.{Execute}
 use Rattle.run_tool.specs.JobInput.{GaveJobs, GaveNoJobs, RanJobs, StopsAtJobs}
 

@@ -8,13 +8,13 @@ use Rattle.job_vm.specs.Seen.{JobSeen}
 use Rattle.job_vm.specs.Strays.{first_stray}
 use Rattle.sched_edges.proofs.Pieces.{ok_is_no_fault}
 use Rattle.command_words.proofs.WordLemmas.{no_some}
-use Rattle.still_commands.specs.declared.refusal.Refusal.{Refusal}
-use Rattle.still_commands.specs.declared.refusal.Refusal.TheVariants as why
-use Rattle.still_commands.specs.declared.status.Status.{Status}
-use Rattle.still_commands.specs.declared.status.Status.TheVariants.{Done}
-use Rattle.still_commands.specs.Refusals.{status_of, set_status}
-use Rattle.still_commands.specs.SetTexts.{schedule_rows, text_of, RefusesText}
-use Rattle.still_commands.proofs.AnswerLemmas.{set_writes_or_refuses, one_text_status}
+use Rattle.pure_commands.specs.declared.refusal.Refusal.{Refusal}
+use Rattle.pure_commands.specs.declared.refusal.Refusal.TheVariants as why
+use Rattle.pure_commands.specs.declared.status.Status.{Status}
+use Rattle.pure_commands.specs.declared.status.Status.TheVariants.{Done}
+use Rattle.pure_commands.specs.Refusals.{status_of, set_status}
+use Rattle.pure_commands.specs.SetTexts.{schedule_rows, text_of, RefusesText}
+use Rattle.pure_commands.proofs.AnswerLemmas.{set_writes_or_refuses, one_text_status}
 use Rattle.run_tool.specs.JobPrograms.{ReadsJobs, set_bytes, WritesResult, HasBadProgram, RefusesJobs}
 
 same_value : {T E : Type 0} (a b : T) → ◌≡◌ {A = Result T E} (Ok a) (Ok b) → a ≡ b

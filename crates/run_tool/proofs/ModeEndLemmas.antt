@@ -20,16 +20,16 @@ use Rattle.mode_join.specs.Joining.{CanBeJoined, SaysOf}
 use Rattle.mode_join.specs.Modes.{ModesContents, AreModes, PeriodsEndIn, sets_of}
 use Rattle.command_words.specs.declared.command.Command.TheVariants.{Execute}
 use Rattle.command_words.specs.declared.command.Execution.TheVariants.{Modes}
-use Rattle.still_commands.specs.declared.mode_refusal.ModeRefusal.TheVariants as mode
-use Rattle.still_commands.specs.declared.refusal.Refusal.{Refusal}
-use Rattle.still_commands.specs.declared.refusal.Refusal.TheVariants as why
-use Rattle.still_commands.specs.declared.status.Status.TheVariants.{Done}
-use Rattle.still_commands.specs.Commands.{set_limit}
-use Rattle.still_commands.specs.Ends.{Streams}
+use Rattle.pure_commands.specs.declared.mode_refusal.ModeRefusal.TheVariants as mode
+use Rattle.pure_commands.specs.declared.refusal.Refusal.{Refusal}
+use Rattle.pure_commands.specs.declared.refusal.Refusal.TheVariants as why
+use Rattle.pure_commands.specs.declared.status.Status.TheVariants.{Done}
+use Rattle.pure_commands.specs.Commands.{set_limit}
+use Rattle.pure_commands.specs.Ends.{Streams}
 use Rattle.run_tool.specs.Executions.{Crew}
 use Rattle.run_tool.specs.Executed.{ToldRun, StopsRun, may_have_run}
-use Rattle.still_commands.specs.Faults.{of_take, of_join}
-use Rattle.still_commands.specs.Refusals.{status_of}
+use Rattle.pure_commands.specs.Faults.{of_take, of_join}
+use Rattle.pure_commands.specs.Refusals.{status_of}
 use Rattle.run_tool.specs.ModeInput.{RefusesPiece, RefusesPieces, GaveModes, GaveNoModes}
 use Rattle.run_tool.specs.ModeRuns.{RanThrough, StopsInModes}
 use Rattle.run_tool.specs.ModeTexts.{ReadsSets, IsFirstBad, modes_text}

@@ -10,7 +10,7 @@ use Rattle.mode_join.specs.declared.mode.Mode.{Mode}
 use Rattle.mode_join.specs.Modes.{ModesContents, AreModes}
 use Rattle.mode_switch.specs.Runs.{IsRunOf}
 use Rattle.mode_switch.proofs.RunLemmas.{IsNext, next_mode}
-use Rattle.trace_lines.specs.Conditions.{AreOnTime}
+use Rattle.trace_format.specs.Conditions.{AreOnTime}
 use Rattle.row_totals.specs.Sums.{totals_of}
 use Rattle.run_tool.specs.ModeTexts.{mode_head, mode_text, mode_part}
 

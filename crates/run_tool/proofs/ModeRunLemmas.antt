@@ -25,12 +25,12 @@ use Rattle.exec_lanes.specs.Kits.{AreFilled}
 use Rattle.exec_workers.specs.Runs.{AreFresh}
 use Rattle.mode_join.specs.declared.mode.Mode.{Mode}
 use Rattle.mode_join.specs.Modes.{IsMode}
-use Rattle.mode_switch.specs.Runs.{Roster, RanMode, RanModes, StopsIn, ModesOutcome, rows_through, used_after}
+use Rattle.mode_switch.specs.Runs.{CrewHeld, RanMode, RanModes, StopsIn, ModesOutcome, rows_through, used_after}
 use Rattle.mode_switch.specs.declared.answers.ModesFault.{ModesFault}
 use Rattle.mode_switch.specs.declared.answers.ModesFault.TheVariants as fault
 use Rattle.mode_switch.specs.Runs as modes
-use Rattle.still_commands.specs.declared.mode_refusal.ModeRefusal.{ModeRefusal}
-use Rattle.still_commands.specs.declared.mode_refusal.ModeRefusal.TheVariants as mode
+use Rattle.pure_commands.specs.declared.mode_refusal.ModeRefusal.{ModeRefusal}
+use Rattle.pure_commands.specs.declared.mode_refusal.ModeRefusal.TheVariants as mode
 use Rattle.run_tool.specs.Executions.{GateSeen, JobSeen, Crew, crew, gates_of, jobs_of, Holds, IsFreshCrew, AreBack, RanAll, GateRose, JobRose, GateStopped, JobStopped, name_at}
 use Rattle.run_tool.specs.ModeRuns.{begun_crew, made_after, RanThrough, StopsInMode, StopsBetween}
 use Rattle.run_tool.proofs.CrewLemmas.{below_or, seen_gate, seen_job, gate_in_kit, kit_shown, job_in_place, place_shown}
@@ -151,16 +151,16 @@ module _ (m : Mode) (ms : List Mode) (names : AllByRecursion (λ rows. AllByRecu
 module _ {G J : Type 0} (gate : GateTells G) (job : JobTells J)
     (names : (p : PlanContents) → IsPlan p → AllByRecursion (λ rows. AllByRecursion (λ r. NamesOneOf p.set.tasks r.leaf) rows) (plan_rows p)) where
   -- what the gates in their kits and the jobs in their places tell
-  abbrev pub crew_at : Roster G J → Crew
+  abbrev pub crew_at : CrewHeld G J → Crew
   crew_at r = crew (gates_of gate.ran gate.faults r.kits) (jobs_of job.id job.used job.faults job.made r.places)
 
-  pub filled_by : (r : Roster G J) (n : ℕ) → n ≤ 32 → IsStaffed (crew_at r) → AreFilled n r.kits
+  pub filled_by : (r : CrewHeld G J) (n : ℕ) → n ≤ 32 → IsStaffed (crew_at r) → AreFilled n r.kits
   filled_by r n few staffed q within =
       let (g, at) = staffed.gates q (omega (arith, few, within)) in
       let (x, there, same) = gate_in_kit gate.ran gate.faults r.kits q g at in
       (x, there)
 
-  module _ (p : PlanContents) (h : IsPlan p) (old begun : Roster G J) (begins : modes.HasBegun job p.set.tasks old begun) (staffed : IsStaffed (crew_at old)) where
+  module _ (p : PlanContents) (h : IsPlan p) (old begun : CrewHeld G J) (begins : modes.HasBegun job p.set.tasks old begun) (staffed : IsStaffed (crew_at old)) where
     begun_is : crew_at begun ≡ begun_crew p.set.tasks (crew_at old)
     begun_is = λ i. crew (gates_of gate.ran gate.faults (begins.gates i)) (begins.jobs i)
 
@@ -181,7 +181,7 @@ module _ {G J : Type 0} (gate : GateTells G) (job : JobTells J)
         (x, here, ap (λ (y : JobSeen). y.id) same ∙ own, ap (λ (y : JobSeen). y.used) same)
 
   -- a mode that was run whole
-  mode_whole : (p : PlanContents) → IsPlan p → (old new : Roster G J) (e : Executed) → IsStaffed (crew_at old) → RanMode gate job p (Ok e) old new
+  mode_whole : (p : PlanContents) → IsPlan p → (old new : CrewHeld G J) (e : Executed) → IsStaffed (crew_at old) → RanMode gate job p (Ok e) old new
       → RanAll p (begun_crew p.set.tasks (crew_at old)) (crew_at new)
   mode_whole p h old new e staffed ran =
       let begun = ran.begun in
@@ -191,11 +191,11 @@ module _ {G J : Type 0} (gate : GateTells G) (job : JobTells J)
       (filled p h old begun ran.begins staffed) (fresh p h old begun ran.begins staffed) (names p h) o.0 o.1 e o.2)
 
   -- modes that were run whole
-  pub through : (ms : List Mode) (runs : List Executed) (old new : Roster G J) → AllByRecursion (λ m. IsPlan m.plan) ms → IsStaffed (crew_at old)
+  pub through : (ms : List Mode) (runs : List Executed) (old new : CrewHeld G J) → AllByRecursion (λ m. IsPlan m.plan) ms → IsStaffed (crew_at old)
       → RanModes gate job ms runs old new → RanThrough ms (crew_at old) (crew_at new) × IsStaffed (crew_at new)
   through [] [] old new all staffed same = (
-    subst (λ (r : Roster G J). RanThrough [] (crew_at old) (crew_at r)) (sym same) (none_through (crew_at old)),
-    subst (λ (r : Roster G J). IsStaffed (crew_at r)) (sym same) staffed,
+    subst (λ (r : CrewHeld G J). RanThrough [] (crew_at old) (crew_at r)) (sym same) (none_through (crew_at old)),
+    subst (λ (r : CrewHeld G J). IsStaffed (crew_at r)) (sym same) staffed,
   )
   through [] (e ∷ runs) old new all staffed ran = absurd ran
   through (m ∷ ms) [] old new all staffed ran = absurd ran
@@ -207,7 +207,7 @@ module _ {G J : Type 0} (gate : GateTells G) (job : JobTells J)
       (one_more_through m ms (names m.plan all.0) (crew_at old) (crew_at between) (crew_at new) first rest, end)
 
   -- all are back
-  pub back_at : (old new : Roster G J) → modes.AreBack gate job old new → AreBack (crew_at old) (crew_at new)
+  pub back_at : (old new : CrewHeld G J) → modes.AreBack gate job old new → AreBack (crew_at old) (crew_at new)
   back_at old new back = record {
     gates = λ q g at.
         let (x, there, same) = gate_in_kit gate.ran gate.faults old.kits q g at in
@@ -266,7 +266,7 @@ module _ {G J : Type 0} (gate : GateTells G) (job : JobTells J)
     pub named : NamesOneOf mode.plan.set.tasks row.leaf
     pub stops : (name : Option (List ℕ)) → name ≡ name_at mode.plan.set.tasks row.leaf → StopsInMode ms j old new (refusal name)
 
-  module _ (ms : List Mode) (each : AllByRecursion (λ m. IsPlan m.plan) ms) (old new : Roster G J) (staffed : IsStaffed (crew_at old)) (j : ℕ) where
+  module _ (ms : List Mode) (each : AllByRecursion (λ m. IsPlan m.plan) ms) (old new : CrewHeld G J) (staffed : IsStaffed (crew_at old)) (j : ℕ) where
     pub gate_failed : (q n : ℕ) (row : Row) → StopsIn gate job ms j (exec.Gate q row n) old new
         → FailedAt ms j (crew_at old) (crew_at new) row (λ name. mode.GateFault row name)
     gate_failed q n row stops =
@@ -357,7 +357,7 @@ module _ {G J : Type 0} (gate : GateTells G) (job : JobTells J)
         }
 
   -- each mode's tasks have jobs of their own
-  pub own_jobs : (r : Roster G J) (ms : List Mode) → AllByRecursion (λ m. IsPlan m.plan) ms → IsStaffed (crew_at r)
+  pub own_jobs : (r : CrewHeld G J) (ms : List Mode) → AllByRecursion (λ m. IsPlan m.plan) ms → IsStaffed (crew_at r)
       → AllByRecursion (λ m. modes.HaveOwnJobs job.id (length m.plan.set.tasks) r.places) ms
   own_jobs r [] each staffed = tt
   own_jobs r (m ∷ ms) each staffed = (own, own_jobs r ms each.1 staffed)
@@ -371,7 +371,7 @@ module _ {G J : Type 0} (gate : GateTells G) (job : JobTells J)
 
   -- ---- by what a run of modes answers
 
-  module _ (ms : List Mode) (each : AllByRecursion (λ m. IsPlan m.plan) ms) (old new : Roster G J) (ready : IsFreshCrew (crew_at old))
+  module _ (ms : List Mode) (each : AllByRecursion (λ m. IsPlan m.plan) ms) (old new : CrewHeld G J) (ready : IsFreshCrew (crew_at old))
       (result : Result (List Executed) ModesFault) (o : ModesOutcome gate job ms old new result) where
     at_answer : (answer : Result (List Executed) ModesFault) → result ≡ answer → ModesOutcome gate job ms old new answer
     at_answer answer is = subst (λ x. ModesOutcome gate job ms old new x) is o
@@ -396,7 +396,7 @@ module _ {G J : Type 0} (gate : GateTells G) (job : JobTells J)
 
     pub memory_by : result ≡ Err fault.NoMemory → (crew_at new ≡ crew_at old) ⊎ StopsBetween ms (crew_at old) (crew_at new)
     memory_by is = elim (at_answer (Err fault.NoMemory) is) [
-      | inl same ↦ inl (ap (λ (r : Roster G J). crew_at r) same)
+      | inl same ↦ inl (ap (λ (r : CrewHeld G J). crew_at r) same)
       | inr between ↦ inr (stopped_between ms each old new staffed between.0 between.1)
     ]
 

@@ -11,14 +11,14 @@ use Rattle.mode_join.specs.declared.faults.ModeKind.{ModeKind}
 use Rattle.mode_join.specs.declared.faults.ModeKind.TheVariants as kind
 use Rattle.mode_join.specs.Joining.{IsRefused, rank}
 use Rattle.mode_join.specs.Modes.{sets_of}
-use Rattle.still_commands.specs.declared.mode_refusal.ModeRefusal.{ModeRefusal}
-use Rattle.still_commands.specs.declared.mode_refusal.ModeRefusal.TheVariants as mode
-use Rattle.still_commands.specs.declared.refusal.Refusal.{Refusal}
-use Rattle.still_commands.specs.declared.refusal.Refusal.TheVariants as why
-use Rattle.still_commands.specs.declared.status.Status.{Status}
-use Rattle.still_commands.specs.declared.status.Status.TheVariants as status
+use Rattle.pure_commands.specs.declared.mode_refusal.ModeRefusal.{ModeRefusal}
+use Rattle.pure_commands.specs.declared.mode_refusal.ModeRefusal.TheVariants as mode
+use Rattle.pure_commands.specs.declared.refusal.Refusal.{Refusal}
+use Rattle.pure_commands.specs.declared.refusal.Refusal.TheVariants as why
+use Rattle.pure_commands.specs.declared.status.Status.{Status}
+use Rattle.pure_commands.specs.declared.status.Status.TheVariants as status
 use Rattle.run_tool.specs.ModeTexts.{ReadsSets, WritesModes, IsFirstBad, RefusesMode, RefusesModes}
-use Rattle.still_commands.specs.Refusals.{status_of, set_status, kind_status}
+use Rattle.pure_commands.specs.Refusals.{status_of, set_status, kind_status}
 
 -- ---- pieces that are sets
 

@@ -7,16 +7,16 @@ use Rattle.command_words.specs.declared.command.Command.TheVariants.{Execute}
 use Rattle.command_words.specs.declared.command.Execution.{Execution}
 use Rattle.command_words.specs.declared.command.Execution.TheVariants.{Drill}
 use Rattle.exec_lanes.proofs.ErrorLemmas.{untrue}
-use Rattle.still_commands.specs.Ends.{Streams, IsUnread}
-use Rattle.still_commands.specs.Refusals.{status_of}
-use Rattle.still_commands.specs.declared.refusal.Refusal.{Refusal}
-use Rattle.still_commands.specs.declared.refusal.Refusal.TheVariants as why
-use Rattle.still_commands.specs.declared.status.Status.{Status}
-use Rattle.still_commands.specs.declared.status.Status.TheVariants.{WriteFault}
+use Rattle.pure_commands.specs.Ends.{Streams, IsUnread}
+use Rattle.pure_commands.specs.Refusals.{status_of}
+use Rattle.pure_commands.specs.declared.refusal.Refusal.{Refusal}
+use Rattle.pure_commands.specs.declared.refusal.Refusal.TheVariants as why
+use Rattle.pure_commands.specs.declared.status.Status.{Status}
+use Rattle.pure_commands.specs.declared.status.Status.TheVariants.{WriteFault}
 use Rattle.run_tool.specs.Executed.{ToldRun, StopsRun, RanDrill, StopsAtDrill, EndsPart, EndsExecution, may_have_called, takes_memory_late, may_have_run}
 use Rattle.run_tool.specs.Executions.{Crew, AreBack}
 use Rattle.run_tool.proofs.RunLemmas.{back_same, drill_ran, drill_done_as, drill_stopped_as, uncalled_early}
-use Rattle.still_commands.proofs.WrittenLemmas.{on_written, if_unwritten}
+use Rattle.pure_commands.proofs.WrittenLemmas.{on_written, if_unwritten}
 
 -- it stopped for the reason of a part below
 pub stops_with : {T : Type 0} (result : Result T Refusal) (refusal : Refusal) {Told : Type 0} {Stops : Refusal → Type 0} {called : Status → Bool} {b n : Crew}

@@ -9,26 +9,26 @@ use Rattle.command_words.specs.declared.command.Command.TheVariants.{Read, Batch
 use Rattle.command_words.specs.declared.command.Reading.{Reading}
 use Rattle.command_words.specs.declared.command.Execution.{Execution}
 use Rattle.command_words.specs.declared.command.Execution.TheVariants.{Exec, ExecMet, Drill, Jobs, Modes}
-use Rattle.still_commands.specs.declared.refusal.Refusal.{Refusal}
-use Rattle.still_commands.specs.declared.refusal.Refusal.TheVariants as why
-use Rattle.still_commands.specs.declared.status.Status.{Status}
-use Rattle.still_commands.specs.declared.status.Status.TheVariants.{Done, NoMemory}
+use Rattle.pure_commands.specs.declared.refusal.Refusal.{Refusal}
+use Rattle.pure_commands.specs.declared.refusal.Refusal.TheVariants as why
+use Rattle.pure_commands.specs.declared.status.Status.{Status}
+use Rattle.pure_commands.specs.declared.status.Status.TheVariants.{Done, NoMemory}
 use Rattle.command_words.specs.Words.{command_of, reading_of, execution_of, asks_to_execute, asks_for_batch, asks_for_threads}
 use Rattle.run_tool.specs.Drill.{drill_text}
-use Rattle.still_commands.specs.Commands.{schedule_rows, of_batch, output_of, set_limit, WritesSet, RefusesText}
-use Rattle.still_commands.specs.Refusals.{status_of, set_status, kind_status, mode_status}
-use Rattle.still_commands.specs.Refuse.{IsRefused}
-use Rattle.still_commands.proofs.EndLemmas.{keeps_same, is_fault}
+use Rattle.pure_commands.specs.Commands.{schedule_rows, of_batch, output_of, set_limit, WritesSet, RefusesText}
+use Rattle.pure_commands.specs.Refusals.{status_of, set_status, kind_status, mode_status}
+use Rattle.pure_commands.specs.Refuse.{IsRefused}
+use Rattle.pure_commands.proofs.EndLemmas.{keeps_same, is_fault}
 use Rattle.task_reader.specs.declared.refusals.ReadSet.{ReadSet}
 use Rattle.task_reader.specs.declared.refusals.ReadSet.TheVariants as set
 use Rattle.mode_join.specs.declared.faults.ModeKind.{ModeKind}
 use Rattle.mode_join.specs.declared.faults.ModeKind.TheVariants as kind
-use Rattle.still_commands.specs.declared.mode_refusal.ModeRefusal.{ModeRefusal}
-use Rattle.still_commands.specs.Ends.{Streams, ErrorStream, streams, IsUnread, IsQuiet, IsTold, StopsAs, Ends}
+use Rattle.pure_commands.specs.declared.mode_refusal.ModeRefusal.{ModeRefusal}
+use Rattle.pure_commands.specs.Ends.{Streams, ErrorStream, streams, IsUnread, IsQuiet, IsTold, StopsAs, Ends}
 use Rattle.command_words.proofs.WordLemmas.{executes, reads, batches, only_read, only_batch, only_execute}
 use Rattle.run_tool.specs.Executions.{Crew, AreBack, NothingRose, usual_window}
 use Rattle.run_tool.specs.JobPrograms.{WritesResults, RefusesJobs}
-use Rattle.still_commands.specs.declared.mode_refusal.ModeRefusal.TheVariants as mode
+use Rattle.pure_commands.specs.declared.mode_refusal.ModeRefusal.TheVariants as mode
 use Rattle.run_tool.specs.ModeRuns.{WritesModesRun, RefusesModesRun}
 use Rattle.run_tool.specs.ModeTexts.{WritesModes, RefusesModes}
 use Rattle.run_tool.proofs.LoadedLemmas.{rose_loaded}

@@ -11,14 +11,14 @@ use Rattle.task_reader.specs.Reading.{set_read_from}
 use Rattle.event_core.specs.declared.counts.CountFault.{CountFault}
 use Rattle.event_core.specs.declared.counts.CountFault.TheVariants as count_fault
 use Rattle.event_core.specs.Counts.{IsCountFault}
-use Rattle.still_commands.specs.declared.refusal.Refusal.{Refusal}
-use Rattle.still_commands.specs.declared.refusal.Refusal.TheVariants as why
-use Rattle.still_commands.specs.declared.status.Status.TheVariants.{Done}
-use Rattle.still_commands.specs.Commands.{set_limit, schedule_rows, schedule_text, plan_of, rows_of, text_of, HasRoom}
-use Rattle.still_commands.specs.Ends.{Streams, IsTold, StopsAs}
-use Rattle.still_commands.specs.Faults.{of_count}
-use Rattle.still_commands.specs.Input.{GaveSet, GaveNoSet, IsSchedulable, IsRefusedSet, IsTooLongSet}
-use Rattle.still_commands.proofs.EndLemmas.{keeps_same}
+use Rattle.pure_commands.specs.declared.refusal.Refusal.{Refusal}
+use Rattle.pure_commands.specs.declared.refusal.Refusal.TheVariants as why
+use Rattle.pure_commands.specs.declared.status.Status.TheVariants.{Done}
+use Rattle.pure_commands.specs.Commands.{set_limit, schedule_rows, schedule_text, plan_of, rows_of, text_of, HasRoom}
+use Rattle.pure_commands.specs.Ends.{Streams, IsTold, StopsAs}
+use Rattle.pure_commands.specs.Faults.{of_count}
+use Rattle.pure_commands.specs.Input.{GaveSet, GaveNoSet, IsSchedulable, IsRefusedSet, IsTooLongSet}
+use Rattle.pure_commands.proofs.EndLemmas.{keeps_same}
 use Rattle.run_tool.specs.Executions.{Crew, RanAll}
 use Rattle.run_tool.specs.Executed.{IsToRun, WritesRun, RefusesRun, RanSet, StopsInRun, StopsAtRun}
 

@@ -4,10 +4,10 @@ use Rattle.command_words.specs.Words.{command_of, asks_to_execute}
 use Rattle.command_words.specs.declared.command.Command.{Command}
 use Rattle.command_words.specs.declared.command.Command.TheVariants.{Read}
 use Rattle.command_words.specs.declared.command.Reading.TheVariants.{Check}
-use Rattle.still_commands.specs.Commands.{of_trace}
-use Rattle.still_commands.specs.Ends.{Streams, ErrorStream, IsDone}
-use Rattle.still_commands.specs.declared.status.Status.{Status}
-use Rattle.still_commands.specs.declared.status.Status.TheVariants.{Done, Invalid, Usage, NoMemory}
+use Rattle.pure_commands.specs.Commands.{of_trace}
+use Rattle.pure_commands.specs.Ends.{Streams, ErrorStream, IsDone}
+use Rattle.pure_commands.specs.declared.status.Status.{Status}
+use Rattle.pure_commands.specs.declared.status.Status.TheVariants.{Done, Invalid, Usage, NoMemory}
 use Rattle.run_tool.specs.Ends.{IsCommandDone}
 use Rattle.run_tool.specs.Executed.{EndsWith}
 use Rattle.run_tool.specs.Executions.{Crew, IsFreshCrew}

@@ -4,11 +4,11 @@ use Rattle.std.specs.declared.result.Result.{Result}
 use Rattle.std.specs.declared.result.Result.TheVariants.{Ok, Err}
 use Rattle.sched_edges.specs.Causes.{HasCause}
 use Rattle.sched_edges.specs.declared.streams.Failed.{Failed}
-use Rattle.still_commands.specs.declared.refusal.Refusal.TheVariants as why
-use Rattle.still_commands.specs.declared.status.Status.{Status}
-use Rattle.still_commands.specs.declared.status.Status.TheVariants.{Done, Invalid, WriteFault}
-use Rattle.still_commands.specs.Refusals.{refusal_line}
-use Rattle.still_commands.specs.Ends.{ErrorStream, IsQuiet, Tells}
+use Rattle.pure_commands.specs.declared.refusal.Refusal.TheVariants as why
+use Rattle.pure_commands.specs.declared.status.Status.{Status}
+use Rattle.pure_commands.specs.declared.status.Status.TheVariants.{Done, Invalid, WriteFault}
+use Rattle.pure_commands.specs.Refusals.{refusal_line}
+use Rattle.pure_commands.specs.Ends.{ErrorStream, IsQuiet, Tells}
 
 -- the status of a run that had this status before `out` failed to hand on what it kept back
 abbrev pub after_fault : Status → Status

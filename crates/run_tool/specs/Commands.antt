@@ -3,9 +3,9 @@
 use Rattle.std.specs.Prelude.{ℕ, true, false, List}
 use Rattle.command_words.specs.declared.command.Execution.{Execution}
 use Rattle.command_words.specs.declared.command.Execution.TheVariants.{Exec, ExecMet, Drill, Jobs, Modes}
-use Rattle.still_commands.specs.declared.refusal.Refusal.{Refusal}
-use Rattle.still_commands.specs.declared.status.Status.{Status}
-use Rattle.still_commands.specs.SetTexts.{schedule_rows, WritesSet, RefusesText}
+use Rattle.pure_commands.specs.declared.refusal.Refusal.{Refusal}
+use Rattle.pure_commands.specs.declared.status.Status.{Status}
+use Rattle.pure_commands.specs.SetTexts.{schedule_rows, WritesSet, RefusesText}
 use Rattle.run_tool.specs.Drill.{WritesDrill}
 use Rattle.run_tool.specs.JobPrograms.{WritesResults, RefusesJobs}
 use Rattle.run_tool.specs.ModeTexts.{WritesModes, RefusesModes}

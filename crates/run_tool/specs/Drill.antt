@@ -14,8 +14,8 @@ use Rattle.stat_report.specs.Report.{preemptions, migrations, IsValidTrace}
 use Rattle.task_gen.specs.Words.{words_of_number}
 use Rattle.task_gen.specs.Drill.{made_from}
 use Rattle.run_tool.specs.declared.summary.Summary.{Summary}
-use Rattle.still_commands.specs.declared.status.Status.{Status}
-use Rattle.still_commands.specs.declared.status.Status.TheVariants.{Done}
+use Rattle.pure_commands.specs.declared.status.Status.{Status}
+use Rattle.pure_commands.specs.declared.status.Status.TheVariants.{Done}
 
 -- the set that a number draws
 unfoldable pub drilled : ℕ → SetContents

@@ -6,11 +6,11 @@ use Rattle.command_words.specs.declared.command.Command.{Command}
 use Rattle.command_words.specs.declared.command.Command.TheVariants.{Read, Batch, Execute}
 use Rattle.command_words.specs.declared.command.Execution.{Execution}
 use Rattle.command_words.specs.declared.command.Execution.TheVariants.{Exec, ExecMet, Drill, Jobs}
-use Rattle.still_commands.specs.declared.status.Status.{Status}
-use Rattle.still_commands.specs.declared.status.Status.TheVariants.{Done, NoMemory}
-use Rattle.still_commands.specs.Commands.{of_batch, output_of, set_limit}
-use Rattle.still_commands.specs.SetTexts.{schedule_rows, WritesSoundly}
-use Rattle.still_commands.specs.Ends.{Streams, IsUnread, IsTold, IsDoneSoundly, AnswersAs, IsAnswered}
+use Rattle.pure_commands.specs.declared.status.Status.{Status}
+use Rattle.pure_commands.specs.declared.status.Status.TheVariants.{Done, NoMemory}
+use Rattle.pure_commands.specs.Commands.{of_batch, output_of, set_limit}
+use Rattle.pure_commands.specs.SetTexts.{schedule_rows, WritesSoundly}
+use Rattle.pure_commands.specs.Ends.{Streams, IsUnread, IsTold, IsDoneSoundly, AnswersAs, IsAnswered}
 use Rattle.run_tool.specs.Drill.{WritesDrill}
 use Rattle.run_tool.specs.JobPrograms.{WritesResult}
 use Rattle.run_tool.specs.Executions.{Crew}

@@ -13,16 +13,16 @@ use Rattle.command_words.specs.declared.command.Command.{Command}
 use Rattle.command_words.specs.declared.command.Command.TheVariants.{Read, Batch, Execute}
 use Rattle.command_words.specs.declared.command.Execution.{Execution}
 use Rattle.command_words.specs.declared.command.Execution.TheVariants.{Exec, ExecMet, Drill, Jobs, Modes}
-use Rattle.still_commands.specs.declared.refusal.Refusal.{Refusal}
-use Rattle.still_commands.specs.declared.refusal.Refusal.TheVariants as why
-use Rattle.still_commands.specs.declared.status.Status.{Status}
-use Rattle.still_commands.specs.declared.status.Status.TheVariants.{Done, WriteFault, NoMemory, GateFault, JobFault}
-use Rattle.still_commands.specs.Commands.{schedule_rows, of_batch, output_of, set_limit, ReadsSet, HasRoom, text_of, plan_of, RefusesText}
-use Rattle.still_commands.specs.Refusals.{status_of, refusal_line}
+use Rattle.pure_commands.specs.declared.refusal.Refusal.{Refusal}
+use Rattle.pure_commands.specs.declared.refusal.Refusal.TheVariants as why
+use Rattle.pure_commands.specs.declared.status.Status.{Status}
+use Rattle.pure_commands.specs.declared.status.Status.TheVariants.{Done, WriteFault, NoMemory, GateFault, JobFault}
+use Rattle.pure_commands.specs.Commands.{schedule_rows, of_batch, output_of, set_limit, ReadsSet, HasRoom, text_of, plan_of, RefusesText}
+use Rattle.pure_commands.specs.Refusals.{status_of, refusal_line}
 use Rattle.run_tool.specs.Drill.{drilled, drill_plan, IsDrill, drill_text}
-use Rattle.still_commands.specs.Ends.{Streams, ErrorStream, IsUnread, IsQuiet, Tells, IsTold, StopsAs, Ends}
+use Rattle.pure_commands.specs.Ends.{Streams, ErrorStream, IsUnread, IsQuiet, Tells, IsTold, StopsAs, Ends}
 use Rattle.run_tree.specs.Plans.{PlanContents}
-use Rattle.still_commands.specs.Input.{IsSchedulable, IsRefusedSet, IsTooLongSet}
+use Rattle.pure_commands.specs.Input.{IsSchedulable, IsRefusedSet, IsTooLongSet}
 use Rattle.run_tool.specs.Executions.{Crew, AreBack, RanAll, GateStopped, JobStopped, NothingRose, name_at, usual_window}
 use Rattle.run_tool.specs.ModeRuns.{WritesModesRun, RefusesModesRun, MayHaveRun}
 

@@ -7,11 +7,11 @@ use Rattle.sched_edges.specs.Causes.{Rose}
 use Rattle.sched_edges.specs.Streams.{GaveAll, GaveAtMost, GaveCount, TookPart}
 use Rattle.task_reader.specs.Reading.{set_read_from}
 use Rattle.job_vm.specs.Programs.{JobTextHeld, reading}
-use Rattle.still_commands.specs.declared.refusal.Refusal.{Refusal}
-use Rattle.still_commands.specs.declared.refusal.Refusal.TheVariants as why
-use Rattle.still_commands.specs.SetTexts.{schedule_rows, plan_of, HasRoom}
+use Rattle.pure_commands.specs.declared.refusal.Refusal.{Refusal}
+use Rattle.pure_commands.specs.declared.refusal.Refusal.TheVariants as why
+use Rattle.pure_commands.specs.SetTexts.{schedule_rows, plan_of, HasRoom}
 use Rattle.run_tool.specs.JobPrograms.{ReadsJobs, HasBadProgram, set_bytes, result_text}
-use Rattle.still_commands.specs.Input.{IsSchedulable, IsRefusedSet, IsTooLongSet}
+use Rattle.pure_commands.specs.Input.{IsSchedulable, IsRefusedSet, IsTooLongSet}
 use Rattle.run_tool.specs.Executions.{Crew, RanAll, usual_window}
 use Rattle.run_tool.specs.Executed.{StopsInRun, loaded_crew, HasLoaded}
 

@@ -12,11 +12,11 @@ use Rattle.job_vm.specs.Strays.{first_stray}
 use Rattle.job_vm.specs.Loading.{code_of}
 use Rattle.job_vm.specs.Results.{Told, jobs_text}
 use Rattle.job_vm.specs.Seen.{JobSeen}
-use Rattle.still_commands.specs.declared.refusal.Refusal.{Refusal}
-use Rattle.still_commands.specs.declared.refusal.Refusal.TheVariants.{BadProgram, BadSet}
-use Rattle.still_commands.specs.declared.status.Status.{Status}
-use Rattle.still_commands.specs.declared.status.Status.TheVariants.{Done}
-use Rattle.still_commands.specs.SetTexts.{schedule_rows, ReadsSet, HasRoom, plan_of, RefusesText}
+use Rattle.pure_commands.specs.declared.refusal.Refusal.{Refusal}
+use Rattle.pure_commands.specs.declared.refusal.Refusal.TheVariants.{BadProgram, BadSet}
+use Rattle.pure_commands.specs.declared.status.Status.{Status}
+use Rattle.pure_commands.specs.declared.status.Status.TheVariants.{Done}
+use Rattle.pure_commands.specs.SetTexts.{schedule_rows, ReadsSet, HasRoom, plan_of, RefusesText}
 
 -- the bytes behind the line `tasks`, where the set stands
 abbrev pub set_bytes : JobTextHeld → List ℕ → List ℕ

@@ -8,7 +8,7 @@ pub mod Executions
 pub mod ModeRuns
 pub mod Ready
 pub mod Executed
-pub mod Asked
+pub mod ExecutionWords
 pub mod Alone
 pub mod JobInput
 pub mod ModeInput

@@ -5,9 +5,9 @@ use Rattle.sched_edges.specs.Causes.{Rose}
 use Rattle.sched_edges.specs.Streams.{GaveAll, GaveAtMost, GaveCount}
 use Rattle.task_reader.specs.Reading.{set_read_from}
 use Rattle.mode_join.specs.Modes.{ModesContents}
-use Rattle.still_commands.specs.declared.mode_refusal.ModeRefusal.TheVariants as mode
-use Rattle.still_commands.specs.declared.refusal.Refusal.{Refusal}
-use Rattle.still_commands.specs.declared.refusal.Refusal.TheVariants as why
+use Rattle.pure_commands.specs.declared.mode_refusal.ModeRefusal.TheVariants as mode
+use Rattle.pure_commands.specs.declared.refusal.Refusal.{Refusal}
+use Rattle.pure_commands.specs.declared.refusal.Refusal.TheVariants as why
 use Rattle.run_tool.specs.ModeTexts.{ReadsModes, RefusesMode, IsFirstBad}
 
 -- the bytes of piece j are no set, or memory was refused

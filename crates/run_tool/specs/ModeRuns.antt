@@ -15,14 +15,14 @@ use Rattle.plan_rounds.specs.PlanRows.{plan_rows}
 use Rattle.mode_join.specs.declared.mode.Mode.{Mode}
 use Rattle.mode_join.specs.Modes.{ModesContents}
 use Rattle.mode_switch.specs.Runs.{rows_through, used_after}
-use Rattle.still_commands.specs.declared.mode_refusal.ModeRefusal.{ModeRefusal}
-use Rattle.still_commands.specs.declared.mode_refusal.ModeRefusal.TheVariants as mode
-use Rattle.still_commands.specs.declared.refusal.Refusal.{Refusal}
-use Rattle.still_commands.specs.declared.refusal.Refusal.TheVariants as why
-use Rattle.still_commands.specs.declared.status.Status.{Status}
-use Rattle.still_commands.specs.declared.status.Status.TheVariants.{Done}
-use Rattle.still_commands.specs.Commands.{set_limit}
-use Rattle.still_commands.specs.Ends.{Streams}
+use Rattle.pure_commands.specs.declared.mode_refusal.ModeRefusal.{ModeRefusal}
+use Rattle.pure_commands.specs.declared.mode_refusal.ModeRefusal.TheVariants as mode
+use Rattle.pure_commands.specs.declared.refusal.Refusal.{Refusal}
+use Rattle.pure_commands.specs.declared.refusal.Refusal.TheVariants as why
+use Rattle.pure_commands.specs.declared.status.Status.{Status}
+use Rattle.pure_commands.specs.declared.status.Status.TheVariants.{Done}
+use Rattle.pure_commands.specs.Commands.{set_limit}
+use Rattle.pure_commands.specs.Ends.{Streams}
 use Rattle.run_tool.specs.Executions.{GateSeen, JobSeen, Crew, Holds, GateStopped, JobStopped, GateRose, JobRose, name_at}
 use Rattle.run_tool.specs.ModeTexts.{ReadsModes, RefusesMode, RefusesModes, modes_text}
 

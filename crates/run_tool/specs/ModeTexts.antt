@@ -11,16 +11,16 @@ use Rattle.task_reader.specs.Reading.{set_read_from}
 use Rattle.mode_join.specs.declared.mode.Mode.{Mode}
 use Rattle.mode_join.specs.Joining.{CanBeJoined, IsRefused}
 use Rattle.mode_join.specs.Modes.{ModesContents, AreModes, PeriodsEndIn, sets_of}
-use Rattle.trace_lines.specs.declared.versions.Version.TheVariants.{One}
+use Rattle.trace_format.specs.declared.versions.Version.TheVariants.{One}
 use Rattle.merged_rows.specs.Merging.{merged_lanes}
-use Rattle.trace_lines.specs.Text.{trace_text}
-use Rattle.still_commands.specs.declared.mode_refusal.ModeRefusal.{ModeRefusal}
-use Rattle.still_commands.specs.declared.mode_refusal.ModeRefusal.TheVariants as mode
-use Rattle.still_commands.specs.declared.refusal.Refusal.{Refusal}
-use Rattle.still_commands.specs.declared.refusal.Refusal.TheVariants.{OfMode}
-use Rattle.still_commands.specs.declared.status.Status.{Status}
-use Rattle.still_commands.specs.Numbered.{numbered}
-use Rattle.still_commands.specs.declared.status.Status.TheVariants.{Done}
+use Rattle.trace_format.specs.Text.{trace_text}
+use Rattle.pure_commands.specs.declared.mode_refusal.ModeRefusal.{ModeRefusal}
+use Rattle.pure_commands.specs.declared.mode_refusal.ModeRefusal.TheVariants as mode
+use Rattle.pure_commands.specs.declared.refusal.Refusal.{Refusal}
+use Rattle.pure_commands.specs.declared.refusal.Refusal.TheVariants.{OfMode}
+use Rattle.pure_commands.specs.declared.status.Status.{Status}
+use Rattle.pure_commands.specs.Numbered.{numbered}
+use Rattle.pure_commands.specs.declared.status.Status.TheVariants.{Done}
 
 -- ---- what is read
 

@@ -3,14 +3,14 @@ ghost use Rattle.std.specs.Prelude.{◌≡◌, ◌≢◌, ◌⊎◌, []};
 ghost use Rattle.std.specs.Io.KnownBytes.{Keeps};
 ghost use Rattle.sched_edges.specs.Causes.{Rose};
 ghost use Rattle.sched_edges.specs.StdStreams.{sink_faults, kept_back};
-ghost use Rattle.still_commands.specs.Ends.{error_of, IsQuiet, Tells};
+ghost use Rattle.pure_commands.specs.Ends.{error_of, IsQuiet, Tells};
 ghost use Rattle.run_tool.specs.Closing.{closed, IsClosed, TellsClosed};
-ghost use Rattle.still_commands.specs.Refusals.{refusal_line};
-ghost use Rattle.still_commands.specs.declared.refusal.Refusal.TheVariants as why;
+ghost use Rattle.pure_commands.specs.Refusals.{refusal_line};
+ghost use Rattle.pure_commands.specs.declared.refusal.Refusal.TheVariants as why;
 
 use sched_edges::{Failed, Sink, StdSink};
 use std::io::{BufWriter, Write};
-use still_commands::{Refusal, Status, refuse};
+use pure_commands::{Refusal, Status, refuse};
 
 /// The status at the end of a run that had this status before: `out` hands on what it kept back. A text that wasn't handed on
 /// wasn't written, so that is a fault of `out`, and `err` takes its line, where no other was told.

@@ -1,7 +1,7 @@
 //! The command `drill`.
 ghost use Rattle.std.specs.Prelude.{◌≡◌, ◌≤◌, ◌*◌, length, OnOk, IfErr, IfOk};
 ghost use Rattle.sched_base.specs.Scale.{IsScale};
-ghost use Rattle.sched_base.specs.Tables.{all_rows, rounds_of as rounds_in};
+ghost use Rattle.sched_base.specs.Tables.{all_rows, rounds_in};
 ghost use Rattle.sched_base.specs.Valid.{IsValid};
 ghost use Rattle.run_tree.specs.Plans.{rounds_of, stop_of};
 ghost use Rattle.sched_base.specs.Tables.{row_limit};
@@ -28,7 +28,7 @@ use sched_edges::{BoxedJob, Gate, Job, Jobs, Sink};
 use std::alloc::Global;
 use std::sync::Wait;
 use std::thread::Threads;
-use still_commands::{Refusal, written};
+use pure_commands::{Refusal, written};
 use task_gen::{drill_law, make, words_of};
 use trace_check::{ReadTrace, merged_law};
 

@@ -1,19 +1,19 @@
 //! The command `exec`.
 ghost use Rattle.std.specs.Prelude.{◌≡◌, ◌≤◌, ◌*◌, false, length, OnOk, IfErr, IfOk};
-ghost use Rattle.sched_base.specs.Tables.{rounds_of as rounds_in};
+ghost use Rattle.sched_base.specs.Tables.{rounds_in};
 ghost use Rattle.sched_base.specs.Tables.{row_limit};
 ghost use Rattle.sched_base.specs.Lanes.{NamesOneOf};
 ghost use Rattle.row_totals.specs.Sums.{totals_of};
 ghost use Rattle.plan_rounds.specs.PlanRows.{plan_rows};
 ghost use Rattle.exec_workers.specs.Runs.{IsExecutable};
 ghost use Rattle.run_tree.specs.Compiled.{tree_of};
-ghost use Rattle.still_commands.specs.Commands.{set_limit};
-ghost use Rattle.still_commands.specs.Refusals.{status_of};
-ghost use Rattle.still_commands.specs.Ends.{streams_of, IsTold, StopsAs};
-ghost use Rattle.still_commands.specs.Input.{IsSchedulable};
+ghost use Rattle.pure_commands.specs.Commands.{set_limit};
+ghost use Rattle.pure_commands.specs.Refusals.{status_of};
+ghost use Rattle.pure_commands.specs.Ends.{streams_of, IsTold, StopsAs};
+ghost use Rattle.pure_commands.specs.Input.{IsSchedulable};
 ghost use Rattle.run_tool.specs.Executions.{crew_of, IsFreshCrew, AreBack, RanAll, name_at};
 ghost use Rattle.run_tool.specs.Executed.{WritesRun, RefusesRun, RanSet, StopsAtRun, StopsInRun, EndsPart, may_have_called};
-ghost use Rattle.still_commands.specs.declared.status.Status.TheVariants.{Done};
+ghost use Rattle.pure_commands.specs.declared.status.Status.TheVariants.{Done};
 
 use event_core::count_rounds;
 use exec_workers::{ExecFault, Executed, Kit, execute};
@@ -24,7 +24,7 @@ use sched_edges::{BoxedJob, Gate, Job, Jobs, Sink, Source};
 use std::alloc::Global;
 use std::sync::Wait;
 use std::thread::Threads;
-use still_commands::{Refusal, finishes_for, plan_of, read_input, write_rows, written};
+use pure_commands::{Refusal, finishes_for, plan_of, read_input, write_rows, written};
 
 /// Reads a task set, has the gates and the jobs run its schedule, and writes it; in version 2 where `met` is asked for or some
 /// task is released late. A lane may run up to `window` rounds ahead of the others.

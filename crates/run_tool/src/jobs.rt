@@ -1,10 +1,10 @@
 //! The command `jobs`.
 ghost use Rattle.std.specs.Prelude.{◌≡◌, ◌≤◌, length, IfErr, IfOk, Ok};
 ghost use Rattle.job_vm.specs.Programs.{reading};
-ghost use Rattle.still_commands.specs.Commands.{set_limit};
+ghost use Rattle.pure_commands.specs.Commands.{set_limit};
 ghost use Rattle.run_tree.specs.Compiled.{tree_of};
-ghost use Rattle.still_commands.specs.Ends.{streams_of};
-ghost use Rattle.still_commands.specs.Input.{IsSchedulable};
+ghost use Rattle.pure_commands.specs.Ends.{streams_of};
+ghost use Rattle.pure_commands.specs.Input.{IsSchedulable};
 ghost use Rattle.run_tool.specs.Executions.{crew_of, IsFreshCrew};
 ghost use Rattle.run_tool.specs.Executed.{EndsPart, EndsExecution, may_have_run};
 ghost use Rattle.run_tool.specs.JobPrograms.{ReadsJobs};
@@ -23,7 +23,7 @@ use sched_edges::{BoxedJob, Gate, Job, Jobs, Sink, Source, read_all};
 use std::alloc::Global;
 use std::sync::Wait;
 use std::thread::Threads;
-use still_commands::{Refusal, SET_LIMIT, plan_of, written};
+use pure_commands::{Refusal, SET_LIMIT, plan_of, written};
 use task_reader::read_set;
 
 /// Reads a job text, loads each task's program into its job, has the gates and the jobs run the schedule of the set, and writes

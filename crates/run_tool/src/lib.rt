@@ -13,6 +13,6 @@ mod summary;
 pub use closing::{close_flushed, close_run};
 pub use command_words::{Command, Execution, Reading};
 pub use running::{run, run_without_crew};
-pub use still_commands::{
+pub use pure_commands::{
     ModeRefusal, Refusal, Status, follow_law, refuse, run_reading, run_still, sound_law, write_rate,
 };

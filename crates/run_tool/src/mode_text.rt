@@ -9,7 +9,7 @@ ghost use Rattle.plan_rounds.specs.PlanRows.{plan_rows};
 ghost use Rattle.mode_join.specs.declared.mode.Mode.{Mode};
 ghost use Rattle.mode_switch.specs.Runs.{IsRunOf};
 ghost use Rattle.run_tree.specs.Plans.{rounds_of};
-ghost use Rattle.trace_lines.specs.Conditions.{AreOnTime};
+ghost use Rattle.trace_format.specs.Conditions.{AreOnTime};
 ghost use Rattle.row_totals.specs.Sums.{totals_of};
 ghost use Rattle.run_tool.specs.ModeTexts.{mode_head, mode_text, mode_part, mode_parts, modes_head, modes_text};
 

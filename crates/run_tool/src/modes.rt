@@ -4,8 +4,8 @@ ghost use Rattle.std.specs.List.{All, AllZip, slice_range};
 ghost use Rattle.mode_switch.specs.Runs.{IsRunOf};
 ghost use Rattle.task_reader.specs.Pieces.{pieces_of, bytes_in, IsWithin};
 ghost use Rattle.task_reader.specs.Reading.{set_read_from};
-ghost use Rattle.still_commands.specs.Commands.{set_limit};
-ghost use Rattle.still_commands.specs.Ends.{streams_of};
+ghost use Rattle.pure_commands.specs.Commands.{set_limit};
+ghost use Rattle.pure_commands.specs.Ends.{streams_of};
 ghost use Rattle.run_tool.specs.Executed.{EndsExecution};
 ghost use Rattle.run_tool.specs.Executions.{crew_of, IsFreshCrew, AreBack};
 ghost use Rattle.run_tool.specs.ModeInput.{GaveModes, GaveNoModes, RefusesPiece, RefusesPieces};
@@ -24,7 +24,7 @@ use sched_edges::{BoxedJob, Gate, Job, Jobs, Sink, Source, read_all};
 use std::alloc::Global;
 use std::sync::Wait;
 use std::thread::Threads;
-use still_commands::{ModeRefusal, Refusal, SET_LIMIT, written};
+use pure_commands::{ModeRefusal, Refusal, SET_LIMIT, written};
 use task_reader::{Pieces, ReadSet, cut, pieces_law, read_set};
 
 /// Reads task sets, has the gates and the jobs run their schedules as modes, one after the other, and writes them. In each mode a

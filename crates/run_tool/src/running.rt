@@ -1,16 +1,16 @@
 //! The top call, with the runtime, the gates and the jobs.
 ghost use Rattle.std.specs.Prelude.{◌≡◌, ◌≢◌, ◌↔◌, true, false, map, string_bytes, None, Some};
 ghost use Rattle.command_words.specs.Words.{command_of, asks_to_execute, HasWindow};
-ghost use Rattle.still_commands.specs.Commands.{of_trace};
-ghost use Rattle.still_commands.specs.Ends.{streams_of, error_of, IsDone, IsUsage};
-ghost use Rattle.run_tool.specs.Asked.{EndsAsked};
+ghost use Rattle.pure_commands.specs.Commands.{of_trace};
+ghost use Rattle.pure_commands.specs.Ends.{streams_of, error_of, IsDone, IsUsage};
+ghost use Rattle.run_tool.specs.ExecutionWords.{EndsAsked};
 ghost use Rattle.run_tool.specs.Ends.{IsCommandDone, IsCommandAnswered};
 ghost use Rattle.run_tool.specs.Executions.{Crew, crew_of, IsFreshCrew, AreBack};
 ghost use Rattle.run_tool.specs.Executed.{EndsExecution, EndsWith, NoneFailed, may_have_run};
 ghost use Rattle.command_words.specs.declared.command.Command.{Command};
 ghost use Rattle.command_words.specs.declared.command.Command.TheVariants.{Read};
 ghost use Rattle.command_words.specs.declared.command.Reading.TheVariants.{Check};
-ghost use Rattle.still_commands.specs.declared.status.Status.TheVariants.{Done, Invalid};
+ghost use Rattle.pure_commands.specs.declared.status.Status.TheVariants.{Done, Invalid};
 
 use crate::drill::drill;
 use crate::exec::exec;
@@ -22,7 +22,7 @@ use sched_edges::{BoxedJob, Gate, Job, Jobs, Sink, Source};
 use std::alloc::Global;
 use std::sync::Wait;
 use std::thread::Threads;
-use still_commands::{Refusal, Status, follow_law, refuse, run_batch, run_still, sound_law};
+use pure_commands::{Refusal, Status, follow_law, refuse, run_batch, run_still, sound_law};
 
 /// Does what the words, those after the program's name, ask for: reads the source, writes the whole text to `out`, or one line
 /// that says why not to `err`. `exec` has the gates of the kits and the jobs run the schedule of the set before its text is

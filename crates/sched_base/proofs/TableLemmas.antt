@@ -5,7 +5,7 @@ use Rattle.std.proofs.lemmas.Option.{slice_get_within, slice_get-get_or}
 use Rattle.std.proofs.lemmas.List.{length_push, nil_from_length}
 use Rattle.sched_base.specs.declared.rows.Row.{Row}
 use Rattle.sched_base.specs.declared.rows.Leaf.TheVariants.{Empty}
-use Rattle.sched_base.specs.Tables.{lane_of, RowAt, rounds_of, end_after, end_of, IsRound, IsTable, with_round}
+use Rattle.sched_base.specs.Tables.{lane_of, RowAt, rounds_in, end_after, end_of, IsRound, IsTable, with_round}
 
 -- a place of a list with one element more is one of before, or the new one
 pub slice_get-push : {X : Type 0} (xs : List X) (y x : X) (k : ℕ) → slice_get (xs ++ y ∷ []) k ≡ Some x → ((k < length xs) × (slice_get xs k ≡ Some x)) ⊎ ((k ≡ length xs) × (y ≡ x))
@@ -52,16 +52,16 @@ abbrev pub no_row : Row
 no_row = record { processor = 0; start = 0; end = 0; leaf = Empty }
 
 -- each round has a row of each processor
-pub row_at : (lanes : List (List Row)) → IsTable lanes → (p k : ℕ) → p < length lanes → k < rounds_of lanes → (r : Row) × RowAt lanes p k r
+pub row_at : (lanes : List (List Row)) → IsTable lanes → (p k : ℕ) → p < length lanes → k < rounds_in lanes → (r : Row) × RowAt lanes p k r
 row_at lanes h p k within round =
-    let whole : length (lane_of lanes p) ≡ rounds_of lanes = h.whole p within in
+    let whole : length (lane_of lanes p) ≡ rounds_in lanes = h.whole p within in
     (get_or (lane_of lanes p) k no_row, slice_get-get_or (lane_of lanes p) k no_row (omega (arith, whole)))
 
 -- a row stands on a processor and in a round that are there
-pub row_within : (lanes : List (List Row)) → IsTable lanes → (p k : ℕ) (r : Row) → RowAt lanes p k r → (p < length lanes) × (k < rounds_of lanes)
+pub row_within : (lanes : List (List Row)) → IsTable lanes → (p k : ℕ) (r : Row) → RowAt lanes p k r → (p < length lanes) × (k < rounds_in lanes)
 row_within lanes h p k r at =
     let inside : p < length lanes = lane_within lanes p k r at in
-    let whole : length (lane_of lanes p) ≡ rounds_of lanes = h.whole p inside in
+    let whole : length (lane_of lanes p) ≡ rounds_in lanes = h.whole p inside in
     let early : k < length (lane_of lanes p) = slice_get_within (lane_of lanes p) k r at in
     (inside, omega (arith, whole))
 
@@ -71,15 +71,15 @@ module _ (lanes : List (List Row)) (rows : List Row) (h : IsTable lanes) (whole 
   not_before p q k r at here within =
       let inside : p < length lanes = lane_within lanes p k r at in
       let early : k < length (lane_of lanes p) = slice_get_within (lane_of lanes p) k r at in
-      let a : length (lane_of lanes p) ≡ rounds_of lanes = h.whole p inside in
-      let b : length (lane_of lanes q) ≡ rounds_of lanes = h.whole q within in
+      let a : length (lane_of lanes p) ≡ rounds_in lanes = h.whole p inside in
+      let b : length (lane_of lanes q) ≡ rounds_in lanes = h.whole q within in
       absurd (omega (arith, a, b))
 
   -- the last round ends where the table does
   ends_there : (p k : ℕ) (r : Row) → RowAt lanes p k r → k + 1 ≡ length (lane_of lanes p) → end_of lanes ≡ r.end
   ends_there p k r at last =
       let inside : p < length lanes = lane_within lanes p k r at in
-      let whole_p : length (lane_of lanes p) ≡ rounds_of lanes = h.whole p inside in
+      let whole_p : length (lane_of lanes p) ≡ rounds_in lanes = h.whole p inside in
       let at0 : RowAt lanes 0 k (get_or (lane_of lanes 0) k r) = slice_get-get_or (lane_of lanes 0) k r (omega (arith, whole_p)) in
       let same = (h.together 0 p k (get_or (lane_of lanes 0) k r) r at0 at).1 in
       end_after-last (lane_of lanes 0) 0 k (get_or (lane_of lanes 0) k r) at0 (omega (arith, whole_p)) ∙ same

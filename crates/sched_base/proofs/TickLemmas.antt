@@ -8,7 +8,7 @@ use Rattle.sched_base.specs.declared.rows.Leaf.{Leaf}
 use Rattle.sched_base.specs.declared.rows.Leaf.TheVariants.{Task, Wait, Idle, Empty}
 use Rattle.sched_base.specs.Counting.{bit}
 use Rattle.sched_base.specs.Rows.{is_of_task}
-use Rattle.sched_base.specs.Tables.{lane_of, RowAt, rounds_of, end_after, IsTable, row_ticks, ticks_in, ticks_of, ticks_before}
+use Rattle.sched_base.specs.Tables.{lane_of, RowAt, rounds_in, end_after, IsTable, row_ticks, ticks_in, ticks_of, ticks_before}
 use Rattle.sched_base.proofs.TableLemmas.{no_row, row_at, row_within}
 
 -- a leaf of task j is that task
@@ -105,7 +105,7 @@ module _ (lanes : List (List Row)) (h : IsTable lanes) where
       end_after-take-suc (lane_of lanes 0) 0 k first.0 first.1 ∙ (h.together 0 p k first.0 before.0 first.1 before.1).1 ∙ sym next
 
   -- the rounds before round k give a task no more ticks than passed
-  pub ticks_before-le : (j k : ℕ) → k ≤ rounds_of lanes → ticks_before j k lanes ≤ end_after 0 (take k (lane_of lanes 0))
+  pub ticks_before-le : (j k : ℕ) → k ≤ rounds_in lanes → ticks_before j k lanes ≤ end_after 0 (take k (lane_of lanes 0))
   ticks_before-le j zero within = let e = ticks_before-zero j lanes in omega (arith, e)
   ticks_before-le j (suc k) within =
       let r : Row = get_or (lane_of lanes 0) k no_row in

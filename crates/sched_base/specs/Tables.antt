@@ -22,8 +22,8 @@ abbrev pub RowAt : List (List Row) → ℕ → ℕ → Row → Type 0
 RowAt lanes p k r = slice_get (lane_of lanes p) k ≡ Some r
 
 -- how many rounds there are
-abbrev pub rounds_of : List (List Row) → ℕ
-rounds_of lanes = length (lane_of lanes 0)
+abbrev pub rounds_in : List (List Row) → ℕ
+rounds_in lanes = length (lane_of lanes 0)
 
 -- the tick at which the last of these rows ends, or the one before where there is none
 abbrev pub end_after : ℕ → List Row → ℕ
@@ -52,7 +52,7 @@ with_round (lane ∷ lanes) (r ∷ rows) = (lane ++ r ∷ []) ∷ with_round lan
 
 -- what each table keeps: whole rounds of all processors, which follow one another from tick 0
 pub record IsTable (lanes : List (List Row)) : Type 0 where
-  pub whole : (p : ℕ) → p < length lanes → length (lane_of lanes p) ≡ rounds_of lanes
+  pub whole : (p : ℕ) → p < length lanes → length (lane_of lanes p) ≡ rounds_in lanes
   pub own : (p k : ℕ) (r : Row) → RowAt lanes p k r → r.processor ≡ p
   pub forward : (p k : ℕ) (r : Row) → RowAt lanes p k r → (r.start < r.end) × (r.end < 2 ^ 127)
   pub first : (p : ℕ) (r : Row) → RowAt lanes p 0 r → r.start ≡ 0

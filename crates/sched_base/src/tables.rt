@@ -1,6 +1,6 @@
 //! Whole rounds of rows.
 ghost use Rattle.std.specs.Prelude.{◌≡◌, ◌≤◌, ◌<◌, ◌+◌, [], replicate, length, Some, IfOk};
-ghost use Rattle.sched_base.specs.Tables.{lane_of, rounds_of, end_of, RowAt, IsRound, IsTable, with_round, with_row, with_rows, HaveRoom};
+ghost use Rattle.sched_base.specs.Tables.{lane_of, rounds_in, end_of, RowAt, IsRound, IsTable, with_round, with_row, with_rows, HaveRoom};
 
 use crate::memory::NoMemory;
 use crate::rows::{Leaf, Row};
@@ -92,7 +92,7 @@ impl RowTable {
 
     /// The number of rounds.
     pub fn rounds(&self) -> u64
-        ensures value { result ≡ rounds_of self.now.lanes }
+        ensures value { result ≡ rounds_in self.now.lanes }
         ensures lawful { IsTable self.now.lanes }
     {
         match self.lanes.first() {
@@ -113,7 +113,7 @@ impl RowTable {
     /// The row of processor p in round k.
     pub fn row(&self, p: u32, k: u64) -> Row
         requires processor { p < length self.now.lanes }
-        requires round { k < rounds_of self.now.lanes }
+        requires round { k < rounds_in self.now.lanes }
         ensures value { RowAt self.now.lanes p k result }
         ensures lawful { IsTable self.now.lanes }
     {

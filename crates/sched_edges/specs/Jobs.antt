@@ -2,7 +2,7 @@
 use Rattle.std.specs.Prelude.{ℕ, ◌≡◌, ◌/◌, List, replicate, slice_get}
 use Rattle.std.specs.declared.option.Option.{Option}
 use Rattle.std.specs.declared.option.Option.TheVariants.{None, Some}
-use Rattle.sched_edges.specs.Machine.{alone, numbers}
+use Rattle.sched_edges.specs.JobMachine.{alone, numbers}
 
 -- what a job is made of once this scale and this program are loaded: a job without a program stays so
 abbrev pub reloaded : Option (ℕ × List ℕ) → ℕ → List ℕ → Option (ℕ × List ℕ)

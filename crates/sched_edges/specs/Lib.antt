@@ -4,5 +4,5 @@ pub mod Memory
 pub mod StdStreams
 pub mod Lines
 pub mod Gates
-pub mod Machine
+pub mod JobMachine
 pub mod Jobs

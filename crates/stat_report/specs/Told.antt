@@ -1,8 +1,8 @@
 -- What the findings of a task tell of its jobs.
 use Rattle.std.specs.Prelude.{ℕ, ◌≡◌, ◌<◌, ◌^◌}
 use Rattle.trace_check.specs.Traces.{Trace}
-use Rattle.trace_rows.specs.declared.findings.Findings.{Findings}
-use Rattle.trace_rows.specs.Findings.{is_preemption, is_migration}
+use Rattle.trace_verdict.specs.declared.findings.Findings.{Findings}
+use Rattle.trace_verdict.specs.Findings.{is_preemption, is_migration}
 use Rattle.stat_report.specs.Report.{task_pairs, response}
 
 -- they tell what the report counts of task j

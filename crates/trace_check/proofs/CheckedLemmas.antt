@@ -2,11 +2,11 @@
 use Rattle.std.proofs.Common.{ℕ, ◌*◌, ◌<◌, ◌≡◌, List, length, get_or, refl, sym, ◌∙◌, subst, arith}
 use Rattle.std.proofs.lemmas.List.{get_or_default}
 use Rattle.sched_base.specs.Valid.{IsValid}
-use Rattle.trace_rows.specs.declared.faults.Verdict.{Verdict}
-use Rattle.trace_rows.specs.declared.faults.Verdict.TheVariants.{Valid}
-use Rattle.trace_rows.specs.declared.findings.Findings.{Findings}
-use Rattle.trace_rows.specs.Findings.{found_at, IsToldOfTask}
-use Rattle.trace_rows.proofs.VerdictLemmas.{verdict_valid}
+use Rattle.trace_verdict.specs.declared.faults.Verdict.{Verdict}
+use Rattle.trace_verdict.specs.declared.faults.Verdict.TheVariants.{Valid}
+use Rattle.trace_verdict.specs.declared.findings.Findings.{Findings}
+use Rattle.trace_verdict.specs.Findings.{found_at, IsToldOfTask}
+use Rattle.trace_verdict.proofs.VerdictLemmas.{verdict_valid}
 use Rattle.trace_check.specs.Traces.{Trace, IsJudged}
 
 -- where the rows are a valid schedule, something was found of each task

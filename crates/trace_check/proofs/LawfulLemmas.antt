@@ -7,9 +7,9 @@ use Rattle.sched_base.specs.Names.{is_lawful_name}
 use Rattle.sched_base.specs.Scale.{IsScale}
 use Rattle.sched_base.specs.Sets.{IsLawful, IsLawfulTask, IsFree, NamesDiffer}
 use Rattle.sched_base.proofs.SetLemmas.{AllByRecursion-push, NamesDiffer-push}
-use Rattle.trace_lines.specs.declared.versions.Version.{Version}
-use Rattle.trace_lines.specs.declared.versions.Version.TheVariants.{One, Two}
-use Rattle.trace_text.specs.Words.{lines_of, after_word, number_of, cut_space}
+use Rattle.trace_format.specs.declared.versions.Version.{Version}
+use Rattle.trace_format.specs.declared.versions.Version.TheVariants.{One, Two}
+use Rattle.text_words.specs.Words.{lines_of, after_word, number_of, cut_space}
 use Rattle.trace_check.specs.declared.head_lines.Head.{Head}
 use Rattle.trace_check.specs.Steps.{and_then, step, next_line, number_after, within, number_within}
 use Rattle.trace_check.specs.HeadLines.{version_of, head_from}

@@ -10,7 +10,7 @@ use Rattle.sched_base.specs.Sets.{SetContents, task_at}
 use Rattle.sched_base.specs.Tables.{RowAt, IsTable, all_rows}
 use Rattle.sched_base.specs.Valid.{IsValid, period_start, served}
 use Rattle.sched_base.proofs.RowLemmas.{AllApart-by, task_ticks-append}
-use Rattle.trace_rows.proofs.EntryLemmas.{AllByRecursion-append, AllByRecursion-front, AllByRecursion-back}
+use Rattle.trace_verdict.proofs.EntryLemmas.{AllByRecursion-append, AllByRecursion-front, AllByRecursion-back}
 use Rattle.row_totals.specs.Sums.{AreForward}
 use Rattle.merged_rows.specs.Merging.{shown, lengthened, merge_onto, merged, merged_lanes}
 use Rattle.merged_rows.proofs.MergeLemmas.{goes_on, shown_same, forward_merged, forward_lanes}

@@ -5,8 +5,8 @@ use Rattle.std.proofs.lemmas.List.{length-replicate, get_or-replicate}
 use Rattle.sched_base.specs.declared.rows.Row.{Row}
 use Rattle.sched_base.specs.declared.sets.Task.{Task}
 use Rattle.sched_base.specs.Tables.{row_limit}
-use Rattle.trace_rows.proofs.EntryLemmas.{AllByRecursion-append}
-use Rattle.trace_text.specs.Words.{lines_of, after_word, number_of, cut_space}
+use Rattle.trace_verdict.proofs.EntryLemmas.{AllByRecursion-append}
+use Rattle.text_words.specs.Words.{lines_of, after_word, number_of, cut_space}
 use Rattle.trace_check.specs.declared.row_lines.RowsRead.{RowsRead}
 use Rattle.trace_check.specs.RowLines.{row_from, row_of, rows_from, IsRead, AreTotals}
 use Rattle.trace_check.specs.RowsRead.{AreRead, ReadsRows}

@@ -10,7 +10,7 @@ use Rattle.sched_base.specs.Rows.{is_of_task}
 use Rattle.sched_base.specs.Tables.{row_ticks, ticks_in}
 use Rattle.row_totals.specs.Sums.{IsAmong, Adds, HaveRoomFor}
 use Rattle.row_totals.proofs.SumLemmas.{ticks_in-append}
-use Rattle.trace_rows.specs.Orders.{leaf_key}
+use Rattle.trace_verdict.specs.Orders.{leaf_key}
 use Rattle.trace_check.specs.RowLines.{total_fits, AreTotals, IsRead}
 
 pub known_among : (n : ℕ) (leaf : Leaf) → ((j : ℕ) → leaf_key leaf ≡ Some j → j < n) → IsAmong n leaf

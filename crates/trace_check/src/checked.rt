@@ -1,13 +1,13 @@
 //! Traces that were read and judged, and whose rows nobody asks for in another order than that of their lines.
 ghost use Rattle.std.specs.Prelude.{◌≡◌, ◌<◌, ◌+◌, ◌*◌, ◌↔◌, length, IfOk};
 ghost use Rattle.sched_base.specs.Valid.{IsValid};
-ghost use Rattle.trace_rows.specs.Faults.{line_of_row, IsTrace, IsVerdict};
-ghost use Rattle.trace_rows.specs.Findings.{AreTold, IsToldOfTask};
+ghost use Rattle.trace_verdict.specs.Faults.{line_of_row, IsTrace, IsVerdict};
+ghost use Rattle.trace_verdict.specs.Findings.{AreTold, IsToldOfTask};
 
 use sched_base::{NoMemory, Row, TaskSet};
 use std::alloc::Global;
 use std::marker::Model;
-use trace_rows::{FIRST_TASK_LINE, Findings, Judged, Verdict, judge_rows};
+use trace_verdict::{FIRST_TASK_LINE, Findings, Judged, Verdict, judge_rows};
 
 /// A trace: a set, its scale and rows in the order of their lines, with the verdict on them and what was found of each task,
 /// which are made with it.

@@ -21,5 +21,5 @@ pub use head_lines::{Head, next_number, next_scale, number_after};
 pub use laws::{merged_law, reads_lawful_law, round_trip_law};
 pub use reading::{read_checked, read_trace};
 pub use task_lines::{is_scale, read_tasks};
-pub use trace_rows::{FaultKind, Verdict};
+pub use trace_verdict::{FaultKind, Verdict};
 pub use traces::{ReadTrace, check_trace};

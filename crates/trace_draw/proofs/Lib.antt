@@ -1,6 +1,6 @@
 pub mod Parts
 pub mod LengthLemmas
-pub mod WindowLemmas
+pub mod ShownUnitLemmas
 pub mod ServedLemmas
 pub mod PeriodLemmas
 pub mod HeadLemmas

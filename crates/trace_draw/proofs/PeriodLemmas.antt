@@ -6,15 +6,15 @@ use Rattle.sched_base.specs.Valid.{period_start}
 use Rattle.std.proofs.Math.Nat.{le-div_iff_mul-le, le-mul_of_pos_right}
 use Rattle.std.proofs.lemmas.Bool.{cases_Bool, cases_lt, ne_eqb, lt-ltb}
 use Rattle.sched_base.specs.declared.sets.Task.{Task}
-use Rattle.trace_draw.specs.declared.windows.Window.{Window}
-use Rattle.trace_draw.specs.Windows.{first_tick, has_tick, place, plot_width}
+use Rattle.trace_draw.specs.declared.shown_units.ShownUnits.{ShownUnits}
+use Rattle.trace_draw.specs.ShownUnits.{first_tick, has_tick, place, plot_width}
 use Rattle.trace_draw.specs.Shapes.{box_line, arrow_line, ring_line}
 use Rattle.trace_draw.specs.Rows.{line_if}
 use Rattle.trace_draw.specs.Periods.{begun_before, first_shown, count_shown, is_wrong, period_lines}
 use Rattle.std.specs.Prelude.{Bool, nat_le}
 
 -- whether a period is as wide as an arrow needs
-abbrev is_wide : Window → Task → Bool
+abbrev is_wide : ShownUnits → Task → Bool
 is_wide w t = nat_le (150 * w.units) (t.period * plot_width)
 
 begun_by : (t : Task) (unit k : ℕ) → 1 ≤ t.period → k < begun_before t unit → t.offset + k * t.period < unit
@@ -23,7 +23,7 @@ begun_by t unit k some h =
     let spread : (k + 1) * t.period ≡ k * t.period + t.period = omega arith in
     omega (arith, fits, spread, some)
 
-pub shown_begun : (w : Window) (t : Task) (i : ℕ) → 1 ≤ t.period → i < count_shown w t → t.offset + (first_shown w t + i) * t.period < w.from + w.units + 1
+pub shown_begun : (w : ShownUnits) (t : Task) (i : ℕ) → 1 ≤ t.period → i < count_shown w t → t.offset + (first_shown w t + i) * t.period < w.from + w.units + 1
 shown_begun w t i some h =
     elim (cases_Bool (is_wide w t)) [
       | inl wide ↦ (
@@ -58,7 +58,7 @@ wrong_capped horizon end due given small =
           ap (λ b. cond (leb end horizon) (not b) (ltb due (min given most))) other ∙ ap (λ b. cond (leb end horizon) (not (eqb given due)) b) more)
     ]
 
-pub lines_capped : (w : Window) (horizon y a b due given done : ℕ) → due < 2 ^ 128 - 1
+pub lines_capped : (w : ShownUnits) (horizon y a b due given done : ℕ) → due < 2 ^ 128 - 1
     → period_lines w horizon y a b due (min given (2 ^ 128 - 1)) done ≡ period_lines w horizon y a b due given done
 lines_capped w horizon y a b due given done small =
     ap (λ t. line_if (leb (first_tick w) a) (arrow_line (place w a) y)
@@ -86,7 +86,7 @@ pub start_is : (n scale : ℕ) (t u : Task) (k : ℕ) → n ≡ scale → t ≡ 
 start_is n scale t u k a b = ap (λ x. period_start x t k) a ∙ ap (λ x. period_start scale x k) b
 
 -- the lines of equal places and ticks, with the ticks that were given capped
-pub lines_are : (w : Window) (horizon stop y top a begin b end due owed given g done d : ℕ) → horizon ≡ stop → y ≡ top → a ≡ begin → b ≡ end → due ≡ owed → given ≡ min g (2 ^ 128 - 1) → done ≡ d
+pub lines_are : (w : ShownUnits) (horizon stop y top a begin b end due owed given g done d : ℕ) → horizon ≡ stop → y ≡ top → a ≡ begin → b ≡ end → due ≡ owed → given ≡ min g (2 ^ 128 - 1) → done ≡ d
     → owed < 2 ^ 128 - 1 → period_lines w horizon y a b due given done ≡ period_lines w stop top begin end owed g d
 lines_are w horizon stop y top a begin b end due owed given g done d eh ey ea eb ed eg ef small =
     ap (λ x. period_lines w x y a b due given done) eh

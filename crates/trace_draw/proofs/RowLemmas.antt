@@ -6,8 +6,8 @@ use Rattle.std.proofs.lemmas.List.Elements.{filter-append}
 use Rattle.std.proofs.lemmas.List.Filters.{length-filter_more}
 use Rattle.std.proofs.Math.Seq.{get_or-append_seam}
 use Rattle.sched_base.specs.declared.rows.Row.{Row}
-use Rattle.trace_draw.specs.declared.windows.Window.{Window}
-use Rattle.trace_draw.specs.Windows.{most_drawn, reaches}
+use Rattle.trace_draw.specs.declared.shown_units.ShownUnits.{ShownUnits}
+use Rattle.trace_draw.specs.ShownUnits.{most_drawn, reaches}
 use Rattle.trace_draw.proofs.Parts.{drawn_rows}
 
 -- what passes is what passed before an item that does, this item, and what passes behind it
@@ -35,7 +35,7 @@ stands_first p xs i n x within at passes few =
 
 -- ---- rows that are gone through, of which so many were drawn
 
-pub next_drawn : (w : Window) (rows : List Row) (i drawn : ℕ) (r : Row) → i < length rows → r ≡ get_or rows i r → reaches w r ≡ true
+pub next_drawn : (w : ShownUnits) (rows : List Row) (i drawn : ℕ) (r : Row) → i < length rows → r ≡ get_or rows i r → reaches w r ≡ true
     → drawn ≡ min most_drawn (length (filter (reaches w) (take i rows))) → drawn < most_drawn
     → (drawn < length (drawn_rows w rows)) × (r ≡ get_or (drawn_rows w rows) drawn r)
 next_drawn w rows i drawn r within at reached is few =
@@ -44,7 +44,7 @@ next_drawn w rows i drawn r within at reached is few =
     subst (λ n. (n < length (drawn_rows w rows)) × (r ≡ get_or (drawn_rows w rows) n r)) same
     (stands_first (reaches w) rows i most_drawn r within at reached (omega (arith, same, few)))
 
-pub count_next : (w : Window) (rows : List Row) (i drawn : ℕ) (r : Row) → i < length rows → r ≡ get_or rows i r → reaches w r ≡ true
+pub count_next : (w : ShownUnits) (rows : List Row) (i drawn : ℕ) (r : Row) → i < length rows → r ≡ get_or rows i r → reaches w r ≡ true
     → drawn ≡ min most_drawn (length (filter (reaches w) (take i rows))) → drawn < most_drawn
     → drawn + 1 ≡ min most_drawn (length (filter (reaches w) (take (i + 1) rows)))
 count_next w rows i drawn r within at reached is few =
@@ -52,19 +52,19 @@ count_next w rows i drawn r within at reached is few =
     let here : ◌≡◌ {A = ℕ} (cond (reaches w (get_or rows i r)) 1 0) 1 = cond-true _ _ _ (subst (λ (x : Row). reaches w x ≡ true) at reached) in
     omega (arith, is, few, more, here)
 
-pub count_past : (w : Window) (rows : List Row) (i drawn : ℕ) (r : Row) → i < length rows → r ≡ get_or rows i r → reaches w r ≡ false
+pub count_past : (w : ShownUnits) (rows : List Row) (i drawn : ℕ) (r : Row) → i < length rows → r ≡ get_or rows i r → reaches w r ≡ false
     → drawn ≡ min most_drawn (length (filter (reaches w) (take i rows))) → drawn ≡ min most_drawn (length (filter (reaches w) (take (i + 1) rows)))
 count_past w rows i drawn r within at apart is =
     let more = length-filter_more (reaches w) rows i r within in
     let here : ◌≡◌ {A = ℕ} (cond (reaches w (get_or rows i r)) 1 0) 0 = cond-false _ _ _ (subst (λ (x : Row). reaches w x ≡ false) at apart) in
     omega (arith, is, more, here)
 
-pub count_full : (w : Window) (rows : List Row) (i drawn : ℕ) (r : Row) → i < length rows → most_drawn ≤ drawn
+pub count_full : (w : ShownUnits) (rows : List Row) (i drawn : ℕ) (r : Row) → i < length rows → most_drawn ≤ drawn
     → drawn ≡ min most_drawn (length (filter (reaches w) (take i rows))) → drawn ≡ min most_drawn (length (filter (reaches w) (take (i + 1) rows)))
 count_full w rows i drawn r within full is = (let more = length-filter_more (reaches w) rows i r within in omega (arith, is, more, full))
 
 -- behind the last row all that are drawn were
-pub all_drawn : (w : Window) (rows : List Row) (i drawn : ℕ) → length rows ≤ i → drawn ≡ min most_drawn (length (filter (reaches w) (take i rows)))
+pub all_drawn : (w : ShownUnits) (rows : List Row) (i drawn : ℕ) → length rows ≤ i → drawn ≡ min most_drawn (length (filter (reaches w) (take i rows)))
     → take drawn (drawn_rows w rows) ≡ drawn_rows w rows
 all_drawn w rows i drawn past is =
     let whole = ap (λ (rs : List Row). min most_drawn (length (filter (reaches w) rs))) (take_all i rows past) in

@@ -4,13 +4,13 @@ use Rattle.std.specs.List.{AllByRecursion}
 use Rattle.std.proofs.lemmas.Bool.{cases_Bool, cond-true, cond-false}
 use Rattle.sched_base.specs.declared.rows.Row.{Row}
 use Rattle.sched_base.specs.Rows.{overlap, task_ticks}
-use Rattle.trace_lines.specs.Finishes.{finish_between}
-use Rattle.trace_rows.specs.declared.entries.Entry.{Entry}
-use Rattle.trace_rows.specs.Orders.{task_key, part, places, IsOrder, IsOrderOfTask}
-use Rattle.trace_rows.specs.Faults.{row_at}
-use Rattle.trace_rows.specs.Supply.{ticks_in}
-use Rattle.trace_rows.proofs.PartLemmas.{all_get, order_has}
-use Rattle.trace_rows.proofs.TickLemmas.{task_part_ticks}
+use Rattle.trace_format.specs.Finishes.{finish_between}
+use Rattle.trace_verdict.specs.declared.entries.Entry.{Entry}
+use Rattle.trace_verdict.specs.Orders.{task_key, part, places, IsOrder, IsOrderOfTask}
+use Rattle.trace_verdict.specs.Faults.{row_at}
+use Rattle.trace_verdict.specs.Supply.{ticks_in}
+use Rattle.trace_verdict.proofs.PartLemmas.{all_get, order_has}
+use Rattle.trace_verdict.proofs.TickLemmas.{task_part_ticks}
 use Rattle.trace_check.specs.Reaches.{reach_before}
 use Rattle.trace_check.proofs.ReachLemmas.{finish_reach, reach_mine}
 use Rattle.trace_draw.specs.Served.{given_at, reach_at}

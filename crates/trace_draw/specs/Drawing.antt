@@ -1,10 +1,10 @@
 -- What is drawn of a trace: its picture, with the verdict on its rows, over the window that is shown.
 use Rattle.std.specs.Prelude.{ℕ, ◌≡◌, List}
-use Rattle.trace_rows.specs.declared.faults.Verdict.{Verdict}
-use Rattle.trace_rows.specs.Faults.{IsVerdict}
+use Rattle.trace_verdict.specs.declared.faults.Verdict.{Verdict}
+use Rattle.trace_verdict.specs.Faults.{IsVerdict}
 use Rattle.trace_check.specs.Traces.{Trace}
 use Rattle.command_words.specs.declared.asking.Asked.{Asked}
-use Rattle.trace_draw.specs.Windows.{shown_window}
+use Rattle.trace_draw.specs.ShownUnits.{shown_window}
 use Rattle.trace_draw.specs.Picture.{picture}
 
 -- the text is the picture of the trace where this is asked

@@ -5,12 +5,12 @@ use Rattle.std.specs.List.{flat_map, concat, range_with_len}
 use Rattle.sched_base.specs.Bytes.{line_feed}
 use Rattle.sched_base.specs.Sets.{SetContents}
 use Rattle.sched_edges.specs.Lines.{word_line}
-use Rattle.trace_rows.specs.declared.faults.FaultKind.{FaultKind}
-use Rattle.trace_rows.specs.declared.faults.FaultKind.TheVariants.{Processor, End, ProcessorOverlap, TaskOverlap, Early, Supply}
-use Rattle.trace_rows.specs.declared.faults.Verdict.{Verdict}
-use Rattle.trace_rows.specs.declared.faults.Verdict.TheVariants.{Valid, Fault}
-use Rattle.trace_draw.specs.declared.windows.Window.{Window}
-use Rattle.trace_draw.specs.Windows.{plot_left, plot_width, place}
+use Rattle.trace_verdict.specs.declared.faults.FaultKind.{FaultKind}
+use Rattle.trace_verdict.specs.declared.faults.FaultKind.TheVariants.{Processor, End, ProcessorOverlap, TaskOverlap, Early, Supply}
+use Rattle.trace_verdict.specs.declared.faults.Verdict.{Verdict}
+use Rattle.trace_verdict.specs.declared.faults.Verdict.TheVariants.{Valid, Fault}
+use Rattle.trace_draw.specs.declared.shown_units.ShownUnits.{ShownUnits}
+use Rattle.trace_draw.specs.ShownUnits.{plot_left, plot_width, place}
 use Rattle.trace_draw.specs.Shapes.{box_line, label_line, grown, roomy_line, grid_line, lane_top, task_top}
 
 -- how far from the top the plot ends
@@ -28,7 +28,7 @@ size_text s =
     ++ (codes " on " ++ (decimal s.processors ++ (codes " processor" ++ plural s.processors)))))
 
 -- which units of the schedule are shown
-unfoldable pub units_text : SetContents → Window → List ℕ
+unfoldable pub units_text : SetContents → ShownUnits → List ℕ
 units_text s w = codes "units " ++ (decimal w.from ++ (codes " to " ++ (decimal (w.from + w.units) ++ (codes " of " ++ decimal s.horizon))))
 
 -- how long a unit is
@@ -61,7 +61,7 @@ size_line s = codes " viewBox='0 0 12000 " ++ (decimal (bottom s + 600) ++ (code
 unfoldable pub title_line : SetContents → List ℕ
 title_line s = codes "<title id='t'>Schedule of " ++ (size_text s ++ (codes "</title>" ++ line_feed ∷ []))
 
-unfoldable pub description_line : SetContents → Window → Verdict → List ℕ
+unfoldable pub description_line : SetContents → ShownUnits → Verdict → List ℕ
 description_line s w v = units_text s w ++ (codes "; " ++ (verdict_text v ++ (codes "</desc>" ++ line_feed ∷ [])))
 
 unfoldable pub paper_line : SetContents → List ℕ
@@ -85,24 +85,24 @@ style_lines =
     ∷ word_line (codes ".s{transform:translateY(15px)}.x{font-size:230px}.y{font-size:165px}.s.x{font-size:220px}}</style>") ∷ []
 
 -- what comes before the lanes
-abbrev pub opening_lines : SetContents → Window → Verdict → List (List ℕ)
+abbrev pub opening_lines : SetContents → ShownUnits → Verdict → List (List ℕ)
 opening_lines s w v =
     word_line (codes "<svg xmlns='http://www.w3.org/2000/svg' role='img' aria-labelledby='t d'") ∷ size_line s ∷ title_line s
     ∷ word_line (codes "<desc id='d'>A lane for each processor, and below them one for each task;") ∷ description_line s w v ∷ []
 
 -- how large the second line of words may be on a narrow page: what is shown, with this behind it, and the scale share its room
-abbrev pub second_size : SetContents → Window → List ℕ → List ℕ
+abbrev pub second_size : SetContents → ShownUnits → List ℕ → List ℕ
 second_size s w hint = grown (length (units_text s w) + length hint + length (scale_text w.scale)) 11300
 
 -- the words above the plot, with what is said of what isn't shown
-abbrev pub caption_lines : SetContents → Window → Verdict → List ℕ → List (List ℕ)
+abbrev pub caption_lines : SetContents → ShownUnits → Verdict → List ℕ → List (List ℕ)
 caption_lines s w v hint =
     paper_line s ∷ label_line (codes "h") 250 330 (size_text s)
     ∷ label_line (codes "n" ++ second_size s w hint) 250 560 (units_text s w ++ hint)
     ∷ label_line (codes "u" ++ second_size s w hint) 11600 560 (scale_text w.scale) ∷ label_line (verdict_look v) 11600 330 (verdict_text v) ∷ []
 
 -- the whole head
-abbrev pub head_text : SetContents → Window → Verdict → List ℕ → List ℕ
+abbrev pub head_text : SetContents → ShownUnits → Verdict → List ℕ → List ℕ
 head_text s w v hint = concat (opening_lines s w v) ++ (concat style_lines ++ concat (caption_lines s w v hint))
 
 -- the lane of processor p, with nothing on it
@@ -126,11 +126,11 @@ unfoldable pub axis_step : ℕ → ℕ
 axis_step units = step_among (1 ∷ 10 ∷ 100 ∷ 1000 ∷ 10_000 ∷ 100_000 ∷ 1_000_000 ∷ 10_000_000 ∷ 100_000_000 ∷ 1_000_000_000 ∷ []) units
 
 -- the number of the first mark of the axis, where the mark of number i is that of unit i * step
-abbrev pub first_mark : Window → ℕ → ℕ
+abbrev pub first_mark : ShownUnits → ℕ → ℕ
 first_mark w step = (w.from + step - 1) / step
 
 -- how many marks it has
-abbrev pub mark_count : Window → ℕ → ℕ
+abbrev pub mark_count : ShownUnits → ℕ → ℕ
 mark_count w step = (w.from + w.units) / step + 1 - first_mark w step
 
 -- the line and the number of a unit at this place
@@ -138,9 +138,9 @@ abbrev pub mark_lines : ℕ → ℕ → ℕ → List (List ℕ)
 mark_lines at end unit = grid_line at end ∷ roomy_line (codes "a") 760 at 840 (decimal unit) ∷ []
 
 -- the i-th mark of the axis
-abbrev pub mark_text : SetContents → Window → ℕ → ℕ → List ℕ
+abbrev pub mark_text : SetContents → ShownUnits → ℕ → ℕ → List ℕ
 mark_text s w step i = concat (mark_lines (place w ((first_mark w step + i) * step * w.scale)) (bottom s) ((first_mark w step + i) * step))
 
 -- the axis
-abbrev pub axis_text : SetContents → Window → List ℕ
+abbrev pub axis_text : SetContents → ShownUnits → List ℕ
 axis_text s w = flat_map (mark_text s w (axis_step w.units)) (range_with_len 0 (mark_count w (axis_step w.units)))

@@ -1,4 +1,4 @@
-pub mod Windows
+pub mod ShownUnits
 pub mod Shapes
 pub mod Head
 pub mod Rows

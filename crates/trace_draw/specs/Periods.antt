@@ -5,13 +5,13 @@ use Rattle.std.specs.List.{flat_map, concat, range_with_len}
 use Rattle.sched_base.specs.declared.sets.Task.{Task}
 use Rattle.sched_base.specs.Sets.{task_at}
 use Rattle.sched_base.specs.Valid.{period_start, served}
-use Rattle.trace_rows.specs.Faults.{first_task_line}
-use Rattle.trace_lines.specs.Finishes.{finish}
-use Rattle.trace_rows.specs.declared.faults.Verdict.{Verdict}
-use Rattle.trace_rows.specs.declared.faults.Verdict.TheVariants.{Valid, Fault}
+use Rattle.trace_verdict.specs.Faults.{first_task_line}
+use Rattle.trace_format.specs.Finishes.{finish}
+use Rattle.trace_verdict.specs.declared.faults.Verdict.{Verdict}
+use Rattle.trace_verdict.specs.declared.faults.Verdict.TheVariants.{Valid, Fault}
 use Rattle.trace_check.specs.Traces.{Trace}
-use Rattle.trace_draw.specs.declared.windows.Window.{Window}
-use Rattle.trace_draw.specs.Windows.{plot_width, first_tick, has_tick, place}
+use Rattle.trace_draw.specs.declared.shown_units.ShownUnits.{ShownUnits}
+use Rattle.trace_draw.specs.ShownUnits.{plot_width, first_tick, has_tick, place}
 use Rattle.trace_draw.specs.Shapes.{box_line, roomy_line, base_line, arrow_line, ring_line, task_top}
 use Rattle.trace_draw.specs.Rows.{line_if}
 
@@ -20,11 +20,11 @@ abbrev pub begun_before : Task → ℕ → ℕ
 begun_before t unit = (unit - t.offset + t.period - 1) / t.period
 
 -- the first period that is shown: the one in which the window begins
-abbrev pub first_shown : Window → Task → ℕ
+abbrev pub first_shown : ShownUnits → Task → ℕ
 first_shown w t = begun_before t (w.from + 1) - 1
 
 -- how many are shown: those that begin by the end of the window, and none where they are too narrow
-abbrev pub count_shown : Window → Task → ℕ
+abbrev pub count_shown : ShownUnits → Task → ℕ
 count_shown w t = if nat_le (150 * w.units) (t.period * plot_width) then begun_before t (w.from + w.units + 1) - first_shown w t else 0
 
 -- whether the period that ends at tick `end` was given other than its due, or, past the horizon, more
@@ -33,14 +33,14 @@ is_wrong horizon end due given = if nat_le end horizon then not (given == due) e
 
 -- what is drawn of a period from tick a to tick b above y: an arrow at its begin, and a red bar where it was served wrongly, or else
 -- a ring where its work was done
-abbrev pub period_lines : Window → ℕ → ℕ → ℕ → ℕ → ℕ → ℕ → ℕ → List (List ℕ)
+abbrev pub period_lines : ShownUnits → ℕ → ℕ → ℕ → ℕ → ℕ → ℕ → ℕ → List (List ℕ)
 period_lines w horizon y a b due given done =
     line_if (nat_le (first_tick w) a) (arrow_line (place w a) y)
     ∷ (if is_wrong horizon b due given then box_line (codes " class='w'") (place w a) (y - 20) (place w b - place w a) 40
     else line_if (nat_le b horizon && (has_tick w done && nat_lt (first_tick w) done)) (ring_line (place w done) y)) ∷ []
 
 -- what is drawn of period k of task j
-abbrev pub period_text : Trace → Window → ℕ → ℕ → List ℕ
+abbrev pub period_text : Trace → ShownUnits → ℕ → ℕ → List ℕ
 period_text t w j k =
     concat (period_lines w (t.set.horizon * t.scale) (task_top t.set.processors j + 300)
     (period_start t.scale (task_at t.set.tasks j) k) (period_start t.scale (task_at t.set.tasks j) (k + 1))
@@ -66,14 +66,14 @@ title_lines t v j top =
     ∷ roomy_line (codes "s") 1960 1780 (top + 350) (numbers_text (task_at t.set.tasks j)) ∷ base_line (top + 300) ∷ []
 
 -- the marks of the periods of task j that are shown
-abbrev pub marks_text : Trace → Window → ℕ → List ℕ
+abbrev pub marks_text : Trace → ShownUnits → ℕ → List ℕ
 marks_text t w j =
     flat_map (λ i. period_text t w j (first_shown w (task_at t.set.tasks j) + i)) (range_with_len 0 (count_shown w (task_at t.set.tasks j)))
 
 -- the lane of task j
-abbrev pub task_text : Trace → Window → Verdict → ℕ → List ℕ
+abbrev pub task_text : Trace → ShownUnits → Verdict → ℕ → List ℕ
 task_text t w v j = concat (title_lines t v j (task_top t.set.processors j)) ++ marks_text t w j
 
 -- the lanes of all tasks
-abbrev pub tasks_text : Trace → Window → Verdict → List ℕ
+abbrev pub tasks_text : Trace → ShownUnits → Verdict → List ℕ
 tasks_text t w v = flat_map (task_text t w v) (range_with_len 0 (length t.set.tasks))

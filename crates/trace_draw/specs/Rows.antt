@@ -9,8 +9,8 @@ use Rattle.sched_base.specs.Sets.{SetContents, task_at}
 use Rattle.sched_edges.specs.Lines.{word_line}
 use Rattle.trace_draw.specs.declared.rows.Part.{Part}
 use Rattle.trace_draw.specs.declared.rows.Part.TheVariants.{Boxes, Words}
-use Rattle.trace_draw.specs.declared.windows.Window.{Window}
-use Rattle.trace_draw.specs.Windows.{reaches, place, span, most_drawn}
+use Rattle.trace_draw.specs.declared.shown_units.ShownUnits.{ShownUnits}
+use Rattle.trace_draw.specs.ShownUnits.{reaches, place, span, most_drawn}
 use Rattle.trace_draw.specs.Shapes.{box_line, group_line, roomy_line, task_look, lane_top, task_top}
 use Rattle.sched_base.specs.Bytes.{space}
 
@@ -37,23 +37,23 @@ words_lines s j r x width =
     ∷ words_line j x width (task_top s.processors j + 185) (decimal r.processor) ∷ []
 
 -- this part of what is drawn of a row of task j
-abbrev pub task_row_text : Part → SetContents → Window → ℕ → Row → List ℕ
+abbrev pub task_row_text : Part → SetContents → ShownUnits → ℕ → Row → List ℕ
 task_row_text Boxes s w j r = concat (boxes_lines s j r (place w r.start) (span w r.start r.end))
 task_row_text Words s w j r = concat (words_lines s j r (place w r.start) (span w r.start r.end))
 
 -- this part of what is drawn of a row with this leaf: idle time is left blank
-abbrev pub leaf_text : Part → SetContents → Window → Row → Leaf → List ℕ
+abbrev pub leaf_text : Part → SetContents → ShownUnits → Row → Leaf → List ℕ
 leaf_text part s w r (leaves.Task id) = task_row_text part s w id.0 r
 leaf_text part s w r (leaves.Wait id) = []
 leaf_text part s w r (leaves.Idle number) = []
 leaf_text part s w r leaves.Empty = []
 
 -- this part of what is drawn of a row
-abbrev pub row_text : Part → SetContents → Window → Row → List ℕ
+abbrev pub row_text : Part → SetContents → ShownUnits → Row → List ℕ
 row_text part s w r = leaf_text part s w r r.leaf
 
 -- this part of what is drawn of all rows
-abbrev pub rows_text : Part → SetContents → Window → List Row → List ℕ
+abbrev pub rows_text : Part → SetContents → ShownUnits → List Row → List ℕ
 rows_text part s w rows = flat_map (row_text part s w) (take most_drawn (filter (reaches w) rows))
 
 -- the red frame of a row with this leaf, in the lane of its task

@@ -2,7 +2,7 @@
 use Rattle.std.specs.Prelude.{ℕ, ◌+◌, nat_lt, max, if◌then◌else◌, List, [], ◌∷◌}
 use Rattle.sched_base.specs.declared.rows.Row.{Row}
 use Rattle.sched_base.specs.Rows.{overlap}
-use Rattle.trace_rows.specs.Faults.{row_at}
+use Rattle.trace_verdict.specs.Faults.{row_at}
 
 -- their ticks from a up to b
 abbrev pub given_at : List Row → List ℕ → ℕ → ℕ → ℕ

@@ -1,8 +1,8 @@
 //! Which window is shown.
 ghost use Rattle.std.specs.Prelude.{◌≡◌, ◌≤◌, ◌<◌, ◌+◌, IfSome};
-ghost use Rattle.trace_draw.specs.Windows.{first_unit, most_units, most_rows, shown_window, has_few, greatest_passing, IsWindow};
+ghost use Rattle.trace_draw.specs.ShownUnits.{first_unit, most_units, most_rows, shown_window, has_few, greatest_passing, AreShownUnits};
 
-use crate::windows::{MOST_DRAWN, Window};
+use crate::shown_units::{MOST_DRAWN, ShownUnits};
 use command_words::Asked;
 use trace_check::ReadTrace;
 
@@ -10,18 +10,18 @@ use trace_check::ReadTrace;
 const FEW: usize = 200;
 
 /// The window that is shown. It is found by halving, and each half counts the rows once.
-#[tactic(auto, unfolding(crate::specs::Windows::shown_window))]
-pub fn shown_window(trace: &ReadTrace, asked: &Asked) -> Window
+#[tactic(auto, unfolding(crate::specs::ShownUnits::shown_window))]
+pub fn shown_window(trace: &ReadTrace, asked: &Asked) -> ShownUnits
     requires some { IfSome asked.now.units (λ n. 1 ≤ n) }
     ensures value { result ≡ shown_window trace.now asked.now }
-    ensures window { IsWindow result }
+    ensures window { AreShownUnits result }
 {
     let _rows = trace.rows();
     let set = trace.set();
     let horizon = set.horizon();
     let from = asked.from.min(horizon - 1);
     let most = most_units(horizon - from, asked.units);
-    Window {
+    ShownUnits {
         scale: trace.scale(),
         from,
         units: most_shown(trace, asked, from, most),
@@ -55,7 +55,7 @@ fn has_few(trace: &ReadTrace, asked: &Asked, from: u64, units: u64) -> bool
 {
     let _horizon = trace.set().horizon();
     let rows = trace.rows();
-    let window = Window {
+    let window = ShownUnits {
         scale: trace.scale(),
         from,
         units,

@@ -3,7 +3,7 @@ ghost use Rattle.std.specs.Prelude.{◌≡◌, ◌+◌, ◌*◌, ◌≤◌, ◌<
 ghost use Rattle.std.specs.List.{concat};
 ghost use Rattle.sched_edges.specs.Causes.{HasCause};
 ghost use Rattle.sched_edges.specs.Streams.{Wrote};
-ghost use Rattle.trace_draw.specs.Windows.{IsWindow};
+ghost use Rattle.trace_draw.specs.ShownUnits.{AreShownUnits};
 ghost use Rattle.trace_draw.specs.Shapes.{label_line};
 ghost use Rattle.trace_draw.specs.Head.{bottom, plural, size_text, units_text, scale_text, second_size, kind_text, verdict_text, verdict_look, size_line};
 ghost use Rattle.trace_draw.specs.Head.{title_line, description_line, paper_line, style_lines, opening_lines, caption_lines, head_text};
@@ -12,10 +12,10 @@ ghost use Rattle.trace_draw.specs.Head.{lane_lines, lanes_text, axis_step, first
 use crate::shapes::{
     add_number, box_line, grid_line, grown, label_line, lane_top, number_text, roomy_line, task_top,
 };
-use crate::windows::{LEFT, WIDTH, Window};
+use crate::shown_units::{LEFT, WIDTH, ShownUnits};
 use sched_base::TaskSet;
 use sched_edges::{Failed, Line, Sink, word_line, write_lines};
-use trace_rows::{FaultKind, Verdict};
+use trace_verdict::{FaultKind, Verdict};
 
 /// How far from the top the plot ends.
 pub(crate) fn bottom(set: &TaskSet) -> u64
@@ -69,8 +69,8 @@ fn size_text(set: &TaskSet) -> Line
 
 // Which units of the schedule are shown.
 #[tactic(auto, unfolding(crate::specs::Head::units_text))]
-fn units_text(set: &TaskSet, window: &Window) -> Line
-    requires { IsWindow window.now }
+fn units_text(set: &TaskSet, window: &ShownUnits) -> Line
+    requires { AreShownUnits window.now }
     ensures text { result ≡ units_text set.now window.now }
     ensures short { length result ≤ 56 }
 {
@@ -82,8 +82,8 @@ fn units_text(set: &TaskSet, window: &Window) -> Line
 }
 
 // Which units of the schedule are shown, and what is said of the others.
-fn shown_text(set: &TaskSet, window: &Window, hint: &[u8]) -> Line
-    requires window { IsWindow window.now }
+fn shown_text(set: &TaskSet, window: &ShownUnits, hint: &[u8]) -> Line
+    requires window { AreShownUnits window.now }
     requires hint { length hint.now ≤ 80 }
     ensures text { result ≡ units_text set.now window.now ++ hint.now }
     ensures short { length result ≤ 136 }
@@ -175,8 +175,8 @@ fn title_line(set: &TaskSet) -> Line
 }
 
 #[tactic(auto, unfolding(crate::specs::Head::description_line))]
-fn description_line(set: &TaskSet, window: &Window, verdict: Verdict) -> Line
-    requires { IsWindow window.now }
+fn description_line(set: &TaskSet, window: &ShownUnits, verdict: Verdict) -> Line
+    requires { AreShownUnits window.now }
     ensures { result ≡ description_line set.now window.now verdict }
 {
     let mut line = Line::new();
@@ -207,11 +207,11 @@ fn paper_line(set: &TaskSet) -> Line
 pub(crate) fn write_head<W: Sink>(
     sink: &mut W,
     set: &TaskSet,
-    window: &Window,
+    window: &ShownUnits,
     verdict: Verdict,
     hint: &[u8],
 ) -> Result<(), Failed>
-    requires window { IsWindow window.now }
+    requires window { AreShownUnits window.now }
     requires hint { length hint.now ≤ 80 }
     ensures wrote { Wrote (W.taken sink.old) (W.taken sink.new) (head_text set.now window.now verdict hint.now) result }
     ensures cause { HasCause (W.faults sink.old) (W.faults sink.new) result }
@@ -224,10 +224,10 @@ pub(crate) fn write_head<W: Sink>(
 fn write_opening<W: Sink>(
     sink: &mut W,
     set: &TaskSet,
-    window: &Window,
+    window: &ShownUnits,
     verdict: Verdict,
 ) -> Result<(), Failed>
-    requires { IsWindow window.now }
+    requires { AreShownUnits window.now }
     ensures wrote { Wrote (W.taken sink.old) (W.taken sink.new) (concat (opening_lines set.now window.now verdict)) result }
     ensures cause { HasCause (W.faults sink.old) (W.faults sink.new) result }
 {
@@ -294,11 +294,11 @@ fn sized_line(look: &[u8], size: &[u8], x: u64, text: &[u8]) -> Line
 fn write_caption<W: Sink>(
     sink: &mut W,
     set: &TaskSet,
-    window: &Window,
+    window: &ShownUnits,
     verdict: Verdict,
     hint: &[u8],
 ) -> Result<(), Failed>
-    requires window { IsWindow window.now }
+    requires window { AreShownUnits window.now }
     requires hint { length hint.now ≤ 80 }
     ensures wrote { Wrote (W.taken sink.old) (W.taken sink.new) (concat (caption_lines set.now window.now verdict hint.now)) result }
     ensures cause { HasCause (W.faults sink.old) (W.faults sink.new) result }
@@ -393,9 +393,9 @@ fn mark_lines(at: u64, end: u64, unit: u64) -> [Line; 2]
 pub(crate) fn write_axis<W: Sink>(
     sink: &mut W,
     set: &TaskSet,
-    window: &Window,
+    window: &ShownUnits,
 ) -> Result<(), Failed>
-    requires { IsWindow window.now }
+    requires { AreShownUnits window.now }
     ensures wrote { Wrote (W.taken sink.old) (W.taken sink.new) (axis_text set.now window.now) result }
     ensures cause { HasCause (W.faults sink.old) (W.faults sink.new) result }
 {
@@ -410,8 +410,8 @@ pub(crate) fn write_axis<W: Sink>(
     Ok(())
 }
 
-fn first_mark(window: &Window, step: u64) -> u64
-    requires window { IsWindow window.now }
+fn first_mark(window: &ShownUnits, step: u64) -> u64
+    requires window { AreShownUnits window.now }
     requires some { 0 < step }
     requires fits { step < 2 ^ 35 }
     ensures { result ≡ first_mark window.now step }
@@ -419,8 +419,8 @@ fn first_mark(window: &Window, step: u64) -> u64
     (window.from + step - 1) / step
 }
 
-fn mark_count(window: &Window, step: u64) -> u64
-    requires window { IsWindow window.now }
+fn mark_count(window: &ShownUnits, step: u64) -> u64
+    requires window { AreShownUnits window.now }
     requires some { 0 < step }
     requires fits { step < 2 ^ 35 }
     ensures { result ≡ mark_count window.now step }

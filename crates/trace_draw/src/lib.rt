@@ -9,10 +9,10 @@ mod picture;
 mod rows;
 mod served;
 mod shapes;
-mod windows;
+mod shown_units;
 
 pub use asking::shown_window;
 pub use drawing::draw_trace;
 pub use head::kind_text;
 pub use picture::write_picture;
-pub use windows::Window;
+pub use shown_units::ShownUnits;

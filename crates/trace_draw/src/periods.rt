@@ -3,7 +3,7 @@ ghost use Rattle.std.specs.Prelude.{◌≡◌, ◌+◌, ◌-◌, ◌*◌, ◌≤
 ghost use Rattle.sched_base.specs.Sets.{task_at, IsLawfulTask};
 ghost use Rattle.sched_edges.specs.Causes.{HasCause};
 ghost use Rattle.sched_edges.specs.Streams.{Wrote};
-ghost use Rattle.trace_draw.specs.Windows.{IsWindow};
+ghost use Rattle.trace_draw.specs.ShownUnits.{AreShownUnits};
 ghost use Rattle.trace_draw.specs.Periods.{begun_before, first_shown, count_shown, is_wrong, period_lines, period_text, numbers_text, is_at_fault};
 ghost use Rattle.trace_draw.specs.Periods.{title_look, title_lines, marks_text, task_text, tasks_text};
 
@@ -12,12 +12,12 @@ use crate::served::{Served, served_between};
 use crate::shapes::{
     add_number, arrow_line, base_line, box_line, line_if, ring_line, roomy_line, task_top,
 };
-use crate::windows::{WIDTH, Window};
+use crate::shown_units::{WIDTH, ShownUnits};
 use sched_base::Task;
 use sched_edges::{Failed, Line, Sink, write_lines};
 use trace_check::ReadTrace;
-use trace_lines::period_start;
-use trace_rows::{FIRST_TASK_LINE, Verdict};
+use trace_format::period_start;
+use trace_verdict::{FIRST_TASK_LINE, Verdict};
 
 // How many periods of the task begin before a unit.
 fn begun_before(task: &Task, unit: u64) -> u64
@@ -30,8 +30,8 @@ fn begun_before(task: &Task, unit: u64) -> u64
 }
 
 // The first period that is shown.
-fn first_shown(window: &Window, task: &Task) -> u64
-    requires window { IsWindow window.now }
+fn first_shown(window: &ShownUnits, task: &Task) -> u64
+    requires window { AreShownUnits window.now }
     requires task { IsLawfulTask task.now }
     ensures value { result ≡ first_shown window.now task.now }
     ensures fits { result ≤ 2 ^ 33 }
@@ -40,8 +40,8 @@ fn first_shown(window: &Window, task: &Task) -> u64
 }
 
 // How many are shown.
-fn count_shown(window: &Window, task: &Task) -> u64
-    requires window { IsWindow window.now }
+fn count_shown(window: &ShownUnits, task: &Task) -> u64
+    requires window { AreShownUnits window.now }
     requires task { IsLawfulTask task.now }
     ensures { result ≡ count_shown window.now task.now }
 {
@@ -73,8 +73,8 @@ fn is_wrong(period: &Period, given: u128) -> bool
 }
 
 // What is drawn above y of a period that was served so.
-fn period_lines(window: &Window, y: u64, period: &Period, served: &Served) -> [Line; 2]
-    requires window { IsWindow window.now }
+fn period_lines(window: &ShownUnits, y: u64, period: &Period, served: &Served) -> [Line; 2]
+    requires window { AreShownUnits window.now }
     requires y { 20 ≤ y }
     ensures { result ≡ period_lines window.now period.now.horizon y period.now.begin period.now.end period.now.due served.now.given served.now.done }
 {
@@ -96,11 +96,11 @@ fn period_lines(window: &Window, y: u64, period: &Period, served: &Served) -> [L
 fn write_period<W: Sink>(
     sink: &mut W,
     trace: &ReadTrace,
-    window: &Window,
+    window: &ShownUnits,
     task: u32,
     k: u64,
 ) -> Result<(), Failed>
-    requires window { IsWindow window.now }
+    requires window { AreShownUnits window.now }
     requires task { task < length trace.now.set.tasks }
     requires k { k ≤ 2 ^ 32 }
     requires begun { (task_at trace.now.set.tasks task).offset + k * (task_at trace.now.set.tasks task).period < 2 ^ 32 }
@@ -126,10 +126,10 @@ fn write_period<W: Sink>(
 fn write_marks<W: Sink>(
     sink: &mut W,
     trace: &ReadTrace,
-    window: &Window,
+    window: &ShownUnits,
     task: u32,
 ) -> Result<(), Failed>
-    requires window { IsWindow window.now }
+    requires window { AreShownUnits window.now }
     requires task { task < length trace.now.set.tasks }
     ensures wrote { Wrote (W.taken sink.old) (W.taken sink.new) (marks_text trace.now window.now task) result }
     ensures cause { HasCause (W.faults sink.old) (W.faults sink.new) result }
@@ -203,11 +203,11 @@ fn title_lines(trace: &ReadTrace, verdict: Verdict, task: u32, top: u64) -> [Lin
 fn write_task<W: Sink>(
     sink: &mut W,
     trace: &ReadTrace,
-    window: &Window,
+    window: &ShownUnits,
     verdict: Verdict,
     task: u32,
 ) -> Result<(), Failed>
-    requires window { IsWindow window.now }
+    requires window { AreShownUnits window.now }
     requires task { task < length trace.now.set.tasks }
     ensures wrote { Wrote (W.taken sink.old) (W.taken sink.new) (task_text trace.now window.now verdict task) result }
     ensures cause { HasCause (W.faults sink.old) (W.faults sink.new) result }
@@ -221,10 +221,10 @@ fn write_task<W: Sink>(
 pub(crate) fn write_tasks<W: Sink>(
     sink: &mut W,
     trace: &ReadTrace,
-    window: &Window,
+    window: &ShownUnits,
     verdict: Verdict,
 ) -> Result<(), Failed>
-    requires window { IsWindow window.now }
+    requires window { AreShownUnits window.now }
     ensures wrote { Wrote (W.taken sink.old) (W.taken sink.new) (tasks_text trace.now window.now verdict) result }
     ensures cause { HasCause (W.faults sink.old) (W.faults sink.new) result }
 {

@@ -3,18 +3,18 @@ ghost use Rattle.std.specs.Prelude.{◌≡◌, ◌+◌, ◌<◌, ◌≤◌, leng
 ghost use Rattle.std.specs.List.{concat};
 ghost use Rattle.sched_edges.specs.Causes.{HasCause};
 ghost use Rattle.sched_edges.specs.Streams.{Wrote};
-ghost use Rattle.trace_draw.specs.Windows.{IsWindow};
+ghost use Rattle.trace_draw.specs.ShownUnits.{AreShownUnits};
 ghost use Rattle.trace_draw.specs.Picture.{framed_row, fault_text, closing_lines, hint_text, base_text, end_text, picture};
 
 use crate::head::{bottom, write_axis, write_head, write_lanes};
 use crate::periods::write_tasks;
 use crate::rows::{Part, frame_lines, write_rows};
 use crate::shapes::{add_number, roomy_line};
-use crate::windows::{MOST_DRAWN, Window};
+use crate::shown_units::{MOST_DRAWN, ShownUnits};
 use sched_base::TaskSet;
 use sched_edges::{Failed, Line, Sink, word_line, write_lines};
 use trace_check::ReadTrace;
-use trace_rows::{FIRST_TASK_LINE, Verdict};
+use trace_verdict::{FIRST_TASK_LINE, Verdict};
 
 /// Writes the picture of a trace over a window: the trace may be valid or not, and the verdict is the one that is told.
 ///
@@ -24,10 +24,10 @@ use trace_rows::{FIRST_TASK_LINE, Verdict};
 pub fn write_picture<W: Sink>(
     sink: &mut W,
     trace: &ReadTrace,
-    window: &Window,
+    window: &ShownUnits,
     verdict: Verdict,
 ) -> Result<(), Failed>
-    requires { IsWindow window.now }
+    requires { AreShownUnits window.now }
     ensures wrote { Wrote (W.taken sink.old) (W.taken sink.new) (picture trace.now window.now verdict) result }
     ensures cause { HasCause (W.faults sink.old) (W.faults sink.new) result }
 {
@@ -39,8 +39,8 @@ pub fn write_picture<W: Sink>(
 
 // What the head says of what isn't shown.
 #[tactic(auto, unfolding(crate::specs::Picture::hint_text))]
-fn hint_text(trace: &ReadTrace, window: &Window) -> Line
-    requires { IsWindow window.now }
+fn hint_text(trace: &ReadTrace, window: &ShownUnits) -> Line
+    requires { AreShownUnits window.now }
     ensures text { result ≡ hint_text trace.now window.now }
     ensures short { length result ≤ 80 }
 {
@@ -66,10 +66,10 @@ fn hint_text(trace: &ReadTrace, window: &Window) -> Line
 fn write_base<W: Sink>(
     sink: &mut W,
     trace: &ReadTrace,
-    window: &Window,
+    window: &ShownUnits,
     verdict: Verdict,
 ) -> Result<(), Failed>
-    requires { IsWindow window.now }
+    requires { AreShownUnits window.now }
     ensures wrote { Wrote (W.taken sink.old) (W.taken sink.new) (base_text trace.now window.now verdict) result }
     ensures cause { HasCause (W.faults sink.old) (W.faults sink.new) result }
 {
@@ -84,10 +84,10 @@ fn write_base<W: Sink>(
 fn write_frames<W: Sink>(
     sink: &mut W,
     trace: &ReadTrace,
-    window: &Window,
+    window: &ShownUnits,
     i: u64,
 ) -> Result<(), Failed>
-    requires { IsWindow window.now }
+    requires { AreShownUnits window.now }
     ensures wrote { Wrote (W.taken sink.old) (W.taken sink.new) (framed_row trace.now window.now i) result }
     ensures cause { HasCause (W.faults sink.old) (W.faults sink.new) result }
 {
@@ -108,10 +108,10 @@ fn write_frames<W: Sink>(
 fn write_fault<W: Sink>(
     sink: &mut W,
     trace: &ReadTrace,
-    window: &Window,
+    window: &ShownUnits,
     verdict: Verdict,
 ) -> Result<(), Failed>
-    requires { IsWindow window.now }
+    requires { AreShownUnits window.now }
     ensures wrote { Wrote (W.taken sink.old) (W.taken sink.new) (fault_text trace.now window.now verdict) result }
     ensures cause { HasCause (W.faults sink.old) (W.faults sink.new) result }
 {
@@ -154,10 +154,10 @@ fn write_closing<W: Sink>(sink: &mut W, set: &TaskSet) -> Result<(), Failed>
 fn write_end<W: Sink>(
     sink: &mut W,
     trace: &ReadTrace,
-    window: &Window,
+    window: &ShownUnits,
     verdict: Verdict,
 ) -> Result<(), Failed>
-    requires { IsWindow window.now }
+    requires { AreShownUnits window.now }
     ensures wrote { Wrote (W.taken sink.old) (W.taken sink.new) (end_text trace.now window.now verdict) result }
     ensures cause { HasCause (W.faults sink.old) (W.faults sink.new) result }
 {

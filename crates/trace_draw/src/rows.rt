@@ -4,15 +4,15 @@ ghost use Rattle.std.specs.List.{AllByRecursion};
 ghost use Rattle.sched_base.specs.Sets.{task_at, IsLawfulTask};
 ghost use Rattle.sched_edges.specs.Causes.{HasCause};
 ghost use Rattle.sched_edges.specs.Streams.{Wrote};
-ghost use Rattle.trace_rows.specs.Faults.{IsTraceRow};
-ghost use Rattle.trace_draw.specs.Windows.{IsWindow};
+ghost use Rattle.trace_verdict.specs.Faults.{IsTraceRow};
+ghost use Rattle.trace_draw.specs.ShownUnits.{AreShownUnits};
 ghost use Rattle.trace_draw.specs.Rows.{words_line, boxes_lines, words_lines, task_row_text, row_text, rows_text, task_frame, frame_lines};
 
 use crate::shapes::{
     box_line, group_line, lane_top, line_if, number_text, roomy_line, task_look, task_top,
     text_look,
 };
-use crate::windows::{MOST_DRAWN, Window};
+use crate::shown_units::{MOST_DRAWN, ShownUnits};
 use sched_base::{Leaf, Row, Task, TaskSet};
 use sched_edges::{Failed, Line, Sink, word_line, write_lines};
 
@@ -95,11 +95,11 @@ fn write_row_of<W: Sink>(
     sink: &mut W,
     part: Part,
     set: &TaskSet,
-    window: &Window,
+    window: &ShownUnits,
     task: u32,
     row: &Row,
 ) -> Result<(), Failed>
-    requires window { IsWindow window.now }
+    requires window { AreShownUnits window.now }
     requires task { task < length set.now.tasks }
     ensures wrote { Wrote (W.taken sink.old) (W.taken sink.new) (task_row_text part set.now window.now task row.now) result }
     ensures cause { HasCause (W.faults sink.old) (W.faults sink.new) result }
@@ -117,10 +117,10 @@ fn write_row<W: Sink>(
     sink: &mut W,
     part: Part,
     set: &TaskSet,
-    window: &Window,
+    window: &ShownUnits,
     row: &Row,
 ) -> Result<(), Failed>
-    requires window { IsWindow window.now }
+    requires window { AreShownUnits window.now }
     requires row { IsTraceRow set.now row.now }
     ensures wrote { Wrote (W.taken sink.old) (W.taken sink.new) (row_text part set.now window.now row.now) result }
     ensures cause { HasCause (W.faults sink.old) (W.faults sink.new) result }
@@ -136,10 +136,10 @@ pub(crate) fn write_rows<W: Sink>(
     sink: &mut W,
     part: Part,
     set: &TaskSet,
-    window: &Window,
+    window: &ShownUnits,
     rows: &[Row],
 ) -> Result<(), Failed>
-    requires window { IsWindow window.now }
+    requires window { AreShownUnits window.now }
     requires rows { AllByRecursion (IsTraceRow set.now) rows.now }
     ensures wrote { Wrote (W.taken sink.old) (W.taken sink.new) (rows_text part set.now window.now rows.now) result }
     ensures cause { HasCause (W.faults sink.old) (W.faults sink.new) result }

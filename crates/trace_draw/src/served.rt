@@ -1,7 +1,7 @@
 //! How the rows of a task serve one of its periods.
 ghost use Rattle.std.specs.Prelude.{ℕ, ◌≡◌, ◌-◌, ◌*◌, ◌≤◌, ◌<◌, ◌^◌, min, max, length, slice_index};
 ghost use Rattle.sched_base.specs.Rows.{overlap, task_ticks};
-ghost use Rattle.trace_lines.specs.Finishes.{finish_between};
+ghost use Rattle.trace_format.specs.Finishes.{finish_between};
 ghost use Rattle.trace_draw.specs.Served.{given_at, reach_at};
 
 use sched_base::Row;

@@ -12,7 +12,7 @@ use Rattle.sched_base.specs.declared.sets.Task.{Task}
 use Rattle.sched_base.specs.Rows.{is_of_task}
 use Rattle.sched_base.specs.Sets.{SetContents, IsLawful, IsLawfulTask, no_task, task_at}
 use Rattle.sched_base.specs.Valid.{period_start}
-use Rattle.trace_lines.specs.Finishes.{ended_count, finish_between}
+use Rattle.trace_format.specs.Finishes.{ended_count, finish_between}
 use Rattle.trace_writer.specs.Finishes.{HaveRoom, ends_of, IsDoneBy, AreDoneBy}
 
 -- whether a row gives task j a tick from a up to b

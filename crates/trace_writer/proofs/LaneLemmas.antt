@@ -12,7 +12,7 @@ use Rattle.sched_edges.specs.Streams.{Wrote}
 use Rattle.sched_edges.proofs.CauseLemmas.{took_none}
 use Rattle.sched_edges.proofs.Wrote.{part_then, part_cut, wrote_part}
 use Rattle.row_totals.specs.Sums.{IsAmong, NamesAmong}
-use Rattle.trace_lines.specs.Lines.{row_line}
+use Rattle.trace_format.specs.Lines.{row_line}
 use Rattle.trace_writer.specs.Parts.{IsPage}
 
 -- ---- one page

@@ -7,8 +7,8 @@ use Rattle.sched_base.specs.declared.rows.Row.{Row}
 use Rattle.sched_base.specs.declared.sets.Task.{Task}
 use Rattle.sched_base.specs.Sets.{SetContents, no_task, task_at}
 use Rattle.sched_base.specs.Valid.{period_start}
-use Rattle.trace_lines.specs.Finishes.{ended_count, finish, finish_between}
-use Rattle.trace_lines.specs.Text.{mets_of_task}
+use Rattle.trace_format.specs.Finishes.{ended_count, finish, finish_between}
+use Rattle.trace_format.specs.Text.{mets_of_task}
 use Rattle.trace_writer.specs.Finishes.{HaveRoom, ends_of, IsDoneBy, AreDoneBy}
 use Rattle.trace_writer.specs.Parts.{text_of, line_of_met}
 use Rattle.trace_writer.proofs.FinishLemmas.{room_at}

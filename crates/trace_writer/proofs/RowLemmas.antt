@@ -4,7 +4,7 @@ use Rattle.std.specs.Fmt.{decimal}
 use Rattle.sched_base.specs.declared.rows.Row.{Row}
 use Rattle.sched_base.specs.declared.sets.Task.{Task}
 use Rattle.sched_edges.specs.Lines.{line_of}
-use Rattle.trace_lines.specs.Lines.{leaf_name, row_line}
+use Rattle.trace_format.specs.Lines.{leaf_name, row_line}
 
 pub row_line_is : (tasks : List Task) (r : Row)
     → row_line tasks r ≡ codes "row " ++ (decimal r.processor ++ (32 ∷ (decimal r.start ++ (32 ∷ (decimal r.end ++ (32 ∷ (leaf_name tasks r.leaf ++ 10 ∷ [])))))))

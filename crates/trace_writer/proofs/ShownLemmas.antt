@@ -4,7 +4,7 @@ use Rattle.std.specs.Prelude.{slice_get}
 use Rattle.std.specs.List.{AllByRecursion}
 use Rattle.std.proofs.lemmas.List.{take-append-drop}
 use Rattle.sched_base.specs.declared.rows.Row.{Row}
-use Rattle.sched_base.specs.Tables.{IsTable, all_rows, lane_of, rounds_of}
+use Rattle.sched_base.specs.Tables.{IsTable, all_rows, lane_of, rounds_in}
 use Rattle.row_totals.specs.Sums.{NamesAmong}
 use Rattle.merged_rows.specs.Merging.{merged}
 use Rattle.merged_rows.proofs.MergeLemmas.{few_merged, names_merged}
@@ -61,7 +61,7 @@ few_merged_from (lane ∷ lanes) k each =
     omega (arith, fewer, here, rest, both)
 
 -- merged rows are no more than the rows of all rounds
-pub few_merged_lanes : (lanes : List (List Row)) (most : ℕ) → IsTable lanes → length lanes * rounds_of lanes ≤ most → length (all_rows (map merged lanes)) ≤ most
+pub few_merged_lanes : (lanes : List (List Row)) (most : ℕ) → IsTable lanes → length lanes * rounds_in lanes ≤ most → length (all_rows (map merged lanes)) ≤ most
 few_merged_lanes lanes most table few =
-    let all = few_merged_from lanes (rounds_of lanes) (λ p within. (let whole = table.whole p within in omega (arith, whole))) in
+    let all = few_merged_from lanes (rounds_in lanes) (λ p within. (let whole = table.whole p within in omega (arith, whole))) in
     omega (arith, all, few)

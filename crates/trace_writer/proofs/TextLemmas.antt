@@ -10,10 +10,10 @@ use Rattle.sched_base.specs.Sets.{SetContents}
 use Rattle.sched_edges.specs.Lines.{number_line}
 use Rattle.sched_edges.specs.Streams.{Wrote}
 use Rattle.sched_edges.proofs.Wrote.{wrote_part}
-use Rattle.trace_lines.specs.declared.versions.Version.{Version}
-use Rattle.trace_lines.specs.Lines.{task_line, row_line, met_line}
-use Rattle.trace_lines.specs.Finishes.{ended_count, finish}
-use Rattle.trace_lines.specs.Text.{head_lines, total_lines, mets_of_task, met_lines, trace_lines, trace_text}
+use Rattle.trace_format.specs.declared.versions.Version.{Version}
+use Rattle.trace_format.specs.Lines.{task_line, row_line, met_line}
+use Rattle.trace_format.specs.Finishes.{ended_count, finish}
+use Rattle.trace_format.specs.Text.{head_lines, total_lines, mets_of_task, met_lines, trace_format, trace_text}
 use Rattle.trace_writer.specs.Parts.{text_of, body_text}
 
 -- a write that failed, under another answer that fails
@@ -33,7 +33,7 @@ regroup a b c d x = sym (append_assoc a (b ++ (c ++ d)) x ∙ ap (λ t. a ++ t) 
 -- after the totals stand the lines of the periods, and the number of rows
 pub trace_parts : (version : Version) (s : SetContents) (scale : ℕ) (rows : List Row)
     → trace_text version s scale rows ≡ body_text version s scale rows ++ (text_of (met_lines version scale s rows) ++ number_line (codes "rows") (length rows))
-unfolding trace_lines
+unfolding trace_format
 trace_parts version s scale rows =
     let end = number_line (codes "rows") (length rows) in
     let mets = met_lines version scale s rows in

@@ -10,7 +10,7 @@ use Rattle.sched_base.specs.Tables.{IsTable, all_rows, ticks_in}
 use Rattle.sched_edges.specs.Lines.{named_line}
 use Rattle.row_totals.specs.Sums.{totals_of}
 use Rattle.merged_rows.specs.Merging.{merged_lanes}
-use Rattle.trace_lines.specs.Text.{total_lines}
+use Rattle.trace_format.specs.Text.{total_lines}
 use Rattle.trace_writer.specs.Parts.{text_of, lines_of_totals}
 use Rattle.merged_rows.proofs.MergeLemmas.{forward_lanes, ticks_merged_lanes}
 

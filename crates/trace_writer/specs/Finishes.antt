@@ -4,7 +4,7 @@ use Rattle.sched_base.specs.declared.rows.Row.{Row}
 use Rattle.sched_base.specs.declared.sets.Task.{Task}
 use Rattle.sched_base.specs.Sets.{SetContents, task_at}
 use Rattle.sched_base.specs.Valid.{period_start}
-use Rattle.trace_lines.specs.Finishes.{ended_count, finish_between}
+use Rattle.trace_format.specs.Finishes.{ended_count, finish_between}
 
 -- for each task of the set there is a tick for each of its periods that ends by the horizon
 abbrev pub HaveRoom : SetContents → List (List ℕ) → Type 0

@@ -5,9 +5,9 @@ use Rattle.sched_base.specs.declared.rows.Row.{Row}
 use Rattle.sched_base.specs.declared.sets.Task.{Task}
 use Rattle.sched_base.specs.Sets.{SetContents}
 use Rattle.sched_edges.specs.Lines.{named_line}
-use Rattle.trace_lines.specs.declared.versions.Version.{Version}
-use Rattle.trace_lines.specs.Lines.{task_line, row_line, met_line}
-use Rattle.trace_lines.specs.Text.{head_lines, total_lines}
+use Rattle.trace_format.specs.declared.versions.Version.{Version}
+use Rattle.trace_format.specs.Lines.{task_line, row_line, met_line}
+use Rattle.trace_format.specs.Text.{head_lines, total_lines}
 
 -- these lines, one after the other
 abbrev pub text_of : List (List ℕ) → List ℕ

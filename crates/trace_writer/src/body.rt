@@ -5,8 +5,8 @@ ghost use Rattle.sched_base.specs.Tables.{all_rows, row_limit};
 ghost use Rattle.sched_edges.specs.Causes.{HasCause};
 ghost use Rattle.sched_edges.specs.Streams.{Wrote};
 ghost use Rattle.row_totals.specs.Sums.{NamesAmong};
-ghost use Rattle.trace_lines.specs.Lines.{task_line, version_number};
-ghost use Rattle.trace_lines.specs.Text.{head_lines, total_lines};
+ghost use Rattle.trace_format.specs.Lines.{task_line, version_number};
+ghost use Rattle.trace_format.specs.Text.{head_lines, total_lines};
 ghost use Rattle.trace_writer.specs.Parts.{text_of, body_text, lines_of_totals};
 
 use crate::lines::line_of_task;
@@ -14,7 +14,7 @@ use crate::rows::write_rows;
 use crate::shown::ShownRows;
 use sched_base::TaskSet;
 use sched_edges::{Failed, Sink, named_line, number_line, write_all, write_lines};
-use trace_lines::Version;
+use trace_format::Version;
 
 /// Writes the text up to the last total, and says how many lines of rows it has.
 pub(crate) fn write_body<W: Sink, R: ShownRows>(

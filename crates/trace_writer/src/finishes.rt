@@ -10,7 +10,7 @@ ghost use Rattle.trace_writer.specs.Finishes.{HaveRoom, ends_of, IsDoneBy, AreDo
 use sched_base::{Leaf, NoMemory, Row, Task, TaskSet};
 use std::alloc::Global;
 use std::marker::Model;
-use trace_lines::{ended_count, period_start};
+use trace_format::{ended_count, period_start};
 
 /// Room for a tick for each period of each task that ends by the horizon: when it was done.
 ///

@@ -2,16 +2,16 @@
 ghost use Rattle.std.specs.Prelude.{◌≡◌, ◌≤◌, ◌++◌, ◌∷◌, codes, decimal, length};
 ghost use Rattle.sched_base.specs.Bytes.{space};
 ghost use Rattle.row_totals.specs.Sums.{IsAmong};
-ghost use Rattle.trace_lines.specs.Lines.{leaf_name, task_line, row_line, met_line};
+ghost use Rattle.trace_format.specs.Lines.{leaf_name, task_line, row_line, met_line};
 
 use crate::pages::Page;
 use crate::pens::{Count, Pen};
 use sched_base::{Leaf, Row, Task, TaskSet};
 use sched_edges::Line;
-use trace_lines::Version;
+use trace_format::Version;
 
 /// The line of a task.
-#[tactic(auto, unfolding(trace_lines::specs::Lines::task_line, sched_edges::specs::Lines::line_of))]
+#[tactic(auto, unfolding(trace_format::specs::Lines::task_line, sched_edges::specs::Lines::line_of))]
 pub(crate) fn line_of_task(version: Version, task: &Task) -> Line
     ensures { result ≡ task_line version task.now }
 {
@@ -46,7 +46,7 @@ fn start_of_task(task: &Task) -> Line
 }
 
 /// Adds the line of a row to a page that has room for any.
-#[tactic(auto, unfolding(trace_lines::specs::Lines::row_line, sched_edges::specs::Lines::line_of))]
+#[tactic(auto, unfolding(trace_format::specs::Lines::row_line, sched_edges::specs::Lines::line_of))]
 pub(crate) fn add_row(page: &mut Page, pen: &mut Pen, set: &TaskSet, row: &Row)
     requires among { IsAmong (length set.now.tasks) row.now.leaf }
     requires room { length page.old ≤ 3840 }
@@ -65,7 +65,7 @@ pub(crate) fn add_row(page: &mut Page, pen: &mut Pen, set: &TaskSet, row: &Row)
 }
 
 /// Adds the line of a period to a page that has room for any.
-#[tactic(auto, unfolding(trace_lines::specs::Lines::met_line, sched_edges::specs::Lines::line_of))]
+#[tactic(auto, unfolding(trace_format::specs::Lines::met_line, sched_edges::specs::Lines::line_of))]
 pub(crate) fn add_met(
     page: &mut Page,
     period: &mut Count,

@@ -4,8 +4,8 @@ ghost use Rattle.std.specs.List.{enumerate_from, flat_map};
 ghost use Rattle.sched_base.specs.declared.rows.Row.{Row as declared_row};
 ghost use Rattle.sched_edges.specs.Causes.{HasCause};
 ghost use Rattle.sched_edges.specs.Streams.{Wrote};
-ghost use Rattle.trace_lines.specs.declared.versions.Version.TheVariants.{Two};
-ghost use Rattle.trace_lines.specs.Text.{met_lines};
+ghost use Rattle.trace_format.specs.declared.versions.Version.TheVariants.{Two};
+ghost use Rattle.trace_format.specs.Text.{met_lines};
 ghost use Rattle.trace_writer.specs.Finishes.{HaveRoom, AreDoneBy};
 ghost use Rattle.trace_writer.specs.Parts.{text_of, line_of_met};
 

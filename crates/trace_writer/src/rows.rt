@@ -5,7 +5,7 @@ ghost use Rattle.sched_base.specs.Tables.{all_rows, lane_of, row_limit};
 ghost use Rattle.sched_edges.specs.Causes.{HasCause};
 ghost use Rattle.sched_edges.specs.Streams.{Wrote};
 ghost use Rattle.row_totals.specs.Sums.{NamesAmong};
-ghost use Rattle.trace_lines.specs.Lines.{row_line};
+ghost use Rattle.trace_format.specs.Lines.{row_line};
 ghost use Rattle.trace_writer.specs.Parts.{IsPage};
 
 use crate::lines::add_row;

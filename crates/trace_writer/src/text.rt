@@ -1,14 +1,14 @@
 //! The whole text.
 ghost use Rattle.std.specs.Prelude.{◌≡◌, ◌≤◌, ◌*◌, ◌^◌, length};
 ghost use Rattle.std.specs.List.{AllByRecursion};
-ghost use Rattle.sched_base.specs.Tables.{all_rows, rounds_of, row_limit};
+ghost use Rattle.sched_base.specs.Tables.{all_rows, rounds_in, row_limit};
 ghost use Rattle.sched_edges.specs.Causes.{HasCause};
 ghost use Rattle.sched_edges.specs.Streams.{Wrote};
-ghost use Rattle.trace_lines.specs.declared.versions.Version.TheVariants.{One, Two};
+ghost use Rattle.trace_format.specs.declared.versions.Version.TheVariants.{One, Two};
 ghost use Rattle.row_totals.specs.Sums.{NamesAmong, totals_of};
-ghost use Rattle.trace_lines.specs.Conditions.{AreOnTime};
+ghost use Rattle.trace_format.specs.Conditions.{AreOnTime};
 ghost use Rattle.merged_rows.specs.Merging.{merged_lanes};
-ghost use Rattle.trace_lines.specs.Text.{total_lines, trace_text};
+ghost use Rattle.trace_format.specs.Text.{total_lines, trace_text};
 ghost use Rattle.trace_writer.specs.Finishes.{HaveRoom};
 ghost use Rattle.trace_writer.specs.Parts.{lines_of_totals};
 
@@ -20,7 +20,7 @@ use crate::shown::ShownRows;
 use merged_rows::MergedRows;
 use sched_base::{RowTable, TaskSet};
 use sched_edges::{Failed, Sink, number_line, write_all};
-use trace_lines::Version;
+use trace_format::Version;
 
 /// Writes the trace text of a table's rows, of version 1: neighbouring rows of a processor under one name make one line.
 ///
@@ -36,7 +36,7 @@ pub fn write_trace<W: Sink>(
     requires on_time { AreOnTime set.now.tasks }
     requires processors { length table.now.lanes ≡ set.now.processors }
     requires names { AllByRecursion (NamesAmong (length set.now.tasks)) table.now.lanes }
-    requires few { length table.now.lanes * rounds_of table.now.lanes ≤ row_limit }
+    requires few { length table.now.lanes * rounds_in table.now.lanes ≤ row_limit }
     requires totals { totals.now ≡ totals_of (length set.now.tasks) table.now.lanes }
     ensures wrote { Wrote (W.taken sink.old) (W.taken sink.new) (trace_text One set.now scale (merged_lanes table.now.lanes)) result }
     ensures cause { HasCause (W.faults sink.old) (W.faults sink.new) result }
@@ -80,7 +80,7 @@ pub fn write_met<W: Sink>(
     requires scale { scale ≤ 2 ^ 94 }
     requires processors { length table.now.lanes ≡ set.now.processors }
     requires names { AllByRecursion (NamesAmong (length set.now.tasks)) table.now.lanes }
-    requires few { length table.now.lanes * rounds_of table.now.lanes ≤ row_limit }
+    requires few { length table.now.lanes * rounds_in table.now.lanes ≤ row_limit }
     requires totals { totals.now ≡ totals_of (length set.now.tasks) table.now.lanes }
     requires room { HaveRoom set.now finishes.old }
     ensures wrote { Wrote (W.taken sink.old) (W.taken sink.new) (trace_text Two set.now scale (merged_lanes table.now.lanes)) result }

@@ -7,8 +7,8 @@ use Rattle.std.proofs.lemmas.List.{length-append, get_or_append_left}
 use Rattle.std.proofs.lemmas.List.Sums.{sum_by-cons}
 use Rattle.sched_base.specs.declared.sets.Task.{Task}
 use Rattle.sched_base.specs.Sets.{SetContents, IsLawful}
-use Rattle.trace_text.specs.Words.{lines_of, after_word}
-use Rattle.trace_lines.specs.declared.versions.Version.TheVariants.{One}
+use Rattle.text_words.specs.Words.{lines_of, after_word}
+use Rattle.trace_format.specs.declared.versions.Version.TheVariants.{One}
 use Rattle.trace_check.specs.declared.faults.TraceFault.{TraceFault}
 use Rattle.trace_check.specs.declared.faults.TraceFault.TheVariants as trace
 use Rattle.trace_check.specs.declared.head_lines.Head.{Head}

@@ -3,13 +3,13 @@ use Rattle.std.proofs.Common.{◌≡◌, ℕ, zero, suc, ◌-◌, ◌^◌, ◌<�
 use Rattle.std.specs.List.{AllByRecursion}
 use Rattle.std.proofs.lemmas.Bool.{cases_Bool, cond-true, cond-false, and_parts, leb-true}
 use Rattle.sched_base.specs.Names.{is_lawful_name}
-use Rattle.trace_text.specs.Words.{onto_first_line, lines_of, cut_space, number_of}
+use Rattle.text_words.specs.Words.{onto_first_line, lines_of, cut_space, number_of}
 use Rattle.trace_check.specs.Steps.{within}
 use Rattle.tree_check.specs.declared.written.Member.{Member}
 use Rattle.tree_check.specs.declared.written.Member.TheVariants.{Name, Number}
 use Rattle.tree_check.specs.Written.{Pack, IsMemberAt, IsWrittenPack}
 use Rattle.tree_reader.specs.Members.{words_of, member_number, member_of, leaf_member, dual_member, members_from}
-use Rattle.trace_text.proofs.Parts.{onto_first}
+use Rattle.text_words.proofs.Parts.{onto_first}
 
 -- two texts
 abbrev pub Two : Type 0

@@ -3,7 +3,7 @@ use Rattle.std.specs.Prelude.{ℕ, zero, suc, ◌-◌, ◌^◌, ◌==◌, if◌t
 use Rattle.std.specs.Prelude.{option_and_then}
 use Rattle.sched_base.specs.Bytes.{hyphen, space}
 use Rattle.sched_base.specs.Names.{is_lawful_name}
-use Rattle.trace_text.specs.Words.{onto_first_line, number_of}
+use Rattle.text_words.specs.Words.{onto_first_line, number_of}
 use Rattle.trace_check.specs.Steps.{within}
 use Rattle.tree_check.specs.declared.written.Member.{Member}
 use Rattle.tree_check.specs.declared.written.Member.TheVariants.{Name, Number}

@@ -1,6 +1,6 @@
 -- The lines of idle leaves, levels and packs.
 use Rattle.std.specs.Prelude.{ℕ, ◌==◌, if◌then◌else◌, List, Option, None, option_map, option_and_then, codes}
-use Rattle.trace_text.specs.Words.{cut_space, after_word, number_of}
+use Rattle.text_words.specs.Words.{cut_space, after_word, number_of}
 use Rattle.trace_check.specs.Steps.{within}
 use Rattle.tree_check.specs.Written.{Pack}
 use Rattle.tree_reader.specs.Members.{words_of, members_from}

@@ -5,9 +5,9 @@ use Rattle.std.specs.Prelude.{List, [], ◌∷◌, ◌++◌}
 use Rattle.std.specs.Prelude.{Option, Some, None, length, codes, Result, Ok, Err}
 use Rattle.std.specs.List.{sum_by}
 use Rattle.sched_base.specs.Sets.{SetContents}
-use Rattle.trace_rows.specs.Faults.{first_task_line}
-use Rattle.trace_text.specs.Words.{lines_of, after_word}
-use Rattle.trace_lines.specs.declared.versions.Version.TheVariants.{One}
+use Rattle.trace_verdict.specs.Faults.{first_task_line}
+use Rattle.text_words.specs.Words.{lines_of, after_word}
+use Rattle.trace_format.specs.declared.versions.Version.TheVariants.{One}
 use Rattle.trace_check.specs.Steps.{and_then, step, next_line, number_after, number_within}
 use Rattle.trace_check.specs.TaskLines.{tasks_from, is_scale}
 use Rattle.trace_check.specs.declared.head_lines.Head.{Head}

@@ -1,13 +1,13 @@
 //! The first five lines of a tree text.
 ghost use Rattle.std.specs.Prelude.{◌≡◌, ◌<◌, ◌≤◌, ◌^◌, Ok, Err, IfOk, IfErr};
-ghost use Rattle.trace_lines.specs.declared.versions.Version.TheVariants.{One};
-ghost use Rattle.trace_text.specs.Words.{lines_of};
+ghost use Rattle.trace_format.specs.declared.versions.Version.TheVariants.{One};
+ghost use Rattle.text_words.specs.Words.{lines_of};
 ghost use Rattle.trace_check.specs.declared.head_lines.Head.{Head as Said};
 ghost use Rattle.trace_check.specs.HeadLines.{capped};
 ghost use Rattle.tree_reader.specs.Reading.{tree_head};
 
 use trace_check::{BadLine, Head, next_number, next_scale};
-use trace_lines::Version;
+use trace_format::Version;
 
 /// Reads the first five lines: what they say, and the lines that follow, or the first line at fault.
 pub(crate) fn read_head(text: &[u8]) -> Result<(Head, &[u8]), BadLine>

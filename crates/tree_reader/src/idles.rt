@@ -1,7 +1,7 @@
 //! The lines of the idle leaves.
 ghost use Rattle.std.specs.Prelude.{◌≡◌, ◌≤◌, ◌^◌, [], length, Ok, IfOk, IfErr};
 ghost use Rattle.std.specs.List.{AllByRecursion};
-ghost use Rattle.trace_text.specs.Words.{lines_of};
+ghost use Rattle.text_words.specs.Words.{lines_of};
 ghost use Rattle.tree_reader.specs.Reading.{idles_from};
 ghost use Rattle.tree_reader.specs.Faults.{NamesBadLine};
 

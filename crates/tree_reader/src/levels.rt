@@ -2,7 +2,7 @@
 ghost use Rattle.std.specs.Prelude.{ℕ, ◌≡◌, ◌≤◌, ◌<◌, ◌+◌, ◌-◌, ◌^◌, [], length, min, Option, option_map};
 ghost use Rattle.std.specs.Prelude.{slice_index_or, is_some, codes, Ok, IfOk, IfErr};
 ghost use Rattle.std.specs.List.{AllByRecursion};
-ghost use Rattle.trace_text.specs.Words.{lines_of, after_word};
+ghost use Rattle.text_words.specs.Words.{lines_of, after_word};
 ghost use Rattle.trace_check.specs.Steps.{number_after};
 ghost use Rattle.tree_check.specs.Written.{IsWrittenPack, IsWrittenLevel};
 ghost use Rattle.tree_reader.specs.Reading.{packs_from, level_from, levels_from, ended, is_count, lines_so_far};
@@ -12,7 +12,7 @@ use crate::faults::TreeFault;
 use crate::packs::{level_size, read_pack};
 use std::alloc::Global;
 use trace_check::number_after;
-use trace_text::{after_word, first_line};
+use text_words::{after_word, first_line};
 use tree_check::{Level, Pack};
 
 // This many packs of a level, the first of which stands on line `first`, and the lines that follow.

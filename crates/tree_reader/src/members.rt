@@ -4,7 +4,7 @@ ghost use Rattle.tree_reader.specs.Members.{words_of, member_number, leaf_member
 
 use sched_base::{Name, NoMemory, lawful_name};
 use std::alloc::Global;
-use trace_text::{cut_space, read_number};
+use text_words::{cut_space, read_number};
 use tree_check::Member;
 
 fn member_number(word: &[u8]) -> Option<Member>

@@ -1,6 +1,6 @@
 //! The lines of packs, and lines with two numbers.
 ghost use Rattle.std.specs.Prelude.{◌≡◌, ◌<◌, ◌≤◌, ◌-◌, ◌^◌, Ok, Err, IfOk, IfErr, IfSome, codes, option_and_then};
-ghost use Rattle.trace_text.specs.Words.{lines_of, number_of};
+ghost use Rattle.text_words.specs.Words.{lines_of, number_of};
 ghost use Rattle.trace_check.specs.Steps.{next_line, within};
 ghost use Rattle.tree_check.specs.Written.{IsWrittenPack};
 ghost use Rattle.tree_reader.specs.Packs.{pack_of, number_behind, second_number};
@@ -9,7 +9,7 @@ use crate::members::read_members;
 use sched_base::NoMemory;
 use std::alloc::Global;
 use trace_check::BadLine;
-use trace_text::{after_word, cut_space, first_line, read_number};
+use text_words::{after_word, cut_space, first_line, read_number};
 use tree_check::Pack;
 
 // The number from `low` to `high` that a word writes.

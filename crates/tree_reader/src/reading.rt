@@ -1,6 +1,6 @@
 //! Reading a tree text.
 ghost use Rattle.std.specs.Prelude.{◌≡◌, true, Ok, IfOk, IfErr};
-ghost use Rattle.trace_text.specs.Words.{lines_of};
+ghost use Rattle.text_words.specs.Words.{lines_of};
 ghost use Rattle.trace_check.specs.TaskLines.{is_scale};
 ghost use Rattle.tree_reader.specs.Faults.{NamesBadLine};
 ghost use Rattle.tree_reader.specs.Reading.{reading, body};
@@ -12,7 +12,7 @@ use crate::levels::read_levels;
 use sched_base::TaskSet;
 use std::alloc::Global;
 use trace_check::{is_scale, next_number, read_tasks};
-use trace_rows::FIRST_TASK_LINE;
+use trace_verdict::FIRST_TASK_LINE;
 use tree_check::ReadTree;
 
 // What follows the tasks.

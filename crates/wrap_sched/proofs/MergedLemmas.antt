@@ -6,7 +6,7 @@ use Rattle.sched_base.specs.declared.rows.Row.{Row}
 use Rattle.sched_base.specs.Lanes.{lanes_of}
 use Rattle.sched_base.specs.Scale.{Fits, IsScale}
 use Rattle.sched_base.specs.Sets.{IsLawful, SetContents}
-use Rattle.sched_base.specs.Tables.{IsRound, IsTable, end_after, end_of, rounds_of, row_limit, with_round}
+use Rattle.sched_base.specs.Tables.{IsRound, IsTable, end_after, end_of, rounds_in, row_limit, with_round}
 use Rattle.sched_base.proofs.ScheduleLanes.{lanes_of-none, length-lanes_of}
 use Rattle.sched_base.proofs.TableLemmas.{IsTable-none, IsTable-with_round}
 use Rattle.merged_rows.specs.Merging.{merged}
@@ -16,7 +16,7 @@ use Rattle.merged_rows.proofs.MergedTables.{end_of_all, lawful_rows, merged_none
 use Rattle.wrap_sched.specs.Merged.{AreMergedOf, AreMergedUpTo}
 use Rattle.wrap_sched.specs.Spans.{spans}
 use Rattle.wrap_sched.specs.Steps.{HeldRound, IsNext, rates, unit_round, unit_rounds}
-use Rattle.wrap_sched.specs.Wrapped.{is_point, round_rows, rounds_in, slice_rows, wrapped, wrapped_rounds}
+use Rattle.wrap_sched.specs.Wrapped.{is_point, round_rows, round_spans, slice_rows, wrapped, wrapped_rounds}
 use Rattle.wrap_sched.proofs.PatternLemmas.{spans_next}
 use Rattle.wrap_sched.proofs.RowNames.{lanes_name}
 use Rattle.wrap_sched.proofs.StepLemmas.{filter_next}
@@ -30,7 +30,7 @@ pub record IsPart (s : SetContents) (scale x y i count : ℕ) (rows : List Row) 
   pub reached : IsReached s scale x y i (lanes_of s.processors rows)
   pub lanes : now.lanes ≡ map merged (lanes_of s.processors rows)
   pub tick : now.end ≡ end_of (lanes_of s.processors rows)
-  pub rounds : rounds_of (lanes_of s.processors rows) ≡ count + i
+  pub rounds : rounds_in (lanes_of s.processors rows) ≡ count + i
   pub table : IsTable (lanes_of s.processors rows)
 
 module _ (s : SetContents) (scale : ℕ) (lawful : IsLawful s) (is : IsScale s.tasks scale) (x y : ℕ) (forward : x < y) (count : ℕ) where
@@ -52,7 +52,7 @@ module _ (s : SetContents) (scale : ℕ) (lawful : IsLawful s) (is : IsScale s.t
       → IsPart s scale x y i count (done ++ rows_up_to s scale x y i) now
       → AreMergedUpTo s.processors (y * scale) (count + length pattern) (done ++ slice_rows scale s.tasks s.processors (slice_of x y)) now
   last_part i done now pattern pattern_is at part =
-      let rs = rounds_in scale (rates scale s.tasks) in
+      let rs = round_spans scale (rates scale s.tasks) in
       let many = ap length pattern_is ∙ length-map rs (unit_round s.processors scale (rates scale s.tasks)) in
       let l : length rs ≤ i = omega (arith, many, at) in
       let e : done ++ rows_up_to s scale x y i ≡ done ++ slice_rows scale s.tasks s.processors (slice_of x y) =
@@ -105,7 +105,7 @@ module _ (s : SetContents) (scale : ℕ) (lawful : IsLawful s) (is : IsScale s.t
           reached = subst (λ (ls : List (List Row)). IsReached s scale x y (i + 1) ls) (sym next) (next_reached s scale lawful is x y forward raw i part.reached item it fits);
           lanes = onto raw part.lanes ∙ ap (map merged) (sym next);
           tick = ends ∙ end ∙ sym (ap end_of next ∙ next_end s scale lawful is fits slice forward raw long r);
-          rounds = ap rounds_of next ∙ omega (arith, counted, before);
+          rounds = ap rounds_in next ∙ omega (arith, counted, before);
           table = subst IsTable (sym next) (IsTable-with_round raw round part.table (whole ∙ sym long) is_round);
         })
 
@@ -183,6 +183,6 @@ module _ (s : SetContents) (scale : ℕ) (lawful : IsLawful s) (is : IsScale s.t
         let m = s.processors in
         let raw = lanes_of m (wrapped scale s) in
         let table : IsTable raw = subst (λ (rows : List Row). IsTable (lanes_of m rows)) all_done before.so_far.table in
-        let count : rounds_of raw ≡ wrapped_rounds scale s = ap (λ rows. rounds_of (lanes_of m rows)) (sym all_done) ∙ before.so_far.rounds ∙ all_counted in
+        let count : rounds_in raw ≡ wrapped_rounds scale s = ap (λ rows. rounds_in (lanes_of m rows)) (sym all_done) ∙ before.so_far.rounds ∙ all_counted in
         subst (AreLawful s) (sym all_merged_rows)
         (lawful_rows s raw (wrapped_rounds scale s) (length-lanes_of m (wrapped scale s)) (lanes_name s scale lawful is fits) table count few)

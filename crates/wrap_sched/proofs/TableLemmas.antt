@@ -12,13 +12,13 @@ use Rattle.sched_base.specs.declared.rows.Row.{Row}
 use Rattle.sched_base.specs.declared.rows.TaskId.{TaskId}
 use Rattle.sched_base.specs.Scale.{Fits, IsScale}
 use Rattle.sched_base.specs.Sets.{IsLawful, SetContents}
-use Rattle.sched_base.specs.Tables.{IsRound, end_after, end_of, rounds_of, with_round}
+use Rattle.sched_base.specs.Tables.{IsRound, end_after, end_of, rounds_in, with_round}
 use Rattle.sched_base.proofs.RowLemmas.{is_of_task_at}
 use Rattle.sched_base.proofs.TableLemmas.{length-lane_of-with_round, length-with_round}
 use Rattle.sched_base.specs.Lanes.{lanes_of}
 use Rattle.wrap_sched.specs.Spans.{Span, spans}
 use Rattle.wrap_sched.specs.Steps.{HeldRound, cuts, rates, stretched_rows, unit_round, unit_rounds}
-use Rattle.wrap_sched.specs.Wrapped.{holder, is_cut, is_point, leaf_of, round_rows, rounds_in, row_of, shares, slice_rows, units, wrapped, wrapped_rounds}
+use Rattle.wrap_sched.specs.Wrapped.{holder, is_cut, is_point, leaf_of, round_rows, round_spans, row_of, shares, slice_rows, units, wrapped, wrapped_rounds}
 use Rattle.wrap_sched.proofs.CountLemmas.{rounds_are, wrapped_rounds_are}
 use Rattle.sched_base.proofs.ScheduleLanes.{end_of-with_round, lane_of-lanes_of, lanes_of-round}
 use Rattle.wrap_sched.proofs.ShareLemmas.{cut_at_zero}
@@ -96,7 +96,7 @@ module _ (s : SetContents) (scale : ℕ) (lawful : IsLawful s) (is : IsScale s.t
     pub next_end : end_of (with_round lanes (round_rows scale s.tasks s.processors slice r)) ≡ slice.begin * scale + r.end
     next_end = end_of-with_round lanes (round_rows scale s.tasks s.processors slice r) (slice.begin * scale + r.end) same_length some_lanes (λ x at. ap (λ (z : Row). z.end) (round_get r 0 x at))
 
-    pub next_count : rounds_of (with_round lanes (round_rows scale s.tasks s.processors slice r)) ≡ rounds_of lanes + 1
+    pub next_count : rounds_in (with_round lanes (round_rows scale s.tasks s.processors slice r)) ≡ rounds_in lanes + 1
     next_count = length-lane_of-with_round lanes (round_rows scale s.tasks s.processors slice r) 0 same_length some_lanes
 
     pub next_long : length (with_round lanes (round_rows scale s.tasks s.processors slice r)) ≡ s.processors
@@ -121,22 +121,22 @@ module _ (s : SetContents) (scale : ℕ) (lawful : IsLawful s) (is : IsScale s.t
       ∙ ap₂ (λ x i. record { processor = p; start = slice.begin * scale + r.begin * u; end = x; leaf = leaf_of s.tasks slice.begin p i }) b held)
 
   -- the slice's rows, from the rounds of one unit
-  pub slice_rows_are : slice_rows scale s.tasks s.processors slice ≡ flat_map (round_rows scale s.tasks s.processors slice) (map (stretch (units slice)) (rounds_in scale (rates scale s.tasks)))
+  pub slice_rows_are : slice_rows scale s.tasks s.processors slice ≡ flat_map (round_rows scale s.tasks s.processors slice) (map (stretch (units slice)) (round_spans scale (rates scale s.tasks)))
   slice_rows_are = ap (λ rs. flat_map (round_rows scale s.tasks s.processors slice) rs) (rounds_are scale s.tasks is.positive slice up)
 
 -- an item of the rounds of one unit
 pub record IsItem (m scale : ℕ) (ns : List ℕ) (i : ℕ) (item : HeldRound) : Type 0 where
   pub round : Span
   pub is : item ≡ unit_round m scale ns round
-  pub rest : drop i (rounds_in scale ns) ≡ round ∷ drop (i + 1) (rounds_in scale ns)
-  pub before : take (i + 1) (rounds_in scale ns) ≡ take i (rounds_in scale ns) ++ round ∷ []
+  pub rest : drop i (round_spans scale ns) ≡ round ∷ drop (i + 1) (round_spans scale ns)
+  pub before : take (i + 1) (round_spans scale ns) ≡ take i (round_spans scale ns) ++ round ∷ []
 
 pub item_at : (m scale : ℕ) (ns : List ℕ) (pattern : List HeldRound) (i : ℕ) (item : HeldRound) → pattern ≡ unit_rounds m scale ns → i < length pattern → item ≡ get_or pattern i item → IsItem m scale ns i item
 item_at m scale ns pattern i item is less at =
-    let many = ap length is ∙ length-map (rounds_in scale ns) (unit_round m scale ns) in
-    let l : i < length (rounds_in scale ns) = omega (arith, many, less) in
+    let many = ap length is ∙ length-map (round_spans scale ns) (unit_round m scale ns) in
+    let l : i < length (round_spans scale ns) = omega (arith, many, less) in
     let none : Span = record { begin = 0; end = 0 } in
-    let rs = rounds_in scale ns in
+    let rs = round_spans scale ns in
     let next : suc i ≡ i + 1 = omega arith in
     record {
       round = get_or rs i none;
@@ -153,12 +153,12 @@ slice_of x y = record { begin = x; end = y }
 
 -- the rows of its first i rounds
 abbrev pub rows_up_to : SetContents → ℕ → ℕ → ℕ → ℕ → List Row
-rows_up_to s scale x y i = flat_map (round_rows scale s.tasks s.processors (slice_of x y)) (map (stretch (y - x)) (take i (rounds_in scale (rates scale s.tasks))))
+rows_up_to s scale x y i = flat_map (round_rows scale s.tasks s.processors (slice_of x y)) (map (stretch (y - x)) (take i (round_spans scale (rates scale s.tasks))))
 
 -- where the lanes end before round i
 pub record IsReached (s : SetContents) (scale x y i : ℕ) (lanes : List (List Row)) : Type 0 where
   pub place : ℕ
-  pub tile : Tile (is_cut scale (rates scale s.tasks)) place scale (drop i (rounds_in scale (rates scale s.tasks)))
+  pub tile : Tile (is_cut scale (rates scale s.tasks)) place scale (drop i (round_spans scale (rates scale s.tasks)))
   pub end : end_of lanes ≡ x * scale + place * (y - x)
   pub whole : length lanes ≡ s.processors
 
@@ -178,10 +178,10 @@ module _ (s : SetContents) (scale : ℕ) (lawful : IsLawful s) (is : IsScale s.t
     whole = whole;
   }
 
-  pub last_reached : (i : ℕ) → length (rounds_in scale (rates scale s.tasks)) ≤ i → IsReached s scale x y i lanes → end_of lanes ≡ y * scale
+  pub last_reached : (i : ℕ) → length (round_spans scale (rates scale s.tasks)) ≤ i → IsReached s scale x y i lanes → end_of lanes ≡ y * scale
   last_reached i l h =
       let F : List Span → Type 0 = λ rs. Tile (is_cut scale (rates scale s.tasks)) h.place scale rs in
-      let done : h.place ≡ scale = subst F (drop_all i (rounds_in scale (rates scale s.tasks)) l) h.tile in
+      let done : h.place ≡ scale = subst F (drop_all i (round_spans scale (rates scale s.tasks)) l) h.tile in
       let at = h.end in
       let e = ap (λ a. a * (y - x)) done in
       let parts = add-mul (y - x) x scale in
@@ -190,7 +190,7 @@ module _ (s : SetContents) (scale : ℕ) (lawful : IsLawful s) (is : IsScale s.t
       omega (arith, at, e, parts, f)
 
   module _ (i : ℕ) (h : IsReached s scale x y i lanes) (item : HeldRound) (it : IsItem s.processors scale (rates scale s.tasks) i item) where
-    tile_here : Tile (is_cut scale (rates scale s.tasks)) h.place scale (it.round ∷ drop (i + 1) (rounds_in scale (rates scale s.tasks)))
+    tile_here : Tile (is_cut scale (rates scale s.tasks)) h.place scale (it.round ∷ drop (i + 1) (round_spans scale (rates scale s.tasks)))
     tile_here = let F : List Span → Type 0 = λ rs. Tile (is_cut scale (rates scale s.tasks)) h.place scale rs in subst F it.rest h.tile
 
     pub item_bounds : (item.begin < item.end) × (item.end ≤ scale)
@@ -240,8 +240,8 @@ module _ (s : SetContents) (scale : ℕ) (lawful : IsLawful s) (is : IsScale s.t
           let here : flat_map f (g it.round ∷ []) ≡ f (g it.round) = append-nil (f (g it.round)) in
           append_assoc done (rows_up_to s scale x y i) (f (g it.round))
           ∙ ap (λ rows. done ++ (rows_up_to s scale x y i ++ rows)) (sym here)
-          ∙ ap (λ rows. done ++ rows) (sym (flat_map-append f (map g (take i (rounds_in scale (rates scale s.tasks)))) (g it.round ∷ [])))
-          ∙ ap (λ rs. done ++ flat_map f rs) (sym (ap (map g) it.before ∙ map-append g (take i (rounds_in scale (rates scale s.tasks))) (it.round ∷ [])))
+          ∙ ap (λ rows. done ++ rows) (sym (flat_map-append f (map g (take i (round_spans scale (rates scale s.tasks)))) (g it.round ∷ [])))
+          ∙ ap (λ rs. done ++ flat_map f rs) (sym (ap (map g) it.before ∙ map-append g (take i (round_spans scale (rates scale s.tasks))) (it.round ∷ [])))
 
 module _ (s : SetContents) (scale : ℕ) (lawful : IsLawful s) (is : IsScale s.tasks scale) (x y : ℕ) (forward : x < y) (i : ℕ) (item : HeldRound) (it : IsItem s.processors scale (rates scale s.tasks) i item) where
   -- a holder for each processor
@@ -282,8 +282,8 @@ wrapped_from s scale = let e : s.horizon - 0 ≡ s.horizon = omega arith in ap (
 pub none_end : (m : ℕ) (lanes : List (List Row)) → 0 < m → lanes ≡ lanes_of m [] → end_of lanes ≡ 0
 none_end m lanes some is = ap end_of is ∙ ap (end_after 0) (lane_of-lanes_of m [] 0 some)
 
-pub none_rounds : (m : ℕ) (lanes : List (List Row)) → 0 < m → lanes ≡ lanes_of m [] → rounds_of lanes ≡ 0
-none_rounds m lanes some is = ap rounds_of is ∙ ap length (lane_of-lanes_of m [] 0 some)
+pub none_rounds : (m : ℕ) (lanes : List (List Row)) → 0 < m → lanes ≡ lanes_of m [] → rounds_in lanes ≡ 0
+none_rounds m lanes some is = ap rounds_in is ∙ ap length (lane_of-lanes_of m [] 0 some)
 
 -- as many rounds as are left
 pub room_from : (s : SetContents) (scale : ℕ) → IsLawful s → IsScale s.tasks scale → (pattern : List HeldRound) → pattern ≡ unit_rounds s.processors scale (rates scale s.tasks)
@@ -291,5 +291,5 @@ pub room_from : (s : SetContents) (scale : ℕ) → IsLawful s → IsScale s.tas
 room_from s scale lawful is pattern pattern_is =
     let ns = rates scale s.tasks in
     let e : s.horizon - 0 ≡ s.horizon = omega arith in
-    let many : length pattern ≡ length (cuts scale ns) = ap length pattern_is ∙ length-map (rounds_in scale ns) (unit_round s.processors scale ns) ∙ length-spans (cuts scale ns) scale in
+    let many : length pattern ≡ length (cuts scale ns) = ap length pattern_is ∙ length-map (round_spans scale ns) (unit_round s.processors scale ns) ∙ length-spans (cuts scale ns) scale in
     wrapped_rounds_are s scale lawful is ∙ sym (ap₂ (λ a b. a * b) many (ap (λ n. length (filter (is_point s.tasks) (range_with_len 0 n))) e))

@@ -3,7 +3,7 @@ use Rattle.std.specs.Prelude.{ℕ, ◌≡◌, List, map}
 use Rattle.sched_base.specs.declared.rows.Row.{Row}
 use Rattle.sched_base.specs.Lanes.{lanes_of}
 use Rattle.sched_base.specs.Sets.{SetContents}
-use Rattle.sched_base.specs.Tables.{IsTable, end_of, rounds_of}
+use Rattle.sched_base.specs.Tables.{IsTable, end_of, rounds_in}
 use Rattle.merged_rows.specs.Merging.{merged}
 use Rattle.merged_rows.specs.Columns.{MergedContents}
 use Rattle.wrap_sched.specs.Wrapped.{wrapped}
@@ -17,5 +17,5 @@ pub record AreMergedUpTo (m at n : ℕ) (rows : List Row) (now : MergedContents)
   pub lanes : now.lanes ≡ map merged (lanes_of m rows)
   pub tick : now.end ≡ at
   pub end : end_of (lanes_of m rows) ≡ at
-  pub rounds : rounds_of (lanes_of m rows) ≡ n
+  pub rounds : rounds_in (lanes_of m rows) ≡ n
   pub table : IsTable (lanes_of m rows)

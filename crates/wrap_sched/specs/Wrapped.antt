@@ -37,8 +37,8 @@ abbrev pub is_cut : ℕ → List ℕ → ℕ → Bool
 is_cut size ns q = list_any (λ first. first % size == q) (first_places 0 ns)
 
 -- the rounds of a slice whose processors have that many places each
-abbrev pub rounds_in : ℕ → List ℕ → List Span
-rounds_in size ns = spans_at (is_cut size ns) size
+abbrev pub round_spans : ℕ → List ℕ → List Span
+round_spans size ns = spans_at (is_cut size ns) size
 
 -- what processor p runs in a slice from unit x on where share i holds its place; a task before its offset is shown as waiting
 abbrev pub leaf_of : List declared.Task → ℕ → ℕ → ℕ → Leaf
@@ -62,7 +62,7 @@ units slice = slice.end - slice.begin
 
 -- the rounds of a slice
 abbrev pub slice_rounds : ℕ → List declared.Task → Span → List Span
-slice_rounds scale tasks slice = rounds_in (units slice * scale) (shares scale (units slice) tasks)
+slice_rounds scale tasks slice = round_spans (units slice * scale) (shares scale (units slice) tasks)
 
 -- the rows of a round of a slice, one for each of m processors
 abbrev pub round_rows : ℕ → List declared.Task → ℕ → Span → Span → List Row

@@ -2,7 +2,7 @@
 ghost use Rattle.std.specs.Prelude.{◌≡◌, ◌<◌, ◌≤◌, ◌+◌, ◌*◌, ◌-◌, ◌^◌, IfOk};
 ghost use Rattle.std.specs.Prelude.{List, [], ◌++◌, length, replicate};
 ghost use Rattle.sched_base.specs.Scale.{IsScale, Fits};
-ghost use Rattle.sched_base.specs.Tables.{all_rows, end_of, rounds_of};
+ghost use Rattle.sched_base.specs.Tables.{all_rows, end_of, rounds_in};
 ghost use Rattle.sched_base.specs.Valid.{IsValid};
 ghost use Rattle.sched_base.specs.declared.rows.Row.{Row as DeclaredRow};
 ghost use Rattle.sched_base.specs.Lanes.{lanes_of};
@@ -85,7 +85,7 @@ fn push_slice(
         table.new.lanes ≡ lanes_of m (done ++ slice_rows scale set.now.tasks m (record { begin = x; end = y })) }
     ensures end { end_of table.new.lanes ≡ y * scale }
     ensures whole { length table.new.lanes ≡ set.now.processors }
-    ensures count { rounds_of table.new.lanes ≡ rounds_of table.old.lanes + length pattern.now }
+    ensures count { rounds_in table.new.lanes ≡ rounds_in table.old.lanes + length pattern.now }
     ensures room { table.new.room + length pattern.now ≡ table.old.room }
 {
     set.know_lawful();
@@ -112,7 +112,7 @@ fn push_slices(
     requires none { table.old.lanes ≡ replicate set.now.processors [] }
     requires room { table.old.room ≡ wrapped_rounds scale set.now }
     ensures lanes { table.new.lanes ≡ lanes_of set.now.processors (wrapped scale set.now) }
-    ensures count { rounds_of table.new.lanes ≡ wrapped_rounds scale set.now }
+    ensures count { rounds_in table.new.lanes ≡ wrapped_rounds scale set.now }
     ensures full { table.new.room ≡ 0 }
 {
     set.know_lawful();
@@ -132,7 +132,7 @@ pub fn wrap(alloc: Global, set: &TaskSet, scale: u128, rounds: u64) -> Result<Ro
     requires fits { Fits scale set.now }
     requires rounds { rounds ≡ wrapped_rounds scale set.now }
     ensures lanes { IfOk result (λ t. t.lanes ≡ lanes_of set.now.processors (wrapped scale set.now)) }
-    ensures rounds { IfOk result (λ t. rounds_of t.lanes ≡ rounds) }
+    ensures rounds { IfOk result (λ t. rounds_in t.lanes ≡ rounds) }
     ensures full { IfOk result (λ t. t.room ≡ 0) }
     ensures valid { IfOk result (λ t. IsValid set.now scale (set.now.horizon * scale) (set.now.horizon * scale) (all_rows t.lanes)) }
 {

@@ -1,9 +1,9 @@
 use Rattle.std.proofs.Common.{◌≡◌, ◌∙◌, true, false, map, string_bytes, refl, subst, sym}
 use Rattle.command_words.specs.Words.{asks_to_execute}
-use Rattle.still_commands.specs.Ends.{streams_of, error_of}
-use Rattle.still_commands.specs.Refuse.{IsRefused}
-use Rattle.still_commands.specs.declared.refusal.Refusal.TheVariants as why
-use Rattle.still_commands.proofs.EndLemmas.{keeps_same}
+use Rattle.pure_commands.specs.Ends.{streams_of, error_of}
+use Rattle.pure_commands.specs.Refuse.{IsRefused}
+use Rattle.pure_commands.specs.declared.refusal.Refusal.TheVariants as why
+use Rattle.pure_commands.proofs.EndLemmas.{keeps_same}
 use Rattle.run_tool.specs.Alone.{EndsAlone}
 use Rattle.run_tool.proofs.AloneLemmas.{alone_still, alone_unmade, unread_unmade}
 use Rattle.run_tool.proofs.RunLemmas.{unread_same}

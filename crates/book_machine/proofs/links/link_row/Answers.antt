@@ -14,7 +14,7 @@ returns c =
     let n = c.args.round in
     let p = c.args.p in
     let links = c.args.links.now.items in
-    let trails = c.args.trails.now.items in
+    let latest_rows = c.args.latest_rows.now.items in
     let r = c.row.result in
     let link = c.match-row.link in
     let at : RowAt rows p n r = rw (← c.from.ensures) c.row.ensures.value in
@@ -25,9 +25,9 @@ returns c =
     elim c.match-row.branch [
       | in-Task w ↦ (
           let task = w.in-Task.task in
-          rw (w.trails-is) (rw (w.follow-link.ensures.trails) (linked_task rows n p links trails r at c.requires.before task (record { lane = p; round = n }) lane w.follow-link.result (rw (← w.link-is) keeps) refl refl w.in-Task.is (w.follow-link.ensures.link rows (λ trail there. c.requires.before.ends task trail there))))
+          rw (w.latest_rows-is) (rw (w.follow-link.ensures.latest_rows) (linked_task rows n p links latest_rows r at c.requires.before task (record { lane = p; round = n }) lane w.follow-link.result (rw (← w.link-is) keeps) refl refl w.in-Task.is (w.follow-link.ensures.link rows (λ latest there. c.requires.before.ends task latest there))))
           )
-      | in-Wait w ↦ rw w.trails-is (linked_other rows n p links trails r at c.requires.before lane link keeps (λ task is. let e : Wait w.in-Wait.field-0 ≡ Task task = sym w.in-Wait.is ∙ is in absurd (cc)))
-      | in-Idle w ↦ rw w.trails-is (linked_other rows n p links trails r at c.requires.before lane link keeps (λ task is. let e : Idle w.in-Idle.field-0 ≡ Task task = sym w.in-Idle.is ∙ is in absurd (cc)))
-      | in-Empty w ↦ rw w.trails-is (linked_other rows n p links trails r at c.requires.before lane link keeps (λ task is. let e : Empty ≡ Task task = sym w.in-Empty.is ∙ is in absurd (cc)))
+      | in-Wait w ↦ rw w.latest_rows-is (linked_other rows n p links latest_rows r at c.requires.before lane link keeps (λ task is. let e : Wait w.in-Wait.field-0 ≡ Task task = sym w.in-Wait.is ∙ is in absurd (cc)))
+      | in-Idle w ↦ rw w.latest_rows-is (linked_other rows n p links latest_rows r at c.requires.before lane link keeps (λ task is. let e : Idle w.in-Idle.field-0 ≡ Task task = sym w.in-Idle.is ∙ is in absurd (cc)))
+      | in-Empty w ↦ rw w.latest_rows-is (linked_other rows n p links latest_rows r at c.requires.before lane link keeps (λ task is. let e : Empty ≡ Task task = sym w.in-Empty.is ∙ is in absurd (cc)))
     ]

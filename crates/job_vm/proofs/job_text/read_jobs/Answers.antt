@@ -1,7 +1,7 @@
 use Rattle.std.proofs.Common.{◌-◌, ◌∙◌, ap, sym, not, length, Ok, arith}
 use Rattle.std.specs.Str.{bytes_eq}
 use Rattle.std.proofs.lemmas.Bool.{eqb-true, not-true}
-use Rattle.trace_text.specs.Words.{lines_of}
+use Rattle.text_words.specs.Words.{lines_of}
 use Rattle.job_vm.proofs.ProgramsLemmas.{reading_empty, reading_other, reading_tasks, reading_stops, reading_ends, behind_more}
 use Rattle.job_vm.proofs.job_text.read_jobs.Goals as goal
 

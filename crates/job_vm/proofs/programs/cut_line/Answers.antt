@@ -1,4 +1,4 @@
-use Rattle.trace_text.specs.Words.{lines_of}
+use Rattle.text_words.specs.Words.{lines_of}
 use Rattle.job_vm.proofs.LinesLemmas.{cut_at_feed, lines_cut}
 use Rattle.job_vm.proofs.programs.cut_line.Goals as goal
 

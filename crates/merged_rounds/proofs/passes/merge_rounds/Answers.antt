@@ -6,7 +6,7 @@ use Rattle.sched_base.specs.declared.rows.Leaf.TheVariants.{Empty}
 use Rattle.sched_base.specs.declared.rows.NodeId.{NodeId}
 use Rattle.sched_base.specs.declared.rows.Row.{Row}
 use Rattle.sched_base.specs.Lanes.{lanes_of}
-use Rattle.sched_base.specs.Tables.{IsRound, IsTable, end_after, end_of, lane_of, row_limit, rounds_of as rounds_in}
+use Rattle.sched_base.specs.Tables.{IsRound, IsTable, end_after, end_of, lane_of, row_limit, rounds_in}
 use Rattle.sched_base.proofs.ScheduleLanes.{lanes_of-none, length-lanes_of}
 use Rattle.sched_base.proofs.TableLemmas.{IsTable-none, IsTable-with_round}
 use Rattle.std.proofs.lemmas.List.{get_or-replicate, length-map, length-replicate}

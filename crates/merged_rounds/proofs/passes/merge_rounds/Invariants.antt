@@ -1,6 +1,6 @@
 use Rattle.std.proofs.Common.{◌≡◌, ℕ, ◌<◌, ◌≤◌, ◌-◌, ◌*◌, None, get_or, map}
 use Rattle.sched_base.specs.Lanes.{lanes_of}
-use Rattle.sched_base.specs.Tables.{IsTable, end_of, lane_of, rounds_of as rounds_in, row_limit}
+use Rattle.sched_base.specs.Tables.{IsTable, end_of, lane_of, rounds_in, row_limit}
 use Rattle.run_tree.specs.Plans.{stop_of}
 use Rattle.merged_rows.specs.Merging.{merged}
 use Rattle.event_core.specs.Rounds.{rounds_before, rows_before}

@@ -1,6 +1,6 @@
 use Rattle.std.proofs.Common.{[], refl}
 use Rattle.job_vm.proofs.LoadingLemmas.{AfterLoad, put_new, loaded_place, still_filled}
-use Rattle.mode_switch.proofs.RosterLemmas.{at_ok}
+use Rattle.mode_switch.proofs.CrewHeldLemmas.{at_ok}
 use Rattle.mode_switch.proofs.running.begin_job.Goals as goal
 
 pub returns-clause-begun : goal.returns-clause-begun

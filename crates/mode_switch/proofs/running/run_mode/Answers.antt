@@ -1,6 +1,6 @@
 use Rattle.std.proofs.Common.{refl, subst, length, ◌<◌}
 use Rattle.sched_base.specs.Sets.{SetContents}
-use Rattle.mode_switch.proofs.RosterLemmas.{fresh_at}
+use Rattle.mode_switch.proofs.CrewHeldLemmas.{fresh_at}
 use Rattle.mode_switch.proofs.running.run_mode.Goals as goal
 
 pub begin_anew-requires : goal.begin_anew-requires

@@ -4,7 +4,7 @@ use Rattle.run_tree.specs.Plans.{PlanContents}
 use Rattle.mode_join.proofs.ModeLemmas.{few_modes}
 use Rattle.mode_switch.proofs.RunLemmas.{all_get, next_mode, modes_back, filled_after, own_after, stopped_in, ran_more, run_through, ran_first, names_risen, are_back, refused_outcome, told_fault, no_answer, ran_none, ran_to_end}
 use Rattle.mode_switch.specs.declared.answers.ModesFault.TheVariants as fault
-use Rattle.mode_switch.specs.Runs.{Roster}
+use Rattle.mode_switch.specs.Runs.{CrewHeld}
 use Rattle.mode_switch.proofs.running.run_modes.Goals as goal
 
 pub plan-requires : goal.plan-requires
@@ -142,7 +142,7 @@ returns-in_err-runs-clause-jobs g c = no_answer c.from_residual.result fault.NoM
 
 pub returns-in_err-runs-clause-first : goal.returns-in_err-runs-clause-first
 returns-in_err-runs-clause-first g c =
-    let start : Roster g.row.G.Denot _ = record { kits = c.args.kits.now.items; places = c.args.jobs.now.places } in
+    let start : CrewHeld g.row.G.Denot _ = record { kits = c.args.kits.now.items; places = c.args.jobs.now.places } in
     ran_first g.G.Gate (record {
       id = λ j. (g.dyn-1.0.entry j.vtable).1.id j.value;
       used = λ j. (g.dyn-1.0.entry j.vtable).1.used j.value;
@@ -156,7 +156,7 @@ returns-in_err-runs-clause-risen g c = told_fault c.from_residual.result fault.N
 
 pub returns-in_err-runs-clause-back : goal.returns-in_err-runs-clause-back
 returns-in_err-runs-clause-back g c =
-    let start : Roster g.row.G.Denot _ = record { kits = c.args.kits.now.items; places = c.args.jobs.now.places } in
+    let start : CrewHeld g.row.G.Denot _ = record { kits = c.args.kits.now.items; places = c.args.jobs.now.places } in
     are_back _ _ c.args.modes.now.modes start start c.from_residual.result
     (refused_outcome _ _ c.args.modes.now.modes start c.from_residual.result c.from_residual.ensures.1)
 

@@ -1,6 +1,6 @@
 use Rattle.std.proofs.Common.{◌≡◌, ◌≤◌, length, take}
 use Rattle.std.specs.Vec.{vec_capacity}
-use Rattle.mode_switch.specs.Runs.{RanModes, roster_of}
+use Rattle.mode_switch.specs.Runs.{RanModes, crew_held}
 use Rattle.mode_switch.proofs.running.run_modes.Given as goal
 
 abbrev pub invariant-loop-j : goal.invariant-loop-j
@@ -13,5 +13,5 @@ invariant-loop-j g l = record {
         used = λ j. (g.dyn-1.0.entry j.vtable).1.used j.value;
         faults = λ j. (g.dyn-1.0.entry j.vtable).1.faults j.value;
         made = λ j. (g.dyn-1.0.entry j.vtable).1.made j.value;
-      }) (take l.j l.modes.modes) l.runs.items (roster_of l.fn.kits l.fn.jobs) (roster_of l.kits l.jobs);
+      }) (take l.j l.modes.modes) l.runs.items (crew_held l.fn.kits l.fn.jobs) (crew_held l.kits l.jobs);
 }

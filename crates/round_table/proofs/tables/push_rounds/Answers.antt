@@ -1,6 +1,6 @@
 use Rattle.std.proofs.Common.{[], List, ap, arith, length, subst, sym, ℕ, ◌+◌, ◌<◌, ◌∙◌, ◌≡◌}
 use Rattle.sched_base.specs.declared.rows.Row.{Row}
-use Rattle.sched_base.specs.Tables.{IsRound, end_of, rounds_of as rounds_in, with_round}
+use Rattle.sched_base.specs.Tables.{IsRound, end_of, rounds_in, with_round}
 use Rattle.run_tree.specs.Plans.{stop_of}
 use Rattle.event_core.specs.Rounds.{rounds_before, rows_before, rows_of_round}
 use Rattle.event_core.proofs.NextCores.{event_before_end}

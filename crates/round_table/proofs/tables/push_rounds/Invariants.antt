@@ -1,5 +1,5 @@
 use Rattle.std.proofs.Common.{◌≡◌, ◌-◌, ◌+◌}
-use Rattle.sched_base.specs.Tables.{end_of, rounds_of as rounds_in}
+use Rattle.sched_base.specs.Tables.{end_of, rounds_in}
 use Rattle.run_tree.specs.Plans.{rounds_of, stop_of}
 use Rattle.event_core.specs.Rounds.{rounds_before, rows_before}
 use Rattle.event_core.specs.Cores.{IsCoreOf}

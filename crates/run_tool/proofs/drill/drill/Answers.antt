@@ -1,9 +1,9 @@
 use Rattle.std.proofs.Common.{inl, refl, ap}
 use Rattle.std.proofs.lemmas.Result.{IfOk-from_err}
 use Rattle.mode_switch.proofs.RunLemmas.{told_fault}
-use Rattle.still_commands.specs.declared.refusal.Refusal.{Refusal}
-use Rattle.still_commands.specs.Refusals.{status_of}
-use Rattle.still_commands.proofs.EndLemmas.{keeps_same}
+use Rattle.pure_commands.specs.declared.refusal.Refusal.{Refusal}
+use Rattle.pure_commands.specs.Refusals.{status_of}
+use Rattle.pure_commands.proofs.EndLemmas.{keeps_same}
 use Rattle.run_tool.specs.Executed.{may_have_called}
 use Rattle.run_tool.proofs.DrillEndLemmas.{run_told, run_untold, unrun}
 use Rattle.run_tool.proofs.LoadedLemmas.{crew_left}

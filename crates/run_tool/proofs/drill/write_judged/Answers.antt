@@ -1,11 +1,11 @@
 use Rattle.std.specs.List.{concat}
 use Rattle.std.proofs.lemmas.Result.{IfOk-from_err}
 use Rattle.mode_switch.proofs.RunLemmas.{told_fault}
-use Rattle.still_commands.proofs.EndLemmas.{keeps_same}
+use Rattle.pure_commands.proofs.EndLemmas.{keeps_same}
 use Rattle.run_tool.specs.Drill.{summary_lines}
 use Rattle.run_tool.proofs.DrillLemmas.{text_is, drill_is}
 use Rattle.run_tool.proofs.DrillEndLemmas.{drill_written, drill_unwritten}
-use Rattle.still_commands.proofs.WrittenLemmas.{on_written, if_unwritten}
+use Rattle.pure_commands.proofs.WrittenLemmas.{on_written, if_unwritten}
 use Rattle.run_tool.proofs.drill.write_judged.Goals as goal
 
 pub judged-requires-clause-lanes : goal.judged-requires-clause-lanes

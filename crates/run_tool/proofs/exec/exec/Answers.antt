@@ -1,9 +1,9 @@
 use Rattle.std.proofs.Common.{◌∙◌, ap, sym, subst}
 use Rattle.sched_base.specs.Sets.{SetContents}
 use Rattle.run_tree.specs.Compiled.{tree_of}
-use Rattle.still_commands.specs.Ends.{streams_of}
-use Rattle.still_commands.specs.Input.{IsSchedulable}
-use Rattle.still_commands.proofs.EndLemmas.{keeps_same}
+use Rattle.pure_commands.specs.Ends.{streams_of}
+use Rattle.pure_commands.specs.Input.{IsSchedulable}
+use Rattle.pure_commands.proofs.EndLemmas.{keeps_same}
 use Rattle.run_tool.proofs.PartLemmas.{stops_first, ends_above}
 use Rattle.run_tool.proofs.StopLemmas.{refused_run, run_told, run_stopped, run_unread}
 use Rattle.run_tool.proofs.exec.exec.Goals as goal

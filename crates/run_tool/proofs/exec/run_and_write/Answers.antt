@@ -1,6 +1,6 @@
 use Rattle.std.proofs.Common.{refl}
 use Rattle.run_tool.proofs.PartLemmas.{stops_first, stops_with, ends_written}
-use Rattle.still_commands.proofs.EndLemmas.{keeps_same}
+use Rattle.pure_commands.proofs.EndLemmas.{keeps_same}
 use Rattle.run_tool.proofs.StopLemmas.{uncounted, run_stops, run_written, run_unwritten}
 use Rattle.run_tool.proofs.exec.run_and_write.Goals as goal
 

@@ -1,7 +1,7 @@
 use Rattle.std.proofs.Common.{refl, sym, ◌<◌, ap, subst, take, length, arith}
 use Rattle.sched_base.specs.Sets.{SetContents}
-use Rattle.still_commands.specs.declared.refusal.Refusal.{Refusal}
-use Rattle.still_commands.specs.Refusals.{status_of}
+use Rattle.pure_commands.specs.declared.refusal.Refusal.{Refusal}
+use Rattle.pure_commands.specs.Refusals.{status_of}
 use Rattle.exec_lanes.proofs.ErrorLemmas.{untrue}
 use Rattle.run_tool.specs.Executed.{may_have_called}
 use Rattle.run_tool.proofs.CrewEndLemmas.{jobs_fresh}

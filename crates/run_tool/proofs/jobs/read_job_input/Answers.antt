@@ -3,7 +3,7 @@ use Rattle.std.proofs.lemmas.Result.{IfOk-from_err, IfOk-weaker, IfErr-weaker}
 use Rattle.mode_switch.proofs.RunLemmas.{told_fault}
 use Rattle.run_tool.specs.JobInput.{RefusesJobText}
 use Rattle.run_tool.specs.JobPrograms.{ReadsJobs}
-use Rattle.still_commands.specs.Commands.{set_limit}
+use Rattle.pure_commands.specs.Commands.{set_limit}
 use Rattle.run_tool.proofs.JobInputLemmas.{untaken_jobs, unread_jobs, jobs_read}
 use Rattle.run_tool.proofs.jobs.read_job_input.Goals as goal
 

@@ -1,9 +1,9 @@
 use Rattle.std.proofs.Common.{refl, ◌∙◌, ap, sym, subst}
 use Rattle.sched_base.specs.Sets.{SetContents}
 use Rattle.run_tree.specs.Compiled.{tree_of}
-use Rattle.still_commands.specs.Ends.{streams_of}
-use Rattle.still_commands.specs.Input.{IsSchedulable}
-use Rattle.still_commands.proofs.EndLemmas.{keeps_same}
+use Rattle.pure_commands.specs.Ends.{streams_of}
+use Rattle.pure_commands.specs.Input.{IsSchedulable}
+use Rattle.pure_commands.proofs.EndLemmas.{keeps_same}
 use Rattle.run_tool.proofs.JobRunLemmas.{refused_stops, jobs_done, jobs_stopped, jobs_unread}
 use Rattle.run_tool.proofs.PartLemmas.{stops_first, ends_above}
 use Rattle.run_tool.proofs.jobs.run_jobs.Goals as goal

@@ -1,7 +1,7 @@
 use Rattle.std.proofs.Common.{rules, arith}
 use Rattle.sched_edges.proofs.Wrote.{wrote_part}
 use Rattle.run_tool.specs.ModeTexts.{mode_part}
-use Rattle.still_commands.proofs.NumberedLemmas.{item_at, none_written, more_written, part_written}
+use Rattle.pure_commands.proofs.NumberedLemmas.{item_at, none_written, more_written, part_written}
 use Rattle.run_tool.proofs.mode_text.write_each.Goals as goal
 
 pub loop-j-init : goal.loop-j-init

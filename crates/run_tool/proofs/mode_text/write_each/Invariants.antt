@@ -1,6 +1,6 @@
 use Rattle.std.proofs.Common.{◌≤◌}
 use Rattle.run_tool.specs.ModeTexts.{mode_part}
-use Rattle.still_commands.proofs.NumberedLemmas.{IsWrittenTo}
+use Rattle.pure_commands.proofs.NumberedLemmas.{IsWrittenTo}
 use Rattle.run_tool.proofs.mode_text.write_each.Given as goal
 
 abbrev pub invariant-loop-j : goal.invariant-loop-j

@@ -3,7 +3,7 @@ use Rattle.std.proofs.lemmas.Slice.Zip.{AllZip-long}
 use Rattle.sched_base.specs.Sets.{SetContents}
 use Rattle.sched_edges.proofs.Wrote.{wrote_then, wrote_part, part_cut}
 use Rattle.mode_switch.specs.Runs.{IsRunOf}
-use Rattle.still_commands.proofs.LineLemmas.{wrote_as}
+use Rattle.pure_commands.proofs.LineLemmas.{wrote_as}
 use Rattle.run_tool.proofs.ModeRowLemmas.{mode_on_time, mode_is_short, mode_rows, mode_totals, mode_texts}
 use Rattle.run_tool.proofs.mode_text.write_mode.Goals as goal
 

@@ -3,7 +3,7 @@ use Rattle.sched_base.specs.Sets.{SetContents}
 use Rattle.sched_base.specs.declared.rows.Row.{Row}
 use Rattle.row_totals.proofs.NameLemmas.{lanes_among}
 use Rattle.run_tree.specs.Plans.{rounds_of}
-use Rattle.trace_lines.specs.Conditions.{AreOnTime}
+use Rattle.trace_format.specs.Conditions.{AreOnTime}
 use Rattle.run_tool.proofs.CrewEndLemmas.{few_rows}
 use Rattle.run_tool.proofs.mode_text.write_rows.Goals as goal
 

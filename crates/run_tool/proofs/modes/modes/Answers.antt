@@ -1,6 +1,6 @@
 use Rattle.std.proofs.Common.{refl}
-use Rattle.still_commands.specs.Ends.{streams_of}
-use Rattle.still_commands.proofs.EndLemmas.{keeps_same}
+use Rattle.pure_commands.specs.Ends.{streams_of}
+use Rattle.pure_commands.proofs.EndLemmas.{keeps_same}
 use Rattle.run_tool.proofs.ModeEndLemmas.{modes_done, modes_unwritten, modes_unread, modes_stopped, modes_called}
 use Rattle.run_tool.proofs.PartLemmas.{stops_first, stops_with, ends_written}
 use Rattle.run_tool.proofs.modes.modes.Goals as goal

@@ -1,7 +1,7 @@
 use Rattle.std.proofs.Common.{◌≡◌, ◌∙◌, Some, None, refl, ap, map, option_map, string_bytes, sym}
 use Rattle.command_words.specs.Words.{command_of}
 use Rattle.command_words.specs.declared.command.Command.TheVariants.{Execute}
-use Rattle.still_commands.proofs.EndLemmas.{keeps_same, quiet_same}
+use Rattle.pure_commands.proofs.EndLemmas.{keeps_same, quiet_same}
 use Rattle.run_tool.proofs.AskedLemmas.{words_unread, no_execution, execution_done, execution_stopped}
 use Rattle.run_tool.proofs.RunLemmas.{unread_same}
 use Rattle.run_tool.proofs.running.run_execution.Goals as goal

@@ -1,6 +1,6 @@
 use Rattle.trace_check.proofs.HeadLemmas.{line_missing, line_read, line_refused, some_text}
 use Rattle.trace_check.specs.Steps.{number_within}
-use Rattle.trace_text.specs.Words.{lines_of}
+use Rattle.text_words.specs.Words.{lines_of}
 use Rattle.std.proofs.Common.{length, sym}
 use Rattle.trace_check.proofs.head_lines.next_number.Goals as goal
 

@@ -1,7 +1,7 @@
 use Rattle.trace_check.proofs.TaskLemmas.{none_capped}
 use Rattle.trace_check.specs.Steps.{number_after}
 use Rattle.std.proofs.Common.{codes, length, sym}
-use Rattle.trace_text.specs.Words.{lines_of}
+use Rattle.text_words.specs.Words.{lines_of}
 use Rattle.trace_check.proofs.HeadLemmas.{scale_read, line_missing, line_refused, some_text}
 use Rattle.trace_check.proofs.head_lines.next_scale.Goals as goal
 

@@ -1,7 +1,7 @@
 use Rattle.std.proofs.Common.{◌≡◌, ◌∙◌, ℕ, List, None, Some, option_map, codes, refl, sym}
 use Rattle.sched_base.specs.declared.rows.Row.{Row}
 use Rattle.sched_base.specs.declared.sets.Task.{Task}
-use Rattle.trace_text.specs.Words.{after_word, number_of, cut_space}
+use Rattle.text_words.specs.Words.{after_word, number_of, cut_space}
 use Rattle.trace_check.specs.RowLines.{row_of}
 use Rattle.trace_check.proofs.TaskLemmas.{cap, none_capped, none_then}
 use Rattle.trace_check.proofs.RowLemmas.{row_of_is}

@@ -1,6 +1,6 @@
 use Rattle.std.proofs.Common.{◌+◌, ◌≡◌, ◌<◌, ◌∷◌, ◌++◌, List, ℕ, length, drop, get_or, slice_index, codes, subst, sym, ap, ◌∙◌, arith}
 use Rattle.sched_edges.specs.Lines.{named_line}
-use Rattle.trace_text.specs.Words.{lines_of}
+use Rattle.text_words.specs.Words.{lines_of}
 use Rattle.trace_check.specs.TailLines.{first_other, after}
 use Rattle.trace_check.proofs.TailLemmas.{one_more, found_other, totals_from, totals_next}
 use Rattle.trace_check.proofs.tail_lines.read_totals.Goals as goal

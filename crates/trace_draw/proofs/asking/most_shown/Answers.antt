@@ -1,7 +1,7 @@
 use Rattle.std.proofs.Common.{ℕ, ◌+◌, ◌-◌, ◌/◌, ◌≤◌, ◌≡◌, ◌∙◌, false, sym, arith}
 use Rattle.std.proofs.Math.Nat.{div-mul-le_self}
-use Rattle.trace_draw.specs.Windows.{has_few}
-use Rattle.trace_draw.proofs.WindowLemmas.{none_from, greatest_below}
+use Rattle.trace_draw.specs.ShownUnits.{has_few}
+use Rattle.trace_draw.proofs.ShownUnitLemmas.{none_from, greatest_below}
 use Rattle.trace_draw.proofs.asking.most_shown.Goals as goal
 
 pub halving-preserved : goal.halving-preserved

@@ -1,5 +1,5 @@
 use Rattle.std.proofs.Common.{◌≡◌, ◌-◌, ◌≤◌, ◌⊎◌, true}
-use Rattle.trace_draw.specs.Windows.{has_few, greatest_passing}
+use Rattle.trace_draw.specs.ShownUnits.{has_few, greatest_passing}
 use Rattle.trace_draw.proofs.asking.most_shown.Given as goal
 
 abbrev pub invariant-halving : goal.invariant-halving

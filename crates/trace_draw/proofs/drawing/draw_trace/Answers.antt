@@ -1,5 +1,5 @@
 use Rattle.std.proofs.Common.{refl}
-use Rattle.trace_draw.specs.Windows.{shown_window}
+use Rattle.trace_draw.specs.ShownUnits.{shown_window}
 use Rattle.trace_draw.specs.Picture.{picture}
 use Rattle.trace_draw.proofs.drawing.draw_trace.Goals as goal
 

@@ -1,6 +1,6 @@
 use Rattle.std.proofs.Common.{ℕ, ◌≡◌, ◌*◌, ◌^◌, ◌<◌, ◌≤◌, ◌∙◌, List, [], ◌∷◌, length, get_or, Fits, w64, subst, sym, arith}
 use Rattle.std.specs.List.{AllByRecursion}
-use Rattle.trace_rows.proofs.PartLemmas.{all_get}
+use Rattle.trace_verdict.proofs.PartLemmas.{all_get}
 use Rattle.trace_draw.specs.Head.{axis_step}
 use Rattle.trace_draw.proofs.HeadLemmas.{step_first, step_second, step_third, step_next}
 use Rattle.trace_draw.proofs.head.axis_step.Goals as goal

@@ -4,7 +4,7 @@ use Rattle.sched_base.specs.declared.sets.Task.{Task}
 use Rattle.sched_base.specs.Sets.{SetContents, task_at, IsLawfulTask}
 use Rattle.sched_base.specs.Rows.{task_ticks}
 use Rattle.sched_base.specs.Valid.{period_start, served}
-use Rattle.trace_lines.specs.Finishes.{finish, finish_between}
+use Rattle.trace_format.specs.Finishes.{finish, finish_between}
 use Rattle.trace_draw.specs.Shapes.{task_top}
 use Rattle.trace_draw.proofs.PeriodLemmas.{start_fits, end_fits, small_work, small_units, ticks_fit, ticks_small, ticks_are, start_is, lines_are}
 use Rattle.trace_draw.proofs.periods.write_period.Goals as goal

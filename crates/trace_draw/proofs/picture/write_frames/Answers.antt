@@ -1,7 +1,7 @@
 use Rattle.std.proofs.Common.{ℕ, ◌*◌, ◌^◌, ◌≡◌, ◌<◌, ◌≤◌, ◌∙◌, true, Fits, w64, List, length, subst, sym, le_refl, arith}
 use Rattle.sched_base.specs.declared.rows.Row.{Row}
-use Rattle.trace_rows.specs.Faults.{row_at}
-use Rattle.trace_draw.specs.Windows.{reaches}
+use Rattle.trace_verdict.specs.Faults.{row_at}
+use Rattle.trace_draw.specs.ShownUnits.{reaches}
 use Rattle.trace_draw.proofs.PictureLemmas.{framed_past, framed_apart, framed_shown}
 use Rattle.trace_draw.proofs.WriteLemmas.{wrote_none}
 use Rattle.trace_draw.proofs.picture.write_frames.Goals as goal

@@ -2,7 +2,7 @@ use Rattle.std.proofs.Common.{◌≡◌, ◌∙◌, sym, refl, le_refl, le_trans
 use Rattle.std.proofs.lemmas.List.{get_or_default}
 use Rattle.sched_base.specs.declared.rows.Leaf.TheVariants as leaves
 use Rattle.sched_edges.proofs.Wrote.{item_written, wrote_item}
-use Rattle.trace_rows.specs.Faults.{row_at}
+use Rattle.trace_verdict.specs.Faults.{row_at}
 use Rattle.trace_draw.specs.Rows.{row_text}
 use Rattle.sched_edges.proofs.CauseLemmas.{cause_cut, took_none}
 use Rattle.trace_draw.proofs.RowLemmas.{next_drawn, count_next, count_past, count_full, all_drawn}

@@ -1,7 +1,7 @@
 use Rattle.std.proofs.Common.{le_refl, le_trans}
 use Rattle.std.proofs.lemmas.List.{take_all}
 use Rattle.sched_edges.proofs.Wrote.{item_written, wrote_item}
-use Rattle.trace_lines.specs.Lines.{task_line}
+use Rattle.trace_format.specs.Lines.{task_line}
 use Rattle.sched_edges.proofs.CauseLemmas.{cause_cut, took_none}
 use Rattle.trace_writer.proofs.body.write_tasks.Goals as goal
 

@@ -1,7 +1,7 @@
 use Rattle.std.proofs.Common.{◌≤◌, take}
 use Rattle.std.specs.List.{flat_map}
 use Rattle.std.specs.Io.KnownBytes.{Appends}
-use Rattle.trace_lines.specs.Lines.{task_line}
+use Rattle.trace_format.specs.Lines.{task_line}
 use Rattle.trace_writer.proofs.body.write_tasks.Given as goal
 
 abbrev pub invariant-loop-task : goal.invariant-loop-task

@@ -1,5 +1,5 @@
 use Rattle.std.proofs.Common.{decimal}
-use Rattle.trace_lines.specs.Lines.{leaf_name}
+use Rattle.trace_format.specs.Lines.{leaf_name}
 use Rattle.trace_writer.proofs.RowLemmas.{row_line_is, row_in_pieces}
 use Rattle.trace_writer.proofs.lines.add_row.Goals as goal
 

@@ -3,7 +3,7 @@ use Rattle.std.specs.List.{enumerate_from}
 use Rattle.std.proofs.lemmas.List.{take_all}
 use Rattle.std.proofs.lemmas.List.FromFn.{length-enumerate_from}
 use Rattle.sched_edges.proofs.Wrote.{item_written, wrote_item}
-use Rattle.trace_lines.specs.Text.{mets_of_task}
+use Rattle.trace_format.specs.Text.{mets_of_task}
 use Rattle.trace_writer.specs.Parts.{text_of}
 use Rattle.sched_edges.proofs.CauseLemmas.{cause_cut, took_none}
 use Rattle.trace_writer.proofs.MetLemmas.{mets_told}

@@ -2,7 +2,7 @@ use Rattle.std.proofs.Common.{ℕ, List, ◌≤◌, take}
 use Rattle.std.specs.List.{flat_map, enumerate_from}
 use Rattle.std.specs.Io.KnownBytes.{Appends}
 use Rattle.sched_base.specs.declared.rows.Row.{Row}
-use Rattle.trace_lines.specs.Text.{mets_of_task}
+use Rattle.trace_format.specs.Text.{mets_of_task}
 use Rattle.trace_writer.specs.Finishes.{AreDoneBy}
 use Rattle.trace_writer.specs.Parts.{text_of}
 use Rattle.trace_writer.proofs.mets.write_mets.Given as goal

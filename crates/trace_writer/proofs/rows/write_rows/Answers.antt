@@ -5,7 +5,7 @@ use Rattle.sched_base.specs.declared.rows.Row.{Row}
 use Rattle.sched_base.specs.Tables.{all_rows, lane_of}
 use Rattle.sched_edges.proofs.Wrote.{item_written, wrote_item}
 use Rattle.row_totals.specs.Sums.{NamesAmong}
-use Rattle.trace_lines.specs.Lines.{row_line}
+use Rattle.trace_format.specs.Lines.{row_line}
 use Rattle.sched_edges.proofs.CauseLemmas.{cause_cut, took_none}
 use Rattle.trace_writer.proofs.CauseLemmas.{no_answer}
 use Rattle.trace_writer.proofs.LaneLemmas.{lane_has}

@@ -2,7 +2,7 @@ use Rattle.std.proofs.Common.{◌≤◌, ◌≡◌, length, take}
 use Rattle.std.specs.List.{flat_map}
 use Rattle.std.specs.Io.KnownBytes.{Appends}
 use Rattle.sched_base.specs.Tables.{all_rows}
-use Rattle.trace_lines.specs.Lines.{row_line}
+use Rattle.trace_format.specs.Lines.{row_line}
 use Rattle.trace_writer.proofs.rows.write_rows.Given as goal
 
 abbrev pub invariant-loop-p : goal.invariant-loop-p

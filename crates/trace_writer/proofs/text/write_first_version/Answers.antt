@@ -1,6 +1,6 @@
 use Rattle.std.proofs.Common.{le_refl}
 use Rattle.sched_edges.proofs.Wrote.{wrote_then, wrote_cut}
-use Rattle.trace_lines.specs.declared.versions.Version.TheVariants.{One}
+use Rattle.trace_format.specs.declared.versions.Version.TheVariants.{One}
 use Rattle.sched_base.specs.Tables.{all_rows}
 use Rattle.sched_edges.proofs.CauseLemmas.{cause_cut, cause_then}
 use Rattle.trace_writer.proofs.TextLemmas.{trace_parts}

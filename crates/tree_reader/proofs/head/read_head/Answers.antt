@@ -1,7 +1,7 @@
 use Rattle.std.proofs.Common.{refl, ℕ, ◌<◌, ◌≤◌, ◌^◌, ◌-◌, Fits, w32, w64, arith}
 use Rattle.std.proofs.lemmas.Result.{err_from_is_err_and, IfOk-from_err}
-use Rattle.trace_text.specs.Words.{lines_of}
-use Rattle.trace_lines.specs.declared.versions.Version.TheVariants.{One}
+use Rattle.text_words.specs.Words.{lines_of}
+use Rattle.trace_format.specs.declared.versions.Version.TheVariants.{One}
 use Rattle.trace_check.proofs.HeadLemmas.{capped_is}
 use Rattle.tree_reader.proofs.HeadLemmas.{stops_at_version, stops_at_processors, stops_at_horizon, stops_at_scale, stops_at_tasks}
 use Rattle.tree_reader.proofs.ReadingLemmas.{head_is}

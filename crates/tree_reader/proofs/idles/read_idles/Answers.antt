@@ -1,7 +1,7 @@
 use Rattle.std.proofs.Common.{◌≡◌, ◌+◌, ◌-◌, ◌∷◌, ◌++◌, ◌≤◌, [], ℕ, List, length, length-append, sym, ap, subst, ◌∙◌, arith}
 use Rattle.std.proofs.lemmas.Result.{err_from_is_err_and, IfOk-from_err}
 use Rattle.std.specs.List.{AllByRecursion}
-use Rattle.trace_text.specs.Words.{lines_of}
+use Rattle.text_words.specs.Words.{lines_of}
 use Rattle.tree_reader.specs.Reading.{idles_from}
 use Rattle.tree_reader.proofs.ReadingLemmas.{idles_more, idles_stop, all_push}
 use Rattle.tree_reader.proofs.idles.read_idles.Goals as goal

@@ -1,6 +1,6 @@
 use Rattle.std.proofs.Common.{◌≡◌, ◌-◌, ◌≤◌, [], length}
 use Rattle.std.specs.List.{AllByRecursion}
-use Rattle.trace_text.specs.Words.{lines_of}
+use Rattle.text_words.specs.Words.{lines_of}
 use Rattle.tree_reader.specs.Reading.{idles_from}
 use Rattle.tree_reader.proofs.idles.read_idles.Given as goal
 

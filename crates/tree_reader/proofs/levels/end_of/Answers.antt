@@ -1,6 +1,6 @@
 use Rattle.std.proofs.Common.{codes, sym, eq-eqb}
 use Rattle.std.proofs.lemmas.Bool.{both_ways}
-use Rattle.trace_text.specs.Words.{lines_of}
+use Rattle.text_words.specs.Words.{lines_of}
 use Rattle.trace_check.specs.Steps.{number_after}
 use Rattle.tree_reader.proofs.WordLemmas.{some_line}
 use Rattle.tree_reader.proofs.ReadingLemmas.{ended_more}

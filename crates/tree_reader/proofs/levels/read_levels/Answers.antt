@@ -1,7 +1,7 @@
 use Rattle.std.proofs.lemmas.Result.{IfOk-from_err, err_from_is_err_and}
 use Rattle.std.proofs.Common.{◌≡◌, ◌+◌, ◌∷◌, ◌++◌, ◌<◌, [], ℕ, suc, List, length, get_or, Ok, sym, ap, subst, ◌∙◌, arith}
 use Rattle.std.proofs.lemmas.List.Sums.{sum_by_push}
-use Rattle.trace_text.specs.Words.{lines_of}
+use Rattle.text_words.specs.Words.{lines_of}
 use Rattle.tree_check.specs.Written.{Pack, IsWrittenLevel}
 use Rattle.tree_reader.specs.Faults.{NamesBadLine}
 use Rattle.tree_reader.specs.Reading.{level_from, levels_from, lines_so_far}

@@ -1,5 +1,5 @@
 use Rattle.std.proofs.Common.{◌≡◌, ℕ, ◌+◌, ◌<◌, ◌≤◌, [], length, get_or}
-use Rattle.trace_text.specs.Words.{lines_of}
+use Rattle.text_words.specs.Words.{lines_of}
 use Rattle.tree_check.specs.Written.{IsWrittenLevel}
 use Rattle.tree_reader.specs.Reading.{levels_from, lines_so_far}
 use Rattle.tree_reader.proofs.levels.read_levels.Given as goal

@@ -1,6 +1,6 @@
 use Rattle.std.proofs.Common.{◌≡◌, ◌+◌, ◌-◌, ◌≤◌, [], length}
 use Rattle.std.specs.List.{AllByRecursion}
-use Rattle.trace_text.specs.Words.{lines_of}
+use Rattle.text_words.specs.Words.{lines_of}
 use Rattle.tree_check.specs.Written.{IsWrittenPack}
 use Rattle.tree_reader.specs.Reading.{packs_from}
 use Rattle.tree_reader.proofs.levels.read_packs.Given as goal

@@ -1,5 +1,5 @@
 use Rattle.std.proofs.Common.{◌≡◌, ◌∷◌, ◌++◌, [], Some, None, sym, ap, ◌∙◌}
-use Rattle.trace_text.specs.Words.{cut_space}
+use Rattle.text_words.specs.Words.{cut_space}
 use Rattle.tree_reader.specs.Members.{words_of, members_from}
 use Rattle.tree_reader.proofs.WordLemmas.{after, members_more, members_stop, members_last, members_last_stop, cut_shorter}
 use Rattle.tree_reader.proofs.members.read_members.Goals as goal

@@ -1,6 +1,6 @@
 use Rattle.tree_reader.proofs.NumberLemmas.{no_first, other_first, this_first}
 use Rattle.trace_check.specs.Steps.{within}
-use Rattle.trace_text.specs.Words.{number_of}
+use Rattle.text_words.specs.Words.{number_of}
 use Rattle.std.proofs.Common.{◌∙◌, option_and_then}
 use Rattle.tree_reader.proofs.packs.number_behind.Goals as goal
 

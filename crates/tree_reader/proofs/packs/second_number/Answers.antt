@@ -1,5 +1,5 @@
 use Rattle.tree_reader.specs.Packs.{number_behind, second_number}
-use Rattle.trace_text.specs.Words.{after_word, cut_space}
+use Rattle.text_words.specs.Words.{after_word, cut_space}
 use Rattle.std.proofs.Common.{◌∙◌, ◌≡◌, ℕ, List, Some, None, refl, sym}
 use Rattle.tree_reader.proofs.packs.second_number.Goals as goal
 

@@ -1,6 +1,6 @@
 use Rattle.std.proofs.Common.{Err, arith}
 use Rattle.std.proofs.lemmas.Result.{err_from_is_err_and, IfOk-from_err}
-use Rattle.trace_text.specs.Words.{lines_of}
+use Rattle.text_words.specs.Words.{lines_of}
 use Rattle.trace_check.proofs.ScaleTest.{is_scale_to}
 use Rattle.tree_check.specs.Written.{Written}
 use Rattle.tree_reader.proofs.ReadingLemmas.{body_count, written_is}

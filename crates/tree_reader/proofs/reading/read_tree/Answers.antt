@@ -1,6 +1,6 @@
 use Rattle.std.proofs.Common.{sym}
 use Rattle.std.proofs.lemmas.Result.{err_from_is_err_and, IfOk-from_err}
-use Rattle.trace_text.specs.Words.{lines_of}
+use Rattle.text_words.specs.Words.{lines_of}
 use Rattle.trace_check.proofs.ReadingLemmas.{set_is}
 use Rattle.tree_reader.specs.Reading.{reading, body}
 use Rattle.tree_reader.proofs.ReadingLemmas.{stops_in_head, stops_in_tasks, stops_at_scale, reading_body, ok_same, err_same}

@@ -1,11 +1,11 @@
 use Rattle.std.proofs.Common.{List, add-zero, ap, arith, length, map, subst, sym, ◌*◌, ◌+◌, ◌++◌, ◌-◌, ◌∙◌, ◌≡◌}
 use Rattle.std.proofs.lemmas.List.{append-nil, length-map, take_all}
 use Rattle.std.specs.List.{flat_map}
-use Rattle.sched_base.specs.Tables.{IsRound, end_of, rounds_of, with_round}
+use Rattle.sched_base.specs.Tables.{IsRound, end_of, rounds_in, with_round}
 use Rattle.sched_base.specs.declared.rows.Row.{Row}
 use Rattle.sched_base.specs.Lanes.{lanes_of}
 use Rattle.wrap_sched.specs.Steps.{rates, unit_round}
-use Rattle.wrap_sched.specs.Wrapped.{round_rows, rounds_in}
+use Rattle.wrap_sched.specs.Wrapped.{round_rows, round_spans}
 use Rattle.wrap_sched.proofs.StretchLemmas.{stretch}
 use Rattle.wrap_sched.proofs.TableLemmas.{IsReached, first_reached, item_at, item_bounds, item_fits, item_holders, item_whole, last_reached, next_count, next_reached, next_rows, round_lanes, rows_up_to, slice_of, slice_rows_are, written_rows}
 use Rattle.wrap_sched.proofs.tables.push_slice.Goals as goal
@@ -16,7 +16,7 @@ loop-round-init c =
     record {
       reached = first_reached s c.args.scale c.know_lawful.ensures.lawful c.requires.scale c.args.x c.args.y c.requires.forward c.args.table.now.lanes c.requires.start c.requires.whole;
       lanes = λ done is. is ∙ ap (lanes_of s.processors) (sym (append-nil done));
-      count = sym (add-zero (rounds_of c.args.table.now.lanes));
+      count = sym (add-zero (rounds_in c.args.table.now.lanes));
       room = add-zero c.args.table.now.room;
     }
 
@@ -59,7 +59,7 @@ loop-round-preserved c =
     let less = c.push_round.ensures.room in
     let room = c.loop-round.invariant.room in
     let count = c.loop-round.invariant.count in
-    let more = ap rounds_of lanes_are ∙ next_count s c.args.scale lawful c.requires.scale c.requires.fits slice c.requires.forward lanes reached.whole (stretch (c.args.y - c.args.x) it.round) in
+    let more = ap rounds_in lanes_are ∙ next_count s c.args.scale lawful c.requires.scale c.requires.fits slice c.requires.forward lanes reached.whole (stretch (c.args.y - c.args.x) it.round) in
     record {
       reached = subst R (sym lanes_are) (next_reached s c.args.scale lawful c.requires.scale c.args.x c.args.y c.requires.forward lanes c.loop-round.round-index reached c.round-item.result it c.requires.fits);
       lanes = λ done is.
@@ -73,7 +73,7 @@ loop-round-preserved c =
 pub returns-clause-lanes : goal.returns-clause-lanes
 returns-clause-lanes c = λ done is.
     let s = c.args.set.now in
-    let rs = rounds_in c.args.scale (rates c.args.scale s.tasks) in
+    let rs = round_spans c.args.scale (rates c.args.scale s.tasks) in
     let many = ap length c.requires.pattern ∙ length-map rs (unit_round s.processors c.args.scale (rates c.args.scale s.tasks)) in
     let all = take_all c.loop-round.round-index rs (let l = c.loop-round-test.false in omega (arith, l, many)) in
     c.loop-round.invariant.lanes done is
@@ -83,7 +83,7 @@ returns-clause-lanes c = λ done is.
 pub returns-clause-end : goal.returns-clause-end
 returns-clause-end c =
     let s = c.args.set.now in
-    let rs = rounds_in c.args.scale (rates c.args.scale s.tasks) in
+    let rs = round_spans c.args.scale (rates c.args.scale s.tasks) in
     let many = ap length c.requires.pattern ∙ length-map rs (unit_round s.processors c.args.scale (rates c.args.scale s.tasks)) in
     last_reached s c.args.scale c.know_lawful.ensures.lawful c.requires.scale c.args.x c.args.y c.requires.forward c.loop-round.table.lanes c.loop-round.round-index
     (let l = c.loop-round-test.false in omega (arith, l, many)) c.loop-round.invariant.reached

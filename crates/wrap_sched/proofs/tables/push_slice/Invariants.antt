@@ -1,5 +1,5 @@
 use Rattle.std.proofs.Common.{◌≡◌, ◌+◌, ◌++◌, List}
-use Rattle.sched_base.specs.Tables.{rounds_of}
+use Rattle.sched_base.specs.Tables.{rounds_in}
 use Rattle.sched_base.specs.declared.rows.Row.{Row}
 use Rattle.sched_base.specs.Lanes.{lanes_of}
 use Rattle.wrap_sched.proofs.TableLemmas.{IsReached, rows_up_to}
@@ -9,6 +9,6 @@ abbrev pub invariant-loop-round : goal.invariant-loop-round
 invariant-loop-round l = record {
   reached : IsReached l.set l.scale l.x l.y l.round-index l.table.lanes;
   lanes : (done : List Row) → l.initial.table.lanes ≡ lanes_of l.set.processors done → l.table.lanes ≡ lanes_of l.set.processors (done ++ rows_up_to l.set l.scale l.x l.y l.round-index);
-  count : rounds_of l.table.lanes ≡ rounds_of l.initial.table.lanes + l.round-index;
+  count : rounds_in l.table.lanes ≡ rounds_in l.initial.table.lanes + l.round-index;
   room : l.table.room + l.round-index ≡ l.initial.table.room;
 }

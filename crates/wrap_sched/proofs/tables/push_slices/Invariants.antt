@@ -1,6 +1,6 @@
 use Rattle.std.proofs.Common.{◌≡◌, ◌<◌, ◌≤◌, ◌-◌, ◌+◌, ◌*◌, ◌++◌, List, filter, length, true}
 use Rattle.std.specs.List.{flat_map, range_with_len}
-use Rattle.sched_base.specs.Tables.{end_of, rounds_of}
+use Rattle.sched_base.specs.Tables.{end_of, rounds_in}
 use Rattle.sched_base.specs.declared.rows.Row.{Row}
 use Rattle.sched_base.specs.Lanes.{lanes_of}
 use Rattle.wrap_sched.specs.Spans.{spans}
@@ -16,7 +16,7 @@ invariant-slices l = record {
   end : end_of l.table.lanes ≡ l.x * l.scale;
   whole : length l.table.lanes ≡ l.set.processors;
   room : l.table.room ≡ length l.pattern * length (filter (is_point l.set.tasks) (range_with_len l.x (l.set.horizon - l.x)));
-  count : rounds_of l.table.lanes + l.table.room ≡ wrapped_rounds l.scale l.set;
+  count : rounds_in l.table.lanes + l.table.room ≡ wrapped_rounds l.scale l.set;
 }
 
 abbrev pub decreases-slices : goal.decreases-slices

@@ -1,5 +1,5 @@
 use Rattle.std.proofs.Common.{◌≡◌, ◌∙◌, true, false, inl, inr, refl, sym, arith}
-use Rattle.sched_base.specs.Tables.{rounds_of as rounds_in}
+use Rattle.sched_base.specs.Tables.{rounds_in}
 use Rattle.book_machine.specs.Machine.{posted_at}
 use Rattle.plan_rounds.proofs.RoundLemmas.{below_or}
 use Rattle.book_steps.proofs.book.StepBook.compute_for.Goals as goal

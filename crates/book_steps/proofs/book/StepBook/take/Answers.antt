@@ -1,5 +1,5 @@
 use Rattle.std.proofs.Common.{◌≡◌, ◌<◌, ◌+◌, ◌∙◌, Bool, true, false, refl, ap, subst, sym, length}
-use Rattle.sched_base.specs.Tables.{rounds_of as rounds_in}
+use Rattle.sched_base.specs.Tables.{rounds_in}
 use Rattle.book_machine.specs.Machine.{lane_at, least_posted, posted_at, WaitsFor}
 use Rattle.plan_rounds.specs.PlanRows.{plan_rows}
 use Rattle.plan_rounds.proofs.RowLemmas.{waiting_may_not}

@@ -1,5 +1,5 @@
 use Rattle.std.proofs.Common.{◌≡◌, ◌<◌, ◌+◌, ◌∙◌, Bool, true, false, refl, ap, subst, sym, length, arith}
-use Rattle.sched_base.specs.Tables.{Table, rounds_of as rounds_in}
+use Rattle.sched_base.specs.Tables.{Table, rounds_in}
 use Rattle.book_machine.specs.Machine.{lane_at, least_posted, posted_at, HasTakeable}
 use Rattle.plan_rounds.specs.PlanRows.{plan_rows}
 use Rattle.exec_book.specs.Books.{BookContents}

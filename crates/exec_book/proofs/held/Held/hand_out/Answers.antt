@@ -35,4 +35,4 @@ pub returns-clause-state : goal.returns-clause-state
 returns-clause-state g c = c.step.ensures
 
 pub returns-clause-held : goal.returns-clause-held
-returns-clause-held g c = rw c.lift-job.ensures.desk refl
+returns-clause-held g c = rw c.lift-job.ensures.store refl

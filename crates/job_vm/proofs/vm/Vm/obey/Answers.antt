@@ -1,6 +1,6 @@
 use Rattle.std.proofs.Common.{◌/◌, ◌%◌, ◌^◌, ◌+◌, ◌≡◌, ◌≢◌, ◌∙◌, ap, arith}
 use Rattle.std.specs.Prelude.{slice_index}
-use Rattle.sched_edges.specs.Machine.{jump}
+use Rattle.sched_edges.specs.JobMachine.{jump}
 use Rattle.job_vm.proofs.ObeyedLemmas.{no_register, set_is, add_is, sub_is, mul_is, no_second, zero_is, not_zero_is, jump_is, no_jump, no_operation}
 use Rattle.job_vm.proofs.vm.Vm.obey.Goals as goal
 

@@ -1,5 +1,5 @@
 use Rattle.std.proofs.Common.{◌∙◌, sym, ap, arith}
-use Rattle.sched_edges.specs.Machine.{step}
+use Rattle.sched_edges.specs.JobMachine.{step}
 use Rattle.job_vm.proofs.MachineLemmas.{alone_last, alone_more}
 use Rattle.job_vm.proofs.vm.Vm.run.Goals as goal
 

@@ -1,5 +1,5 @@
 use Rattle.std.proofs.Common.{◌≡◌}
-use Rattle.sched_edges.specs.Machine.{alone}
+use Rattle.sched_edges.specs.JobMachine.{alone}
 use Rattle.job_vm.proofs.vm.Vm.run.Given as goal
 
 abbrev pub invariant-loop-step : goal.invariant-loop-step

@@ -1,8 +1,8 @@
 use Rattle.std.proofs.Common.{◌≡◌, ◌*◌, subst}
 use Rattle.sched_base.specs.Valid.{IsValid}
-use Rattle.trace_rows.specs.declared.faults.Verdict.TheVariants.{Valid}
-use Rattle.trace_rows.specs.Faults.{IsVerdict}
-use Rattle.trace_rows.proofs.VerdictLemmas.{verdict_valid}
+use Rattle.trace_verdict.specs.declared.faults.Verdict.TheVariants.{Valid}
+use Rattle.trace_verdict.specs.Faults.{IsVerdict}
+use Rattle.trace_verdict.proofs.VerdictLemmas.{verdict_valid}
 use Rattle.trace_check.specs.Traces.{Trace}
 use Rattle.trace_check.proofs.checked.CheckedTrace.verdict.Goals as goal
 

@@ -1,5 +1,5 @@
 use Rattle.std.proofs.Common.{◌≡◌, length, map, take}
-use Rattle.trace_lines.specs.Finishes.{ended_count}
+use Rattle.trace_format.specs.Finishes.{ended_count}
 use Rattle.trace_writer.proofs.finishes.Finishes.with_room.Given as goal
 
 abbrev pub invariant-loop-task : goal.invariant-loop-task

@@ -1,0 +1,102 @@
+//! The command `follow`.
+ghost use Rattle.std.specs.Prelude.{◌≡◌, ◌≤◌, length, IfOk, IfErr, OnOk};
+ghost use Rattle.sched_base.specs.Tables.{row_limit};
+ghost use Rattle.row_totals.specs.Sums.{totals_of};
+ghost use Rattle.merged_rows.specs.Lawful.{AreLawful};
+ghost use Rattle.merged_rounds.specs.Passes.{AreMergedOf};
+ghost use Rattle.tree_check.specs.TextTree.{IsTextOfTree};
+ghost use Rattle.trace_format.specs.Conditions.{AreOnTime};
+ghost use Rattle.pure_commands.specs.Commands.{set_limit};
+ghost use Rattle.pure_commands.specs.Ends.{streams_of, IsTold, StopsAs};
+ghost use Rattle.pure_commands.specs.Follow.{WritesFollow, RefusesFollow, GaveTree, GaveNoTree, WrotePlan, StopsAtPlan, plan_told, rows_told};
+ghost use Rattle.pure_commands.specs.declared.status.Status.TheVariants.{Done};
+
+use crate::input::SET_LIMIT;
+use crate::refusal::Refusal;
+use crate::trace::merged_rows_of;
+use crate::unwritten::written;
+use merged_rows::MergedRows;
+use reading_laws::form_law;
+use run_tree::Plan;
+use sched_edges::{Sink, Source, read_all};
+use std::alloc::Global;
+use trace_writer::write_merged;
+use tree_check::check_tree;
+use tree_reader::{ReadTree, read_tree};
+
+/// Reads a tree text that anybody wrote, of at most as many bytes as a task set, and writes the schedule of its own tree.
+pub(crate) fn follow<R: Source, W: Sink>(
+    alloc: Global,
+    source: &mut R,
+    out: &mut W,
+) -> Result<(), Refusal>
+    ensures done { OnOk result (IsTold set_limit WritesFollow Done
+        (streams_of R.Source W.Sink source.old out.old) (streams_of R.Source W.Sink source.new out.new)) }
+    ensures stops { IfErr result (StopsAs set_limit WritesFollow RefusesFollow
+        (streams_of R.Source W.Sink source.old out.old) (streams_of R.Source W.Sink source.new out.new)) }
+{
+    form_law();
+    let tree = read_tree_input(alloc, source)?;
+    write_schedule(alloc, &tree, out)
+}
+
+// Reads the source to its end, as a tree text.
+fn read_tree_input<R: Source>(alloc: Global, source: &mut R) -> Result<ReadTree, Refusal>
+    ensures tree { IfOk result (GaveTree (R.left source.old) (R.left source.new) SET_LIMIT) }
+    ensures refusal { IfErr result (GaveNoTree (R.left source.old) (R.left source.new)
+        (R.faults source.old) (R.faults source.new) SET_LIMIT) }
+{
+    let bytes = read_all(alloc, source, SET_LIMIT)?;
+    Ok(read_tree(alloc, bytes.as_slice())?)
+}
+
+// Writes the schedule of a tree text, where it is that of a reduction tree of its set.
+fn write_schedule<W: Sink>(alloc: Global, tree: &ReadTree, out: &mut W) -> Result<(), Refusal>
+    requires { AreOnTime tree.now.set.tasks }
+    ensures done { OnOk result (WrotePlan (W.taken out.old) (W.taken out.new) tree.now) }
+    ensures stops { IfErr result (StopsAtPlan (W.taken out.old) (W.taken out.new)
+        (W.faults out.old) (W.faults out.new) tree.now) }
+{
+    let plan = check_tree(alloc, tree)?;
+    write_plan(alloc, tree, &plan, out)
+}
+
+// Writes the schedule of the plan of a tree text.
+fn write_plan<W: Sink>(
+    alloc: Global,
+    tree: &ReadTree,
+    plan: &Plan,
+    out: &mut W,
+) -> Result<(), Refusal>
+    requires on_time { AreOnTime tree.now.set.tasks }
+    requires text { IsTextOfTree tree.now }
+    requires plan { plan.now ≡ plan_told tree.now }
+    ensures done { OnOk result (WrotePlan (W.taken out.old) (W.taken out.new) tree.now) }
+    ensures stops { IfErr result (StopsAtPlan (W.taken out.old) (W.taken out.new)
+        (W.faults out.old) (W.faults out.new) tree.now) }
+{
+    let (rows, totals) = merged_rows_of(alloc, plan)?;
+    write_plan_rows(tree, plan, &rows, totals.as_slice(), out)
+}
+
+// Writes the merged rows of the plan of a tree text.
+fn write_plan_rows<W: Sink>(
+    tree: &ReadTree,
+    plan: &Plan,
+    rows: &MergedRows,
+    totals: &[u128],
+    out: &mut W,
+) -> Result<(), Refusal>
+    requires on_time { AreOnTime tree.now.set.tasks }
+    requires text { IsTextOfTree tree.now }
+    requires plan { plan.now ≡ plan_told tree.now }
+    requires room { rows_told tree.now ≤ row_limit }
+    requires rows { AreMergedOf plan.now rows.now.lanes }
+    requires lawful { AreLawful plan.now.set rows.now.lanes }
+    requires totals { totals.now ≡ totals_of (length plan.now.set.tasks) rows.now.lanes }
+    ensures done { OnOk result (WrotePlan (W.taken out.old) (W.taken out.new) tree.now) }
+    ensures stops { IfErr result (StopsAtPlan (W.taken out.old) (W.taken out.new)
+        (W.faults out.old) (W.faults out.new) tree.now) }
+{
+    written(write_merged(out, tree.set(), plan.scale(), rows, totals))
+}

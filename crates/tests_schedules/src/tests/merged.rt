@@ -1,0 +1,90 @@
+//! The merged rows of worked sets.
+ghost use Rattle.std.specs.Prelude.{◌<◌, length};
+
+use super::{OFFSET_OF_ONE, Round, THREE_TASKS, is_row, plan_with};
+use merged_rounds::merged_of;
+use merged_rows::{MergedRows, totals_of_merged};
+use plain_model::NamedTask;
+use run_tree::Plan;
+use std::alloc::Global;
+use std::process::Abort;
+
+/// The rows of a processor, each as a round of it alone: the letter of what it shows stands at its own place.
+type Lane<'a> = &'a [Round<'a>];
+
+/// Whether these are the merged rows of processor p.
+fn is_lane(merged: &MergedRows, p: u32, lane: Lane) -> bool
+    requires { p < length merged.now.lanes }
+{
+    for i in 0..merged.count(p) {
+        if lane.len() <= i || !is_row(&merged.row(p, i), p, &lane[i]) {
+            return false;
+        }
+    }
+    lane.len() == merged.count(p)
+}
+
+/// Compares the rows of each processor.
+fn assert_lanes(rt: &impl Abort, merged: &MergedRows, lanes: &[Lane]) {
+    assert!(rt; merged.processors() as usize == lanes.len());
+    for p in 0..merged.processors() {
+        assert!(rt; is_lane(merged, p, lanes[p as usize]), "{p}");
+    }
+}
+
+/// Compares the rows and the ticks of each task.
+fn check_merged(rt: &impl Abort, alloc: Global, plan: &Plan, lanes: &[Lane], ticks: &[u128]) {
+    let merged = merged_of(alloc, plan).expect(rt, "merged rows");
+    assert_lanes(rt, &merged, lanes);
+    let totals = totals_of_merged(alloc, &merged, plan.set().count()).expect(rt, "there is memory");
+    assert!(rt; totals.as_slice() == ticks);
+}
+
+/// A set, its merged rows, and the ticks of each task.
+struct Case {
+    processors: u32,
+    horizon: u64,
+    tasks: &'static [NamedTask<'static>],
+    lanes: &'static [Lane<'static>],
+    ticks: &'static [u128],
+}
+
+/// The rows are those of the rounds that the tests of schedules have, merged by hand.
+const CASES: &[Case] = &[
+    Case {
+        processors: 2,
+        horizon: 3,
+        tasks: THREE_TASKS,
+        lanes: &[&[(0, 3, "b"), (3, 9, "a")], &[(0, 6, ".c"), (6, 9, ".b")]],
+        ticks: &[6, 6, 6],
+    },
+    Case {
+        processors: 1,
+        horizon: 5,
+        tasks: OFFSET_OF_ONE,
+        lanes: &[&[
+            (0, 1, "A"),
+            (1, 3, "b"),
+            (3, 5, "a"),
+            (5, 7, "b"),
+            (7, 9, "a"),
+            (9, 10, "b"),
+        ]],
+        ticks: &[4, 5],
+    },
+    Case {
+        processors: 1,
+        horizon: 3,
+        tasks: &[],
+        lanes: &[&[(0, 3, "0")]],
+        ticks: &[],
+    },
+];
+
+#[test]
+fn merges_the_rounds_of_worked_sets(rt: HostRuntime) {
+    for case in CASES {
+        let plan = plan_with(&rt, rt.alloc(), case.processors, case.horizon, case.tasks);
+        check_merged(&rt, rt.alloc(), &plan, case.lanes, case.ticks);
+    }
+}

@@ -1,0 +1,85 @@
+//! Who runs at the start of worked sets.
+ghost use Rattle.std.specs.Prelude.{◌<◌, length};
+ghost use Rattle.release_calendar.specs.Calendars.{BelongsTo};
+
+use super::windows::refill;
+use super::{OFFSET_OF_ONE, THREE_TASKS, TWO_REDUCTIONS, plan_with};
+use release_calendar::Calendar;
+use plain_model::NamedTask;
+use run_tree::{Kind, Plan};
+use sched_base::{Leaf, NodeId};
+use server_budget::Budgets;
+use std::alloc::Global;
+use std::process::Abort;
+use tree_select::select;
+
+/// The task of a node, where it is a task's and runs.
+fn running_task(plan: &Plan, runs: &[bool], x: u32) -> Option<u32>
+    requires { x < length plan.now.tree.nodes }
+{
+    match plan.tree().kind(NodeId(x)) {
+        Kind::Leaf(Leaf::Task(id)) if runs.get(x as usize) == Some(&true) => Some(id.0),
+        Kind::Leaf(_) | Kind::Pack(_) | Kind::Dual(_) => None,
+    }
+}
+
+/// Makes sure that just these tasks run, in the order of their nodes.
+fn assert_running(rt: &impl Abort, plan: &Plan, runs: &[bool], tasks: &[u32]) {
+    let mut found = 0;
+    for x in 0..plan.tree().nodes() {
+        if let Some(task) = running_task(plan, runs, x) {
+            assert!(rt; found < tasks.len() && tasks[found] == task);
+            found += 1;
+        }
+    }
+    assert!(rt; found == tasks.len());
+}
+
+/// Selects who runs with these dues left and these ends of windows, and makes sure that it is just these tasks.
+fn check_selected(
+    rt: &impl Abort,
+    alloc: Global,
+    plan: &Plan,
+    remains: &[u128],
+    ends: &[u128],
+    tasks: &[u32],
+) {
+    let nodes = plan.tree().nodes() as usize;
+    let mut runs = vec![in alloc; false; nodes].expect(rt, "there is memory");
+    assert!(rt; remains.len() == nodes && ends.len() == nodes && runs.len() == nodes);
+    select(plan.tree(), remains, ends, &mut runs);
+    assert_running(rt, plan, &runs, tasks);
+}
+
+/// Gives each node that has a window its due.
+fn refill_all(rt: &impl Abort, plan: &Plan, calendar: &Calendar, budgets: &mut Budgets)
+    requires { BelongsTo plan.now calendar.now }
+{
+    for x in 0..plan.tree().nodes() {
+        refill(rt, plan, calendar, budgets, x);
+    }
+}
+
+/// Makes sure that just these tasks run first.
+fn check_first(rt: &impl Abort, alloc: Global, plan: &Plan, tasks: &[u32]) {
+    let mut budgets = Budgets::new(alloc, plan.tree()).expect(rt, "there is memory");
+    let calendar = Calendar::new(alloc, plan).expect(rt, "there is memory");
+    refill_all(rt, plan, &calendar, &mut budgets);
+    check_selected(rt, alloc, plan, budgets.remains(), calendar.ends(), tasks);
+}
+
+/// Processors, tasks, and those that run first.
+const CASES: &[(u32, &[NamedTask], &[u32])] = &[
+    (2, THREE_TASKS, &[1, 2]),
+    (3, TWO_REDUCTIONS, &[0, 1, 3]),
+    (1, OFFSET_OF_ONE, &[0]),
+    (2, &[], &[]),
+];
+
+#[test]
+fn chooses_who_runs_first(rt: HostRuntime) {
+    for (processors, tasks, running) in CASES {
+        let plan = plan_with(&rt, rt.alloc(), *processors, 5, tasks);
+        check_first(&rt, rt.alloc(), &plan, running);
+    }
+}

@@ -1,0 +1,181 @@
+//! Worked sets, wrapped.
+ghost use Rattle.std.specs.Prelude.{◌≤◌, ◌^◌};
+ghost use Rattle.sched_base.specs.Scale.{Fits, IsScale};
+
+use merged_rows::MergedRows;
+use sample_sets::{NoSet, add_task, set_of};
+use rate_scale::{fits, scale_of};
+use sched_base::{Leaf, Row, TaskSet};
+use std::alloc::Global;
+use std::process::Abort;
+use std::test::Fail;
+use wrap_sched::{WrapFault, merged_wrap, wrap, wrap_rounds};
+
+/// A set of groups of equal tasks, each told by the number of its tasks, their work, period and offset.
+fn grouped_set(
+    alloc: Global,
+    processors: u32,
+    horizon: u64,
+    groups: &[(u32, u64, u64, u64)],
+) -> Result<TaskSet, NoSet> {
+    let mut set = set_of(alloc, processors, horizon, &[])?;
+    for (count, work, period, offset) in groups {
+        for _task in 0..*count {
+            let name = name_of(set.count());
+            add_task(&mut set, &name, *work, *period, *offset)?;
+        }
+    }
+    Ok(set)
+}
+
+/// The name of a task by its place, of which at most a hundred are told apart.
+fn name_of(place: u32) -> [u8; 3] {
+    [
+        b't',
+        b'0' + (place / 10 % 10) as u8,
+        b'0' + (place % 10) as u8,
+    ]
+}
+
+/// The scale of a set that fits.
+fn scale_that_fits(rt: &impl Abort, set: &TaskSet) -> u128
+    ensures scale { IsScale set.now.tasks result }
+    ensures small { result ≤ 2 ^ 94 }
+    ensures fits { Fits result set.now }
+{
+    match scale_of(set) {
+        Ok(scale) => {
+            assert!(rt; fits(set, scale));
+            scale
+        }
+        Err(_) => panic!(rt; "no scale"),
+    }
+}
+
+/// A leaf as one letter: a task by its small letter, one that waits by its capital, an idle leaf by a dot.
+fn letter(leaf: Leaf) -> u8 {
+    match leaf {
+        Leaf::Task(id) => b'a' + (id.0 % 26) as u8,
+        Leaf::Wait(id) => b'A' + (id.0 % 26) as u8,
+        Leaf::Idle(_) => b'.',
+        Leaf::Empty => b'?',
+    }
+}
+
+/// Compares a lane with letters, one for each round, and with the ticks at which the rounds start.
+fn compare(rt: &impl Abort, lane: &[Row], starts: &[u128], letters: &str) {
+    assert!(rt; lane.len() == letters.len());
+    assert!(rt; lane.len() + 1 == starts.len());
+    for k in 0..lane.len() {
+        assert!(rt; Some(lane[k].start) == starts.get(k).copied());
+        assert!(rt; Some(lane[k].end) == starts.get(k + 1).copied());
+        assert!(rt; Some(letter(lane[k].leaf)) == letters.as_bytes().get(k).copied());
+    }
+}
+
+/// Compares the first lanes of a set that is wrapped, each with letters as in `compare`.
+fn compare_wrapped(
+    rt: &impl Abort,
+    alloc: Global,
+    set: &TaskSet,
+    starts: &[u128],
+    lanes: &[&str],
+) -> Result<(), WrapFault> {
+    let scale = scale_that_fits(rt, set);
+    let rounds = wrap_rounds(alloc, set, scale)?;
+    assert!(rt; rounds.saturating_add(1) == starts.len() as u64);
+    let table = wrap(alloc, set, scale, rounds)?;
+    assert!(rt; table.processors() == set.processors());
+    assert!(rt; lanes.len() <= table.processors() as usize);
+    for p in 0..lanes.len() {
+        compare(rt, table.lane(p as u32), starts, lanes[p]);
+    }
+    Ok(())
+}
+
+#[test]
+fn wraps_worked_sets(rt: HostRuntime) -> Result<(), Fail> {
+    let two_thirds: &[(u32, u64, u64, u64)] = &[(3, 2, 3, 0)];
+    let halves: &[(u32, u64, u64, u64)] = &[(2, 1, 2, 0), (1, 1, 4, 0)];
+    let full_rate: &[(u32, u64, u64, u64)] = &[(1, 2, 2, 0)];
+    let late: &[(u32, u64, u64, u64)] = &[(1, 1, 2, 1)];
+    let one_is_late: &[(u32, u64, u64, u64)] = &[(1, 1, 2, 0), (1, 1, 2, 1)];
+    let never_released: &[(u32, u64, u64, u64)] = &[(1, 1, 2, 5)];
+    let filled: &[(u32, u64, u64, u64)] = &[(3, 2, 3, 0), (30, 1, 1, 0)];
+    // processors, horizon, tasks, the ticks at which the rounds start with the end, and the leaves of the first processors
+    let rows: [(u32, u64, &[(u32, u64, u64, u64)], &[u128], &[&str]); 8] = [
+        (2, 3, two_thirds, &[0, 3, 6, 9], &["aab", "bcc"]),
+        (
+            2,
+            4,
+            halves,
+            &[0, 2, 4, 8, 10, 12, 16],
+            &["aabaab", "c..c.."],
+        ),
+        (2, 4, full_rate, &[0, 4, 8], &["aa", ".."]),
+        (1, 3, late, &[0, 1, 2, 4, 6], &["A.a."]),
+        (
+            1,
+            4,
+            one_is_late,
+            &[0, 1, 2, 3, 4, 5, 6, 7, 8],
+            &["aBababab"],
+        ),
+        (1, 1, never_released, &[0, 1, 2], &["A."]),
+        (2, 1, &[], &[0, 1], &[".", "."]),
+        (
+            32,
+            2,
+            filled,
+            &[0, 1, 2, 3, 4, 5, 6],
+            &["aabaab", "bccbcc", "dddddd", "eeeeee"],
+        ),
+    ];
+    for (processors, horizon, tasks, starts, lanes) in rows {
+        let set = grouped_set(rt.alloc(), processors, horizon, tasks)?;
+        compare_wrapped(&rt, rt.alloc(), &set, starts, lanes)?;
+    }
+    Ok(())
+}
+
+/// The merged rows of a set that is wrapped to three rounds.
+fn merged(rt: &impl Abort, alloc: Global, set: &TaskSet) -> Result<MergedRows, WrapFault> {
+    let scale = scale_that_fits(rt, set);
+    assert!(rt; wrap_rounds(alloc, set, scale)? == 3);
+    Ok(merged_wrap(alloc, set, scale)?)
+}
+
+/// Compares the two rows of a processor with these, each told by its start, its end and a letter.
+fn compare_merged(rt: &impl Abort, rows: &MergedRows, processor: u32, want: [(u128, u128, u8); 2]) {
+    assert!(rt; processor < rows.processors());
+    assert!(rt; rows.count(processor) == 2);
+    for i in 0..2 {
+        let row = rows.row(processor, i);
+        assert!(rt; (row.start, row.end, letter(row.leaf)) == want[i]);
+    }
+}
+
+// Three tasks of rate 2/3 on two processors: on each of them two rounds under one name are one row.
+#[test]
+fn merges_the_rows_of_a_worked_set(rt: HostRuntime) -> Result<(), Fail> {
+    let set = grouped_set(rt.alloc(), 2, 3, &[(3, 2, 3, 0)])?;
+    let rows = merged(&rt, rt.alloc(), &set)?;
+    assert!(rt; rows.processors() == 2);
+    compare_merged(&rt, &rows, 0, [(0, 6, b'a'), (6, 9, b'b')]);
+    compare_merged(&rt, &rows, 1, [(0, 3, b'b'), (3, 9, b'c')]);
+    Ok(())
+}
+
+// With 32 processors as many as 65536 rounds are within the limit of rows.
+#[test]
+fn counts_up_to_the_limit(rt: HostRuntime) -> Result<(), Fail> {
+    for (horizon, count) in [
+        (65_536, Ok(65_536)),
+        (65_537, Err(WrapFault::TooLong { rows: 2_097_184 })),
+    ] {
+        let set = grouped_set(rt.alloc(), 32, horizon, &[(1, 1, 1, 0)])?;
+        let scale = scale_that_fits(&rt, &set);
+        assert!(rt; wrap_rounds(rt.alloc(), &set, scale) == count);
+    }
+    Ok(())
+}

@@ -1,5 +1,0 @@
-use Rattle.std.proofs.Common.{◌-◌}
-use Rattle.trace_rows.proofs.hands.end_of.Given as goal
-
-abbrev pub decreases-halves : goal.decreases-halves
-decreases-halves l = l.high - l.low

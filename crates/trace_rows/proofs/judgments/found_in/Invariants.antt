@@ -1,5 +1,0 @@
-use Rattle.trace_rows.proofs.FoundLemmas.{FoundTo}
-use Rattle.trace_rows.proofs.judgments.found_in.Given as goal
-
-abbrev pub invariant-loop-task : goal.invariant-loop-task
-invariant-loop-task l = FoundTo l.set l.scale l.rows l.by_task l.task l.left l.found.items

@@ -1,6 +1,0 @@
-use Rattle.std.proofs.Common.{◌≡◌, length}
-use Rattle.trace_rows.specs.Timed.{AreGoing}
-use Rattle.trace_rows.proofs.timed.timed_findings.Given as goal
-
-abbrev pub invariant-rows : goal.invariant-rows
-invariant-rows l = (length l.walks.items ≡ length l.set.tasks) × AreGoing l.set l.scale l.rows 0 l.walks.items

@@ -1,0 +1,118 @@
+//! The rows of a trace in the orders of processors and of tasks.
+ghost use Rattle.std.specs.Prelude.{◌≡◌, ◌<◌, ◌^◌, ◌++◌, length, IfOk, OnOk, IsSorted};
+ghost use Rattle.trace_verdict.specs.Orders.{entry_cmp, processor_key, task_key, entry_of, entries_from, places, IsOrder, AreStarts};
+ghost use Rattle.trace_verdict.specs.Searches.{IsFront};
+
+use crate::entries::Entry;
+use sched_base::{Leaf, NoMemory, Row};
+use std::alloc::Global;
+
+pub(crate) fn task_key(row: &Row) -> Option<u32>
+    ensures { result ≡ task_key row.now }
+{
+    match row.leaf {
+        Leaf::Task(id) => Some(id.0),
+        _ => None,
+    }
+}
+
+// Adds the entry of a row, where it has a key.
+fn add_entry(
+    entries: &mut Vec<Entry>,
+    key: Option<u32>,
+    row: &Row,
+    place: u32,
+) -> Result<(), NoMemory>
+    ensures { OnOk result (entries.new.items ≡ entries.old.items ++ entry_of key row.now place) }
+{
+    if let Some(key) = key {
+        entries.push(Entry {
+            key,
+            start: row.start,
+            place,
+            end: row.end,
+        })?;
+    }
+    Ok(())
+}
+
+fn processor_entries(alloc: Global, rows: &[Row]) -> Result<Vec<Entry>, NoMemory>
+    requires { length rows.now < 2 ^ 32 }
+    ensures { IfOk result (λ v. v.items ≡ entries_from processor_key 0 rows.now) }
+{
+    let mut entries = Vec::new(alloc);
+    for (i, row) in rows.iter().enumerate() {
+        add_entry(&mut entries, Some(row.processor), row, i as u32)?;
+    }
+    Ok(entries)
+}
+
+/// All rows, in the order of processor, start and place.
+pub fn order_by_processor(alloc: Global, rows: &[Row]) -> Result<Vec<Entry>, NoMemory>
+    requires { length rows.now < 2 ^ 32 }
+    ensures { IfOk result (λ v. IsOrder processor_key rows.now v.items) }
+{
+    let mut entries = processor_entries(alloc, rows)?;
+    entries.sort()?;
+    Ok(entries)
+}
+
+fn task_entries(alloc: Global, rows: &[Row]) -> Result<Vec<Entry>, NoMemory>
+    requires { length rows.now < 2 ^ 32 }
+    ensures { IfOk result (λ v. v.items ≡ entries_from task_key 0 rows.now) }
+{
+    let mut entries = Vec::new(alloc);
+    for (i, row) in rows.iter().enumerate() {
+        add_entry(&mut entries, task_key(row), row, i as u32)?;
+    }
+    Ok(entries)
+}
+
+/// The rows of tasks, in the order of task, start and place.
+pub fn order_by_task(alloc: Global, rows: &[Row]) -> Result<Vec<Entry>, NoMemory>
+    requires { length rows.now < 2 ^ 32 }
+    ensures { IfOk result (λ v. IsOrder task_key rows.now v.items) }
+{
+    let mut entries = task_entries(alloc, rows)?;
+    entries.sort()?;
+    Ok(entries)
+}
+
+/// The places of entries, in their order.
+pub fn places_of(alloc: Global, entries: &[Entry]) -> Result<Vec<u32>, NoMemory>
+    ensures { IfOk result (λ v. v.items ≡ places entries.now) }
+{
+    let mut places = Vec::new(alloc);
+    for entry in entries {
+        places.push(entry.place)?;
+    }
+    Ok(places)
+}
+
+/// How many entries at the front have this key.
+pub fn front_len(entries: &[Entry], key: u32) -> usize
+    ensures { IsFront key entries.now result }
+{
+    for (i, entry) in entries.iter().enumerate() {
+        if entry.key != key {
+            return i;
+        }
+    }
+    entries.len()
+}
+
+/// Where the part of each of the first keys begins, and at the end where the last of these parts ends.
+pub fn starts_of(alloc: Global, entries: &[Entry], count: u32) -> Result<Vec<u32>, NoMemory>
+    requires sorted { IsSorted entry_cmp entries.now }
+    requires few { length entries.now < 2 ^ 32 }
+    ensures { IfOk result (λ v. AreStarts count v.items entries.now) }
+{
+    let mut starts = Vec::new(alloc);
+    starts.push(0)?;
+    let mut at = 0;
+    for key in 0..count {
+        at += front_len(&entries[at..], key);
+        starts.push(at as u32)?;
+    }
+    Ok(starts)
+}

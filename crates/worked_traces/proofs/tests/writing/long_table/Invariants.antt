@@ -1,6 +1,0 @@
-use Rattle.std.proofs.Common.{◌≡◌, ◌+◌, [], ◌∷◌}
-use Rattle.worked_traces.specs.LongTables.{steady_rows}
-use Rattle.worked_traces.proofs.tests.writing.long_table.Given as goal
-
-abbrev pub invariant-loop-k : goal.invariant-loop-k
-invariant-loop-k l = (l.table.lanes ≡ steady_rows l.k ∷ []) × (l.table.room + l.k ≡ l.rounds)
