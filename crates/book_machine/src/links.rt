@@ -243,7 +243,12 @@ fn no_trails(alloc: Global, tasks: u32) -> Result<Vec<Latest>, NoMemory>
 }
 
 // Links the rows of the last round.
-fn link_round(table: &RowTable, round: u32, links: &mut Vec<LaneLinks>, latest_rows: &mut Vec<Latest>)
+fn link_round(
+    table: &RowTable,
+    round: u32,
+    links: &mut Vec<LaneLinks>,
+    latest_rows: &mut Vec<Latest>,
+)
     requires last { round + 1 ≡ rounds_in table.now.lanes }
     requires before { AreLinked table.now.lanes round 0 links.old.items latest_rows.old.items }
     ensures { AreLinked table.now.lanes (round + 1) 0 links.new.items latest_rows.new.items }

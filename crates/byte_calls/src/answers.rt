@@ -7,9 +7,9 @@ ghost use Rattle.pure_commands.specs.declared.status.Status.{Status as Ended};
 ghost use Rattle.byte_calls.specs.Answers.{IsAnswered};
 
 use crate::streams::{ByteSink, ByteSource};
+use pure_commands::{Reading, Status, run_reading};
 use std::alloc::Global;
 use std::marker::Model;
-use pure_commands::{Reading, Status, run_reading};
 
 /// What a command answers to bytes: its status, and its text, or the line that says why there is none.
 #[derive(Drop)]

@@ -213,7 +213,8 @@ impl Sleeper {
 pub fn note_calls(waiters: Option<&Waiters>, lane: u32) {
     if let Some(waiters) = waiters {
         if let Some(sleeper) = waiters.sleepers.get(lane as usize) {
-            sleeper.seen
+            sleeper
+                .seen
                 .store(sleeper.calls.load(Ordering::SeqCst), Ordering::Relaxed);
         }
     }
@@ -240,12 +241,7 @@ pub fn wake(waiters: Option<&Waiters>, lanes: u32) {
 ///
 /// False where it gives up: beside other workers where some lane seems to have no worker, since that may be the one that it waits for,
 /// and alone after 10,000 waits in a row.
-pub fn wait<R: Wait>(
-    rt: &R,
-    waiters: Option<&Waiters>,
-    lane: u32,
-    waits: &mut u32,
-) -> bool {
+pub fn wait<R: Wait>(rt: &R, waiters: Option<&Waiters>, lane: u32, waits: &mut u32) -> bool {
     if let Some(waiters) = waiters {
         if let Some(sleeper) = waiters.sleepers.get(lane as usize) {
             return waiters.sleep(rt, sleeper, waits);

@@ -6,8 +6,8 @@ ghost use Rattle.furnacelime_c.specs.Answers.{reading_of, asked_by, AnswerGives,
 use byte_calls::call;
 use c_handles::AnswerHandle;
 use command_words::Asked;
-use std::alloc::Global;
 use pure_commands::Reading;
+use std::alloc::Global;
 
 /// The status of a call that can't be done.
 const WRONG_CALL: u8 = 64;

@@ -1,8 +1,8 @@
 //! Plans of tasks that a test names.
-pub use sample_sets::NamedTask;
-use sample_sets::{NoSet, set_of};
 use run_compile::{CompileFault, compile};
 use run_tree::Plan;
+pub use sample_sets::NamedTask;
+use sample_sets::{NoSet, set_of};
 use std::alloc::Global;
 
 /// Why these tasks have no plan.

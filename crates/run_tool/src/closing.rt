@@ -8,9 +8,9 @@ ghost use Rattle.run_tool.specs.Closing.{closed, IsClosed, TellsClosed};
 ghost use Rattle.pure_commands.specs.Refusals.{refusal_line};
 ghost use Rattle.pure_commands.specs.declared.refusal.Refusal.TheVariants as why;
 
+use pure_commands::{Refusal, Status, refuse};
 use sched_edges::{Failed, Sink, StdSink};
 use std::io::{BufWriter, Write};
-use pure_commands::{Refusal, Status, refuse};
 
 /// The status at the end of a run that had this status before: `out` hands on what it kept back. A text that wasn't handed on
 /// wasn't written, so that is a fault of `out`, and `err` takes its line, where no other was told.

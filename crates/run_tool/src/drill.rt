@@ -20,6 +20,7 @@ use crate::summary::{Summary, summary_of, write_summary};
 use command_words::USUAL_WINDOW;
 use event_core::{CountFault, count_rounds};
 use exec_workers::Kit;
+use pure_commands::{Refusal, written};
 use round_table::table_law;
 use run_compile::{CompileFault, compile};
 use run_tree::Plan;
@@ -28,7 +29,6 @@ use sched_edges::{BoxedJob, Gate, Job, Jobs, Sink};
 use std::alloc::Global;
 use std::sync::Wait;
 use std::thread::Threads;
-use pure_commands::{Refusal, written};
 use task_gen::{drill_law, make, words_of};
 use trace_check::{ReadTrace, merged_law};
 

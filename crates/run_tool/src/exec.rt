@@ -17,6 +17,7 @@ ghost use Rattle.pure_commands.specs.declared.status.Status.TheVariants.{Done};
 
 use event_core::count_rounds;
 use exec_workers::{ExecFault, Executed, Kit, execute};
+use pure_commands::{Refusal, finishes_for, plan_of, read_input, write_rows, written};
 use round_table::table_law;
 use run_tree::Plan;
 use sched_base::{Leaf, Name, TaskSet};
@@ -24,7 +25,6 @@ use sched_edges::{BoxedJob, Gate, Job, Jobs, Sink, Source};
 use std::alloc::Global;
 use std::sync::Wait;
 use std::thread::Threads;
-use pure_commands::{Refusal, finishes_for, plan_of, read_input, write_rows, written};
 
 /// Reads a task set, has the gates and the jobs run its schedule, and writes it; in version 2 where `met` is asked for or some
 /// task is released late. A lane may run up to `window` rounds ahead of the others.

@@ -17,13 +17,13 @@ use command_words::USUAL_WINDOW;
 use event_core::count_rounds;
 use exec_workers::Kit;
 use job_vm::{JobText, first_stray, load_programs, read_jobs, write_jobs};
+use pure_commands::{Refusal, SET_LIMIT, plan_of, written};
 use run_tree::Plan;
 use sched_base::TaskSet;
 use sched_edges::{BoxedJob, Gate, Job, Jobs, Sink, Source, read_all};
 use std::alloc::Global;
 use std::sync::Wait;
 use std::thread::Threads;
-use pure_commands::{Refusal, SET_LIMIT, plan_of, written};
 use task_reader::read_set;
 
 /// Reads a job text, loads each task's program into its job, has the gates and the jobs run the schedule of the set, and writes

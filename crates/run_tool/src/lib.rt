@@ -12,7 +12,7 @@ mod summary;
 
 pub use closing::{close_flushed, close_run};
 pub use command_words::{Command, Execution, Reading};
-pub use running::{run, run_without_crew};
 pub use pure_commands::{
     ModeRefusal, Refusal, Status, follow_law, refuse, run_reading, run_still, sound_law, write_rate,
 };
+pub use running::{run, run_without_crew};

@@ -18,13 +18,13 @@ use crate::mode_text::write_modes;
 use command_words::USUAL_WINDOW;
 use exec_workers::Kit;
 use mode_switch::{Modes, ModesFault, ModesRun, run_modes};
+use pure_commands::{ModeRefusal, Refusal, SET_LIMIT, written};
 use round_table::table_law;
 use sched_base::TaskSet;
 use sched_edges::{BoxedJob, Gate, Job, Jobs, Sink, Source, read_all};
 use std::alloc::Global;
 use std::sync::Wait;
 use std::thread::Threads;
-use pure_commands::{ModeRefusal, Refusal, SET_LIMIT, written};
 use task_reader::{Pieces, ReadSet, cut, pieces_law, read_set};
 
 /// Reads task sets, has the gates and the jobs run their schedules as modes, one after the other, and writes them. In each mode a

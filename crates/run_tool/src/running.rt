@@ -18,11 +18,11 @@ use crate::jobs::run_jobs;
 use crate::modes::modes;
 use command_words::{Execution, USUAL_WINDOW, asks_for_batch, asks_to_execute, execution_of};
 use exec_workers::Kit;
+use pure_commands::{Refusal, Status, follow_law, refuse, run_batch, run_still, sound_law};
 use sched_edges::{BoxedJob, Gate, Job, Jobs, Sink, Source};
 use std::alloc::Global;
 use std::sync::Wait;
 use std::thread::Threads;
-use pure_commands::{Refusal, Status, follow_law, refuse, run_batch, run_still, sound_law};
 
 /// Does what the words, those after the program's name, ask for: reads the source, writes the whole text to `out`, or one line
 /// that says why not to `err`. `exec` has the gates of the kits and the jobs run the schedule of the set before its text is

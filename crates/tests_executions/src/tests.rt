@@ -15,9 +15,9 @@ mod whole_runs;
 
 use event_core::count_rounds;
 use exec_workers::{ExecFault, Executed, Kit, execute};
-use sample_sets::{NamedTask, set_of};
 use run_compile::compile;
 use run_tree::Plan;
+use sample_sets::{NamedTask, set_of};
 use sched_base::{Leaf, Row, TaskId};
 use sched_edges::{FailJob, Job, JobList, Jobs, ListGate};
 use std::alloc::Global;

@@ -12,7 +12,7 @@ ghost use Rattle.trace_draw.specs.Head.{lane_lines, lanes_text, axis_step, first
 use crate::shapes::{
     add_number, box_line, grid_line, grown, label_line, lane_top, number_text, roomy_line, task_top,
 };
-use crate::shown_units::{LEFT, WIDTH, ShownUnits};
+use crate::shown_units::{LEFT, ShownUnits, WIDTH};
 use sched_base::TaskSet;
 use sched_edges::{Failed, Line, Sink, word_line, write_lines};
 use trace_verdict::{FaultKind, Verdict};

@@ -12,7 +12,7 @@ use crate::served::{Served, served_between};
 use crate::shapes::{
     add_number, arrow_line, base_line, box_line, line_if, ring_line, roomy_line, task_top,
 };
-use crate::shown_units::{WIDTH, ShownUnits};
+use crate::shown_units::{ShownUnits, WIDTH};
 use sched_base::Task;
 use sched_edges::{Failed, Line, Sink, write_lines};
 use trace_check::ReadTrace;

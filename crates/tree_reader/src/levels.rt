@@ -11,8 +11,8 @@ ghost use Rattle.tree_reader.specs.Faults.{NamesBadLine};
 use crate::faults::TreeFault;
 use crate::packs::{level_size, read_pack};
 use std::alloc::Global;
-use trace_check::number_after;
 use text_words::{after_word, first_line};
+use trace_check::number_after;
 use tree_check::{Level, Pack};
 
 // This many packs of a level, the first of which stands on line `first`, and the lines that follow.

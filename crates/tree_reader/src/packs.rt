@@ -8,8 +8,8 @@ ghost use Rattle.tree_reader.specs.Packs.{pack_of, number_behind, second_number}
 use crate::members::read_members;
 use sched_base::NoMemory;
 use std::alloc::Global;
-use trace_check::BadLine;
 use text_words::{after_word, cut_space, first_line, read_number};
+use trace_check::BadLine;
 use tree_check::Pack;
 
 // The number from `low` to `high` that a word writes.

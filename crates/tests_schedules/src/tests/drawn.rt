@@ -1,9 +1,9 @@
 //! Sets of tasks drawn in a fixed order, so that each run of the tests has the same ones.
 ghost use Rattle.std.specs.Prelude.{◌≤◌, ◌<◌};
 
-use sample_sets::{add_task, set_of};
 use run_compile::compile;
 use run_tree::Plan;
+use sample_sets::{add_task, set_of};
 use sched_base::TaskSet;
 use std::alloc::Global;
 use std::process::Abort;

@@ -1,7 +1,7 @@
 //! Plans of worked sets, and the sets that are refused.
-use sample_sets::{NamedTask, set_of};
 use run_compile::CompileFault::{Overload, ScaleTooLarge};
 use run_compile::{CompileFault, compile, levels};
+use sample_sets::{NamedTask, set_of};
 use sched_base::TaskSet;
 use std::alloc::Global;
 use std::process::Abort;

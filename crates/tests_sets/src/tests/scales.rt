@@ -1,6 +1,6 @@
 //! Scales, rates and totals of worked sets.
-use sample_sets::{NamedTask, set_of};
 use rate_scale::{ScaleTooLarge, fits, rate, rates_of, scale_of, total};
+use sample_sets::{NamedTask, set_of};
 use sched_base::TaskSet;
 use std::alloc::Global;
 use std::process::Abort;

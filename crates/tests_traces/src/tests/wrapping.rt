@@ -3,8 +3,8 @@ ghost use Rattle.std.specs.Prelude.{◌≤◌, ◌^◌};
 ghost use Rattle.sched_base.specs.Scale.{Fits, IsScale};
 
 use merged_rows::MergedRows;
-use sample_sets::{NoSet, add_task, set_of};
 use rate_scale::{fits, scale_of};
+use sample_sets::{NoSet, add_task, set_of};
 use sched_base::{Leaf, Row, TaskSet};
 use std::alloc::Global;
 use std::process::Abort;

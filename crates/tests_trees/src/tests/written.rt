@@ -1,7 +1,7 @@
 //! Texts that `tree` writes of worked sets, and sinks that fail.
 use super::worked_texts::{NINE_TASKS, ONE_IDLE_LEAF, THREE_TASKS, TWO_REDUCTIONS};
-use sample_sets::{NamedTask, set_of};
 use run_compile::compile;
+use sample_sets::{NamedTask, set_of};
 use sched_edges::{Failed, MemSink};
 use std::alloc::Global;
 use std::process::Abort;
