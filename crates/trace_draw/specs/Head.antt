@@ -82,7 +82,7 @@ style_lines =
     ∷ word_line (codes ".v0,.v1,.v2,.v3{fill:currentColor}.v1,.v2,.v3{stroke:#000;stroke-width:12}")
     ∷ word_line (codes ".v2{stroke-dasharray:40}.v3{stroke-dasharray:160 60}")
     ∷ word_line (codes "@media(max-width:900px){.h{font-size:300px}.ok,.bad{font-size:260px}.l,.e{transform:translateY(-30px)}")
-    ∷ word_line (codes ".s{transform:translateY(15px)}.x{font-size:230px}.y{font-size:165px}.s.x{font-size:220px}}</style>") ∷ []
+    ∷ word_line (codes ".s{transform:translateY(15px)}.x{font-size:230px}.y,.s.y{font-size:160px}.s.x{font-size:220px}}</style>") ∷ []
 
 -- what comes before the lanes
 abbrev pub opening_lines : SetContents → ShownUnits → Verdict → List (List ℕ)

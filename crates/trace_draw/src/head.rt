@@ -272,7 +272,7 @@ fn write_style<W: Sink>(sink: &mut W) -> Result<(), Failed>
             b"@media(max-width:900px){.h{font-size:300px}.ok,.bad{font-size:260px}.l,.e{transform:translateY(-30px)}",
         ),
         word_line(
-            b".s{transform:translateY(15px)}.x{font-size:230px}.y{font-size:165px}.s.x{font-size:220px}}</style>",
+            b".s{transform:translateY(15px)}.x{font-size:230px}.y,.s.y{font-size:160px}.s.x{font-size:220px}}</style>",
         ),
     ];
     write_lines(sink, &lines)

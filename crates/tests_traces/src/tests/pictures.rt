@@ -24,7 +24,7 @@ const STYLE: &str =
 .v0,.v1,.v2,.v3{fill:currentColor}.v1,.v2,.v3{stroke:#000;stroke-width:12}
 .v2{stroke-dasharray:40}.v3{stroke-dasharray:160 60}
 @media(max-width:900px){.h{font-size:300px}.ok,.bad{font-size:260px}.l,.e{transform:translateY(-30px)}
-.s{transform:translateY(15px)}.x{font-size:230px}.y{font-size:165px}.s.x{font-size:220px}}</style>
+.s{transform:translateY(15px)}.x{font-size:230px}.y,.s.y{font-size:160px}.s.x{font-size:220px}}</style>
 ";
 
 // How each picture begins, up to its height.
