@@ -53,9 +53,9 @@ level_is_all t h dry l n most first e was = record {
 }
 
 -- one level more, below the others
-pub soonest_level : (t : Tree) (dry : List ℕ) (l above most first least next : ℕ) → above ≡ l + 1 → most ≤ no_tick → next ≡ min first least → IsSoonest t dry (λ q. above ≤ level t q) most first →
-    IsSoonest t dry (λ q. level t q ≡ l) no_tick least → IsSoonest t dry (λ q. l ≤ level t q) most next
-soonest_level t dry l above most first least next e far is was own = record {
+pub soonest_level : (t : Tree) (dry : List ℕ) (l above most first bound least next : ℕ) → above ≡ l + 1 → first ≤ bound → next ≡ min first least → IsSoonest t dry (λ q. above ≤ level t q) most first →
+    IsSoonest t dry (λ q. level t q ≡ l) bound least → IsSoonest t dry (λ q. l ≤ level t q) most next
+soonest_level t dry l above most first bound least next e far is was own = record {
   below = (let b = was.below in omega (arith, b, is));
   all = λ q j low. elim (cases_eq (level t q) l) [
     | inl same ↦ (let a = own.all q j same in omega (arith, a, is))
@@ -64,7 +64,7 @@ soonest_level t dry l above most first least next e far is was own = record {
   one = elim (cases_lt least first) [
     | inl less ↦ (let same : next ≡ least = omega (arith, is, less) in elim own.one [
       | inr found ↦ inr (found.0, found.1, same ∙ found.2)
-      | inl none ↦ absurd (let b = was.below in omega (arith, none, less, b, far))
+      | inl none ↦ absurd (omega (arith, none, less, far))
     ])
     | inr high ↦ (let same : next ≡ first = omega (arith, is, high) in elim was.one [ inl here ↦ inl (same ∙ here) | inr found ↦ inr (found.0, found.1, same ∙ found.2) ])
   ];
@@ -75,9 +75,9 @@ pub noted_top : (t : Tree) → IsTree t → (dry soonest : List ℕ) (l : ℕ) �
 noted_top t h dry soonest l e = λ p i low short. absurd (let b = h.leveled p i in omega (arith, low, b, e))
 
 -- one level more is noted, where there is room
-pub noted_level : (t : Tree) (dry soonest soonest' : List ℕ) (l above least : ℕ) → above ≡ l + 1 → IsSoonest t dry (λ q. level t q ≡ l) no_tick least → (l < length soonest → soonest' ≡ set soonest l least) →
+pub noted_level : (t : Tree) (dry soonest soonest' : List ℕ) (l above bound least : ℕ) → above ≡ l + 1 → IsSoonest t dry (λ q. level t q ≡ l) bound least → (l < length soonest → soonest' ≡ set soonest l least) →
     ((l < length soonest → ⊥) → soonest' ≡ soonest) → AreSoonestFrom t dry soonest above → AreSoonestFrom t dry soonest' l
-noted_level t dry soonest soonest' l above least e own noted full was = λ p i low short. elim (cases_lt l (length soonest)) [
+noted_level t dry soonest soonest' l above bound least e own noted full was = λ p i low short. elim (cases_lt l (length soonest)) [
   | inl room ↦ (let is = noted room in
       let long = ap (λ (xs : List ℕ). length xs) is ∙ length-set soonest l least in
       elim (cases_eq (level t p) l) [

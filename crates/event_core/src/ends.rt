@@ -1,7 +1,7 @@
 //! Where a round ends: the first tick at which a member that runs has nothing left.
 ghost use Rattle.std.specs.Prelude.{◌≡◌, ◌<◌, ◌≤◌, min, length, slice_index, slice_set};
 ghost use Rattle.run_tree.specs.Tree.{IsTree, level as level_of};
-ghost use Rattle.event_core.specs.Serving.{AreSoonestFrom, IsSoonest};
+ghost use Rattle.event_core.specs.Serving.{no_tick, AreSoonestFrom, IsSoonest};
 
 use crate::walks::pack_of;
 use run_tree::Tree;
@@ -40,9 +40,10 @@ fn note_level(soonest: &mut [u128], level: u32, tick: u128)
 }
 
 /// The first of a tick and of those at which members that run have nothing left. Of each level for which there is room the first
-/// of its own packs' ticks is noted.
+/// of its own packs' ticks is noted, or some tick before that one and after the result.
 pub(crate) fn first_dry(tree: &Tree, dry: &[u128], most: u128, soonest: &mut [u128]) -> u128
     requires dry { length dry.now ≡ length tree.now.nodes }
+    requires most { most < no_tick }
     ensures first { IsSoonest tree.now dry.now (λ q. 0 ≤ level_of tree.now q) most result }
     ensures soonest { AreSoonestFrom tree.now dry.now soonest.new 0 }
 {
@@ -50,7 +51,8 @@ pub(crate) fn first_dry(tree: &Tree, dry: &[u128], most: u128, soonest: &mut [u1
     let mut level = tree.levels();
     while level > 0 {
         level -= 1;
-        let least = first_of_level(tree, level, dry, u128::MAX);
+        // of a level all of whose ticks are later than the first one so far, it is enough to know that
+        let least = first_of_level(tree, level, dry, first + 1);
         note_level(soonest, level, least);
         first = first.min(least);
     }

@@ -7,7 +7,7 @@ ghost use Rattle.run_tree.specs.Schedule.{packs_at};
 ghost use Rattle.cpu_assign.specs.Changed.{AreChanged};
 ghost use Rattle.release_calendar.specs.Calendars.{BelongsTo};
 ghost use Rattle.tree_select.specs.Marked.{AreFreshFrom};
-ghost use Rattle.event_core.specs.Serving.{due_of, AreBegun, AreFitting, AreLong, AreSettledFrom, AreSoonestFrom, IsBlank, IsDrying, IsServing, IsSoonest};
+ghost use Rattle.event_core.specs.Serving.{due_of, no_tick, AreBegun, AreFitting, AreLong, AreSettledFrom, AreSoonestFrom, IsBlank, IsDrying, IsServing, IsSoonest};
 ghost use Rattle.event_core.specs.Steps.{packs_by};
 
 use crate::begun::begin_all;
@@ -88,9 +88,10 @@ impl Serving {
     }
 
     /// The first of a tick and of those at which members that run have nothing left. Of each level for which there is room the
-    /// first of its own packs' ticks is noted.
+    /// first of its own packs' ticks is noted, or some tick before that one and after the result.
     pub(crate) fn first_dry(&self, plan: &Plan, most: u128, soonest: &mut [u128]) -> u128
-        requires { length self.now.dry ≡ length plan.now.tree.nodes }
+        requires dry { length self.now.dry ≡ length plan.now.tree.nodes }
+        requires most { most < no_tick }
         ensures first { IsSoonest plan.now.tree self.now.dry (λ q. 0 ≤ level_of plan.now.tree q) most result }
         ensures soonest { AreSoonestFrom plan.now.tree self.now.dry soonest.new 0 }
     {

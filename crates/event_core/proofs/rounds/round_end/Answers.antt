@@ -7,8 +7,11 @@ use Rattle.event_core.proofs.rounds.round_end.Goals as goal
 pub last_tick-most-requires : goal.last_tick-most-requires
 last_tick-most-requires c = c.next.ensures.within
 
-pub first_dry-requires : goal.first_dry-requires
-first_dry-requires c = c.requires.core.long.dry
+pub first_dry-requires-clause-dry : goal.first_dry-requires-clause-dry
+first_dry-requires-clause-dry c = c.requires.core.long.dry
+
+pub first_dry-requires-clause-most : goal.first_dry-requires-clause-most
+first_dry-requires-clause-most c = c.last_tick-most.ensures.fits
 
 pub returns-clause-soonest : goal.returns-clause-soonest
 returns-clause-soonest c = c.first_dry.ensures.soonest
@@ -17,4 +20,4 @@ pub returns-clause-end : goal.returns-clause-end
 returns-clause-end c =
     let p = c.args.plan.now in
     subst (λ n. IsSoonest p.tree c.args.state.now.serving.dry (λ q. 0 ≤ level p.tree q) n c.first_dry.result)
-    (c.last_tick-most.ensures ∙ ap (λ n. min (stop_of p) (n * p.tree.scale)) c.next.ensures.value) c.first_dry.ensures.first
+    (c.last_tick-most.ensures.value ∙ ap (λ n. min (stop_of p) (n * p.tree.scale)) c.next.ensures.value) c.first_dry.ensures.first
