@@ -1,2 +1,5 @@
 mod LookLemmas
 mod ScheduleLemmas
+mod SumLemmas
+mod LapLemmas
+mod ApartLemmas

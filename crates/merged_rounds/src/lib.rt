@@ -1,7 +1,11 @@
 //! The schedule of a plan, merged while its rounds go by.
 #![tactic(auto)]
 
+mod apart;
+mod laps;
 mod looks;
 mod passes;
+mod searches;
+mod sums;
 
 pub use passes::merged_of;

@@ -5,6 +5,7 @@ ghost use Rattle.sched_base.specs.declared.rows.NodeId.{NodeId as DeclaredNodeId
 ghost use Rattle.sched_base.specs.declared.rows.TaskId.{TaskId as DeclaredTaskId};
 ghost use Rattle.event_core.specs.Rounds.{IsRoundUpTo};
 ghost use Rattle.event_core.specs.Cores.{IsCoreOf};
+ghost use Rattle.merged_rounds.specs.Laps.{IsAllTold};
 ghost use Rattle.merged_rounds.specs.Passes.{shown_for, IsLooked, IsNodeOn};
 
 use event_core::{Core, leaf_shown_for};
@@ -146,5 +147,18 @@ pub(crate) fn look_each(
         kept[q as usize] = node;
         told[q as usize] = Some(leaf);
         other = next_other(plan, core, start, kept, q + 1);
+    }
+}
+
+/// Tells of each processor what it shows in the round just gone, which began at tick `start`.
+pub(crate) fn look_all(plan: &Plan, core: &Core, start: u128, told: &mut [Option<Leaf>])
+    requires belongs { IsCoreOf plan.now core.now }
+    requires round { IsRoundUpTo plan.now start core.now.tick }
+    requires told { length told.old ≡ plan.now.tree.processors }
+    ensures { IsAllTold plan.now start core.now.tick told.new }
+{
+    let count = plan.tree().processors();
+    for q in 0..count {
+        told[q as usize] = Some(core.leaf_on(plan, start, q));
     }
 }

@@ -1,22 +1,28 @@
 //! One pass over the rounds of a plan.
-ghost use Rattle.std.specs.Prelude.{◌≡◌, ◌≤◌, ◌*◌, length, replicate, IfOk, IfErr, None, vec_len};
+ghost use Rattle.std.specs.Prelude.{ℕ, ◌≡◌, ◌<◌, ◌≤◌, ◌+◌, ◌*◌, true, length, replicate, slice_index_or, IfOk, IfErr, None, vec_len};
 ghost use Rattle.sched_base.specs.Tables.{row_limit};
-ghost use Rattle.run_tree.specs.Plans.{rounds_of};
+ghost use Rattle.run_tree.specs.Plans.{rounds_of, stop_of};
 ghost use Rattle.event_core.specs.Cores.{IsCoreOf};
 ghost use Rattle.event_core.specs.Counts.{IsCountFault};
 ghost use Rattle.merged_rows.specs.Lawful.{AreLawful};
+ghost use Rattle.merged_rounds.specs.Laps.{AreTurns, CanComeRound, IsMerging, IsSumUpTo};
 ghost use Rattle.merged_rounds.specs.Passes.{AreMergedOf};
 
+use crate::apart::comes_round;
+use crate::laps::{merge_lap, with_laps};
 use crate::looks::look_each;
+use crate::searches::{merge_until_again, turn_of};
+use crate::sums::{RoundSum, all_rounds, no_rounds, with_round};
 use event_core::{Core, CountFault};
 use merged_rows::MergedRows;
 use run_tree::Plan;
-use sched_base::{Leaf, NoMemory, NodeId, ROW_LIMIT};
+use sched_base::{Leaf, NoMemory, NodeId};
 use std::alloc::Global;
 
 /// The merged rows of a plan's schedule, where it has at most 2,097,152 rows, one for each round and processor. It goes over each
-/// round once, and keeps no row that is merged with the one before. A schedule with too many rows is refused as it comes to the first
-/// round without room, with the number of rows up to the end of that round.
+/// round once, and keeps no row that is merged with the one before. Where all places come again at a multiple of the hyperperiod, it
+/// computes one lap more, and repeats what that one shows. A schedule with too many rows is refused as it comes to the first round
+/// without room, with the number of rows up to the end of that round.
 pub fn merged_of(alloc: Global, plan: &Plan) -> Result<MergedRows, CountFault>
     ensures rows { IfOk result (λ merged. AreMergedOf plan.now merged.lanes) }
     ensures lawful { IfOk result (λ merged. AreLawful plan.now.set merged.lanes) }
@@ -26,7 +32,8 @@ pub fn merged_of(alloc: Global, plan: &Plan) -> Result<MergedRows, CountFault>
     let mut kept = no_nodes(alloc, plan)?;
     let mut told = no_leaves(alloc, plan)?;
     let mut core = Core::new(alloc, plan)?;
-    merge_rounds(alloc, plan, &mut core, &mut kept, &mut told)
+    let sum = merge_rounds(alloc, plan, &mut core, &mut kept, &mut told)?;
+    Ok(all_rounds(plan, sum))
 }
 
 // Of no processor a node.
@@ -43,39 +50,165 @@ fn no_leaves(alloc: Global, plan: &Plan) -> Result<Vec<Option<Leaf>>, NoMemory>
     Ok(vec![in alloc; None; plan.tree().processors() as usize]?)
 }
 
-// Merges all rounds of the plan. Of each processor a node is kept that shows what it did last; `told` is overwritten.
+// Of no processor a node is kept.
+fn forget_nodes(kept: &mut [Option<NodeId>])
+    ensures { (q : ℕ) → slice_index_or kept.new q None ≡ None }
+{
+    for q in 0..kept.len() {
+        kept[q] = None;
+    }
+}
+
+/// Goes on with rounds up to the first that begins at tick `until` or later, or to the end of all. Of each processor a node is kept
+/// that shows what it did last; `told` is overwritten.
+pub(crate) fn merge_up_to(
+    plan: &Plan,
+    core: &mut Core,
+    kept: &mut [Option<NodeId>],
+    told: &mut [Option<Leaf>],
+    first: RoundSum,
+    until: u128,
+) -> Result<RoundSum, CountFault>
+    requires merging { IsMerging plan.now core.old first kept.old }
+    requires kept { length kept.old ≡ plan.now.tree.processors }
+    requires told { length told.old ≡ plan.now.tree.processors }
+    requires until { until ≤ stop_of plan.now }
+    ensures merging { IfOk result (λ sum. IsMerging plan.now core.new sum kept.new) }
+    ensures reached { IfOk result (λ _. until ≤ core.new.tick) }
+    ensures fault { IfErr result (λ fault. IsCountFault plan.now fault) }
+{
+    let mut sum = first;
+    'rounds: while core.now() < until {
+        let start = core.now();
+        core.go(plan);
+        look_each(plan, core, start, kept, told);
+        let end = core.now();
+        sum = with_round(plan, sum, start, end, told)?;
+    }
+    Ok(sum)
+}
+
+// Goes on up to the end of all rounds.
+fn merge_to_end(
+    plan: &Plan,
+    core: &mut Core,
+    kept: &mut [Option<NodeId>],
+    told: &mut [Option<Leaf>],
+    first: RoundSum,
+) -> Result<RoundSum, CountFault>
+    requires merging { IsMerging plan.now core.old first kept.old }
+    requires kept { length kept.old ≡ plan.now.tree.processors }
+    requires told { length told.old ≡ plan.now.tree.processors }
+    ensures sum { IfOk result (λ sum. IsSumUpTo plan.now (stop_of plan.now) sum) }
+    ensures fault { IfErr result (λ fault. IsCountFault plan.now fault) }
+{
+    merge_up_to(plan, core, kept, told, first, plan.rounds_end())
+}
+
+// Merges all rounds of the plan.
 fn merge_rounds(
     alloc: Global,
     plan: &Plan,
     core: &mut Core,
     kept: &mut [Option<NodeId>],
     told: &mut [Option<Leaf>],
-) -> Result<MergedRows, CountFault>
+) -> Result<RoundSum, CountFault>
     requires belongs { IsCoreOf plan.now core.old }
     requires first { core.old.tick ≡ 0 }
     requires kept { kept.old ≡ replicate plan.now.tree.processors None }
     requires told { length told.old ≡ plan.now.tree.processors }
-    ensures rows { IfOk result (λ merged. AreMergedOf plan.now merged.lanes) }
-    ensures lawful { IfOk result (λ merged. AreLawful plan.now.set merged.lanes) }
-    ensures few { IfOk result (λ _. rounds_of plan.now * plan.now.tree.processors ≤ row_limit) }
+    ensures sum { IfOk result (λ sum. IsSumUpTo plan.now (stop_of plan.now) sum) }
     ensures fault { IfErr result (λ fault. IsCountFault plan.now fault) }
 {
-    let processors = u64::from(plan.tree().processors());
-    let end = plan.rounds_end();
-    let none = MergedRows::new(alloc, plan.tree().processors())?;
-    let mut merged = none;
-    let mut count: u64 = 0;
-    'rounds: while core.now() < end {
-        let next_rows = (count + 1) * processors;
-        if next_rows > ROW_LIMIT {
-            return Err(CountFault::TooLong { rows: next_rows });
+    let first = no_rounds(alloc, plan)?;
+    if let Some(turn) = turn_of(plan) {
+        if comes_round(plan) {
+            return merge_with_laps(alloc, plan, core, kept, told, first, turn);
         }
-        let start = core.now();
-        core.go(plan);
-        look_each(plan, core, start, kept, told);
-        let to = core.now();
-        merged = merged.with_round(to, told)?;
-        count += 1;
     }
-    Ok(merged)
+    merge_to_end(plan, core, kept, told, first)
+}
+
+// Goes on up to the end of all rounds, of a plan whose schedule can come round.
+fn merge_with_laps(
+    alloc: Global,
+    plan: &Plan,
+    core: &mut Core,
+    kept: &mut [Option<NodeId>],
+    told: &mut [Option<Leaf>],
+    first: RoundSum,
+    turn: u128,
+) -> Result<RoundSum, CountFault>
+    requires can { CanComeRound plan.now }
+    requires merging { IsMerging plan.now core.old first kept.old }
+    requires kept { length kept.old ≡ plan.now.tree.processors }
+    requires told { length told.old ≡ plan.now.tree.processors }
+    requires turn { turn ≡ plan.now.tree.scale * plan.now.tree.scale }
+    ensures sum { IfOk result (λ sum. IsSumUpTo plan.now (stop_of plan.now) sum) }
+    ensures fault { IfErr result (λ fault. IsCountFault plan.now fault) }
+{
+    let (sum, again) = merge_until_again(alloc, plan, core, kept, told, first, turn)?;
+    match again {
+        Some(ticks) => merge_again(alloc, plan, core, kept, told, sum, turn, ticks),
+        None => merge_to_end(plan, core, kept, told, sum),
+    }
+}
+
+// Whether so many ticks are hyperperiods of `turn` ticks each, at least one.
+fn are_turns(plan: &Plan, turn: u128, ticks: u128) -> bool
+    requires turn { turn ≡ plan.now.tree.scale * plan.now.tree.scale }
+    ensures { result ≡ true → AreTurns plan.now ticks }
+{
+    plan.know_lawful();
+    if turn == 0 || ticks == 0 {
+        return false;
+    }
+    ticks % turn == 0
+}
+
+// Whether so many ticks are hyperperiods of `turn` ticks each that begin after tick 0, at tick `from`, and end before all rounds do.
+fn is_lap(plan: &Plan, from: u128, turn: u128, ticks: u128) -> bool
+    requires turn { turn ≡ plan.now.tree.scale * plan.now.tree.scale }
+    ensures later { result ≡ true → 0 < from }
+    ensures some { result ≡ true → 0 < ticks }
+    ensures within { result ≡ true → from + ticks < stop_of plan.now }
+    ensures turns { result ≡ true → AreTurns plan.now ticks }
+{
+    let stop = plan.rounds_end();
+    0 < from && 0 < ticks && from < stop && ticks < stop - from && are_turns(plan, turn, ticks)
+}
+
+// Goes on for one lap of so many ticks, where it ends before all rounds do; and up to the end of all rounds, by that lap where all
+// places are as before it.
+fn merge_again(
+    alloc: Global,
+    plan: &Plan,
+    core: &mut Core,
+    kept: &mut [Option<NodeId>],
+    told: &mut [Option<Leaf>],
+    first: RoundSum,
+    turn: u128,
+    ticks: u128,
+) -> Result<RoundSum, CountFault>
+    requires can { CanComeRound plan.now }
+    requires merging { IsMerging plan.now core.old first kept.old }
+    requires kept { length kept.old ≡ plan.now.tree.processors }
+    requires told { length told.old ≡ plan.now.tree.processors }
+    requires turn { turn ≡ plan.now.tree.scale * plan.now.tree.scale }
+    ensures sum { IfOk result (λ sum. IsSumUpTo plan.now (stop_of plan.now) sum) }
+    ensures fault { IfErr result (λ fault. IsCountFault plan.now fault) }
+{
+    plan.know_lawful();
+    let from = core.now();
+    if !is_lap(plan, from, turn, ticks) {
+        return merge_to_end(plan, core, kept, told, first);
+    }
+    let until = from + ticks;
+    let places = core.places().copy(alloc)?;
+    let (sum, lap) = merge_lap(alloc, plan, core, told, first, until)?;
+    if core.now() == until && core.places().is_same(&places) {
+        return with_laps(plan, &lap, from, ticks, sum);
+    }
+    forget_nodes(kept);
+    merge_to_end(plan, core, kept, told, sum)
 }

@@ -1,0 +1,12 @@
+use Rattle.std.proofs.Common.{◌≡◌, ℕ, ◌+◌, arith, length, min, subst}
+use Rattle.run_tree.specs.Plans.{stop_of}
+use Rattle.merged_rounds.specs.Laps.{IsSumUpTo, round_start}
+use Rattle.merged_rounds.proofs.laps.with_lap.Goals as goal
+
+pub returns-clause-sum : goal.returns-clause-sum
+returns-clause-sum c =
+    let ends = c.args.lap.now.ends.items in
+    let off = c.loop-i-test.false in
+    let within = c.loop-i.auto.i-end in
+    let e : c.loop-i.i ≡ length ends = omega (arith, off, within) in
+    subst (λ (n : ℕ). IsSumUpTo c.args.plan.now (min (round_start c.args.from ends n + c.args.shift) (stop_of c.args.plan.now)) c.loop-i.sum) e c.loop-i.invariant

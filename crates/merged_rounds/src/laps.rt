@@ -1,0 +1,186 @@
+//! Rounds that come again, lap after lap.
+ghost use Rattle.std.specs.Prelude.{ℕ, ◌≡◌, ◌<◌, ◌≤◌, ◌+◌, ◌*◌, ◌^◌, ◌++◌, ◌∷◌, [], length, min, IfErr, IfOk, None, slice_index, slice_index_or};
+ghost use Rattle.run_tree.specs.Plans.{IsPlan, stop_of};
+ghost use Rattle.event_core.specs.Cores.{IsCoreOf};
+ghost use Rattle.event_core.specs.Counts.{IsCountFault};
+ghost use Rattle.merged_rounds.specs.Laps.{CanComeRound, ComesAgain, IsLapFrom, IsSumUpTo, lap_end, round_start};
+
+use crate::looks::look_all;
+use crate::sums::{RoundSum, with_round};
+use event_core::{Core, CountFault};
+use run_tree::Plan;
+use sched_base::{Leaf, NoMemory};
+use std::alloc::Global;
+
+/// Rounds that follow one another: where each ends, and what each processor shows in each.
+#[derive(Drop)]
+pub(crate) struct Lap {
+    ends: Vec<u128>,
+    told: Vec<Option<Leaf>>,
+}
+
+// No round yet.
+fn no_lap(alloc: Global) -> Lap
+    ensures ends { result.ends.items ≡ [] }
+    ensures told { result.told.items ≡ [] }
+{
+    Lap {
+        ends: Vec::new(alloc),
+        told: Vec::new(alloc),
+    }
+}
+
+// One round more, up to tick `end`.
+fn keep_round(lap: Lap, end: u128, told: &[Option<Leaf>]) -> Result<Lap, NoMemory>
+    ensures ends { IfOk result (λ next. next.ends.items ≡ lap.ends.items ++ end ∷ []) }
+    ensures told { IfOk result (λ next. next.told.items ≡ lap.told.items ++ told.now) }
+{
+    let Lap {
+        ends: mut ends,
+        told: mut all,
+    } = lap;
+    ends.push(end)?;
+    all.extend_from_slice(told)?;
+    Ok(Lap { ends, told: all })
+}
+
+/// Goes on with rounds up to the first that begins at tick `until` or later, and keeps them as a lap. The list `told` is overwritten.
+pub(crate) fn merge_lap(
+    alloc: Global,
+    plan: &Plan,
+    core: &mut Core,
+    told: &mut [Option<Leaf>],
+    first: RoundSum,
+    until: u128,
+) -> Result<(RoundSum, Lap), CountFault>
+    requires belongs { IsCoreOf plan.now core.old }
+    requires sum { IsSumUpTo plan.now core.old.tick first }
+    requires told { length told.old ≡ plan.now.tree.processors }
+    requires until { until ≤ stop_of plan.now }
+    ensures belongs { IfOk result (λ _. IsCoreOf plan.now core.new) }
+    ensures sum { IfOk result (λ pair. IsSumUpTo plan.now core.new.tick pair.0) }
+    ensures lap { IfOk result (λ pair. IsLapFrom plan.now core.old.tick pair.1) }
+    ensures end { IfOk result (λ pair. lap_end core.old.tick pair.1 ≡ core.new.tick) }
+    ensures fault { IfErr result (λ fault. IsCountFault plan.now fault) }
+{
+    let mut sum = first;
+    let mut lap = no_lap(alloc);
+    'rounds: while core.now() < until {
+        let start = core.now();
+        core.go(plan);
+        look_all(plan, core, start, told);
+        let end = core.now();
+        sum = with_round(plan, sum, start, end, told)?;
+        lap = keep_round(lap, end, told)?;
+    }
+    Ok((sum, lap))
+}
+
+// What each of so many processors shows in round i of a lap.
+fn told_in(told: &[Option<Leaf>], processors: usize, i: usize) -> &[Option<Leaf>]
+    requires { (i + 1) * processors ≤ length told.now }
+    ensures long { length result.now ≡ processors }
+    ensures each { (q : ℕ) → q < processors → slice_index_or result.now q None ≡ slice_index_or told.now (i * processors + q) None }
+{
+    let from = i * processors;
+    &told[from..from + processors]
+}
+
+// The tick at which round i of a lap begins.
+fn start_of(ends: &[u128], from: u128, i: usize) -> u128
+    requires { i ≤ length ends.now }
+    ensures { result ≡ round_start from ends.now i }
+{
+    if i == 0 { from } else { ends[i - 1] }
+}
+
+// The tick at which round i of a lap ends, so many ticks later; or the end of all rounds where that is sooner.
+fn end_of(ends: &[u128], i: usize, shift: u128, stop: u128) -> u128
+    requires round { i < length ends.now }
+    requires fits { slice_index ends.now i + shift < 2 ^ 128 }
+    ensures { result ≡ min (slice_index ends.now i + shift) stop }
+{
+    (ends[i] + shift).min(stop)
+}
+
+// With round i of a lap that begins at tick `from`, so many ticks later: cut at the end of all rounds, and no round behind that.
+fn with_lap_round(
+    plan: &Plan,
+    lap: &Lap,
+    from: u128,
+    shift: u128,
+    sum: RoundSum,
+    i: usize,
+) -> Result<RoundSum, CountFault>
+    requires can { CanComeRound plan.now }
+    requires later { 0 < from }
+    requires again { ComesAgain plan.now from shift }
+    requires early { shift ≤ stop_of plan.now }
+    requires lap { IsLapFrom plan.now from lap.now }
+    requires round { i < length lap.now.ends.items }
+    requires sum { IsSumUpTo plan.now (min (round_start from lap.now.ends.items i + shift) (stop_of plan.now)) sum }
+    ensures sum { IfOk result (λ sum. IsSumUpTo plan.now (min (round_start from lap.now.ends.items (i + 1) + shift) (stop_of plan.now)) sum) }
+    ensures fault { IfErr result (λ fault. IsCountFault plan.now fault) }
+{
+    let stop = plan.rounds_end();
+    let start = start_of(&lap.ends, from, i) + shift;
+    if start >= stop {
+        return Ok(sum);
+    }
+    let end = end_of(&lap.ends, i, shift, stop);
+    let told = told_in(&lap.told, plan.tree().processors() as usize, i);
+    with_round(plan, sum, start, end, told)
+}
+
+// With the rounds of a lap that begins at tick `from`, so many ticks later, up to the end of all rounds.
+fn with_lap(
+    plan: &Plan,
+    lap: &Lap,
+    from: u128,
+    shift: u128,
+    first: RoundSum,
+) -> Result<RoundSum, CountFault>
+    requires can { CanComeRound plan.now }
+    requires later { 0 < from }
+    requires again { ComesAgain plan.now from shift }
+    requires early { from + shift < stop_of plan.now }
+    requires lap { IsLapFrom plan.now from lap.now }
+    requires sum { IsSumUpTo plan.now (from + shift) first }
+    ensures sum { IfOk result (λ sum. IsSumUpTo plan.now (min (lap_end from lap.now + shift) (stop_of plan.now)) sum) }
+    ensures fault { IfErr result (λ fault. IsCountFault plan.now fault) }
+{
+    let mut sum = first;
+    for i in 0..lap.ends.len() {
+        sum = with_lap_round(plan, lap, from, shift, sum, i)?;
+    }
+    Ok(sum)
+}
+
+/// With a lap again and again, `ticks` later each time, up to the end of all rounds. The rounds so far are those up to its end.
+pub(crate) fn with_laps(
+    plan: &Plan,
+    lap: &Lap,
+    from: u128,
+    ticks: u128,
+    first: RoundSum,
+) -> Result<RoundSum, CountFault>
+    requires can { CanComeRound plan.now }
+    requires later { 0 < from }
+    requires some { 0 < ticks }
+    requires again { ComesAgain plan.now from ticks }
+    requires within { from + ticks ≤ stop_of plan.now }
+    requires lap { IsLapFrom plan.now from lap.now }
+    requires end { lap_end from lap.now ≡ from + ticks }
+    requires sum { IsSumUpTo plan.now (from + ticks) first }
+    ensures sum { IfOk result (λ sum. IsSumUpTo plan.now (stop_of plan.now) sum) }
+    ensures fault { IfErr result (λ fault. IsCountFault plan.now fault) }
+{
+    let stop = plan.rounds_end();
+    let mut sum = first;
+    let mut shift = ticks;
+    'laps: while from + shift < stop {
+        sum = with_lap(plan, lap, from, shift, sum)?;
+        shift += ticks;
+    }
+    Ok(sum)
+}

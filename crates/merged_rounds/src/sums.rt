@@ -1,0 +1,78 @@
+//! The rounds so far, merged and counted.
+ghost use Rattle.std.specs.Prelude.{ℕ, ◌≡◌, ◌≤◌, ◌*◌, true, length, IfErr, IfOk, slice_get, Some};
+ghost use Rattle.sched_base.specs.declared.rows.Row.{Row as DeclaredRow};
+ghost use Rattle.sched_base.specs.Tables.{lane_of, row_limit};
+ghost use Rattle.run_tree.specs.Plans.{rounds_of, stop_of};
+ghost use Rattle.event_core.specs.Counts.{IsCountFault};
+ghost use Rattle.event_core.specs.Rounds.{IsRoundUpTo, rows_of_round};
+ghost use Rattle.merged_rows.specs.Columns.{AreTold, ends_showing};
+ghost use Rattle.merged_rows.specs.Lawful.{AreLawful};
+ghost use Rattle.merged_rounds.specs.Passes.{AreMergedOf};
+ghost use Rattle.merged_rounds.specs.Laps.{IsSumUpTo};
+
+use event_core::CountFault;
+use merged_rows::MergedRows;
+use run_tree::Plan;
+use sched_base::{Leaf, NoMemory, ROW_LIMIT};
+use std::alloc::Global;
+
+/// The merged rows of the rounds up to a tick, and how many rounds they are.
+#[derive(Drop)]
+pub(crate) struct RoundSum {
+    rows: MergedRows,
+    rounds: u64,
+}
+
+/// No round yet.
+pub(crate) fn no_rounds(alloc: Global, plan: &Plan) -> Result<RoundSum, NoMemory>
+    ensures { IfOk result (λ sum. IsSumUpTo plan.now 0 sum) }
+{
+    Ok(RoundSum {
+        rows: MergedRows::new(alloc, plan.tree().processors())?,
+        rounds: 0,
+    })
+}
+
+/// With the round from `start` up to tick `end`, where there is room for its rows. Of each processor it is told what it shows there,
+/// or nothing where its last row shows the same. The start is only spoken of.
+pub(crate) fn with_round(
+    plan: &Plan,
+    sum: RoundSum,
+    start: u128,
+    end: u128,
+    told: &[Option<Leaf>],
+) -> Result<RoundSum, CountFault>
+    requires sum { IsSumUpTo plan.now start sum }
+    requires round { IsRoundUpTo plan.now start end }
+    requires told { AreTold sum.rows.lanes told.now (rows_of_round plan.now start end) }
+    ensures sum { IfOk result (λ next. IsSumUpTo plan.now end next) }
+    ensures ends { IfOk result (λ next. (q : ℕ) (r : DeclaredRow) → slice_get (rows_of_round plan.now start end) q ≡ Some r →
+        ends_showing (lane_of next.rows.lanes q) r.leaf ≡ true) }
+    ensures fault { IfErr result (λ fault. IsCountFault plan.now fault) }
+{
+    let _start = start;
+    let RoundSum { rows, rounds } = sum;
+    let next_rows = (rounds + 1) * u64::from(plan.tree().processors());
+    if next_rows > ROW_LIMIT {
+        return Err(CountFault::TooLong { rows: next_rows });
+    }
+    Ok(RoundSum {
+        rows: rows.with_round(end, told)?,
+        rounds: rounds + 1,
+    })
+}
+
+/// The merged rows of all rounds.
+pub(crate) fn all_rounds(plan: &Plan, sum: RoundSum) -> MergedRows
+    requires sum { IsSumUpTo plan.now (stop_of plan.now) sum }
+    ensures rows { AreMergedOf plan.now result.lanes }
+    ensures lawful { AreLawful plan.now.set result.lanes }
+    ensures few { rounds_of plan.now * plan.now.tree.processors ≤ row_limit }
+{
+    plan.know_lawful();
+    let RoundSum {
+        rows,
+        rounds: _rounds,
+    } = sum;
+    rows
+}
