@@ -1,5 +1,5 @@
 -- A step that changes nothing is followed by more of the same.
-use Rattle.std.proofs.Common.{ℕ, zero, suc, ◌+◌, ◌-◌, ◌*◌, ◌/◌, ◌%◌, ◌^◌, ◌≤◌, ◌<◌, ◌≡◌, Bool, true, false, cond, eqb, ltb, ◌&&◌, List, length, get_or, Option, None, Some, refl, sym, ap, ◌∙◌, arith, add-zero, add-one, add-suc}
+use Rattle.std.proofs.Common.{ℕ, zero, suc, ◌+◌, ◌-◌, ◌*◌, ◌/◌, ◌%◌, ◌^◌, ◌≤◌, ◌<◌, ◌≡◌, Bool, true, false, cond, eqb, ltb, ◌&&◌, List, [], ◌∷◌, length, get_or, Option, None, Some, refl, sym, ap, ◌∙◌, arith, add-zero, add-one, add-suc}
 use Rattle.std.specs.Prelude.{slice_get, slice_index}
 use Rattle.std.proofs.Math.Nat.{zero-div}
 use Rattle.std.proofs.lemmas.Option.{slice_get-get_or, slice_get_past}
@@ -93,3 +93,15 @@ alone_last code n to m is on same =
 pub alone_start : (code : List ℕ) (scale : ℕ) → started ≡ alone code (0 / scale)
 unfolding alone
 alone_start code scale = sym (ap (alone code) (zero-div scale))
+
+-- the empty program stands still
+none_moves : (n : ℕ) → alone [] n ≡ alone [] 0
+none_moves n =
+    let start = alone [] 0 in
+    let still = step_past [] start start.counter refl (omega arith) in
+    let from : n ≡ 0 + n = omega arith in
+    ap (alone []) from ∙ alone_rests [] 0 n still
+
+pub alone_none : (code : List ℕ) (n m : ℕ) → length code ≡ 0 → alone code n ≡ alone code m
+alone_none [] n m none = none_moves n ∙ sym (none_moves m)
+alone_none (word ∷ code) n m none = absurd (omega (arith, none))

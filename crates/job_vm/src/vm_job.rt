@@ -1,5 +1,6 @@
 //! A job that runs a program.
-ghost use Rattle.std.specs.Prelude.{◌≡◌, ◌+◌, ◌<◌, ◌^◌, [], Some, IsOk};
+ghost use Rattle.std.specs.Prelude.{◌≡◌, ◌≤◌, ◌<◌, ◌+◌, ◌/◌, ◌^◌, [], Some, IsOk};
+ghost use Rattle.sched_edges.specs.JobMachine.{alone};
 
 use crate::vm::Vm;
 use sched_base::NoMemory;
@@ -72,8 +73,7 @@ impl Job for VmJob {
         ensures sure { IsOk result }
     {
         let used = self.used + ticks;
-        let (from, to) = (self.used / self.scale, used / self.scale);
-        self.vm.run(&self.code, from, to);
+        work_on(&mut self.vm, &self.code, self.scale, self.used, used);
         self.used = used;
         Ok(())
     }
@@ -91,5 +91,17 @@ impl Job for VmJob {
 
     fn state(&self) -> [u64; 9] {
         self.vm.numbers()
+    }
+}
+
+// Runs the program on, from so many ticks to so many. Nothing is divided for the empty program, which stands still.
+fn work_on(vm: &mut Vm, code: &[u64], scale: u128, from: u128, to: u128)
+    requires scale { 1 ≤ scale }
+    requires on { from ≤ to }
+    requires at { vm.old ≡ alone code.now (from / scale) }
+    ensures { vm.new ≡ alone code.now (to / scale) }
+{
+    if !code.is_empty() {
+        vm.run(code, from / scale, to / scale);
     }
 }
