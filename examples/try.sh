@@ -5,7 +5,7 @@
 # the three tasks are compared with those that were worked by hand, those of further sets follow each other, what its commands answer is compared with
 # what the program writes, from C and from Python, and the module for Python and the sweep are tried by what their documentation shows. The executive
 # for C executes each set, its book is tried call by call, also under the sanitizers that a compiler has, and the dispatcher runs a set by the clock.
-# What isn't there, or can't be built within forty minutes, is said, and isn't tried.
+# What isn't there, or can't be built within forty minutes, is said, and isn't tried. It takes at most three minutes beside the building of the library.
 top=$(cd "$(dirname "$0")/.." && pwd)
 program=$top/crates/furnacelime/out/furnacelime
 library=$top/crates/furnacelime_c/out/libfurnacelime_c.a
@@ -290,9 +290,13 @@ else
     echo "examples: the program isn't built here, so no table was tried"
 fi
 
+# The library is built first, unless AS_BUILT is set and there is one.
+kit=
+command -v rt >/dev/null && kit=$(dirname "$(dirname "$(readlink -f "$(command -v rt)")")")
 began=$(date +%s)
-command -v rt >/dev/null && kit=$(dirname "$(dirname "$(readlink -f "$(command -v rt)")")") &&
+if [ -n "$kit" ] && { [ -z "${AS_BUILT-}" ] || [ ! -f "$library" ]; }; then
     timeout 40m sh "$top/build.sh" furnacelime_c >/dev/null 2>&1 && echo "examples: the library for C was built in $((($(date +%s) - began) / 60)) minutes"
+fi
 if [ -f "$library" ] && [ -n "$kit" ]; then
     for compiler in $compilers; do
         try_rounds "$compiler"

@@ -100,12 +100,14 @@ struct fl_lane {
     pthread_t thread;
     pthread_cond_t woken;
     uint32_t processor;
-    uint32_t sleepers; /* a bit for each processor whose thread sleeps until this one posts */
+    uint32_t sleepers; /* a bit for each processor whose thread sleeps until this one posts an earlier row of its task */
     uint64_t posted;
     uint64_t woken_at; /* while it sleeps at the end of the window: as many rows all have posted when it is woken */
     uint32_t vain;     /* for how many waits in a row looking was in vain */
     uint32_t to_wake;  /* a bit for each processor whose thread is to be told, once the lock is free, that it sleeps no more */
     int asleep;
+    int status;        /* of the take that another thread did for this one while it slept behind an earlier row of its task; else FL_WAIT */
+    struct fl_row row; /* what it gave */
 };
 
 struct fl_execution {
@@ -192,6 +194,26 @@ static inline uint64_t fl_least(const struct fl_execution *in) { return in->leas
 static inline void fl_set_least(struct fl_execution *in, uint64_t least) { in->least = least; }
 #endif
 
+/* Lets a moment pass. */
+static inline void fl_pause(void)
+{
+#if defined(__GNUC__) && (defined(__x86_64__) || defined(__i386__))
+    __builtin_ia32_pause();
+#endif
+}
+
+/* Takes the lock. It is held for less time than a sleep takes, so where each processor has a CPU it is tried some times before that. */
+static inline void fl_lock(struct fl_execution *in)
+{
+    int tries;
+    for (tries = in->looks / 20; tries > 0; tries--) {
+        if (pthread_mutex_trylock(in->lock) == 0)
+            return;
+        fl_pause();
+    }
+    pthread_mutex_lock(in->lock);
+}
+
 /* Looks without the lock whether all have posted as many rows, for about as long as a sleep and its end take; where that was in vain for four
  * waits in a row, at every 64th alone. The lock is held when it is called, and at its end. */
 static inline void fl_look(struct fl_execution *in, struct fl_lane *lane, uint64_t posted)
@@ -201,23 +223,42 @@ static inline void fl_look(struct fl_execution *in, struct fl_lane *lane, uint64
         return;
     pthread_mutex_unlock(in->lock);
     fl_signal(in, lane);
-    for (looks = in->looks; looks > 0 && fl_least(in) < posted; looks--) {
-#if defined(__GNUC__) && (defined(__x86_64__) || defined(__i386__))
-        __builtin_ia32_pause();
-#endif
-    }
-    pthread_mutex_lock(in->lock);
+    for (looks = in->looks; looks > 0 && fl_least(in) < posted; looks--)
+        fl_pause();
+    fl_lock(in);
     lane->vain = in->least >= posted ? 0 : lane->vain + 1;
 }
 
-/* Waits until the processor may go on, and takes again. Behind an earlier row of its task it sleeps until the other processor posts; at the end
- * of the window until half of it is free, since to sleep for each row costs more than the row. The lock is held, but while it waits. No ring
- * of sleepers closes: whoever is waited for has posted less, and who has posted least waits for nobody. */
+/* Takes rows for those that sleep until a lane posts an earlier row of their task, and wakes those that get one. To wake each at each post, so
+ * that it takes by itself, costs more than its row where it is far ahead. The lock is held. */
+static inline void fl_take_for_sleepers(struct fl_execution *in, struct fl_lane *lane)
+{
+    uint32_t sleepers = lane->sleepers, p;
+    for (p = 0; sleepers; p++, sleepers >>= 1) {
+        struct fl_lane *sleeper = &in->lanes[p];
+        if (!(sleepers & 1) || !sleeper->asleep)
+            continue;
+        sleeper->status = fl_take(&in->exec, p, &sleeper->row);
+        lane->sleepers &= ~((uint32_t)1 << p);
+        if (sleeper->status == FL_WAIT)
+            in->lanes[sleeper->row.waits_for].sleepers |= (uint32_t)1 << p;
+        else
+            fl_wake(in, lane, (uint32_t)1 << p);
+    }
+}
+
+/* Waits until the processor may go on, and takes again. Behind an earlier row of its task it sleeps until that is posted, and whoever posts it
+ * takes for it; at the end of the window it sleeps until half of that is free, since to sleep for each row costs more than the row. The lock is
+ * held, but while it waits. No ring of sleepers closes: whoever is waited for has posted less, and who has posted least waits for nobody. */
 static inline int fl_wait_and_take(struct fl_execution *in, uint32_t processor, struct fl_row *row)
 {
     struct fl_lane *lane = &in->lanes[processor], *other = &in->lanes[row->waits_for];
     if (lane->posted < other->posted + in->window) {
+        lane->status = FL_WAIT;
         fl_sleep(in, processor, &other->sleepers);
+        *row = lane->row;
+        if (lane->status != FL_WAIT)
+            return lane->status;
     } else {
         lane->woken_at = lane->posted - in->window / 2;
         fl_look(in, lane, lane->woken_at);
@@ -233,7 +274,8 @@ static inline void fl_note_post(struct fl_execution *in, uint32_t processor)
     struct fl_lane *lane = &in->lanes[processor];
     uint64_t least = ++lane->posted;
     uint32_t free_again = 0, p;
-    fl_wake(in, lane, lane->sleepers);
+    if (lane->sleepers)
+        fl_take_for_sleepers(in, lane);
     if (least > in->least + 1)
         return;
     for (p = 0; p < in->processors; p++)
@@ -269,7 +311,7 @@ static inline int fl_run_and_take(struct fl_execution *in, uint32_t processor, s
         why = crew->gate(processor, &shown, crew->user);
     if (why == 0 && crew->job && shown.task != FL_NO_TASK)
         why = crew->job(shown.task, &shown, crew->user);
-    pthread_mutex_lock(in->lock);
+    fl_lock(in);
     if (why != 0) {
         fl_stop(in, processor, (uint32_t)why);
         return FL_HALTED;

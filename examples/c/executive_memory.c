@@ -1,6 +1,6 @@
-/* Refuses each allocation of the library once, of a book that is opened and of an execution: each time the answer is FL_NO_MEMORY, no block
-   is lost, and no row ran; an open book takes no memory. It says each line at which that isn't so, and ends with 1 then. It is linked with
-   -Wl,--wrap=malloc,--wrap=realloc,--wrap=free, so that the library's calls come here. */
+/* Refuses each allocation of the library once, of a book that is opened and of an execution, of one frame and of three: each time the answer is
+   FL_NO_MEMORY, no block is lost, and no row ran but those of whole frames; an open book takes no memory. It says each line at which that isn't
+   so, and ends with 1 then. It is linked with -Wl,--wrap=malloc,--wrap=realloc,--wrap=free, so that the library's calls come here. */
 #ifndef _POSIX_C_SOURCE
 #define _POSIX_C_SOURCE 200809L
 #endif
@@ -100,10 +100,11 @@ static int gate(uint32_t processor, const struct fl_row *row, void *user)
     return 0;
 }
 
-/* The same of an execution. */
-static long try_execution(uint32_t window)
+/* The same of an execution of so many frames, each of which opens a book: those before the refusal ran whole, and no row of another one did. */
+static long try_execution(uint32_t window, uint64_t frames)
 {
     static struct fl_ended ended;
+    static int frame_rows; /* of a frame, by the call for one alone, which comes first */
     pthread_mutex_t lock = PTHREAD_MUTEX_INITIALIZER;
     int status = FL_NO_MEMORY;
     for (refused = 1; status == FL_NO_MEMORY; refused++) {
@@ -111,10 +112,14 @@ static long try_execution(uint32_t window)
         crew.gate = gate;
         crew.user = &lock;
         crew.window = window;
+        crew.frames = frames;
         calls = 0;
         rows_ran = 0;
         status = fl_execute(set, sizeof set - 1, &crew, &ended);
-        WANT(status == FL_DONE ? rows_ran > 0 : status == FL_NO_MEMORY && rows_ran == 0 && ended.posted[0] == 0);
+        if (frames == 1 && status == FL_DONE)
+            frame_rows = rows_ran;
+        WANT(status == FL_DONE ? ended.frames == frames && frame_rows > 0 : status == FL_NO_MEMORY && ended.frames < frames);
+        WANT(rows_ran == (int)ended.frames * frame_rows && (ended.frames > 0 || ended.posted[0] == 0));
         WANT(blocks == 0);
     }
     pthread_mutex_destroy(&lock);
@@ -128,7 +133,8 @@ int main(void)
     for (i = 0; i < sizeof windows / sizeof *windows; i++) {
         const long allocations = try_book(windows[i]);
         WANT(allocations > 10);
-        WANT(try_execution(windows[i]) == allocations);
+        WANT(try_execution(windows[i], 1) == allocations);
+        WANT(try_execution(windows[i], 3) == 3 * allocations);
     }
     return bad;
 }

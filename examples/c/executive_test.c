@@ -392,18 +392,20 @@ static struct fl_crew crew_of(struct crew_notes *notes, uint32_t window)
     return crew;
 }
 
-/* All windows, over both sets: what ran is what the gates and jobs saw. */
+/* All windows, over both sets, and up to three frames: what ran is what the gates and jobs saw. */
 static void try_windows(struct crew_notes *notes)
 {
     static struct fl_ended ended;
     uint32_t window, p, t;
     for (window = 0; window <= 1024; window++) {
         const int long_one = window % 8 == 1;
+        const uint64_t frames = 1 + window % 3;
         struct fl_crew crew = crew_of(notes, window);
+        crew.frames = frames;
         WANT(fl_execute(long_one ? five : three, long_one ? FIVE : THREE, &crew, &ended) == FL_DONE && !notes->wrong && notes->begun == 1);
-        WANT(ended.about.processors == (long_one ? 3 : 2) && !ended.end.halted && ended.error == 0);
+        WANT(ended.about.processors == (long_one ? 3 : 2) && !ended.end.halted && ended.error == 0 && ended.frames == frames);
         for (p = 0; p < ended.about.processors; p++)
-            WANT(ended.posted[p] == notes->rows[p] && notes->ends[p] == ended.about.end.low);
+            WANT(ended.posted[p] == notes->rows[p] && notes->ends[p] == frames * ended.about.end.low);
         for (t = 0; t < ended.about.tasks; t++)
             WANT(ended.ticks[t].low == notes->ticks[t] && notes->ticks[t] > 0);
     }
