@@ -27,7 +27,7 @@ use Rattle.tree_check.specs.declared.faults.TreeRefused.{TreeRefused}
 use Rattle.tree_check.specs.declared.faults.TreeRefused.TheVariants as refused
 use Rattle.tree_check.proofs.WrittenFaultless.{written_faultless}
 use Rattle.tree_reader.specs.Reading.{reading}
-use Rattle.reading_laws.proofs.FormLemmas.{set_read}
+use Rattle.tree_text_laws.proofs.FormLemmas.{set_read}
 use Rattle.pure_commands.specs.declared.refusal.Refusal.{Refusal}
 use Rattle.pure_commands.specs.declared.refusal.Refusal.TheVariants as why
 use Rattle.pure_commands.specs.declared.status.Status.{Status}

@@ -15,7 +15,7 @@ use Rattle.trace_format.specs.Text.{trace_text}
 use Rattle.trace_format.specs.declared.versions.Version.TheVariants.{One, Two}
 use Rattle.tree_check.specs.Written.{Written, written_of}
 use Rattle.tree_check.specs.TextTree.{text_tree}
-use Rattle.reading_laws.specs.Again.{IsReadAgain}
+use Rattle.tree_text_laws.specs.Again.{IsReadAgain}
 use Rattle.pure_commands.specs.Commands.{plan_of, some_late, schedule_text}
 use Rattle.pure_commands.specs.Follow.{plan_told, rows_told, followed_text}
 use Rattle.pure_commands.specs.Followed.{FollowsAsTraced}

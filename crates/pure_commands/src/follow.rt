@@ -16,7 +16,7 @@ use crate::refusal::Refusal;
 use crate::trace::merged_rows_of;
 use crate::unwritten::written;
 use merged_rows::MergedRows;
-use reading_laws::form_law;
+use tree_text_laws::form_law;
 use run_tree::Plan;
 use sched_edges::{Sink, Source, read_all};
 use std::alloc::Global;

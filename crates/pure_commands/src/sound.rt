@@ -4,7 +4,7 @@ ghost use Rattle.pure_commands.specs.Commands.{SetText};
 ghost use Rattle.pure_commands.specs.Follow.{FollowsTrees};
 ghost use Rattle.pure_commands.specs.Followed.{FollowsAsTraced};
 
-use reading_laws::{again_law, form_law};
+use tree_text_laws::{again_law, form_law};
 use repeat_laws::repeat_unit_law;
 use repeat_plans::merged_plan_law;
 use sched_laws::valid_law;

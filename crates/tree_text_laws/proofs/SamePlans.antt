@@ -16,14 +16,14 @@ use Rattle.run_tree.specs.Schedule.{packs_at}
 use Rattle.run_tree.specs.Plans.{PlanContents}
 use Rattle.run_tree.proofs.KindLemmas.{KindOf, kind_of, not_pack, not_pack_leaf}
 use Rattle.run_tree.proofs.TreeLemmas.{leaf_at_level}
-use Rattle.tree_numbers.specs.Renumbered.{renumbered, IsRenumbered}
+use Rattle.tree_text_laws.specs.Renumbered.{renumbered, IsRenumbered}
 use Rattle.tree_text.specs.Text.{place_in_level}
 use Rattle.tree_check.specs.declared.written.Member.TheVariants.{Number}
 use Rattle.tree_check.specs.Written.{Pack, Written, level_at, kind_written, leaf_written, pack_written, written_of, no_pack}
 use Rattle.tree_check.specs.Faults.{rate_at, named}
 use Rattle.tree_check.proofs.LevelNodes.{pack_of, pack_in, place_is, placed}
 use Rattle.tree_check.proofs.WrittenTree.{name_found, levels_long, level_long, pack_is, names}
-use Rattle.reading_laws.proofs.LimitLemmas.{some_level}
+use Rattle.tree_text_laws.proofs.LimitLemmas.{some_level}
 
 -- ---- names
 

@@ -1,5 +1,5 @@
-use Rattle.reading_laws.proofs.FollowLemmas.{read_again, compiled_again}
-use Rattle.reading_laws.proofs.again_law.Goals as goal
+use Rattle.tree_text_laws.proofs.FollowLemmas.{read_again, compiled_again}
+use Rattle.tree_text_laws.proofs.again_law.Goals as goal
 
 pub returns-clause-tree : goal.returns-clause-tree
 returns-clause-tree c = read_again

@@ -39,7 +39,7 @@ use Rattle.tree_check.specs.Written.{Pack, IsMemberAt, IsWrittenPack, IsWrittenL
 use Rattle.tree_check.proofs.LevelLists.{all_at}
 use Rattle.tree_check.proofs.LevelNodes.{pack_in, packs_all, placed}
 use Rattle.tree_check.proofs.WrittenTree.{levels_long, level_is, level_long, rate_some, idle_at, idle_is_leaf, is_idle_true}
-use Rattle.reading_laws.proofs.TreeLines.{IsWritable, IsPackLine, IsLevelLines, AreLevels, IsText}
+use Rattle.tree_text_laws.proofs.TreeLines.{IsWritable, IsPackLine, IsLevelLines, AreLevels, IsText}
 
 -- ---- how many packs a level has
 

@@ -21,7 +21,7 @@ use Rattle.trace_format.specs.Lines as lines
 use Rattle.tree_text.specs.Text.{task_line, idle_node, idle_line, idles_text, kind_word, member_word, pack_line, level_text, tree_text}
 use Rattle.tree_check.specs.Written.{Pack, kind_written, pack_written, written_of}
 use Rattle.tree_check.proofs.LevelNodes.{pack_in}
-use Rattle.reading_laws.proofs.TreeLines.{word_at, line_of_pack, lines_of_levels, lines_of_idles, last_lines, tree_lines}
+use Rattle.tree_text_laws.proofs.TreeLines.{word_at, line_of_pack, lines_of_levels, lines_of_idles, last_lines, tree_lines}
 
 -- what lines make
 abbrev pub joined : List (List ℕ) → List ℕ

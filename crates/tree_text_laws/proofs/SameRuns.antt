@@ -11,7 +11,7 @@ use Rattle.run_tree.specs.declared.kinds.Kind.TheVariants as kind
 use Rattle.run_tree.specs.Tree.{Tree, IsTree, IsPack, IsMember, kind_at, is_leaf, is_pack, is_dual, leaf, leaf_of, level, level_of, primal, rate, home, place, member, members, dual}
 use Rattle.run_tree.specs.Windows.{window_begin, window_end}
 use Rattle.run_tree.specs.Boundaries.{any_of, member_boundary, pack_boundary, node_boundary, is_boundary}
-use Rattle.tree_numbers.specs.Renumbered.{renumbered, IsRenumbered}
+use Rattle.tree_text_laws.specs.Renumbered.{renumbered, IsRenumbered}
 use Rattle.run_tree.specs.Runs.{is_picked, unless_dual, pack_runs, node_runs, runs_now, due_left, window_end_now, next_tick, ticks_below, runs}
 
 -- ---- functions and lists

@@ -16,8 +16,8 @@ use Rattle.run_tree.specs.Runs.{runs, ticks_below}
 use Rattle.run_tree.specs.Schedule.{packs_at, packs_running, places_below, onto_at, leaf_among, leaf_on, shown, rows_from, round_rows, rows_of, rows_of_events, schedule, rounds}
 use Rattle.run_tree.proofs.TreeLemmas.{first_is_pack}
 use Rattle.sched_laws.proofs.PlacedPacks.{onto_within}
-use Rattle.tree_numbers.specs.Renumbered.{IsRenumbered}
-use Rattle.tree_numbers.proofs.SameRuns.{same_function, map_moved, is_leaf_kept, is_pack_kept, leaf_same, due_same, ticks_same, runs_same}
+use Rattle.tree_text_laws.specs.Renumbered.{IsRenumbered}
+use Rattle.tree_text_laws.proofs.SameRuns.{same_function, map_moved, is_leaf_kept, is_pack_kept, leaf_same, due_same, ticks_same, runs_same}
 
 -- ---- whether some number passes
 

@@ -24,7 +24,7 @@ use Rattle.tree_reader.specs.Packs.{pack_from, pack_of, number_behind, second_nu
 use Rattle.tree_reader.specs.Reading.{tree_head, idles_from, packs_from, level_from, levels_from, ended, is_count, body, reading}
 use Rattle.tree_reader.proofs.WordLemmas.{words_cut, words_last}
 use Rattle.tree_reader.proofs.ReadingLemmas.{head_is, idles_more, packs_more, levels_more, levels_done, body_levels, reading_tasks, judged}
-use Rattle.reading_laws.proofs.TreeLines.{word_at, line_of_pack, lines_of_levels, lines_of_idles, last_lines, tree_lines, IsWritable, IsPackLine, IsLevelLines, AreLevels, IsText}
+use Rattle.tree_text_laws.proofs.TreeLines.{word_at, line_of_pack, lines_of_levels, lines_of_idles, last_lines, tree_lines, IsWritable, IsPackLine, IsLevelLines, AreLevels, IsText}
 use Rattle.text_words.proofs.Parts.{behind, onto_first}
 
 -- ---- words

@@ -1,5 +1,5 @@
-use Rattle.reading_laws.proofs.FormLemmas.{set_read}
-use Rattle.reading_laws.proofs.form_law.Goals as goal
+use Rattle.tree_text_laws.proofs.FormLemmas.{set_read}
+use Rattle.tree_text_laws.proofs.form_law.Goals as goal
 
 pub returns-clause-lawful : goal.returns-clause-lawful
 returns-clause-lawful c bytes w e = (set_read bytes w e).lawful

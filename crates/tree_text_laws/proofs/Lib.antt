@@ -1,3 +1,5 @@
+pub mod SameRuns
+pub mod SameSchedule
 pub mod FormLemmas
 pub mod TreeLines
 pub mod AgainLemmas

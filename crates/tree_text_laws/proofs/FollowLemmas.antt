@@ -9,7 +9,7 @@ use Rattle.run_tree.specs.TreeOfSet.{IsTreeOf, idle_count}
 use Rattle.run_tree.proofs.SetBoundaryLemmas.{set_leaves}
 use Rattle.tree_laws.proofs.SetRates.{rates_fit}
 use Rattle.tree_laws.proofs.SetTree.{set_tree, set_tree_scale}
-use Rattle.tree_numbers.proofs.SameSchedule.{schedule_same, rounds_count_same}
+use Rattle.tree_text_laws.proofs.SameSchedule.{schedule_same, rounds_count_same}
 use Rattle.trace_format.specs.Conditions.{AreOnTime}
 use Rattle.tree_check.specs.Written.{Written, written_of}
 use Rattle.tree_check.specs.TextTree.{text_tree}
@@ -17,11 +17,11 @@ use Rattle.tree_check.proofs.WrittenFaultless.{written_faultless}
 use Rattle.tree_check.proofs.TextLeaves.{text_is_tree_of}
 use Rattle.tree_check.proofs.Again.{written_again}
 use Rattle.tree_reader.specs.Reading.{reading}
-use Rattle.reading_laws.specs.Again.{IsReadAgain}
-use Rattle.reading_laws.proofs.AgainLemmas.{lines_again_read}
-use Rattle.reading_laws.proofs.PlanLines.{text_is_lines}
-use Rattle.reading_laws.proofs.LimitLemmas.{is_text, is_written, compiled_few}
-use Rattle.reading_laws.proofs.SamePlans.{moved, same_renumbered}
+use Rattle.tree_text_laws.specs.Again.{IsReadAgain}
+use Rattle.tree_text_laws.proofs.AgainLemmas.{lines_again_read}
+use Rattle.tree_text_laws.proofs.PlanLines.{text_is_lines}
+use Rattle.tree_text_laws.proofs.LimitLemmas.{is_text, is_written, compiled_few}
+use Rattle.tree_text_laws.proofs.SamePlans.{moved, same_renumbered}
 
 pub read_again : (s : SetContents) (t : Tree) → IsLawful s → AreOnTime s.tasks → IsTreeOf s t → t.scale ≤ 2 ^ 94 → idle_count t ≤ 1024 → IsReadAgain (record { set = s; tree = t })
 read_again s t lawful on_time is small few =

@@ -1,5 +1,5 @@
-use Rattle.tree_numbers.proofs.SameSchedule.{schedule_same, rounds_count_same}
-use Rattle.tree_numbers.proofs.numbers_law.Goals as goal
+use Rattle.tree_text_laws.proofs.SameSchedule.{schedule_same, rounds_count_same}
+use Rattle.tree_text_laws.proofs.numbers_law.Goals as goal
 
 pub returns-clause-rows : goal.returns-clause-rows
 returns-clause-rows c tasks f t u h leaves r stop = schedule_same tasks f t u h r leaves stop

@@ -1,16 +1,29 @@
-//! The laws of reading tree texts: of which set such a text speaks, and that what is written of a plan is read again.
+//! The laws of tree texts, without code: of which set such a text speaks, that the numbers of a tree's nodes play no part in its schedule, and that
+//! what is written of a plan is read again.
 #![tactic(auto)]
 
 ghost use Rattle.std.specs.Prelude.{ℕ, ◌≡◌, ◌≤◌, ◌^◌, List, Ok};
+ghost use Rattle.sched_base.specs.declared.sets.Task.{Task};
 ghost use Rattle.sched_base.specs.Scale.{IsScale, Fits};
 ghost use Rattle.sched_base.specs.Sets.{SetContents, IsLawful};
+ghost use Rattle.run_tree.specs.Boundaries.{HaveBoundaries, set_boundary};
 ghost use Rattle.run_tree.specs.Compiled.{tree_of};
-ghost use Rattle.run_tree.specs.Tree.{Tree};
+ghost use Rattle.run_tree.specs.Schedule.{schedule, rounds};
+ghost use Rattle.run_tree.specs.Tree.{Tree, IsTree};
 ghost use Rattle.run_tree.specs.TreeOfSet.{IsTreeOf, idle_count};
 ghost use Rattle.trace_format.specs.Conditions.{AreOnTime};
 ghost use Rattle.tree_check.specs.Written.{Written};
 ghost use Rattle.tree_reader.specs.Reading.{reading};
-ghost use Rattle.reading_laws.specs.Again.{IsReadAgain};
+ghost use Rattle.tree_text_laws.specs.Again.{IsReadAgain};
+ghost use Rattle.tree_text_laws.specs.Renumbered.{IsRenumbered};
+
+/// The law of numbers. Where a reduction tree's nodes get other numbers, its schedule stays the same, up to each tick.
+pub fn numbers_law()
+    ensures rows { (tasks : List Task) (f : ℕ → ℕ) (t u : Tree) → IsTree t → HaveBoundaries (set_boundary tasks) t → IsRenumbered f t u →
+        (stop : ℕ) → schedule tasks u stop ≡ schedule tasks t stop }
+    ensures rounds { (tasks : List Task) (f : ℕ → ℕ) (t u : Tree) → IsTree t → HaveBoundaries (set_boundary tasks) t → IsRenumbered f t u →
+        (stop : ℕ) → rounds tasks u stop ≡ rounds tasks t stop }
+{}
 
 /// The set of a text that is read is within the limits of a set, and each of its tasks is released at unit 0.
 pub fn form_law()

@@ -1,2 +1,0 @@
-pub mod SameRuns
-pub mod SameSchedule
