@@ -14,7 +14,7 @@ import time
 
 Answer = collections.namedtuple("Answer", "status text line seconds")
 EVER = 10**9
-HANGS = 10  # seconds after which a run is ended
+HANGS = 60  # seconds after which a run is ended: far more than one takes on a machine that is full of others
 
 NO_MEMORY, READ_FAULT, WRITE_FAULT = b"refused 5 NoMemory\n", b"refused 3 ReadFault\n", b"refused 4 WriteFault\n"
 

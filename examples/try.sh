@@ -5,7 +5,7 @@
 # the three tasks are compared with those that were worked by hand, those of further sets follow each other, what its commands answer is compared with
 # what the program writes, from C and from Python, and the module for Python and the sweep are tried by what their documentation shows. The executive
 # for C executes each set, its book is tried call by call, also under the sanitizers that a compiler has, and the dispatcher runs a set by the clock.
-# What isn't there, or can't be built within forty minutes, is said, and isn't tried. It takes at most three minutes beside the building of the library.
+# What isn't there, or can't be built within forty minutes, is said, and isn't tried. It takes a minute of one processor beside the building of the library.
 top=$(cd "$(dirname "$0")/.." && pwd)
 program=$top/crates/furnacelime/out/furnacelime
 library=$top/crates/furnacelime_c/out/libfurnacelime_c.a
