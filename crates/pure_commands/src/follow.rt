@@ -16,13 +16,13 @@ use crate::refusal::Refusal;
 use crate::trace::merged_rows_of;
 use crate::unwritten::written;
 use merged_rows::MergedRows;
-use tree_text_laws::form_law;
 use run_tree::Plan;
 use sched_edges::{Sink, Source, read_all};
 use std::alloc::Global;
 use trace_writer::write_merged;
 use tree_check::check_tree;
 use tree_reader::{ReadTree, read_tree};
+use tree_text_laws::form_law;
 
 /// Reads a tree text that anybody wrote, of at most as many bytes as a task set, and writes the schedule of its own tree.
 pub(crate) fn follow<R: Source, W: Sink>(

@@ -4,13 +4,13 @@ ghost use Rattle.pure_commands.specs.Commands.{SetText};
 ghost use Rattle.pure_commands.specs.Follow.{FollowsTrees};
 ghost use Rattle.pure_commands.specs.Followed.{FollowsAsTraced};
 
-use tree_text_laws::{again_law, form_law};
 use repeat_laws::repeat_unit_law;
 use repeat_plans::merged_plan_law;
 use sched_laws::valid_law;
 use table_text::step_law;
 use task_reader::reading_law;
 use tree_laws::tree_law;
+use tree_text_laws::{again_law, form_law};
 use wrap_sched::wrap_law;
 
 /// What is told of a set that fits is sound: the tree that `tree` writes is a reduction tree of the set, the schedules that `trace`
