@@ -21,14 +21,14 @@ merged_round [] rows = []
 merged_round (lane ∷ lanes) [] = lane ∷ lanes
 merged_round (lane ∷ lanes) (r ∷ rows) = merged_with lane r ∷ merged_round lanes rows
 
-onto_on : (r q : Row) (rows : List Row) → goes_on r q ≡ true → merge_onto r (q ∷ rows) ≡ lengthened r q.end ∷ rows
+pub onto_on : (r q : Row) (rows : List Row) → goes_on r q ≡ true → merge_onto r (q ∷ rows) ≡ lengthened r q.end ∷ rows
 onto_on r q rows e = cond-true (goes_on r q) (lengthened r q.end ∷ rows) (r ∷ (q ∷ rows)) e
 
-onto_off : (r q : Row) (rows : List Row) → goes_on r q ≡ false → merge_onto r (q ∷ rows) ≡ r ∷ (q ∷ rows)
+pub onto_off : (r q : Row) (rows : List Row) → goes_on r q ≡ false → merge_onto r (q ∷ rows) ≡ r ∷ (q ∷ rows)
 onto_off r q rows e = cond-false (goes_on r q) (lengthened r q.end ∷ rows) (r ∷ (q ∷ rows)) e
 
 -- a row that goes on with the first of two goes on with both
-same_name : (r q next : Row) → goes_on r q ≡ true → goes_on (lengthened r q.end) next ≡ goes_on q next
+pub same_name : (r q next : Row) → goes_on r q ≡ true → goes_on (lengthened r q.end) next ≡ goes_on q next
 same_name r q next e = ap (λ n. eqb q.end next.start && eqb n (shown next.leaf)) (eqb-true (shown r.leaf) (shown q.leaf) (and_parts (eqb r.end q.start) (eqb (shown r.leaf) (shown q.leaf)) e).1)
 
 -- before and after don't disturb each other

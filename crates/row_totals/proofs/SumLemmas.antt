@@ -1,5 +1,7 @@
 -- Sums, one for each task, to which the ticks of rows are added.
-use Rattle.std.proofs.Common.{ℕ, zero, suc, ◌+◌, ◌<◌, ◌≤◌, ◌≡◌, List, [], ◌∷◌, ◌++◌, length, take, drop, get_or, replicate, ap, ◌∙◌, arith}
+use Rattle.std.proofs.Common.{ℕ, zero, suc, ◌+◌, ◌<◌, ◌≤◌, ◌≡◌, List, [], ◌∷◌, ◌++◌, Some, None, length, take, drop, get_or, replicate, ap, ◌∙◌, arith}
+use Rattle.std.specs.Prelude.{slice_get}
+use Rattle.std.specs.List.{AllByRecursion}
 use Rattle.sched_base.specs.declared.rows.Leaf.TheVariants.{Task}
 use Rattle.sched_base.specs.declared.rows.Row.{Row}
 use Rattle.sched_base.specs.Tables.{lane_of, all_rows, ticks_in}
@@ -81,3 +83,21 @@ written_back new old n long was =
     let rest : drop (length new) old ≡ [] = drop_all (length new) old (omega (arith, long, was)) in
     let whole : new ++ drop (length new) old ≡ new = ap (λ xs. new ++ xs) rest ∙ append-nil new in
     ap (take n) whole ∙ take_all n new (omega (arith, long))
+
+-- the rows of one lane
+pub lane_names : (P : List Row → Type 0) (lanes : List (List Row)) (p : ℕ) → p < length lanes → AllByRecursion P lanes → P (lane_of lanes p)
+lane_names P [] p within all = absurd (omega (arith, within))
+lane_names P (lane ∷ lanes) zero within all = all.0
+lane_names P (lane ∷ lanes) (suc p) within all = lane_names P lanes p (omega (arith, within)) all.1
+
+-- one row of them
+pub row_has : (P : Row → Type 0) (rows : List Row) (i : ℕ) → i < length rows → AllByRecursion P rows → P (get_or rows i no_row)
+row_has P [] i within all = absurd (omega (arith, within))
+row_has P (r ∷ rows) zero within all = all.0
+row_has P (r ∷ rows) (suc i) within all = row_has P rows i (omega (arith, within)) all.1
+
+-- a row at its place
+pub row_there : (rows : List Row) (i : ℕ) (r : Row) → slice_get rows i ≡ Some r → r ≡ get_or rows i no_row
+row_there [] i r at = absurd (let e : None ≡ Some r = at in cc)
+row_there (q ∷ rows) zero r at = let e : Some q ≡ Some r = at in cc
+row_there (q ∷ rows) (suc i) r at = row_there rows i r at

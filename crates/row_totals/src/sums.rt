@@ -1,7 +1,7 @@
 //! Adds rows to sums, of which there is one for each of the first tasks.
-ghost use Rattle.std.specs.Prelude.{◌≡◌, ◌≤◌, [], ◌∷◌, length, slice_index, EachIndex};
+ghost use Rattle.std.specs.Prelude.{◌≡◌, ◌≤◌, ◌<◌, [], ◌∷◌, length, slice_index, EachIndex};
 ghost use Rattle.std.specs.List.{AllByRecursion};
-ghost use Rattle.sched_base.specs.Tables.{all_rows};
+ghost use Rattle.sched_base.specs.Tables.{all_rows, lane_of};
 ghost use Rattle.row_totals.specs.Sums.{IsAmong, NamesAmong, AreForward, Adds, HaveRoomFor};
 
 use sched_base::{Leaf, Row, RowTable};
@@ -18,15 +18,16 @@ pub fn add_row(sums: &mut [u128], row: &Row)
     }
 }
 
-// Adds the rows of one processor.
-fn add_lane(sums: &mut [u128], rows: &[Row])
-    requires names { NamesAmong (length sums.old) rows.now }
-    requires forward { AreForward rows.now }
-    requires room { HaveRoomFor rows.now sums.old }
-    ensures { Adds rows.now sums.old sums.new }
+// Adds the rows of processor p.
+fn add_lane(sums: &mut [u128], table: &RowTable, p: u32)
+    requires lane { p < length table.now.lanes }
+    requires names { NamesAmong (length sums.old) (lane_of table.now.lanes p) }
+    requires forward { AreForward (lane_of table.now.lanes p) }
+    requires room { HaveRoomFor (lane_of table.now.lanes p) sums.old }
+    ensures { Adds (lane_of table.now.lanes p) sums.old sums.new }
 {
-    for row in rows {
-        add_row(sums, row);
+    for k in 0..table.rounds() {
+        add_row(sums, &table.row(p, k));
     }
 }
 
@@ -37,6 +38,6 @@ pub(crate) fn add_lanes(sums: &mut [u128], table: &RowTable)
     ensures { Adds (all_rows table.now.lanes) sums.old sums.new }
 {
     for p in 0..table.processors() {
-        add_lane(sums, table.lane(p));
+        add_lane(sums, table, p);
     }
 }

@@ -8,6 +8,7 @@ pub mod Rows
 pub mod Valid
 pub mod Boundaries
 pub mod Tables
+pub mod Columns
 pub mod Lanes
 pub mod Fronts
 pub mod Candidates

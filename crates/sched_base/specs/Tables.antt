@@ -1,6 +1,7 @@
 -- Whole rounds of rows: for each processor its rows, one for each round.
 use Rattle.std.specs.Prelude.{ℕ, ◌≡◌, ◌<◌, ◌≤◌, ◌+◌, ◌-◌, ◌*◌, ◌^◌, List, [], ◌∷◌, ◌++◌, Some, length}
-use Rattle.std.specs.Prelude.{slice_get, slice_index_or, map, take}
+use Rattle.std.specs.Prelude.{slice_get, slice_index_or, take}
+use Rattle.sched_base.specs.declared.rows.Leaf.{Leaf}
 use Rattle.sched_base.specs.declared.rows.Leaf.TheVariants.{Task}
 use Rattle.sched_base.specs.declared.rows.TaskId.{TaskId}
 use Rattle.sched_base.specs.declared.rows.Row.{Row}
@@ -86,31 +87,39 @@ abbrev pub ticks_before : ℕ → ℕ → List (List Row) → ℕ
 ticks_before j k [] = 0
 ticks_before j k (lane ∷ lanes) = ticks_in j (take k lane) + ticks_before j k lanes
 
--- one processor's rows, and for how many more there is room
+-- what one processor runs in each round, and for how many more rounds there is room
 pub record LaneHeld : Type 0 where
-  pub rows : List Row
+  pub leaves : List Leaf
   pub room : ℕ
 
--- a lane with one row more
-abbrev pub with_row : LaneHeld → Row → LaneHeld
-with_row lane r = record { rows = lane.rows ++ r ∷ []; room = lane.room - 1 }
+-- where each round ends, and for how many more rounds there is room
+pub record EndsHeld : Type 0 where
+  pub ends : List ℕ
+  pub room : ℕ
 
--- the lanes, each with its row of one round more
-abbrev pub with_rows : List LaneHeld → List Row → List LaneHeld
-with_rows [] rows = []
-with_rows (lane ∷ lanes) [] = lane ∷ lanes
-with_rows (lane ∷ lanes) (r ∷ rows) = with_row lane r ∷ with_rows lanes rows
-
--- each lane has room for that many rows
+-- each lane has room for that many rounds
 abbrev pub HaveRoom : ℕ → List LaneHeld → Type 0
 HaveRoom n lanes = (p : ℕ) (lane : LaneHeld) → slice_get lanes p ≡ Some lane → n ≤ lane.room
 
--- the rows of the lanes
-abbrev pub rows_of : List LaneHeld → List (List Row)
-rows_of lanes = map (λ lane. lane.rows) lanes
+-- each lane has a leaf for each of so many rounds
+abbrev pub AreFilled : ℕ → List LaneHeld → Type 0
+AreFilled n lanes = (p : ℕ) (lane : LaneHeld) → slice_get lanes p ≡ Some lane → length lane.leaves ≡ n
+
+-- the rows of processor p: each goes on up to its round's end, where the next one starts
+abbrev pub rows_held : ℕ → ℕ → List ℕ → List Leaf → List Row
+rows_held p start [] leaves = []
+rows_held p start (end ∷ ends) [] = []
+rows_held p start (end ∷ ends) (leaf ∷ leaves) = record { processor = p; leaf = leaf; start = start; end = end } ∷ rows_held p end ends leaves
+
+-- the rows of all processors from p on
+abbrev pub lanes_held : ℕ → List ℕ → List LaneHeld → List (List Row)
+lanes_held p ends [] = []
+lanes_held p ends (lane ∷ lanes) = rows_held p 0 ends lane.leaves ∷ lanes_held (p + 1) ends lanes
 
 -- what the fields of a table keep
-pub record IsHeld (lanes : List LaneHeld) (room : ℕ) : Type 0 where
+pub record IsHeld (ends : EndsHeld) (lanes : List LaneHeld) (room : ℕ) : Type 0 where
   pub few : length lanes < 2 ^ 32
-  pub table : IsTable (rows_of lanes)
+  pub filled : AreFilled (length ends.ends) lanes
+  pub table : IsTable (lanes_held 0 ends.ends lanes)
   pub reserved : HaveRoom room lanes
+  pub ends_reserved : room ≤ ends.room

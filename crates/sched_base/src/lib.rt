@@ -2,6 +2,7 @@
 #![tactic(auto)]
 
 mod candidates;
+mod columns;
 mod limits;
 mod memory;
 mod names;

@@ -1,7 +1,8 @@
 //! Whole rounds of rows.
-ghost use Rattle.std.specs.Prelude.{◌≡◌, ◌≤◌, ◌<◌, ◌+◌, [], replicate, length, Some, IfOk};
-ghost use Rattle.sched_base.specs.Tables.{lane_of, rounds_in, end_of, RowAt, IsRound, IsTable, with_round, with_row, with_rows, HaveRoom};
+ghost use Rattle.std.specs.Prelude.{◌≡◌, ◌≤◌, ◌<◌, ◌+◌, [], replicate, length, IfOk};
+ghost use Rattle.sched_base.specs.Tables.{rounds_in, end_of, RowAt, IsRound, IsTable, with_round};
 
+use crate::columns::{LaneLeaves, RoundEnds, push_leaves};
 use crate::memory::NoMemory;
 use crate::rows::{Leaf, Row};
 use std::alloc::Global;
@@ -23,14 +24,18 @@ pub fn blank_rows(alloc: Global, processors: u32) -> Result<Vec<Row>, NoMemory>
 /// Whole rounds of rows, each processor's rows together, with room for a stated number of further rounds.
 ///
 /// Row p of each round is that of processor p. Rounds follow one another from tick 0, and no task stands twice in one.
+///
+/// A row takes two bytes, and a round eight besides, where the leaves' numbers are below 256 and the ends below 2^64.
 pub struct RowTable {
-    lanes: Vec<LaneRows>,
+    ends: RoundEnds,
+    lanes: Vec<LaneLeaves>,
     room: u64,
 }
 
 impl Drop for RowTable {
     fn drop(self) {
         let Self {
+            ends: _ends,
             lanes: _lanes,
             room: _room,
         } = self;
@@ -38,13 +43,13 @@ impl Drop for RowTable {
 }
 
 impl Model for RowTable {
-    ghost use Rattle.sched_base.specs.Tables.{Table, rows_of, IsHeld};
+    ghost use Rattle.sched_base.specs.Tables.{Table, lanes_held, IsHeld};
 
     ghost Value = { Table };
 
-    ghost view = { λ t. record { lanes = rows_of t.lanes.items; room = t.room } };
+    ghost view = { λ t. record { lanes = lanes_held 0 t.ends.ends t.lanes.items; room = t.room } };
 
-    ghost invariant = { λ t. IsHeld t.lanes.items t.room };
+    ghost invariant = { λ t. IsHeld t.ends t.lanes.items t.room };
 }
 
 impl RowTable {
@@ -53,11 +58,13 @@ impl RowTable {
         ensures none { IfOk result (λ t. t.lanes ≡ replicate processors []) }
         ensures room { IfOk result (λ t. t.room ≡ rounds) }
     {
+        let ends = RoundEnds::with_room(alloc, rounds)?;
         let mut lanes = Vec::new(alloc);
         for _p in 0..processors {
-            lanes.push(LaneRows::with_room(alloc, rounds)?)?;
+            lanes.push(LaneLeaves::with_room(alloc, rounds)?)?;
         }
         Ok(RowTable {
+            ends,
             lanes,
             room: rounds,
         })
@@ -71,7 +78,8 @@ impl RowTable {
         ensures lanes { self.new.lanes ≡ with_round self.old.lanes rows.now }
         ensures room { self.new.room + 1 ≡ self.old.room }
     {
-        push_each(self.lanes.as_mut_slice(), rows);
+        self.ends.push(rows);
+        push_leaves(self.lanes.as_mut_slice(), rows);
         self.room -= 1;
     }
 
@@ -96,18 +104,9 @@ impl RowTable {
         ensures lawful { IsTable self.now.lanes }
     {
         match self.lanes.first() {
-            Some(lane) => lane.as_slice().len() as u64,
+            Some(lane) => lane.len(),
             None => 0,
         }
-    }
-
-    /// The rows of processor p, in the order of their rounds.
-    pub fn lane(&self, p: u32) -> &[Row]
-        requires { p < length self.now.lanes }
-        ensures value { result.now ≡ lane_of self.now.lanes p }
-        ensures lawful { IsTable self.now.lanes }
-    {
-        self.lanes[p as usize].as_slice()
     }
 
     /// The row of processor p in round k.
@@ -117,55 +116,11 @@ impl RowTable {
         ensures value { RowAt self.now.lanes p k result }
         ensures lawful { IsTable self.now.lanes }
     {
-        self.lane(p)[k as usize]
-    }
-}
-
-/// The rows of one processor, with room for a stated number.
-#[derive(Drop)]
-struct LaneRows {
-    rows: Vec<Row>,
-}
-
-impl Model for LaneRows {
-    ghost use Rattle.std.specs.Prelude.{◌-◌, vec_capacity, vec_len};
-    ghost use Rattle.sched_base.specs.Tables.{LaneHeld};
-
-    ghost Value = { LaneHeld };
-
-    ghost view = { λ l. record { rows = l.rows.items; room = vec_capacity l.rows - vec_len l.rows } };
-}
-
-impl LaneRows {
-    fn with_room(alloc: Global, rounds: u64) -> Result<LaneRows, NoMemory>
-        ensures none { IfOk result (λ l. l.rows ≡ []) }
-        ensures room { IfOk result (λ l. rounds ≤ l.room) }
-    {
-        Ok(LaneRows {
-            rows: Vec::with_capacity(alloc, rounds as usize)?,
-        })
-    }
-
-    fn push(&mut self, row: Row)
-        requires { 1 ≤ self.old.room }
-        ensures { self.new ≡ with_row self.old row }
-    {
-        self.rows.push_reserved(row);
-    }
-
-    fn as_slice(&self) -> &[Row]
-        ensures { result.now ≡ self.now.rows }
-    {
-        self.rows.as_slice()
-    }
-}
-
-fn push_each(lanes: &mut [LaneRows], rows: &[Row])
-    requires whole { length rows.now ≡ length lanes.old }
-    requires room { HaveRoom 1 lanes.old }
-    ensures { lanes.new ≡ with_rows lanes.old rows.now }
-{
-    for p in 0..rows.len() {
-        lanes[p].push(rows[p]);
+        Row {
+            processor: p,
+            start: self.ends.start(k),
+            end: self.ends.at(k),
+            leaf: self.lanes[p as usize].at(k),
+        }
     }
 }

@@ -1,8 +1,7 @@
 -- The merged rows of a table, and merged rows that are kept, from a place on.
-use Rattle.std.proofs.Common.{ℕ, zero, suc, ◌+◌, ◌-◌, ◌*◌, ◌<◌, ◌≤◌, ◌≡◌, List, [], ◌∷◌, ◌++◌, length, map, take, drop, Some, None, refl, sym, ap, ◌∙◌, arith, length-append, append_assoc, add-one}
+use Rattle.std.proofs.Common.{ℕ, zero, suc, ◌+◌, ◌*◌, ◌<◌, ◌≤◌, ◌≡◌, List, [], ◌∷◌, length, map, drop, Some, None, refl, ap, arith, length-append, add-one}
 use Rattle.std.specs.Prelude.{slice_get}
 use Rattle.std.specs.List.{AllByRecursion}
-use Rattle.std.proofs.lemmas.List.{take-append-drop}
 use Rattle.sched_base.specs.declared.rows.Row.{Row}
 use Rattle.sched_base.specs.Tables.{IsTable, all_rows, lane_of, rounds_in}
 use Rattle.row_totals.specs.Sums.{NamesAmong}
@@ -10,19 +9,6 @@ use Rattle.merged_rows.specs.Merging.{merged}
 use Rattle.merged_rows.proofs.MergeLemmas.{few_merged, names_merged}
 
 -- ---- from a place on
-
-dropped : (before later : List Row) → drop (length before) (before ++ later) ≡ later
-dropped [] later = refl
-dropped (r ∷ before) later = dropped before later
-
--- where the rows that follow some begin
-pub place_behind : (lane before later : List Row) (place : ℕ) → drop place lane ≡ before ++ later → drop (length lane - length later) lane ≡ later
-place_behind lane before later place rest =
-    let whole : lane ≡ (take place lane ++ before) ++ later =
-    sym (take-append-drop place lane) ∙ ap (λ rows. take place lane ++ rows) rest ∙ sym (append_assoc (take place lane) before later) in
-    let long = ap length whole ∙ length-append (take place lane ++ before) later in
-    let at : length lane - length later ≡ length (take place lane ++ before) = omega (arith, long) in
-    ap (λ n. drop n lane) at ∙ ap (drop (length (take place lane ++ before))) whole ∙ dropped (take place lane ++ before) later
 
 row_first : (rows : List Row) (i : ℕ) (r : Row) → slice_get rows i ≡ Some r → drop i rows ≡ r ∷ drop (suc i) rows
 row_first [] i r at = absurd (let e : None ≡ Some r = at in cc)

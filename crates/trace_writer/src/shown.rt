@@ -37,12 +37,8 @@ impl ShownRows for RowTable {
     }
 
     fn next_row(&self, p: u32, place: usize) -> Option<(Row, usize)> {
-        let lane = self.lane(p);
-        if place >= lane.len() {
-            return None;
-        }
-        let (row, later) = first_merged(&lane[place..])?;
-        Some((row, lane.len() - later.len()))
+        let (row, later) = first_merged(self, p, place as u64)?;
+        Some((row, later as usize))
     }
 }
 

@@ -1,10 +1,10 @@
 //! Runs that come to their end.
 ghost use Rattle.plan_rounds.specs.PlanRows.{IsCompiled};
 
-use super::{assert_first, kits_of, ran, run, three_tasks};
+use super::{assert_first, kits_of, ran, row, run, three_tasks};
 use exec_workers::Executed;
 use run_tree::Plan;
-use sched_base::Row;
+use sched_base::{Row, RowTable};
 use std::alloc::Global;
 use std::process::Abort;
 use std::sync::Wait;
@@ -16,11 +16,19 @@ fn assert_lane(rt: &impl Abort, rows: &[Row], processor: u32) {
     assert_first(rt, rows, processor);
 }
 
+/// Makes sure that a run's table has them.
+fn assert_told(rt: &impl Abort, table: &RowTable, processor: u32) {
+    for k in 0..table.rounds() {
+        assert!(rt; processor < table.processors());
+        assert!(rt; table.row(processor, k) == row(rt, processor, k as usize));
+    }
+}
+
 /// Makes sure that a run told all rows.
 fn assert_executed(rt: &impl Abort, done: &Executed) {
     assert!(rt; done.table.processors() == 2 && done.table.rounds() == 3);
-    assert_lane(rt, done.table.lane(0), 0);
-    assert_lane(rt, done.table.lane(1), 1);
+    assert_told(rt, &done.table, 0);
+    assert_told(rt, &done.table, 1);
     assert!(rt; done.totals.as_slice() == [6, 6, 6].as_slice());
     assert!(rt; done.posts.number() == 6);
 }

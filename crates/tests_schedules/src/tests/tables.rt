@@ -1,5 +1,5 @@
 //! Tables of whole rounds.
-ghost use Rattle.std.specs.Prelude.{◌≡◌};
+ghost use Rattle.std.specs.Prelude.{◌≡◌, ◌<◌, length};
 
 use super::{Round, is_row_of};
 use sched_base::{Leaf, Row, RowTable, TaskId};
@@ -10,20 +10,22 @@ const B: Leaf = Leaf::Task(TaskId(1));
 
 const C: Leaf = Leaf::Task(TaskId(2));
 
-/// Whether these are the rows of a processor in these rounds.
-fn is_lane(lane: &[Row], processor: u32, rounds: &[Round]) -> bool {
-    for (k, row) in lane.iter().enumerate() {
-        if !is_row_of(row, processor, rounds, k) {
+/// Whether the table's rows of a processor are those of these rounds.
+fn is_lane(table: &RowTable, processor: u32, rounds: &[Round]) -> bool
+    requires { processor < length table.now.lanes }
+{
+    for k in 0..table.rounds() {
+        if !is_row_of(&table.row(processor, k), processor, rounds, k as usize) {
             return false;
         }
     }
-    lane.len() == rounds.len()
+    table.rounds() == rounds.len() as u64
 }
 
 /// Whether the table has these rounds of so many processors.
 pub(super) fn is_table(table: &RowTable, processors: u32, rounds: &[Round]) -> bool {
     for p in 0..table.processors() {
-        if !is_lane(table.lane(p), p, rounds) {
+        if !is_lane(table, p, rounds) {
             return false;
         }
     }

@@ -5,7 +5,7 @@ ghost use Rattle.sched_base.specs.Scale.{Fits, IsScale};
 use merged_rows::MergedRows;
 use rate_scale::{fits, scale_of};
 use sample_sets::{NoSet, add_task, set_of};
-use sched_base::{Leaf, Row, TaskSet};
+use sched_base::{Leaf, Row, RowTable, TaskSet};
 use std::alloc::Global;
 use std::process::Abort;
 use std::test::Fail;
@@ -62,14 +62,28 @@ fn letter(leaf: Leaf) -> u8 {
     }
 }
 
-/// Compares a lane with letters, one for each round, and with the ticks at which the rounds start.
-fn compare(rt: &impl Abort, lane: &[Row], starts: &[u128], letters: &str) {
-    assert!(rt; lane.len() == letters.len());
-    assert!(rt; lane.len() + 1 == starts.len());
-    for k in 0..lane.len() {
-        assert!(rt; Some(lane[k].start) == starts.get(k).copied());
-        assert!(rt; Some(lane[k].end) == starts.get(k + 1).copied());
-        assert!(rt; Some(letter(lane[k].leaf)) == letters.as_bytes().get(k).copied());
+/// Compares a row with a letter, and with the ticks at which it starts and ends.
+fn compare_row(rt: &impl Abort, row: &Row, ticks: (Option<u128>, Option<u128>), shown: Option<u8>) {
+    assert!(rt; (Some(row.start), Some(row.end)) == ticks);
+    assert!(rt; Some(letter(row.leaf)) == shown);
+}
+
+/// Compares the rows of processor p with letters, one for each round, and with the ticks at which the rounds start.
+fn compare(rt: &impl Abort, table: &RowTable, p: u32, starts: &[u128], letters: &str) {
+    assert!(rt; p < table.processors());
+    assert!(rt; table.rounds() == letters.len() as u64);
+    for k in 0..table.rounds() {
+        let place = k as usize;
+        let ticks = (
+            starts.get(place).copied(),
+            starts.get(place.saturating_add(1)).copied(),
+        );
+        compare_row(
+            rt,
+            &table.row(p, k),
+            ticks,
+            letters.as_bytes().get(place).copied(),
+        );
     }
 }
 
@@ -88,7 +102,7 @@ fn compare_wrapped(
     assert!(rt; table.processors() == set.processors());
     assert!(rt; lanes.len() <= table.processors() as usize);
     for p in 0..lanes.len() {
-        compare(rt, table.lane(p as u32), starts, lanes[p]);
+        compare(rt, &table, p as u32, starts, lanes[p]);
     }
     Ok(())
 }

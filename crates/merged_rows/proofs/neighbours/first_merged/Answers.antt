@@ -1,17 +1,17 @@
-use Rattle.std.proofs.Common.{[], ◌∷◌, ◌++◌, ap, sym, ◌∙◌, arith, rules, append_assoc}
-use Rattle.std.proofs.lemmas.Grind.{common_steps}
+use Rattle.std.proofs.Common.{◌≡◌, ◌∙◌, true, false, rules, sym}
+use Rattle.sched_base.specs.Tables.{lane_of}
+use Rattle.merged_rows.proofs.FirstLemmas.{merged_from, held_on, held_off}
 use Rattle.merged_rows.proofs.neighbours.first_merged.Goals as goal
 
 pub loop-next-init : goal.loop-next-init
-loop-next-init c =
-    let whole = c.in_ok-first.ensures.cases.0 in
-    (first_of (search rules, grind (arith, common_steps)), first_of (search rules, grind (arith, common_steps)), (c.in_ok-first.first.now ∷ [], whole))
+loop-next-init c = merged_from (lane_of c.args.table.now.lanes c.args.p) c.args.k c.row-held.result c.row-held.ensures.value
 
 pub loop-next-preserved : goal.loop-next-preserved
 loop-next-preserved c =
-    let (before, all) = c.loop-next.invariant.2 in
-    let whole = c.in-Some.ensures.cases.0 in (
-      first_of (search rules, grind (arith, common_steps)),
-      first_of (search rules, grind (arith, common_steps)),
-      (before ++ c.in-Some.next.now ∷ [], all ∙ ap (λ rows. before ++ rows) whole ∙ sym (append_assoc before (c.in-Some.next.now ∷ []) c.in-Some.later.now)),
-    )
+    let told : c.goes_on.result ≡ true = search rules in
+    c.loop-next.invariant ∙ held_on (lane_of c.args.table.now.lanes c.args.p) c.loop-next.next c.loop-next.held c.row-row.result c.row-row.ensures.value (sym c.goes_on.ensures ∙ told)
+
+pub returns-then-not-goes_on-clause-first : goal.returns-then-not-goes_on-clause-first
+returns-then-not-goes_on-clause-first c =
+    let told : c.goes_on.result ≡ false = search rules in
+    c.loop-next.invariant ∙ held_off (lane_of c.args.table.now.lanes c.args.p) c.loop-next.next c.loop-next.held c.row-row.result c.row-row.ensures.value (sym c.goes_on.ensures ∙ told)

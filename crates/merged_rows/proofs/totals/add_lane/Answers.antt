@@ -1,8 +1,7 @@
 use Rattle.std.proofs.Common.{◌<◌, [], ◌∷◌, ◌+◌, arith, add-one, length, suc, ap, take}
 use Rattle.sched_base.specs.declared.rows.Row.{Row}
 use Rattle.sched_base.specs.Tables.{lane_of, ticks_in}
-use Rattle.row_totals.proofs.SumLemmas.{ticks_in-take-more, ticks_in-take-le, Adds-then, room_after}
-use Rattle.merged_rows.proofs.SumLemmas.{row_there}
+use Rattle.row_totals.proofs.SumLemmas.{ticks_in-take-more, ticks_in-take-le, Adds-then, room_after, row_there}
 use Rattle.merged_rows.proofs.totals.add_lane.Goals as goal
 
 pub add_row-requires-clause-room : goal.add_row-requires-clause-room

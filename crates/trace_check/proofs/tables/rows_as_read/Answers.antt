@@ -1,7 +1,7 @@
 use Rattle.std.proofs.lemmas.Result.{IfOk-from_err}
-use Rattle.std.proofs.Common.{◌<◌, ◌≤◌, ◌*◌, length, map, vec_len, vec_capacity, sym, ap, ◌∙◌, subst}
+use Rattle.std.proofs.Common.{◌<◌, ◌≤◌, ◌*◌, length, map, vec_len, vec_capacity, refl, sym, ap, ◌∙◌, subst}
 use Rattle.std.proofs.lemmas.List.{take_all}
-use Rattle.sched_base.specs.Tables.{rounds_in}
+use Rattle.sched_base.specs.Tables.{lane_of, rounds_in}
 use Rattle.merged_rows.specs.Merging.{merged_lanes}
 use Rattle.trace_check.specs.RoundTrip.{row_as_read}
 use Rattle.trace_check.proofs.TableLemmas.{room_is, no_rows, has_room, few_more, rows_more}
@@ -15,21 +15,22 @@ loop-p-init c =
       room_is (length c.args.table.now.lanes) c.args.processors c.from.result c.rounds.result (rounds_in c.args.table.now.lanes) (vec_capacity c.in_ok-rows.rows) c.requires.processors c.from.ensures c.rounds.ensures.value new.exact,
     )
 
-pub add_merged-requires : goal.add_merged-requires
-add_merged-requires c =
+pub add_merged-requires-clause-lane : goal.add_merged-requires-clause-lane
+add_merged-requires-clause-lane c = subst (λ n. c.loop-p.p < n) (sym c.requires.processors) c.loop-p-test.true
+
+pub add_merged-requires-clause-room : goal.add_merged-requires-clause-room
+add_merged-requires-clause-room c =
     let lanes = c.args.table.now.lanes in
     let within : c.loop-p.p < length lanes = subst (λ n. c.loop-p.p < n) (sym c.requires.processors) c.loop-p-test.true in
-    let long = ap length c.lane.ensures.value ∙ c.lane.ensures.lawful.whole c.loop-p.p within in
-    has_room (vec_len c.loop-p.rows) (length c.lane.result.now) c.loop-p.p (length lanes) (rounds_in lanes) (vec_capacity c.loop-p.rows) c.loop-p.invariant.1 long within c.loop-p.invariant.2
+    has_room (vec_len c.loop-p.rows) (rounds_in lanes) c.loop-p.p (length lanes) (rounds_in lanes) (vec_capacity c.loop-p.rows) c.loop-p.invariant.1 refl within c.loop-p.invariant.2
 
 pub loop-p-preserved : goal.loop-p-preserved
 loop-p-preserved c =
     let lanes = c.args.table.now.lanes in
     let within : c.loop-p.p < length lanes = subst (λ n. c.loop-p.p < n) (sym c.requires.processors) c.loop-p-test.true in
-    let long = ap length c.lane.ensures.value ∙ c.lane.ensures.lawful.whole c.loop-p.p within in
     let added = c.add_merged.ensures in (
-      rows_more lanes c.loop-p.p c.lane.result.now c.loop-p.rows.items c.add_merged.new.rows.items within c.lane.ensures.value c.loop-p.invariant.0 added.rows,
-      few_more (vec_len c.loop-p.rows) (length c.lane.result.now) (vec_len c.add_merged.new.rows) c.loop-p.p (rounds_in lanes) c.loop-p.invariant.1 long added.few,
+      rows_more lanes c.loop-p.p (lane_of lanes c.loop-p.p) c.loop-p.rows.items c.add_merged.new.rows.items within refl c.loop-p.invariant.0 added.rows,
+      few_more (vec_len c.loop-p.rows) (rounds_in lanes) (vec_len c.add_merged.new.rows) c.loop-p.p (rounds_in lanes) c.loop-p.invariant.1 refl added.few,
       subst (λ room. length lanes * rounds_in lanes ≤ room) (sym added.room) c.loop-p.invariant.2,
     )
 

@@ -1,9 +1,10 @@
-use Rattle.std.proofs.Common.{◌≡◌, [], replicate}
-use Rattle.sched_base.specs.Tables.{rows_of, HaveRoom}
+use Rattle.std.proofs.Common.{◌≡◌, length}
+use Rattle.sched_base.specs.Tables.{AreFilled, HaveRoom}
 use Rattle.sched_base.proofs.tables.RowTable.new.Given as goal
 
 abbrev pub invariant-loop-p : goal.invariant-loop-p
 invariant-loop-p l = record {
-  none : rows_of l.lanes.items ≡ replicate l._p [];
+  count : length l.lanes.items ≡ l._p;
+  blank : AreFilled 0 l.lanes.items;
   reserved : HaveRoom l.rounds l.lanes.items;
 }
