@@ -13,3 +13,4 @@ pub mod NumberedLemmas
 pub mod BatchLemmas
 pub mod WrittenLemmas
 mod RepeatLemmas
+mod InputLemmas

@@ -5,6 +5,8 @@ use Rattle.task_reader.specs.declared.refusals.ReadSet.{ReadSet}
 use Rattle.task_reader.specs.declared.refusals.ReadSet.TheVariants as set
 use Rattle.trace_check.specs.declared.faults.TraceFault.{TraceFault}
 use Rattle.trace_check.specs.declared.faults.TraceFault.TheVariants as trace
+use Rattle.trace_check.specs.declared.faults.SourceFault.{SourceFault}
+use Rattle.trace_check.specs.declared.faults.SourceFault.TheVariants as unread
 use Rattle.tree_reader.specs.declared.faults.TreeFault.{TreeFault}
 use Rattle.tree_reader.specs.declared.faults.TreeFault.TheVariants as tree
 use Rattle.tree_check.specs.declared.faults.TreeRefused.{TreeRefused}
@@ -38,6 +40,11 @@ of_read_set refusal = why.BadSet refusal
 abbrev pub of_read_trace : TraceFault → Refusal
 of_read_trace (trace.BadLine line) = why.BadLine line
 of_read_trace trace.NoMemory = why.NoMemory
+
+-- of reading the trace text of a source
+abbrev pub of_read_source : SourceFault → Refusal
+of_read_source (unread.Unread fault) = of_take fault
+of_read_source (unread.BadLine line) = why.BadLine line
 
 -- of reading a tree text
 abbrev pub of_read_tree : TreeFault → Refusal

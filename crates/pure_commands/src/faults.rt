@@ -1,6 +1,6 @@
 //! Which refusal a fault of a call below is.
 ghost use Rattle.std.specs.Prelude.{◌≡◌};
-ghost use Rattle.pure_commands.specs.Faults.{of_take, of_read_set, of_read_trace, of_read_tree, of_check_tree, of_read_jobs, of_compile};
+ghost use Rattle.pure_commands.specs.Faults.{of_take, of_read_set, of_read_trace, of_read_source, of_read_tree, of_check_tree, of_read_jobs, of_compile};
 ghost use Rattle.pure_commands.specs.Faults.{of_count, of_join, of_wrap};
 ghost use Rattle.pure_commands.specs.declared.refusal.Refusal.TheVariants as why;
 
@@ -15,7 +15,7 @@ use sched_base::NoMemory;
 use sched_edges::{Failed, TakeFault};
 use std::alloc::AllocFailed;
 use task_reader::ReadSet;
-use trace_check::TraceFault;
+use trace_check::{SourceFault, TraceFault};
 use tree_check::TreeRefused;
 use tree_reader::TreeFault;
 use wrap_sched::WrapFault;
@@ -75,6 +75,17 @@ impl From<TraceFault> for Refusal {
         match fault {
             TraceFault::BadLine { line } => Refusal::BadLine { line },
             TraceFault::NoMemory => Refusal::NoMemory,
+        }
+    }
+}
+
+impl From<SourceFault> for Refusal {
+    ghost from_gives = { λ fault refusal. refusal ≡ of_read_source fault };
+
+    fn from(fault: SourceFault) -> Self {
+        match fault {
+            SourceFault::Unread(fault) => Refusal::from(fault),
+            SourceFault::BadLine { line } => Refusal::BadLine { line },
         }
     }
 }

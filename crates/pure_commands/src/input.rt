@@ -7,7 +7,7 @@ use sched_base::TaskSet;
 use sched_edges::{Source, read_all};
 use std::alloc::Global;
 use task_reader::read_set;
-use trace_check::{CheckedTrace, ReadTrace, read_checked, read_trace};
+use trace_check::{CheckedTrace, ReadTrace, read_checked_source, read_trace_source};
 
 /// The most bytes of a task set.
 pub const SET_LIMIT: usize = 1_048_576;
@@ -34,8 +34,7 @@ pub(crate) fn read_trace_input<R: Source>(
     ensures refusal { IfErr result (GaveNoTrace (R.left source.old) (R.left source.new)
         (R.faults source.old) (R.faults source.new) TRACE_LIMIT) }
 {
-    let bytes = read_all(alloc, source, TRACE_LIMIT)?;
-    Ok(read_trace(alloc, bytes.as_slice())?)
+    Ok(read_trace_source(alloc, source, TRACE_LIMIT)?)
 }
 
 /// Reads the source to its end, as a trace text, for whoever asks for no order of the rows.
@@ -47,6 +46,5 @@ pub(crate) fn read_checked_input<R: Source>(
     ensures refusal { IfErr result (GaveNoTrace (R.left source.old) (R.left source.new)
         (R.faults source.old) (R.faults source.new) TRACE_LIMIT) }
 {
-    let bytes = read_all(alloc, source, TRACE_LIMIT)?;
-    Ok(read_checked(alloc, bytes.as_slice())?)
+    Ok(read_checked_source(alloc, source, TRACE_LIMIT)?)
 }

@@ -3,7 +3,6 @@ use Rattle.std.proofs.Common.{ℕ, ◌*◌, ◌<◌, ◌≡◌, List, length, ge
 use Rattle.std.proofs.lemmas.List.{get_or_default}
 use Rattle.sched_base.specs.Valid.{IsValid}
 use Rattle.trace_verdict.specs.declared.faults.Verdict.{Verdict}
-use Rattle.trace_verdict.specs.declared.faults.Verdict.TheVariants.{Valid}
 use Rattle.trace_verdict.specs.declared.findings.Findings.{Findings}
 use Rattle.trace_verdict.specs.Findings.{found_at, IsToldOfTask}
 use Rattle.trace_verdict.proofs.VerdictLemmas.{verdict_valid}

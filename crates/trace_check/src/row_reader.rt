@@ -1,0 +1,182 @@
+//! Row lines of a text that comes piece by piece.
+ghost use Rattle.std.specs.Prelude.{ℕ, ◌≡◌, ◌≤◌, true, false, List, ◌++◌, length, drop, IfOk};
+ghost use Rattle.trace_check.specs.RowLines.{AreTotals};
+ghost use Rattle.trace_check.specs.WholeRows.{AreRowsOf, NextWhole, RowsEnd, StopIs};
+
+use crate::name_table::NameTable;
+use crate::row_lines::{add_ticks, begins_row, row_from, row_of};
+use crate::row_words::whole_row_words;
+use sched_base::{NoMemory, Row, TaskSet};
+use std::alloc::{AllocError, Global};
+use text_window::{Window, whole_line};
+
+/// What the first line of a text is of which more may follow.
+#[derive(Clone, Copy)]
+pub(crate) enum NextLine<'a> {
+    /// A row line, with the lines that follow.
+    Row(Row, &'a [u8]),
+    /// No row line.
+    Ends,
+    /// A row line at fault.
+    Fault,
+    /// Its line feed isn't there.
+    Cut,
+}
+
+/// Why no more row lines are taken.
+#[derive(Clone, Copy)]
+pub(crate) enum Stop {
+    /// A line follows that is no row line.
+    Ends,
+    /// The next row line is at fault.
+    Fault,
+    /// The next line has no line feed in the text.
+    Cut,
+}
+
+impl Stop {
+    /// Whether the next line has no line feed in the text.
+    pub fn is_cut(self) -> bool
+        ensures { result ≡ false → self ≡ Stop.Cut → ⊥ }
+    {
+        matches!(self, Stop::Cut)
+    }
+
+    /// Whether the next row line is at fault.
+    pub fn is_fault(self) -> bool
+        ensures fault { result ≡ true → self ≡ Stop.Fault }
+        ensures other { result ≡ false → self ≡ Stop.Fault → ⊥ }
+    {
+        matches!(self, Stop::Fault)
+    }
+}
+
+// The next line, word by word.
+fn next_by_words<'a>(
+    set: &TaskSet,
+    table: &NameTable,
+    rows: &[Row],
+    totals: &[u128],
+    text: &'a [u8],
+) -> NextLine<'a>
+    requires totals { AreTotals rows.now totals.now }
+    requires count { length totals.now ≡ length set.now.tasks }
+    ensures { NextWhole set.now.tasks rows.now text.now result }
+{
+    let (line, later) = match whole_line(text) {
+        Some(cut) => cut,
+        None => return NextLine::Cut,
+    };
+    if !begins_row(line) {
+        return NextLine::Ends;
+    }
+    match row_of(set, table, rows, totals, line) {
+        Some(row) => NextLine::Row(row, later),
+        None => NextLine::Fault,
+    }
+}
+
+fn next_line<'a>(
+    set: &TaskSet,
+    table: &NameTable,
+    rows: &[Row],
+    totals: &[u128],
+    text: &'a [u8],
+) -> NextLine<'a>
+    requires totals { AreTotals rows.now totals.now }
+    requires count { length totals.now ≡ length set.now.tasks }
+    ensures { NextWhole set.now.tasks rows.now text.now result }
+{
+    let words = match whole_row_words(text) {
+        Some(words) => words,
+        None => return next_by_words(set, table, rows, totals, text),
+    };
+    let row = row_from(
+        set,
+        table,
+        rows,
+        totals,
+        words.processor,
+        words.start,
+        words.end,
+        words.name,
+    );
+    match row {
+        Some(row) => NextLine::Row(row, words.later),
+        None => NextLine::Fault,
+    }
+}
+
+/// The rows that were read so far, and for each task the sum of the ticks of its rows.
+#[derive(Drop)]
+pub(crate) struct RowReader {
+    pub table: NameTable,
+    pub rows: Vec<Row>,
+    pub totals: Vec<u128>,
+}
+
+impl RowReader {
+    /// No rows of this set.
+    pub fn new(alloc: Global, set: &TaskSet) -> Result<RowReader, NoMemory>
+        ensures { IfOk result (λ r. (text : List ℕ) → AreRowsOf set.now.tasks text r.rows.items r.totals.items text) }
+    {
+        let table = NameTable::new(alloc, set)?;
+        let totals = vec![in alloc; 0u128; set.tasks().len()]?;
+        Ok(RowReader {
+            table,
+            rows: Vec::new(alloc),
+            totals,
+        })
+    }
+
+    /// Reads the row lines at the front that have their line feeds: how many bytes they are, and why no more.
+    pub fn take(&mut self, set: &TaskSet, text: &[u8]) -> Result<(usize, Stop), AllocError>
+        requires { (whole : List ℕ) × AreRowsOf set.now.tasks whole self.old.rows.items self.old.totals.items text.now }
+        ensures within { IfOk result (λ p. p.0 ≤ length text.now) }
+        ensures read { IfOk result (λ p. (whole : List ℕ) → AreRowsOf set.now.tasks whole self.old.rows.items self.old.totals.items text.now
+            → AreRowsOf set.now.tasks whole self.new.rows.items self.new.totals.items (drop p.0 text.now)) }
+        ensures stop { IfOk result (λ p. StopIs set.now.tasks self.new.rows.items (drop p.0 text.now) p.1) }
+    {
+        let mut rest = text;
+        loop {
+            let gone = text.len() - rest.len();
+            match next_line(set, &self.table, &self.rows, &self.totals, rest) {
+                NextLine::Row(row, later) => {
+                    add_ticks(set, &self.rows, &mut self.totals, &row);
+                    self.rows.reserve(1)?;
+                    self.rows.push_reserved(row);
+                    rest = later;
+                }
+                NextLine::Ends => return Ok((gone, Stop::Ends)),
+                NextLine::Fault => return Ok((gone, Stop::Fault)),
+                NextLine::Cut => return Ok((gone, Stop::Cut)),
+            }
+        }
+    }
+
+    /// Goes past the row lines at the front of the window that have their line feeds, and tells why no more.
+    pub fn take_from(&mut self, set: &TaskSet, window: &mut Window) -> Result<Stop, AllocError>
+        requires { (whole : List ℕ) × AreRowsOf set.now.tasks whole self.old.rows.items self.old.totals.items window.old.ahead }
+        ensures read { IfOk result (λ _. (whole : List ℕ) → AreRowsOf set.now.tasks whole self.old.rows.items self.old.totals.items window.old.ahead
+            → AreRowsOf set.now.tasks whole self.new.rows.items self.new.totals.items window.new.ahead) }
+        ensures stop { IfOk result (StopIs set.now.tasks self.new.rows.items window.new.ahead) }
+        ensures split { IfOk result (λ _. (gone : List ℕ) × (window.old.ahead ≡ gone ++ window.new.ahead)) }
+        ensures count { window.new.count ≡ window.old.count }
+        ensures limit { window.new.limit ≡ window.old.limit }
+    {
+        let (count, stop) = self.take(set, window.ahead())?;
+        window.pass(count);
+        Ok(stop)
+    }
+
+    /// The same where the source is at its end, so that the last line may lack its line feed.
+    pub fn take_last(&mut self, set: &TaskSet, window: &mut Window) -> Result<Stop, AllocError>
+        requires { (whole : List ℕ) × AreRowsOf set.now.tasks whole self.old.rows.items self.old.totals.items window.old.ahead }
+        ensures { IfOk result (λ stop. (whole : List ℕ) → AreRowsOf set.now.tasks whole self.old.rows.items self.old.totals.items window.old.ahead
+            → RowsEnd set.now.tasks whole self.new.rows.items self.new.totals.items window.new.ahead stop) }
+    {
+        window.end_line()?;
+        let stop = self.take_from(set, window)?;
+        Ok(stop)
+    }
+}
