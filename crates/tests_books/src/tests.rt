@@ -6,6 +6,7 @@ ghost use Rattle.exec_book.specs.Books.{IsDismissed};
 ghost use Rattle.sched_edges.specs.Jobs.{JobAt, CountHeld};
 ghost use Rattle.plan_rounds.specs.PlanRows.{IsCompiled};
 
+mod beside;
 mod halts;
 mod ledgers;
 mod machines;
