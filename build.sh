@@ -34,7 +34,7 @@ mkfifo "$work/endings" && exec 8<>"$work/endings" || exit 126
 # Ends the builds that go on, each with all that it called.
 stop() { for it in "$work"/*.group; do [ -e "$it" ] && kill -- "-$(cat "$it")" 2>/dev/null; done; }
 trap 'rm -rf "$work"' EXIT
-trap 'echo >&2; say "stopped; what is done is kept, and the next call goes on"; stop; exit 130' INT TERM
+trap 'echo >&2; say "stopped; what is done is kept, and the next call goes on"; stop; wait; exit 130' INT TERM
 
 # The length of a crate's code. What a crate takes goes by that, and not by the length of its proofs.
 size_of() { find "$top/crates/$1/src" -type f -exec cat {} + 2>/dev/null | wc -c; }
