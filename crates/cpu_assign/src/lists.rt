@@ -71,15 +71,17 @@ impl PackList {
     }
 
     fn as_slice(&self) -> &[u32]
-        ensures { result.now ≡ self.now.packs }
+        ensures packs { result.now ≡ self.now.packs }
+        ensures room { length self.now.packs ≤ self.now.room }
     {
         &self.packs[..self.count]
     }
 }
 
-/// The packs that stop at a tick and those that begin, in order.
+/// The packs that were looked at for a tick, in order, and of these the ones that stop there and those that begin.
 #[derive(Drop)]
 pub struct Changes {
+    seen: PackList,
     stopped: PackList,
     begun: PackList,
 }
@@ -90,42 +92,61 @@ impl Model for Changes {
 
     ghost Value = { ChangeLists };
 
-    ghost view = { λ c. record { stopped = c.stopped.packs; begun = c.begun.packs; room = c.stopped.room } };
+    ghost view = { λ c. record { seen = c.seen.packs; stopped = c.stopped.packs; begun = c.begun.packs; room = c.stopped.room } };
 
-    ghost invariant = { λ c. c.begun.room ≡ c.stopped.room };
+    ghost invariant = { λ c. (c.begun.room ≡ c.stopped.room) × (c.seen.room ≡ c.stopped.room) };
 }
 
 impl Changes {
     /// None yet, with room for so many packs.
     pub fn new(alloc: Global, packs: u32) -> Result<Changes, NoMemory>
         ensures room { IfOk result (λ c. c.room ≡ packs) }
-        ensures none { IfOk result (λ c. (c.stopped ≡ []) × (c.begun ≡ [])) }
+        ensures none { IfOk result (λ c. (c.seen ≡ []) × (c.stopped ≡ []) × (c.begun ≡ [])) }
     {
+        let seen = PackList::new(alloc, packs)?;
         let stopped = PackList::new(alloc, packs)?;
         let begun = PackList::new(alloc, packs)?;
-        Ok(Changes { stopped, begun })
+        Ok(Changes {
+            seen,
+            stopped,
+            begun,
+        })
     }
 
     /// Forgets all of them.
     pub fn clear(&mut self)
+        ensures seen { self.new.seen ≡ [] }
         ensures stopped { self.new.stopped ≡ [] }
         ensures begun { self.new.begun ≡ [] }
         ensures room { self.new.room ≡ self.old.room }
     {
+        self.seen.clear();
         self.stopped.clear();
         self.begun.clear();
     }
 
-    /// Lists pack i behind the others, where it is on a processor and runs no more, or runs and is on none.
+    /// Lists pack i behind the others, as one that stops where it is on a processor and runs no more, and as one that begins where it
+    /// runs and is on none.
     pub fn see(&mut self, i: u32, runs: bool, held: bool)
+        requires seen { length self.old.seen < self.old.room }
         requires stopped { length self.old.stopped < self.old.room }
         requires begun { length self.old.begun < self.old.room }
+        ensures seen { self.new.seen ≡ self.old.seen ++ i ∷ [] }
         ensures stopped { self.new.stopped ≡ with_pack self.old.stopped i (not runs && held) }
         ensures begun { self.new.begun ≡ with_pack self.old.begun i (runs && not held) }
         ensures room { self.new.room ≡ self.old.room }
     {
+        self.seen.push(i);
         self.stopped.push_if(!runs && held, i);
         self.begun.push_if(runs && !held, i);
+    }
+
+    /// The packs that were looked at.
+    pub fn seen(&self) -> &[u32]
+        ensures packs { result.now ≡ self.now.seen }
+        ensures room { length self.now.seen ≤ self.now.room }
+    {
+        self.seen.as_slice()
     }
 
     pub(crate) fn stopped(&self) -> &[u32]

@@ -1,4 +1,4 @@
-use Rattle.std.proofs.Common.{◌≡◌, ◌<◌, ℕ, zero, suc, List, [], ◌∷◌, length, get_or, Option, None, ap₂, arith, refl, sym, ◌∙◌}
+use Rattle.std.proofs.Common.{◌≡◌, ◌<◌, ℕ, suc, List, [], ◌∷◌, length, get_or, Option, None, ap₂, arith, refl}
 use Rattle.cpu_assign.proofs.steps.are_same.Goals as goal
 
 -- lists of one length that agree at each place are the same
