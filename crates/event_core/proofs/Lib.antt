@@ -19,3 +19,5 @@ pub mod FirstLevel
 pub mod SettledPacks
 pub mod RowsGone
 pub mod PlanRounds
+pub mod SeenLemmas
+pub mod ToldLemmas

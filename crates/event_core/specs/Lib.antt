@@ -4,3 +4,4 @@ pub mod Cores
 pub mod Steps
 pub mod States
 pub mod Counts
+pub mod Told

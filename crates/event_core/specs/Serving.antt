@@ -8,6 +8,7 @@ use Rattle.sched_base.specs.Candidates.{candidate_at, is_at}
 use Rattle.sched_base.specs.Places.{is_held}
 use Rattle.run_tree.specs.Tree.{Tree, IsPack, IsMember, kind_at, is_pack, home, level, place, rate, members, member}
 use Rattle.run_tree.specs.Schedule.{packs_at}
+use Rattle.cpu_assign.specs.Changed.{ChangeLists}
 use Rattle.knockout.specs.Knockouts.{never}
 use Rattle.edf_pick.specs.Ready.{ready_end, AreReady}
 use Rattle.server_budget.specs.Dues.{DueContents}
@@ -107,6 +108,21 @@ IsSettled t onto stale runs i = slice_index_or stale (slice_index (packs_at t 0)
 -- so are all of them from number n on
 abbrev pub AreSettledFrom : Tree → List (Option ℕ) → List Bool → List Bool → ℕ → Type 0
 AreSettledFrom t onto stale runs n = (i : ℕ) → n ≤ i → i < length (packs_at t 0) → IsSettled t onto stale runs i
+
+-- the place of the member of pack i of level 0 that runs
+abbrev pub first_served : Tree → List (Option ℕ) → ℕ → Option ℕ
+first_served t serves i = slice_index_or serves (slice_index (packs_at t 0) i) None
+
+-- pack i is one of these
+abbrev pub IsAmong : List ℕ → ℕ → Type 0
+IsAmong packs i = (k : ℕ) × (k < length packs) × (slice_index packs k ≡ i)
+
+-- Some packs of level 0 were looked at. In all others the same member runs as before, and those that stop or begin are among them.
+pub record AreSeen (t : Tree) (before after : List (Option ℕ)) (changes : ChangeLists) : Type 0 where
+  pub within : (k : ℕ) → k < length changes.seen → slice_index changes.seen k < length (packs_at t 0)
+  pub same : (i : ℕ) → i < length (packs_at t 0) → (IsAmong changes.seen i → ⊥) → first_served t after i ≡ first_served t before i
+  pub stops : (k : ℕ) → k < length changes.stopped → IsAmong changes.seen (slice_index changes.stopped k)
+  pub begins : (k : ℕ) → k < length changes.begun → IsAmong changes.seen (slice_index changes.begun k)
 
 -- the packs of level 0 below number n that are on processors and run no more, in order
 abbrev pub stops_below : Tree → List (Option ℕ) → List Bool → ℕ → List ℕ

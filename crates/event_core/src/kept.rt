@@ -7,7 +7,7 @@ ghost use Rattle.run_tree.specs.Schedule.{packs_at};
 ghost use Rattle.cpu_assign.specs.Changed.{AreChanged};
 ghost use Rattle.release_calendar.specs.Calendars.{BelongsTo};
 ghost use Rattle.tree_select.specs.Marked.{AreFreshFrom};
-ghost use Rattle.event_core.specs.Serving.{due_of, no_tick, AreBegun, AreFitting, AreLong, AreSettledFrom, AreSoonestFrom, IsBlank, IsDrying, IsServing, IsSoonest};
+ghost use Rattle.event_core.specs.Serving.{due_of, no_tick, AreBegun, AreFitting, AreLong, AreSeen, AreSettledFrom, AreSoonestFrom, IsBlank, IsDrying, IsServing, IsSoonest};
 ghost use Rattle.event_core.specs.Steps.{packs_by};
 
 use crate::begun::begin_all;
@@ -47,8 +47,8 @@ impl Model for Serving {
 }
 
 impl Serving {
-    /// Says again of each node whether it runs, and lets members stop and start. The packs of level 0 that stop and begin are
-    /// listed.
+    /// Says again of each node whether it runs, and lets members stop and start. The packs of level 0 that were looked at are
+    /// listed, and among them those that stop and begin.
     pub(crate) fn select(
         &mut self,
         plan: &Plan,
@@ -71,6 +71,7 @@ impl Serving {
         ensures selected { (n : ℕ) → n < length plan.now.tree.nodes → slice_index_or self.new.runs n false
             ≡ runs_now plan.now.tree (λ x. slice_index dues.old.remains x) (λ x. slice_index ends.now x) n }
         ensures changed { AreChanged (packs_by plan.now.tree self.new.runs) places.now.onto changes.new }
+        ensures seen { AreSeen plan.now.tree self.old.serves self.new.serves changes.new }
         ensures room { changes.new.room ≡ changes.old.room }
     {
         serve_all(

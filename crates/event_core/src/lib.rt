@@ -17,6 +17,7 @@ mod rounds;
 mod rows;
 mod serving;
 mod states;
+mod told;
 mod turns;
 mod walks;
 

@@ -1,5 +1,5 @@
 //! The walk over the packs that are to be looked at again.
-ghost use Rattle.std.specs.Prelude.{ℕ, List, Option, [], ◌≡◌, ◌≢◌, ◌+◌, ◌&&◌, ◌<◌, ◌≤◌, not, length, true, false, Some};
+ghost use Rattle.std.specs.Prelude.{ℕ, List, Option, [], ◌∷◌, ◌++◌, ◌≡◌, ◌≢◌, ◌+◌, ◌&&◌, ◌<◌, ◌≤◌, not, length, true, false, None, Some};
 ghost use Rattle.std.specs.Prelude.{slice_index, slice_index_or};
 ghost use Rattle.sched_base.specs.Places.{is_held};
 ghost use Rattle.run_tree.specs.Tree.{IsTree, IsPack, member, members, level};
@@ -7,7 +7,7 @@ ghost use Rattle.run_tree.specs.Schedule.{packs_at};
 ghost use Rattle.run_tree.specs.Runs.{runs_now};
 ghost use Rattle.cpu_assign.specs.Changed.{with_pack, AreChanged};
 ghost use Rattle.tree_select.specs.Marked.{AreFreshFrom};
-ghost use Rattle.event_core.specs.Serving.{dry_by, lists, AreFitting, AreLong, AreSettledFrom, AreUnchanged, IsServing};
+ghost use Rattle.event_core.specs.Serving.{dry_by, first_served, lists, AreFitting, AreLong, AreSeen, AreSettledFrom, AreUnchanged, IsServing};
 ghost use Rattle.event_core.specs.Steps.{packs_by};
 
 use crate::serving::{id_of, serve};
@@ -61,6 +61,7 @@ fn serve_pack(
     ensures remains { dues.new.remains ≡ dues.old.remains }
     ensures nodes { length dues.new.runs ≡ length dues.old.runs }
     ensures serving { IsServing tree.now dues.new ends.now (lists ready.now serves.new dry.new stale.new runs.new) }
+    ensures others { (q : ℕ) → q ≢ p.0 → slice_index_or serves.new q None ≡ slice_index_or serves.old q None }
     ensures own { slice_index_or stale.new p.0 false ≡ false }
     ensures unchanged { AreUnchanged tree.now p.0 stale.old runs.old stale.new runs.new }
     ensures marks { (q : ℕ) → IsPack tree.now q → q ≢ p.0 → level tree.now p.0 ≤ level tree.now q →
@@ -128,6 +129,7 @@ fn serve_level(
     ensures serving { IsServing tree.now dues.new ends.now (lists ready.now serves.new dry.new stale.new runs.new) }
     ensures fresh { AreFreshFrom tree.now stale.new level }
     ensures settled { (onto : List (Option ℕ)) → AreSettledFrom tree.now onto stale.old runs.old 0 → AreSettledFrom tree.now onto stale.new runs.new 0 }
+    ensures first { (i : ℕ) → i < length (packs_at tree.now 0) → first_served tree.now serves.new i ≡ first_served tree.now serves.old i }
 {
     let count = tree.packs(level);
     let mut i = next_marked(tree, level, stale, 0);
@@ -138,7 +140,7 @@ fn serve_level(
     }
 }
 
-// Pack p, which is number i of level 0, serves the member that it picks now, and is listed where it stops or begins.
+// Pack p, which is number i of level 0, serves the member that it picks now, and is listed.
 fn serve_listed(
     tree: &Tree,
     p: NodeId,
@@ -159,16 +161,19 @@ fn serve_listed(
     requires long { AreLong tree.now dues.old (lists ready.now serves.old dry.old stale.old runs.old) }
     requires fits { AreFitting tree.now dues.old }
     requires serving { IsServing tree.now dues.old ends.now (lists ready.now serves.old dry.old stale.old runs.old) }
+    requires seen { length changes.old.seen < changes.old.room }
     requires stopped { length changes.old.stopped < changes.old.room }
     requires begun { length changes.old.begun < changes.old.room }
     ensures tick { dues.new.tick ≡ dues.old.tick }
     ensures remains { dues.new.remains ≡ dues.old.remains }
     ensures nodes { length dues.new.runs ≡ length dues.old.runs }
     ensures serving { IsServing tree.now dues.new ends.now (lists ready.now serves.new dry.new stale.new runs.new) }
+    ensures others { (q : ℕ) → q ≢ p.0 → slice_index_or serves.new q None ≡ slice_index_or serves.old q None }
     ensures own { slice_index_or stale.new p.0 false ≡ false }
     ensures unchanged { AreUnchanged tree.now p.0 stale.old runs.old stale.new runs.new }
     ensures marks { (q : ℕ) → IsPack tree.now q → q ≢ p.0 → level tree.now p.0 ≤ level tree.now q →
         slice_index_or stale.new q false ≡ slice_index_or stale.old q false }
+    ensures seen { changes.new.seen ≡ changes.old.seen ++ i ∷ [] }
     ensures stopped { changes.new.stopped ≡ with_pack changes.old.stopped i (not (slice_index_or runs.new p.0 false) && is_held places.now.onto i) }
     ensures begun { changes.new.begun ≡ with_pack changes.old.begun i (slice_index_or runs.new p.0 false && not (is_held places.now.onto i)) }
     ensures room { changes.new.room ≡ changes.old.room }
@@ -177,7 +182,7 @@ fn serve_listed(
     changes.see(i, runs[p.0 as usize], places.holds(i));
 }
 
-// The marked packs of level 0, once none above it is marked. Those that stop and begin are listed.
+// The marked packs of level 0, once none above it is marked. They are listed, and among them those that stop and begin.
 fn serve_first_level(
     tree: &Tree,
     ends: &[u128],
@@ -205,6 +210,7 @@ fn serve_first_level(
     ensures serving { IsServing tree.now dues.new ends.now (lists ready.now serves.new dry.new stale.new runs.new) }
     ensures fresh { AreFreshFrom tree.now stale.new 0 }
     ensures changed { AreChanged (packs_by tree.now runs.new) places.now.onto changes.new }
+    ensures seen { AreSeen tree.now serves.old serves.new changes.new }
     ensures room { changes.new.room ≡ changes.old.room }
 {
     changes.clear();
@@ -220,7 +226,7 @@ fn serve_first_level(
 }
 
 /// Says again of each node whether it runs, where the lists are right but for the marked packs, and lets members stop and start.
-/// No mark is left at a pack. The packs of level 0 that stop and begin are listed.
+/// No mark is left at a pack. The packs of level 0 that were marked are listed, and among them those that stop and begin.
 pub(crate) fn serve_all(
     tree: &Tree,
     ends: &[u128],
@@ -247,6 +253,7 @@ pub(crate) fn serve_all(
     ensures selected { (n : ℕ) → n < length tree.now.nodes → slice_index_or runs.new n false
         ≡ runs_now tree.now (λ x. slice_index dues.old.remains x) (λ x. slice_index ends.now x) n }
     ensures changed { AreChanged (packs_by tree.now runs.new) places.now.onto changes.new }
+    ensures seen { AreSeen tree.now serves.old serves.new changes.new }
     ensures room { changes.new.room ≡ changes.old.room }
 {
     let mut level = tree.levels();

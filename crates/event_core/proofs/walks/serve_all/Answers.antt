@@ -3,6 +3,7 @@ use Rattle.tree_select.specs.Marked.{AreFreshFrom, AreServed}
 use Rattle.tree_select.proofs.SelectLemmas.{all_selected}
 use Rattle.tree_select.proofs.MarkedLemmas.{fresh_top, led_right}
 use Rattle.event_core.proofs.FirstLevel.{some_level}
+use Rattle.event_core.proofs.SeenLemmas.{seen_since}
 use Rattle.event_core.proofs.WalkLemmas.{fitting_still}
 use Rattle.event_core.proofs.walks.serve_all.Goals as goal
 
@@ -12,7 +13,7 @@ loop-level-init c =
     let h = c.levels-level.ensures.lawful.tree in
     let is = c.levels-level.ensures.value in
     let some = some_level t h c.levels-level.ensures.lawful.sized.some_processors in
-    (omega (arith, is), refl, refl, refl, c.requires.serving, fresh_top t h c.args.stale.now c.levels-level.result is, omega (arith, some, is), c.requires.settled)
+    (omega (arith, is), refl, refl, refl, c.requires.serving, fresh_top t h c.args.stale.now c.levels-level.result is, omega (arith, some, is), c.requires.settled, λ k l. refl)
 
 pub serve_level-requires-clause-long : goal.serve_level-requires-clause-long
 serve_level-requires-clause-long c = record {
@@ -42,6 +43,7 @@ loop-level-preserved c =
       c.serve_level.ensures.fresh,
       omega (arith, on),
       c.serve_level.ensures.settled c.args.places.now.onto c.loop-level.invariant.7,
+      λ k l. c.serve_level.ensures.first k l ∙ c.loop-level.invariant.8 k l,
     )
 
 pub serve_first_level-requires-clause-long : goal.serve_first_level-requires-clause-long
@@ -81,6 +83,9 @@ returns-clause-selected c =
     let served = subst (λ (rs : List ℕ). AreServed t rs c.args.ends.now c.serve_first_level.new.stale c.serve_first_level.new.runs) remains c.serve_first_level.ensures.serving.served in
     all_selected t h c.args.dues.now.remains c.args.ends.now c.serve_first_level.new.runs 0 refl
     (led_right t h c.args.dues.now.remains c.args.ends.now c.serve_first_level.new.stale c.serve_first_level.new.runs t.levels 0 (omega arith) c.serve_first_level.ensures.serving.led served c.serve_first_level.ensures.fresh)
+
+pub returns-clause-seen : goal.returns-clause-seen
+returns-clause-seen c = seen_since c.args.tree.now c.args.serves.now c.loop-level.serves c.serve_first_level.new.serves c.serve_first_level.new.changes c.loop-level.invariant.8 c.serve_first_level.ensures.seen
 
 pub returns-clause-tick : goal.returns-clause-tick
 returns-clause-tick c = c.serve_first_level.ensures.tick ∙ c.loop-level.invariant.1

@@ -1,10 +1,12 @@
-use Rattle.std.proofs.Common.{arith, ap, refl, sym, length, get_or, false, not, ℕ, List, Bool, ◌+◌, ◌<◌, ◌≡◌, ◌∙◌, ◌&&◌, inr}
+use Rattle.std.proofs.Common.{arith, ap, refl, sym, length, get_or, false, not, ℕ, List, [], ◌∷◌, Bool, ◌+◌, ◌<◌, ◌≡◌, ◌∙◌, ◌&&◌, inr}
+use Rattle.std.proofs.lemmas.List.{length-append}
 use Rattle.sched_base.specs.Places.{is_held}
 use Rattle.run_tree.specs.Schedule.{packs_at}
 use Rattle.run_tree.proofs.TreeLemmas.{first_is_pack}
 use Rattle.tree_select.proofs.MarkedLemmas.{fresh_none, fresh_step, fresh_all}
 use Rattle.event_core.specs.Serving.{first_runs, stops_below, begins_below}
 use Rattle.event_core.proofs.SettledPacks.{begins_skip, changed_are, few_pass, fresh_skip, listed_step, settled_rest, settled_skip, stops_skip}
+use Rattle.event_core.proofs.SeenLemmas.{seen_none, seen_step}
 use Rattle.event_core.proofs.WalkLemmas.{fitting_still}
 use Rattle.event_core.proofs.walks.serve_first_level.Goals as goal
 
@@ -29,6 +31,8 @@ marked-init c =
       stops_skip t onto stale runs 0 i after within skipped settled c.clear.new.self.stopped c.clear.ensures.stopped,
       begins_skip t onto stale runs 0 i after within skipped settled c.clear.new.self.begun c.clear.ensures.begun,
       within,
+      seen_none t c.args.serves.now c.clear.new.self c.clear.ensures.seen c.clear.ensures.stopped c.clear.ensures.begun,
+      (let none = ap (λ (xs : List ℕ). length xs) c.clear.ensures.seen in omega (arith, none)),
     )
 
 pub serve_listed-requires-clause-long : goal.serve_listed-requires-clause-long
@@ -49,6 +53,15 @@ serve_listed-requires-clause-held c = let n = c.packs-count.ensures in let b = c
 
 pub serve_listed-requires-clause-fits : goal.serve_listed-requires-clause-fits
 serve_listed-requires-clause-fits c = fitting_still c.args.tree.now c.args.dues.now c.marked.dues c.marked.invariant.0 c.marked.invariant.1 c.requires.fits
+
+pub serve_listed-requires-clause-seen : goal.serve_listed-requires-clause-seen
+serve_listed-requires-clause-seen c =
+    let n = c.packs-count.ensures in
+    let b = c.marked-test.true in
+    let room = c.requires.room in
+    let kept = c.marked.invariant.6 in
+    let few = c.marked.invariant.11 in
+    omega (arith, n, b, room, kept, few)
 
 pub serve_listed-requires-clause-stopped : goal.serve_listed-requires-clause-stopped
 serve_listed-requires-clause-stopped c =
@@ -106,6 +119,9 @@ marked-preserved c =
       stops_skip t onto stale runs (i + 1) next after within skipped settled c.serve_listed.new.changes.stopped stops,
       begins_skip t onto stale runs (i + 1) next after within skipped settled c.serve_listed.new.changes.begun begins,
       within,
+      seen_step t c.args.serves.now c.marked.serves c.serve_listed.new.serves c.marked.changes c.serve_listed.new.changes c.pack_of-p.result.0 i l at _ _
+          c.serve_listed.ensures.others c.serve_listed.ensures.seen c.serve_listed.ensures.stopped c.serve_listed.ensures.begun c.marked.invariant.10,
+      (let few = c.marked.invariant.11 in let more = ap (λ (xs : List ℕ). length xs) c.serve_listed.ensures.seen in let long = length-append c.marked.changes.seen (i ∷ []) in omega (arith, few, more, long, after)),
     )
 
 pub returns-clause-fresh : goal.returns-clause-fresh
@@ -121,6 +137,9 @@ returns-clause-changed c =
     let off = c.marked-test.false in
     let most = c.marked.invariant.9 in
     changed_are c.args.tree.now c.args.places.now.onto c.marked.runs c.marked.changes c.marked.i (omega (arith, n, off, most)) c.marked.invariant.7 c.marked.invariant.8
+
+pub returns-clause-seen : goal.returns-clause-seen
+returns-clause-seen c = c.marked.invariant.10
 
 pub returns-clause-tick : goal.returns-clause-tick
 returns-clause-tick c = c.marked.invariant.0

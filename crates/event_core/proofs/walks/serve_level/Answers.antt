@@ -2,6 +2,7 @@ use Rattle.std.proofs.Common.{arith, refl, length, ◌+◌, ◌<◌, ◌∙◌}
 use Rattle.run_tree.specs.Schedule.{packs_at}
 use Rattle.tree_select.proofs.MarkedLemmas.{fresh_none, fresh_step, fresh_all}
 use Rattle.event_core.proofs.SettledPacks.{fresh_skip, settled_above}
+use Rattle.event_core.proofs.SeenLemmas.{above_first}
 use Rattle.event_core.proofs.WalkLemmas.{fitting_still}
 use Rattle.event_core.proofs.walks.serve_level.Goals as goal
 
@@ -14,6 +15,7 @@ marked-init c = (
   fresh_skip c.args.tree.now c.args.stale.now c.args.level 0 c.next_marked-i.result (fresh_none c.args.tree.now c.requires.tree c.args.stale.now c.args.level c.requires.above) c.next_marked-i.ensures.skipped,
   λ onto s. s,
   c.next_marked-i.ensures.within,
+  λ k l. refl,
 )
 
 pub serve_pack-requires-clause-long : goal.serve_pack-requires-clause-long
@@ -47,6 +49,7 @@ marked-preserved c =
       λ onto s. settled_above c.args.tree.now c.requires.tree onto c.marked.stale c.marked.runs c.serve_pack.new.stale c.serve_pack.new.runs c.pack_of-p.result.0 c.serve_pack.ensures.unchanged c.args.level c.marked.i c.requires.above_first
           here c.pack_of-p.ensures.value (c.marked.invariant.5 onto s),
       c.next_marked-i-in-marked.ensures.within,
+      λ k l. c.serve_pack.ensures.others _ (above_first c.args.tree.now c.requires.tree c.args.level c.marked.i c.pack_of-p.result.0 c.requires.above_first here c.pack_of-p.ensures.value k l) ∙ c.marked.invariant.7 k l,
     )
 
 pub returns-clause-fresh : goal.returns-clause-fresh
@@ -55,6 +58,9 @@ returns-clause-fresh c =
     let off = c.marked-test.false in
     let most = c.marked.invariant.6 in
     fresh_all c.args.tree.now c.requires.tree c.marked.stale c.args.level c.marked.i (omega (arith, n, off, most)) c.marked.invariant.4
+
+pub returns-clause-first : goal.returns-clause-first
+returns-clause-first c = c.marked.invariant.7
 
 pub returns-clause-tick : goal.returns-clause-tick
 returns-clause-tick c = c.marked.invariant.0

@@ -32,6 +32,15 @@ returns-clause-unchanged c = c.serve_pack.ensures.unchanged
 pub returns-clause-marks : goal.returns-clause-marks
 returns-clause-marks c = c.serve_pack.ensures.marks
 
+pub returns-clause-others : goal.returns-clause-others
+returns-clause-others c = c.serve_pack.ensures.others
+
+pub returns-clause-seen : goal.returns-clause-seen
+returns-clause-seen c = c.see.ensures.seen
+
+pub see-requires-clause-seen : goal.see-requires-clause-seen
+see-requires-clause-seen c = c.requires.seen
+
 pub returns-clause-stopped : goal.returns-clause-stopped
 returns-clause-stopped c =
     c.see.ensures.stopped ∙ ap (λ (held : Bool). with_pack c.args.changes.now.stopped c.args.i (not (get_or c.serve_pack.new.runs c.args.p.0 false) && held)) c.holds.ensures

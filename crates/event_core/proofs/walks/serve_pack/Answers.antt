@@ -1,4 +1,4 @@
-use Rattle.std.proofs.Common.{arith, ap, length, refl, List, subst, sym, ℕ, ◌∙◌, eq-eqb}
+use Rattle.std.proofs.Common.{arith, ap, get_or-set_other, length, refl, List, subst, sym, ℕ, ◌∙◌, eq-eqb}
 use Rattle.std.proofs.Math.ListN.{set}
 use Rattle.edf_pick.specs.Ready.{AreReady}
 use Rattle.sched_base.specs.Candidates.{is_at}
@@ -47,6 +47,9 @@ returns-clause-serving c =
 
 pub returns-clause-unchanged : goal.returns-clause-unchanged
 returns-clause-unchanged c = record { unmarked = c.serve-next.ensures.unmarked; unchanged = c.serve-next.ensures.unchanged }
+
+pub returns-clause-others : goal.returns-clause-others
+returns-clause-others c = λ q ne. rw get_or-set_other refl
 
 pub returns-clause-tick : goal.returns-clause-tick
 returns-clause-tick c = c.serve-next.ensures.tick

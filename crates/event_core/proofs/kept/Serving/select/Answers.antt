@@ -1,10 +1,10 @@
-use Rattle.std.proofs.Common.{ap, false, get_or, length, subst, subst₂, sym, ◌∙◌, ◌<◌, ◌≡◌, ℕ, List, Bool}
+use Rattle.std.proofs.Common.{ap, false, get_or, length, subst, subst₂, sym, ◌∙◌, ◌<◌, ◌≡◌, ℕ, List, Option, Bool}
 use Rattle.run_tree.specs.Tree.{Tree}
 use Rattle.run_tree.specs.Runs.{runs_now}
 use Rattle.run_tree.specs.Schedule.{packs_at}
 use Rattle.cpu_assign.specs.Changed.{AreChanged}
 use Rattle.tree_select.specs.Marked.{AreFreshFrom}
-use Rattle.event_core.specs.Serving.{ServingContents, AreFitting, AreLong, AreSettledFrom, IsServing}
+use Rattle.event_core.specs.Serving.{ServingContents, AreFitting, AreLong, AreSeen, AreSettledFrom, IsServing}
 use Rattle.event_core.specs.Steps.{packs_by}
 use Rattle.event_core.proofs.KeptLemmas.{back, back_long, same_lists}
 use Rattle.event_core.proofs.kept.Serving.select.Goals as goal
@@ -63,3 +63,8 @@ pub returns-clause-changed : goal.returns-clause-changed
 returns-clause-changed c =
     subst₂ (λ (t : Tree) (runs : List Bool). AreChanged (packs_by t runs) c.args.places.now.onto c.serve_all.new.changes) c.tree.ensures.value
     (sym (back c.self.inside.runs _ _ c.deref_mut-4.ensures.value c.serve_all.auto.runs)) c.serve_all.ensures.changed
+
+pub returns-clause-seen : goal.returns-clause-seen
+returns-clause-seen c =
+    subst (λ (after : List (Option ℕ)). AreSeen c.args.plan.now.tree c.args.self.now.serves after c.serve_all.new.changes) (sym (back c.self.inside.serves _ _ c.deref_mut.ensures.value c.serve_all.auto.serves))
+    (subst₂ (λ (t : Tree) (before : List (Option ℕ)). AreSeen t before c.serve_all.new.serves c.serve_all.new.changes) c.tree.ensures.value (c.deref_mut.ensures.value ∙ ap (λ (s : ServingContents). s.serves) c.self.view_is) c.serve_all.ensures.seen)

@@ -1,0 +1,36 @@
+//! The processors on which a round may show something else than the one before.
+ghost use Rattle.std.specs.Prelude.{ℕ, ◌≡◌, ◌+◌, ◌<◌, ◌≤◌, length, None, Some, slice_index, slice_set};
+ghost use Rattle.event_core.specs.Told.{AreTold};
+
+use cpu_assign::Places;
+
+// A processor, where there is one, is told behind the first `count`. How many are told then.
+fn tell(processor: Option<u32>, told: &mut [u32], count: usize) -> usize
+    requires { count < length told.old }
+    ensures some { (q : ℕ) → processor ≡ Some q → (result ≡ count + 1) × (told.new ≡ slice_set told.old count q) }
+    ensures none { processor ≡ None → (result ≡ count) × (told.new ≡ told.old) }
+{
+    match processor {
+        None => count,
+        Some(q) => {
+            told[count] = q;
+            count + 1
+        },
+    }
+}
+
+/// Tells the processor that each of these packs holds, or held last, where there is one. How many are told; a processor may be told
+/// twice.
+pub(crate) fn tell_places(places: &Places, packs: &[u32], told: &mut [u32]) -> usize
+    requires packs { (k : ℕ) → k < length packs.now → slice_index packs.now k < length places.now.last }
+    requires room { length packs.now ≤ length told.old }
+    ensures within { result ≤ length told.new }
+    ensures told { AreTold places.now packs.now told.new (length packs.now) result }
+{
+    places.know_noted();
+    let mut count = 0;
+    for k in 0..packs.len() {
+        count = tell(places.last_of(packs[k]), told, count);
+    }
+    count
+}
