@@ -4,3 +4,4 @@ pub mod FirstLemmas
 mod ColumnLemmas
 mod SumLemmas
 pub mod MergedTables
+pub mod ChangedLemmas

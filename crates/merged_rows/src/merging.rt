@@ -1,5 +1,5 @@
 //! The merged rows of all processors.
-ghost use Rattle.std.specs.Prelude.{◌≡◌, ◌<◌, [], List, Some, length, map, replicate, slice_get, IfOk, OnOk};
+ghost use Rattle.std.specs.Prelude.{ℕ, ◌≡◌, ◌≢◌, ◌<◌, [], List, None, Some, length, map, replicate, slice_get, slice_index, slice_index_or, IfOk, OnOk};
 ghost use Rattle.sched_base.specs.declared.rows.Row.{Row as declared_row};
 ghost use Rattle.sched_base.specs.Tables.{IsRound, RowAt, end_after, lane_of, with_round};
 ghost use Rattle.merged_rows.specs.Merging.{merged};
@@ -66,6 +66,28 @@ impl MergedRows {
         Ok(self)
     }
 
+    /// With the next round, up to tick `end`, as `with_round`, where the processors are listed of which something is told; one may stand
+    /// there twice. It costs time for these.
+    pub fn with_changed(
+        mut self,
+        end: u128,
+        changed: &[u32],
+        told: &[Option<Leaf>],
+    ) -> Result<MergedRows, NoMemory>
+        requires whole { length told.now ≡ length self.lanes }
+        requires within { (k : ℕ) → k < length changed.now → slice_index changed.now k < length self.lanes }
+        requires rest { (p : ℕ) → p < length told.now → ((k : ℕ) → k < length changed.now → slice_index changed.now k ≢ p) → slice_index_or told.now p None ≡ None }
+        ensures merged { IfOk result (λ m. (lanes : List (List declared_row)) (rows : List declared_row) → self.lanes ≡ map merged lanes
+            → IsRound self.end rows → end_after self.end rows ≡ end → AreTold self.lanes told.now rows
+            → m.lanes ≡ map merged (with_round lanes rows)) }
+        ensures end { IfOk result (λ m. m.end ≡ end) }
+        ensures processors { IfOk result (λ m. length m.lanes ≡ length self.lanes) }
+    {
+        show_changed(self.lanes.as_mut_slice(), self.end, changed, told)?;
+        self.end = end;
+        Ok(self)
+    }
+
     /// With the next round, where its rows are at hand: one for each processor in order. Memory is taken as `with_round` takes it.
     pub fn with_rows(mut self, rows: &[Row]) -> Result<MergedRows, NoMemory>
         requires whole { length rows.now ≡ length self.lanes }
@@ -111,6 +133,25 @@ fn show_told(lanes: &mut [MergedLane], start: u128, told: &[Option<Leaf>]) -> Re
     ensures shown { OnOk result (lanes.new ≡ going_on_each lanes.old start told.now) }
 {
     for p in 0..told.len() {
+        lanes[p].go_on(start, told[p])?;
+    }
+    Ok(())
+}
+
+// The same, where all others than these processors go on.
+fn show_changed(
+    lanes: &mut [MergedLane],
+    start: u128,
+    changed: &[u32],
+    told: &[Option<Leaf>],
+) -> Result<(), NoMemory>
+    requires whole { length told.now ≡ length lanes.old }
+    requires within { (k : ℕ) → k < length changed.now → slice_index changed.now k < length lanes.old }
+    requires rest { (p : ℕ) → p < length told.now → ((k : ℕ) → k < length changed.now → slice_index changed.now k ≢ p) → slice_index_or told.now p None ≡ None }
+    ensures shown { OnOk result (lanes.new ≡ going_on_each lanes.old start told.now) }
+{
+    for k in 0..changed.len() {
+        let p = changed[k] as usize;
         lanes[p].go_on(start, told[p])?;
     }
     Ok(())

@@ -1,0 +1,107 @@
+-- Lanes of which some go on as is told, and the others as before.
+use Rattle.std.proofs.Common.{◌≡◌, ◌≢◌, ℕ, zero, suc, ◌+◌, ◌<◌, ◌≤◌, ◌⊎◌, inl, inr, true, false, List, [], ◌∷◌, ◌++◌, None, Some, length, length-set, set, get_or, get_or-set_same, get_or-set_other, Option, eqb, eq-eqb, refl, sym, ap, subst, ◌∙◌, arith}
+use Rattle.std.proofs.lemmas.Bool.{cases_Bool, cases_eq, cases_lt, cond-true, cond-false}
+use Rattle.std.proofs.lemmas.List.{ext_get_or}
+use Rattle.sched_base.specs.declared.rows.Leaf.{Leaf}
+use Rattle.merged_rows.specs.Merging.{shown}
+use Rattle.merged_rows.specs.Columns.{Begun, shows_last, showing, going_on, going_on_each}
+use Rattle.merged_rows.proofs.ColumnLemmas.{length-going_on_each, new_row}
+
+-- ---- one lane
+
+shows_pushed : (lane : List Begun) (start : ℕ) (leaf : Leaf) → shows_last (lane ++ new_row start leaf ∷ []) leaf ≡ true
+shows_pushed [] start leaf = eq-eqb (shown leaf) (shown leaf) refl
+shows_pushed (b ∷ []) start leaf = eq-eqb (shown leaf) (shown leaf) refl
+shows_pushed (b ∷ (c ∷ lane)) start leaf = shows_pushed (c ∷ lane) start leaf
+
+-- to show the same twice is to show it once
+going_twice : (lane : List Begun) (start : ℕ) (o : Option Leaf) → going_on (going_on lane start o) start o ≡ going_on lane start o
+going_twice lane start None = refl
+going_twice lane start (Some leaf) = elim (cases_Bool (shows_last lane leaf)) [
+  | inl on ↦ (let e : showing lane start leaf ≡ lane = cond-true (shows_last lane leaf) lane (lane ++ new_row start leaf ∷ []) on in ap (λ l. showing l start leaf) e)
+  | inr off ↦
+      (let e : showing lane start leaf ≡ lane ++ new_row start leaf ∷ [] = cond-false (shows_last lane leaf) lane (lane ++ new_row start leaf ∷ []) off in
+      let more = lane ++ new_row start leaf ∷ [] in
+      ap (λ l. showing l start leaf) e ∙ cond-true (shows_last more leaf) more (more ++ new_row start leaf ∷ []) (shows_pushed lane start leaf) ∙ sym e)
+]
+
+-- ---- all lanes
+
+going_at : (lanes : List (List Begun)) (start : ℕ) (told : List (Option Leaf)) (p : ℕ) → p < length lanes → length told ≡ length lanes →
+    get_or (going_on_each lanes start told) p [] ≡ going_on (get_or lanes p []) start (get_or told p None)
+going_at [] start told p l long = absurd (omega (arith, l))
+going_at (lane ∷ lanes) start [] p l long = absurd (omega (arith, long))
+going_at (lane ∷ lanes) start (o ∷ told) zero l long = refl
+going_at (lane ∷ lanes) start (o ∷ told) (suc p) l long = going_at lanes start told p (omega (arith, l)) (omega (arith, long))
+
+-- The first n of these processors, and maybe others, go on as is told of them.
+pub record AreOn (first : List (List Begun)) (start : ℕ) (changed : List ℕ) (told : List (Option Leaf)) (lanes : List (List Begun)) (n : ℕ) : Type 0 where
+  pub long : length lanes ≡ length first
+  pub each : (p : ℕ) → p < length first → (get_or lanes p [] ≡ going_on (get_or first p []) start (get_or told p None))
+      ⊎ ((get_or lanes p [] ≡ get_or first p []) × ((k : ℕ) → k < n → get_or changed k 0 ≢ p))
+
+pub on_none : (first : List (List Begun)) (start : ℕ) (changed : List ℕ) (told : List (Option Leaf)) → AreOn first start changed told first 0
+on_none first start changed told = record { long = refl; each = λ p l. inr (refl, λ k m. absurd (omega (arith, m))) }
+
+set_same : (lanes : List (List Begun)) (p : ℕ) (lane : List Begun) → p < length lanes → get_or (set lanes p lane) p [] ≡ lane
+set_same lanes p lane l = rw get_or-set_same
+
+set_other : (lanes : List (List Begun)) (p q : ℕ) (lane : List Begun) → q ≢ p → get_or (set lanes p lane) q [] ≡ get_or lanes q []
+set_other lanes p q lane ne = rw get_or-set_other refl
+
+-- what is read where something stands is the same by any default
+any_default : {X : Type 0} (xs : List X) (p : ℕ) (d e : X) → p < length xs → get_or xs p d ≡ get_or xs p e
+any_default [] p d e l = absurd (omega (arith, l))
+any_default (x ∷ xs) zero d e l = refl
+any_default (x ∷ xs) (suc p) d e l = any_default xs p d e (omega (arith, l))
+
+pub on_step : (first : List (List Begun)) (start : ℕ) (changed : List ℕ) (told : List (Option Leaf)) (lanes lanes' : List (List Begun)) (n p : ℕ) (d : List Begun) (d' : Option Leaf) → p ≡ get_or changed n 0 → p < length first →
+    length told ≡ length first → lanes' ≡ set lanes p (going_on (get_or lanes p d) start (get_or told p d')) → AreOn first start changed told lanes n → AreOn first start changed told lanes' (n + 1)
+on_step first start changed told lanes lanes' n p d d' at l whole is h = record {
+  long = ap length is ∙ length-set lanes p _ ∙ h.long;
+  each = λ q m. elim (cases_eq q p) [
+    | inl same ↦ inl (ap (λ x. get_or lanes' x []) same ∙ done ∙ ap (λ x. going_on (get_or first x []) start (get_or told x None)) (sym same))
+    | inr ne ↦ other q m ne (h.each q m)
+  ];
+}
+  where
+    here : get_or lanes' p [] ≡ going_on (get_or lanes p []) start (get_or told p None)
+    here =
+        let long = h.long in
+        ap (λ ls. get_or ls p []) is ∙ set_same lanes p _ (omega (arith, l, long))
+        ∙ ap (λ x. going_on x start (get_or told p d')) (any_default lanes p d [] (omega (arith, l, long)))
+        ∙ ap (going_on (get_or lanes p []) start) (any_default told p d' None (omega (arith, l, whole)))
+
+    own : (get_or lanes p [] ≡ going_on (get_or first p []) start (get_or told p None)) ⊎ ((get_or lanes p [] ≡ get_or first p []) × ((k : ℕ) → k < n → get_or changed k 0 ≢ p)) →
+        get_or lanes' p [] ≡ going_on (get_or first p []) start (get_or told p None)
+    own (inl on) = here ∙ ap (λ x. going_on x start (get_or told p None)) on ∙ going_twice (get_or first p []) start (get_or told p None)
+    own (inr was) = here ∙ ap (λ x. going_on x start (get_or told p None)) was.0
+
+    done : get_or lanes' p [] ≡ going_on (get_or first p []) start (get_or told p None)
+    done = own (h.each p l)
+
+    later : (q k : ℕ) → q ≢ p → ((j : ℕ) → j < n → get_or changed j 0 ≢ q) → k < n + 1 → get_or changed k 0 ≢ q
+    later q k ne none b e = elim (cases_lt k n) [
+      | inl low ↦ none k low e
+      | inr high ↦ ne (sym e ∙ ap (λ j. get_or changed j 0) (let f : k ≡ n = omega (arith, b, high) in f) ∙ sym at)
+    ]
+
+    other : (q : ℕ) → q < length first → q ≢ p → (get_or lanes q [] ≡ going_on (get_or first q []) start (get_or told q None)) ⊎ ((get_or lanes q [] ≡ get_or first q []) × ((k : ℕ) → k < n → get_or changed k 0 ≢ q)) →
+        (get_or lanes' q [] ≡ going_on (get_or first q []) start (get_or told q None)) ⊎ ((get_or lanes' q [] ≡ get_or first q []) × ((k : ℕ) → k < n + 1 → get_or changed k 0 ≢ q))
+    other q m ne (inl on) = inl (ap (λ ls. get_or ls q []) is ∙ set_other lanes p q _ ne ∙ on)
+    other q m ne (inr was) = inr (ap (λ ls. get_or ls q []) is ∙ set_other lanes p q _ ne ∙ was.0, λ k b. later q k ne was.1 b)
+
+pub on_all : (first : List (List Begun)) (start : ℕ) (changed : List ℕ) (told : List (Option Leaf)) (lanes : List (List Begun)) (n : ℕ) → n ≡ length changed → length told ≡ length first →
+    ((p : ℕ) → p < length told → ((k : ℕ) → k < length changed → get_or changed k 0 ≢ p) → get_or told p None ≡ None) → AreOn first start changed told lanes n → lanes ≡ going_on_each first start told
+on_all first start changed told lanes n all long rest h =
+    let same = h.long in
+    let more = length-going_on_each first start told in
+    ext_get_or [] lanes (going_on_each first start told) (omega (arith, same, more)) (λ p l.
+    let m : p < length first = omega (arith, l, same) in
+    one p m ∙ sym (going_at first start told p m long))
+  where
+    one : (p : ℕ) → p < length first → get_or lanes p [] ≡ going_on (get_or first p []) start (get_or told p None)
+    one p m = elim (h.each p m) [
+      | inl on ↦ on
+      | inr was ↦ was.0 ∙ ap (going_on (get_or first p []) start) (sym (rest p (omega (arith, m, long)) (λ k b. was.1 k (omega (arith, b, all)))))
+    ]

@@ -1,0 +1,17 @@
+use Rattle.std.proofs.Common.{◌<◌, ap, arith, get_or, length, refl, set}
+use Rattle.merged_rows.proofs.ChangedLemmas.{on_none, on_step, on_all}
+use Rattle.merged_rows.proofs.merging.show_changed.Goals as goal
+
+pub loop-k-init : goal.loop-k-init
+loop-k-init c = on_none c.args.lanes.now c.args.start c.args.changed.now c.args.told.now
+
+pub loop-k-preserved : goal.loop-k-preserved
+loop-k-preserved c =
+    let p = get_or c.args.changed.now c.loop-k.k 0 in
+    let on = c.loop-k-test.true in
+    let within = c.requires.within c.loop-k.k (omega (arith, on)) in
+    let whole = c.requires.whole in
+    on_step c.args.lanes.now c.args.start c.args.changed.now c.args.told.now c.loop-k.lanes _ c.loop-k.k p _ _ refl within whole (ap (set c.loop-k.lanes p) c.in_ok-go_on.ensures.shown) c.loop-k.invariant
+
+pub returns : goal.returns
+returns c = record { shown = on_all c.args.lanes.now c.args.start c.args.changed.now c.args.told.now c.loop-k.lanes c.loop-k.k (omega arith) c.requires.whole c.requires.rest c.loop-k.invariant }
