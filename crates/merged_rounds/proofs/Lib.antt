@@ -3,3 +3,4 @@ mod ScheduleLemmas
 mod SumLemmas
 mod LapLemmas
 mod ApartLemmas
+mod ChangeLemmas

@@ -2,6 +2,7 @@
 #![tactic(auto)]
 
 mod apart;
+mod changed;
 mod laps;
 mod looks;
 mod passes;

@@ -113,8 +113,8 @@ fn next_other(
     (count, None)
 }
 
-// Nothing is told of any processor.
-fn forget(told: &mut [Option<Leaf>])
+/// Nothing is told of any processor.
+pub(crate) fn forget(told: &mut [Option<Leaf>])
     ensures { (q : ℕ) → slice_index_or told.new q None ≡ None }
 {
     for q in 0..told.len() {

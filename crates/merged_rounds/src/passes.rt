@@ -9,12 +9,14 @@ ghost use Rattle.merged_rounds.specs.Laps.{AreTurns, CanComeRound, IsMerging, Is
 ghost use Rattle.merged_rounds.specs.Passes.{AreMergedOf};
 
 use crate::apart::comes_round;
+use crate::changed::merge_on_time;
 use crate::laps::{merge_lap, with_laps};
 use crate::looks::look_each;
 use crate::searches::{merge_until_again, turn_of};
 use crate::sums::{RoundSum, all_rounds, no_rounds, with_round};
 use event_core::{Core, CountFault};
 use merged_rows::MergedRows;
+use repeat_laws::first_late;
 use run_tree::Plan;
 use sched_base::{Leaf, NoMemory, NodeId};
 use std::alloc::Global;
@@ -62,6 +64,31 @@ fn forget_nodes(kept: &mut [Option<NodeId>])
 /// Goes on with rounds up to the first that begins at tick `until` or later, or to the end of all. Of each processor a node is kept
 /// that shows what it did last; `told` is overwritten.
 pub(crate) fn merge_up_to(
+    alloc: Global,
+    plan: &Plan,
+    core: &mut Core,
+    kept: &mut [Option<NodeId>],
+    told: &mut [Option<Leaf>],
+    first: RoundSum,
+    until: u128,
+) -> Result<RoundSum, CountFault>
+    requires merging { IsMerging plan.now core.old first kept.old }
+    requires kept { length kept.old ≡ plan.now.tree.processors }
+    requires told { length told.old ≡ plan.now.tree.processors }
+    requires until { until ≤ stop_of plan.now }
+    ensures merging { IfOk result (λ sum. IsMerging plan.now core.new sum kept.new) }
+    ensures reached { IfOk result (λ _. until ≤ core.new.tick) }
+    ensures fault { IfErr result (λ fault. IsCountFault plan.now fault) }
+{
+    if first_late(plan.set().tasks()).is_some() {
+        return merge_looking(plan, core, kept, told, first, until);
+    }
+    forget_nodes(kept);
+    merge_on_time(alloc, plan, core, told, first, until)
+}
+
+// So with a look at each processor in each round.
+fn merge_looking(
     plan: &Plan,
     core: &mut Core,
     kept: &mut [Option<NodeId>],
@@ -90,6 +117,7 @@ pub(crate) fn merge_up_to(
 
 // Goes on up to the end of all rounds.
 fn merge_to_end(
+    alloc: Global,
     plan: &Plan,
     core: &mut Core,
     kept: &mut [Option<NodeId>],
@@ -102,7 +130,7 @@ fn merge_to_end(
     ensures sum { IfOk result (λ sum. IsSumUpTo plan.now (stop_of plan.now) sum) }
     ensures fault { IfErr result (λ fault. IsCountFault plan.now fault) }
 {
-    merge_up_to(plan, core, kept, told, first, plan.rounds_end())
+    merge_up_to(alloc, plan, core, kept, told, first, plan.rounds_end())
 }
 
 // Merges all rounds of the plan.
@@ -126,7 +154,7 @@ fn merge_rounds(
             return merge_with_laps(alloc, plan, core, kept, told, first, turn);
         }
     }
-    merge_to_end(plan, core, kept, told, first)
+    merge_to_end(alloc, plan, core, kept, told, first)
 }
 
 // Goes on up to the end of all rounds, of a plan whose schedule can come round.
@@ -150,7 +178,7 @@ fn merge_with_laps(
     let (sum, again) = merge_until_again(alloc, plan, core, kept, told, first, turn)?;
     match again {
         Some(ticks) => merge_again(alloc, plan, core, kept, told, sum, turn, ticks),
-        None => merge_to_end(plan, core, kept, told, sum),
+        None => merge_to_end(alloc, plan, core, kept, told, sum),
     }
 }
 
@@ -201,7 +229,7 @@ fn merge_again(
     plan.know_lawful();
     let from = core.now();
     if !is_lap(plan, from, turn, ticks) {
-        return merge_to_end(plan, core, kept, told, first);
+        return merge_to_end(alloc, plan, core, kept, told, first);
     }
     let until = from + ticks;
     let places = core.places().copy(alloc)?;
@@ -210,5 +238,5 @@ fn merge_again(
         return with_laps(plan, &lap, from, ticks, sum);
     }
     forget_nodes(kept);
-    merge_to_end(plan, core, kept, told, sum)
+    merge_to_end(alloc, plan, core, kept, told, sum)
 }

@@ -49,7 +49,7 @@ pub(crate) fn merge_until_again(
     let mut seen_at: u128 = 0;
     let mut at = turn;
     'turns: while at < stop {
-        sum = merge_up_to(plan, core, kept, told, sum, at)?;
+        sum = merge_up_to(alloc, plan, core, kept, told, sum, at)?;
         if core.places().is_same(&seen) {
             return Ok((sum, Some(at - seen_at)));
         }

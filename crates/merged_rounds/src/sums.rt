@@ -1,5 +1,5 @@
 //! The rounds so far, merged and counted.
-ghost use Rattle.std.specs.Prelude.{ℕ, ◌≡◌, ◌≤◌, ◌*◌, true, length, IfErr, IfOk, slice_get, Some};
+ghost use Rattle.std.specs.Prelude.{ℕ, ◌≡◌, ◌≢◌, ◌<◌, ◌≤◌, ◌*◌, true, length, IfErr, IfOk, None, Some, slice_get, slice_index, slice_index_or};
 ghost use Rattle.sched_base.specs.declared.rows.Row.{Row as DeclaredRow};
 ghost use Rattle.sched_base.specs.Tables.{lane_of, row_limit};
 ghost use Rattle.run_tree.specs.Plans.{rounds_of, stop_of};
@@ -58,6 +58,37 @@ pub(crate) fn with_round(
     }
     Ok(RoundSum {
         rows: rows.with_round(end, told)?,
+        rounds: rounds + 1,
+    })
+}
+
+/// The same, where the processors are listed of which something is told; one may stand there twice. It costs time for these.
+pub(crate) fn with_changed(
+    plan: &Plan,
+    sum: RoundSum,
+    start: u128,
+    end: u128,
+    changed: &[u32],
+    told: &[Option<Leaf>],
+) -> Result<RoundSum, CountFault>
+    requires sum { IsSumUpTo plan.now start sum }
+    requires round { IsRoundUpTo plan.now start end }
+    requires told { AreTold sum.rows.lanes told.now (rows_of_round plan.now start end) }
+    requires within { (k : ℕ) → k < length changed.now → slice_index changed.now k < plan.now.tree.processors }
+    requires rest { (q : ℕ) → q < length told.now → ((k : ℕ) → k < length changed.now → slice_index changed.now k ≢ q) → slice_index_or told.now q None ≡ None }
+    ensures sum { IfOk result (λ next. IsSumUpTo plan.now end next) }
+    ensures ends { IfOk result (λ next. (q : ℕ) (r : DeclaredRow) → slice_get (rows_of_round plan.now start end) q ≡ Some r →
+        ends_showing (lane_of next.rows.lanes q) r.leaf ≡ true) }
+    ensures fault { IfErr result (λ fault. IsCountFault plan.now fault) }
+{
+    let _start = start;
+    let RoundSum { rows, rounds } = sum;
+    let next_rows = (rounds + 1) * u64::from(plan.tree().processors());
+    if next_rows > ROW_LIMIT {
+        return Err(CountFault::TooLong { rows: next_rows });
+    }
+    Ok(RoundSum {
+        rows: rows.with_changed(end, changed, told)?,
         rounds: rounds + 1,
     })
 }

@@ -5,7 +5,7 @@ use Rattle.merged_rows.specs.Columns.{AreTold}
 use Rattle.merged_rounds.specs.Laps.{IsSumUpTo}
 use Rattle.merged_rounds.specs.Passes.{IsLooked}
 use Rattle.merged_rounds.proofs.LookLemmas.{are_told, kept_on}
-use Rattle.merged_rounds.proofs.passes.merge_up_to.Goals as goal
+use Rattle.merged_rounds.proofs.passes.merge_looking.Goals as goal
 
 pub rounds-init : goal.rounds-init
 rounds-init c = c.requires.merging

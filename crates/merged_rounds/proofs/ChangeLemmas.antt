@@ -1,0 +1,128 @@
+-- Rounds by the processors that may show something else than before.
+use Rattle.std.proofs.Common.{◌≡◌, ◌≢◌, ℕ, ◌+◌, ◌<◌, ◌≤◌, ◌⊎◌, inl, inr, true, List, length, set, get_or, get_or-set_same, get_or-set_other, slice_get, Option, None, Some, refl, sym, ap, ◌∙◌, arith}
+use Rattle.std.proofs.lemmas.Bool.{cases_eq, cases_lt}
+use Rattle.std.proofs.lemmas.Option.{slice_get-get_or}
+use Rattle.sched_base.specs.declared.rows.Leaf.{Leaf}
+use Rattle.sched_base.specs.declared.rows.Leaf.TheVariants.{Empty}
+use Rattle.sched_base.specs.declared.rows.Row.{Row}
+use Rattle.sched_base.specs.Tables.{lane_of}
+use Rattle.run_tree.specs.Plans.{PlanContents}
+use Rattle.sched_laws.proofs.WholeRounds.{length-round}
+use Rattle.event_core.specs.Cores.{CoreContents, IsCoreOf}
+use Rattle.event_core.specs.Rounds.{IsRoundUpTo, rows_of_round}
+use Rattle.merged_rows.specs.Columns.{AreTold, ends_showing}
+use Rattle.merged_rounds.specs.declared.sums.RoundSum.{RoundSum}
+use Rattle.merged_rounds.specs.Changes.{IsChange, IsNone, IsShowing}
+use Rattle.merged_rounds.specs.Laps.{IsSumUpTo}
+use Rattle.merged_rounds.specs.Passes.{leaf_at}
+use Rattle.merged_rounds.proofs.LapLemmas.{row_shows}
+
+set_same : {X : Type 0} (xs : List X) (p : ℕ) (x none : X) → p < length xs → get_or (set xs p x) p none ≡ x
+set_same xs p x none l = rw get_or-set_same
+
+set_other : {X : Type 0} (xs : List X) (p q : ℕ) (x none : X) → q ≢ p → get_or (set xs p x) q none ≡ get_or xs q none
+set_other xs p q x none ne = rw get_or-set_other refl
+
+-- one processor more is none of them
+none_more : (changed : List ℕ) (n q : ℕ) → q ≢ get_or changed n 0 → IsNone changed n q → IsNone changed (n + 1) q
+none_more changed n q ne none k l e = elim (cases_lt k n) [
+  | inl low ↦ none k low e
+  | inr high ↦ ne (sym e ∙ ap (λ j. get_or changed j 0) (let f : k ≡ n = omega (arith, l, high) in f))
+]
+
+-- ---- what is told of those that changed
+
+module _ (p : PlanContents) (start end : ℕ) (changed : List ℕ) where
+  pub change_none : (told : List (Option Leaf)) → ((q : ℕ) → get_or told q None ≡ None) → (q : ℕ) → IsChange p start end changed 0 q (get_or told q None)
+  change_none told none q = inr (none q, λ k l. absurd (omega (arith, l)))
+
+  more : (n q : ℕ) (o o' : Option Leaf) → o' ≡ o → q ≢ get_or changed n 0 → IsChange p start end changed n q o → IsChange p start end changed (n + 1) q o'
+  more n q o o' e ne (inl (k, l, at, is)) = inl (k, omega (arith, l), at, λ none. e ∙ is none)
+  more n q o o' e ne (inr (nothing, none)) = inr (e ∙ nothing, none_more changed n q ne none)
+
+  pub change_step : (told : List (Option Leaf)) (n : ℕ) (leaf : Leaf) → get_or changed n 0 < length told → ((none : Row) → leaf_at p start end (get_or changed n 0) none ≡ leaf) →
+      ((q : ℕ) → IsChange p start end changed n q (get_or told q None)) → (q : ℕ) → IsChange p start end changed (n + 1) q (get_or (set told (get_or changed n 0) (Some leaf)) q None)
+  change_step told n leaf l is h q = elim (cases_eq q (get_or changed n 0)) [
+    | inl same ↦ inl (
+      n,
+      omega arith,
+      sym same,
+      λ none.
+          ap (λ j. get_or (set told (get_or changed n 0) (Some leaf)) j None) same ∙ set_same told (get_or changed n 0) (Some leaf) None l
+          ∙ ap (λ (x : Leaf). Some x) (sym (is none) ∙ ap (λ j. leaf_at p start end j none) (sym same)),
+    )
+    | inr ne ↦ more n q (get_or told q None) _ (set_other told (get_or changed n 0) q (Some leaf) None ne) ne (h q)
+  ]
+
+  -- where nothing is told, the processor is none of them
+  none_of : (n q : ℕ) (o : Option Leaf) → o ≡ None → IsChange p start end changed n q o → IsNone changed n q
+  none_of n q o e (inl (k, l, at, is)) = absurd (let none : Row = record { processor = 0; start = 0; end = 0; leaf = Empty } in let f : None ≡ Some (leaf_at p start end q none) = sym e ∙ is none in cc)
+  none_of n q o e (inr (nothing, none)) = none
+
+  -- and the other way round
+  pub untold : (n q : ℕ) (o : Option Leaf) → IsNone changed n q → IsChange p start end changed n q o → o ≡ None
+  untold n q o none (inl (k, l, at, is)) = absurd (none k l at)
+  untold n q o none (inr (nothing, none_of_them)) = nothing
+
+  -- what was told is of one of them
+  pub told_of : (n q : ℕ) (o : Option Leaf) → IsChange p start end changed n q o → (o ≡ None) ⊎ ((k : ℕ) × (k < n) × (get_or changed k 0 ≡ q))
+  told_of n q o (inl (k, l, at, is)) = inr (k, l, at)
+  told_of n q o (inr (nothing, none)) = inl nothing
+
+  some_is : (n q : ℕ) (o : Option Leaf) (leaf : Leaf) (none : Row) → o ≡ Some leaf → IsChange p start end changed n q o → leaf ≡ leaf_at p start end q none
+  some_is n q o leaf none e (inl (k, l, at, is)) = let f : Some leaf ≡ Some (leaf_at p start end q none) = sym e ∙ is none in cc
+  some_is n q o leaf none e (inr (nothing, none_of_them)) = absurd (let f : None ≡ Some leaf = sym nothing ∙ e in cc)
+
+  pub changed_told : (n before : ℕ) (told : List (Option Leaf)) (lanes : List (List Row)) → length told ≡ p.tree.processors → ((q : ℕ) → IsChange p start end changed n q (get_or told q None)) →
+      ((q : ℕ) (none : Row) → q < p.tree.processors → IsNone changed n q → leaf_at p start end q none ≡ leaf_at p before start q none) →
+      ((q : ℕ) (none : Row) → q < p.tree.processors → ends_showing (lane_of lanes q) (leaf_at p before start q none) ≡ true) → AreTold lanes told (rows_of_round p start end)
+  changed_told n before told lanes long each still last = record {
+    long = length-round p.set.tasks p.tree start end ∙ sym long;
+    some = λ q r leaf at is. some_is n q (get_or told q None) leaf r is (each q) ∙ sym (row_shows p start end q r at).1;
+    none = λ q r at is.
+        let s = row_shows p start end q r at in
+        let same = still q r s.0 (none_of n q (get_or told q None) is (each q)) in
+        ap (ends_showing (lane_of lanes q)) (s.1 ∙ same) ∙ last q r s.0;
+  }
+
+-- ---- forgetting
+
+-- of each processor nothing is told, or it is one of these from number i on
+abbrev pub IsLeft : List ℕ → ℕ → ℕ → Option Leaf → Type 0
+IsLeft changed i q o = (o ≡ None) ⊎ ((k : ℕ) × (i ≤ k) × (k < length changed) × (get_or changed k 0 ≡ q))
+
+pub left_all : (changed : List ℕ) (q : ℕ) (o : Option Leaf) → (o ≡ None) ⊎ ((k : ℕ) × (k < length changed) × (get_or changed k 0 ≡ q)) → IsLeft changed 0 q o
+left_all changed q o (inl none) = inl none
+left_all changed q o (inr (k, l, e)) = inr (k, omega arith, l, e)
+
+pub left_step : (changed : List ℕ) (told : List (Option Leaf)) (i : ℕ) → get_or changed i 0 < length told → ((q : ℕ) → IsLeft changed i q (get_or told q None)) → (q : ℕ) → IsLeft changed (i + 1) q (get_or (set told (get_or changed i 0) None) q None)
+left_step changed told i l h q = elim (cases_eq q (get_or changed i 0)) [
+  | inl same ↦ inl (ap (λ j. get_or (set told (get_or changed i 0) None) j None) same ∙ set_same told (get_or changed i 0) None None l)
+  | inr ne ↦ other ne (h q)
+]
+  where
+    other : q ≢ get_or changed i 0 → IsLeft changed i q (get_or told q None) → IsLeft changed (i + 1) q (get_or (set told (get_or changed i 0) None) q None)
+    other ne (inl none) = inl (set_other told (get_or changed i 0) q None None ne ∙ none)
+    other ne (inr (k, low, high, e)) = elim (cases_lt i k) [
+      | inl past ↦ inr (k, omega (arith, past), high, e)
+      | inr at ↦ absurd (ne (sym e ∙ ap (λ j. get_or changed j 0) (let f : k ≡ i = omega (arith, low, at) in f)))
+    ]
+
+pub left_none : (changed : List ℕ) (q : ℕ) (o : Option Leaf) → IsLeft changed (length changed) q o → o ≡ None
+left_none changed q o (inl none) = none
+left_none changed q o (inr (k, low, high, e)) = absurd (omega (arith, low, high))
+
+-- ---- from a round to the next
+
+pub showing_on : (p : PlanContents) (core : CoreContents) (sum : RoundSum) (start : ℕ) → IsCoreOf p core → IsRoundUpTo p start core.tick → IsSumUpTo p core.tick sum →
+    ((q : ℕ) (r : Row) → slice_get (rows_of_round p start core.tick) q ≡ Some r → ends_showing (lane_of sum.rows.lanes q) r.leaf ≡ true) → IsShowing p core sum
+showing_on p core sum start belongs round is ends = record {
+  belongs = belongs;
+  sum = is;
+  start = start;
+  round = round;
+  last = λ q none l.
+      let rows = rows_of_round p start core.tick in
+      let long = length-round p.set.tasks p.tree start core.tick in
+      ends q (get_or rows q none) (slice_get-get_or rows q none (omega (arith, l, long)));
+}
