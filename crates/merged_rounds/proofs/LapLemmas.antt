@@ -68,35 +68,37 @@ both_whole : (tasks : List declared.Task) (m n : ℕ) → PeriodsDivide tasks m 
 both_whole [] m n h k = tt
 both_whole (t ∷ tasks) m n h k = (dvd-add t.period h.0 k.0, both_whole tasks m n h.1 k.1)
 
-module _ (p : PlanContents) (h : IsPlan p) (can : CanComeRound p) (from ticks : ℕ) (again : ComesAgain p from ticks) where
-  recurs : Recurs p.set.tasks p.tree again.turns.units
+module _ (p : PlanContents) (h : IsPlan p) (can : CanComeRound p) (ticks : ℕ) (turns : AreTurns p ticks) where
+  recurs : Recurs p.set.tasks p.tree turns.units
   recurs = record {
     each = h.lawful.each;
     tree = h.tree.tree;
     holds = h.tree.tasks;
-    some = again.turns.some;
+    some = turns.some;
     on_time = can.on_time;
-    whole = again.turns.whole;
+    whole = turns.whole;
     apart = can.apart;
   }
 
-  early : (n : ℕ) → n + ticks < stop_of p → n + 2 * (again.turns.units * p.tree.scale) < 2 ^ 33 * p.tree.scale
+  early : (n : ℕ) → n + ticks < stop_of p → n + 2 * (turns.units * p.tree.scale) < 2 ^ 33 * p.tree.scale
   early n l =
       let most : p.set.horizon * p.tree.scale ≤ 2 ^ 32 * p.tree.scale = mul-le-mul_right p.tree.scale (le_of_lt h.lawful.horizon_fits) in
-      let e = again.turns.are in
+      let e = turns.are in
       omega (arith, l, most, e)
 
-  event_later : (n : ℕ) → 0 < n → n + ticks < stop_of p → event_at p (n + ticks) ≡ event_at p n
-  event_later n some l = subst (λ (d : ℕ). event_at p (n + d) ≡ event_at p n) (sym again.turns.are) (event_again p.set.tasks p.tree again.turns.units recurs n some (early n l))
+  -- ticks after 0 are events again
+  pub event_later : (n : ℕ) → 0 < n → n + ticks < stop_of p → event_at p (n + ticks) ≡ event_at p n
+  event_later n some l = subst (λ (d : ℕ). event_at p (n + d) ≡ event_at p n) (sym turns.are) (event_again p.set.tasks p.tree turns.units recurs n some (early n l))
 
+module _ (p : PlanContents) (h : IsPlan p) (can : CanComeRound p) (from ticks : ℕ) (again : ComesAgain p from ticks) where
   -- a processor shows the same
   pub leaf_later : (start end to q : ℕ) (none : Row) → from ≤ start → start + ticks < stop_of p → q < p.tree.processors → leaf_at p (start + ticks) to q none ≡ leaf_at p start end q none
   leaf_later start end to q none low l in_tree =
       let d = again.turns.units * p.tree.scale in
       let e = again.turns.are in
-      let s = early start l in
+      let s = early p h can ticks again.turns start l in
       let same = subst (λ (d : ℕ). places_of p (from + d) ≡ places_of p from) e again.places in
-      let rows = round_later p.set.tasks p.tree again.turns.units recurs from (start + 1) (omega (arith, s)) same start end low (omega arith) in
+      let rows = round_later p.set.tasks p.tree again.turns.units (recurs p h can ticks again.turns) from (start + 1) (omega (arith, s)) same start end low (omega arith) in
       let long = length-round p.set.tasks p.tree start end in
       let there : leaf_at p (start + d) (end + d) q none ≡ leaf_at p start end q none =
       ap (λ (rs : List Row). (get_or rs q none).leaf) rows ∙ ap (λ (x : Row). x.leaf) (get_or-map (later d) (rows_of_round p start end) q none none (omega (arith, in_tree, long))) in
@@ -109,17 +111,17 @@ module _ (p : PlanContents) (h : IsPlan p) (can : CanComeRound p) (from ticks : 
   next_round start end some l r =
       let up = r.above in
       record {
-        event = event_later start some l ∙ r.event;
+        event = event_later p h can ticks again.turns start some l ∙ r.event;
         above = omega (arith, up, l);
         below = omega arith;
         quiet = λ n low high.
             let e : n - ticks + ticks ≡ n = omega (arith, low) in
             subst (λ (m : ℕ). event_at p m ≡ false) e
-            (event_later (n - ticks) (omega (arith, low, some)) (omega (arith, e, low, high)) ∙ r.quiet (n - ticks) (omega (arith, low)) (omega (arith, low, high)));
+            (event_later p h can ticks again.turns (n - ticks) (omega (arith, low, some)) (omega (arith, e, low, high)) ∙ r.quiet (n - ticks) (omega (arith, low)) (omega (arith, low, high)));
         last = elim (cases_lt (end + ticks) (stop_of p)) [
           | inl low ↦
               (let e : end + ticks ≡ min (end + ticks) (stop_of p) = omega (arith, low) in
-              subst (λ (m : ℕ). IsRoundStart p m) e (inr (event_later end (omega (arith, up)) low ∙ (elim r.last [
+              subst (λ (m : ℕ). IsRoundStart p m) e (inr (event_later p h can ticks again.turns end (omega (arith, up)) low ∙ (elim r.last [
                 | inl all ↦ absurd (omega (arith, all, low))
                 | inr on ↦ on
               ]))))
@@ -154,9 +156,9 @@ pub next_lap : (p : PlanContents) → IsPlan p → CanComeRound p → (from tick
 next_lap p h can from ticks shift lap again l =
     let d = again.turns.units * p.tree.scale in
     let e = again.turns.are in
-    let most = early p h can from shift again (from + ticks) (omega (arith, l)) in
+    let most = early p h can shift again.turns (from + ticks) (omega (arith, l)) in
     let same = subst (λ (d : ℕ). places_of p (from + d) ≡ places_of p from) e again.places in
-    let there = places_again p.set.tasks p.tree again.turns.units (recurs p h can from shift again) from ticks (omega (arith, most)) same in
+    let there = places_again p.set.tasks p.tree again.turns.units (recurs p h can shift again.turns) from ticks (omega (arith, most)) same in
     let at : from + (shift + ticks) ≡ from + ticks + d = omega (arith, e) in
     let f = lap.turns.are in
     let some = again.turns.some in

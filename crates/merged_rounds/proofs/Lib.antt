@@ -4,3 +4,4 @@ mod SumLemmas
 mod LapLemmas
 mod ApartLemmas
 mod ChangeLemmas
+mod CountLemmas

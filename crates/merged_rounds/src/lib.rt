@@ -3,10 +3,12 @@
 
 mod apart;
 mod changed;
+mod counts;
 mod laps;
 mod looks;
 mod passes;
 mod searches;
 mod sums;
 
+pub use counts::round_count;
 pub use passes::merged_of;

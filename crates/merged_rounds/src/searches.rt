@@ -13,7 +13,8 @@ use std::alloc::Global;
 
 /// The ticks of a hyperperiod, where there are more up to the end of all rounds.
 pub(crate) fn turn_of(plan: &Plan) -> Option<u128>
-    ensures { IfSome result (λ turn. turn ≡ plan.now.tree.scale * plan.now.tree.scale) }
+    ensures turn { IfSome result (λ turn. turn ≡ plan.now.tree.scale * plan.now.tree.scale) }
+    ensures within { IfSome result (λ turn. turn < stop_of plan.now) }
 {
     let scale = plan.scale();
     let horizon = u128::from(plan.set().horizon());

@@ -18,8 +18,9 @@ ghost use Rattle.command_words.specs.declared.command.Execution.TheVariants.{Dri
 use crate::exec::run_plan;
 use crate::summary::{Summary, summary_of, write_summary};
 use command_words::USUAL_WINDOW;
-use event_core::{CountFault, count_rounds};
+use event_core::CountFault;
 use exec_workers::Kit;
+use merged_rounds::round_count;
 use pure_commands::{Refusal, written};
 use round_table::table_law;
 use run_compile::{CompileFault, compile};
@@ -104,7 +105,7 @@ fn few_rounds(alloc: Global, plan: &Plan) -> Result<u64, NoMemory>
     requires few { rounds_of plan.now * plan.now.tree.processors ≤ row_limit }
     ensures { IfOk result (λ rounds. rounds ≡ rounds_of plan.now) }
 {
-    match count_rounds(alloc, plan) {
+    match round_count(alloc, plan) {
         Ok(rounds) => Ok(rounds),
         Err(CountFault::TooLong { .. }) => unreachable!(),
         Err(CountFault::NoMemory) => Err(NoMemory),

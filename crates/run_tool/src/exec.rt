@@ -15,8 +15,8 @@ ghost use Rattle.run_tool.specs.Executions.{crew_of, IsFreshCrew, AreBack, RanAl
 ghost use Rattle.run_tool.specs.Executed.{WritesRun, RefusesRun, RanSet, StopsAtRun, StopsInRun, EndsPart, may_have_called};
 ghost use Rattle.pure_commands.specs.declared.status.Status.TheVariants.{Done};
 
-use event_core::count_rounds;
 use exec_workers::{ExecFault, Executed, Kit, execute};
+use merged_rounds::round_count;
 use pure_commands::{Refusal, finishes_for, plan_of, read_input, write_rows, written};
 use round_table::table_law;
 use run_tree::Plan;
@@ -76,7 +76,7 @@ fn run_and_write<W: Sink, G: Gate + Send, X: Threads + Wait + Sync>(
         (StopsAtRun window met (W.taken out.old) (W.taken out.new) (W.faults out.old) (W.faults out.new) before now plan.now.set) may_have_called before now
         ((kits.new.items ≡ kits.old.items) × (jobs.new.places ≡ jobs.old.places)) result }
 {
-    let rounds = count_rounds(alloc, plan)?;
+    let rounds = round_count(alloc, plan)?;
     let mut finishes = finishes_for(alloc, plan.set(), met)?;
     let executed = run_plan(rt, alloc, plan, rounds, window, kits, jobs)?;
     let (table, totals) = (&executed.table, executed.totals.as_slice());

@@ -14,9 +14,9 @@ ghost use Rattle.command_words.specs.declared.command.Execution.TheVariants.{Job
 
 use crate::exec::run_plan;
 use command_words::USUAL_WINDOW;
-use event_core::count_rounds;
 use exec_workers::Kit;
 use job_vm::{JobText, first_stray, load_programs, read_jobs, write_jobs};
+use merged_rounds::round_count;
 use pure_commands::{Refusal, SET_LIMIT, plan_of, written};
 use run_tree::Plan;
 use sched_base::TaskSet;
@@ -105,7 +105,7 @@ fn load_and_run<W: Sink, G: Gate + Send, X: Threads + Wait + Sync>(
         (may_have_run (Some (Execute Jobs))) before now
         ((kits.new.items ≡ kits.old.items) × (jobs.new.places ≡ jobs.old.places)) result }
 {
-    let rounds = count_rounds(alloc, plan)?;
+    let rounds = round_count(alloc, plan)?;
     load_programs(text, plan.set(), plan.scale(), jobs)?;
     run_plan(rt, alloc, plan, rounds, USUAL_WINDOW, kits, jobs)?;
     written(write_jobs(out, plan.set(), plan.scale(), jobs))
