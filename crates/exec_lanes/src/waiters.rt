@@ -179,6 +179,14 @@ impl Sleeper {
         self.calls.wake_one();
     }
 
+    // Notes how often its worker has been woken. A store costs more than a load, and mostly nobody woke it.
+    fn note_calls(&self) {
+        let calls = self.calls.load(Ordering::SeqCst);
+        if self.seen.load(Ordering::Relaxed) != calls {
+            self.seen.store(calls, Ordering::Relaxed);
+        }
+    }
+
     // Looks whether its worker is woken, for about as long as a sleep and its end take. Where lanes share processors, and where that was
     // in vain for some waits in a row, it looks for a moment only.
     fn is_woken_soon(&self, has_processors: bool) -> bool {
@@ -213,9 +221,7 @@ impl Sleeper {
 pub fn note_calls(waiters: Option<&Waiters>, lane: u32) {
     if let Some(waiters) = waiters {
         if let Some(sleeper) = waiters.sleepers.get(lane as usize) {
-            sleeper
-                .seen
-                .store(sleeper.calls.load(Ordering::SeqCst), Ordering::Relaxed);
+            sleeper.note_calls();
         }
     }
 }
