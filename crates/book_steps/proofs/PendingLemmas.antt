@@ -1,8 +1,8 @@
 -- What an event and a computed round keep of the pending rows.
-use Rattle.std.proofs.Common.{◌≡◌, ◌≢◌, ◌⊎◌, inl, inr, ℕ, zero, suc, ◌+◌, ◌-◌, ◌<◌, ◌≤◌, ◌^◌, Bool, true, false, List, [], ◌∷◌, ◌++◌, None, Some, drop, length, set, get_or, take, replicate, refl, sym, ap, ◌∙◌, subst, arith, add-one}
+use Rattle.std.proofs.Common.{◌≡◌, ◌≢◌, inl, inr, ℕ, zero, suc, ◌+◌, ◌-◌, ◌*◌, ◌<◌, ◌≤◌, ◌^◌, Bool, true, false, List, [], ◌∷◌, ◌++◌, None, Some, drop, length, map, set, get_or, take, replicate, refl, sym, ap, ◌∙◌, subst, arith, add-one}
 use Rattle.std.specs.Prelude.{slice_get, slice_index}
-use Rattle.std.proofs.lemmas.Bool.{cases_eq, eq-eqb}
-use Rattle.std.proofs.lemmas.List.{get_or-set_other, get_or-set_same, length-set, length-replicate, length_push}
+use Rattle.std.proofs.lemmas.Bool.{eq-eqb}
+use Rattle.std.proofs.lemmas.List.{length-set, length-replicate}
 use Rattle.std.proofs.lemmas.List.Elements.{filter-append}
 use Rattle.std.proofs.lemmas.Option.{slice_get-get_or, slice_get_within}
 use Rattle.std.specs.Prelude.{◌==◌}
@@ -14,7 +14,7 @@ use Rattle.sched_base.specs.Lanes.{rows_on}
 use Rattle.sched_base.specs.Rows.{is_of_task}
 use Rattle.sched_base.specs.Tables.{Table, lane_of, RowAt, IsTable, end_after, rounds_in, ticks_in, ticks_before, with_round}
 use Rattle.sched_base.proofs.ScheduleLanes.{lane_of-lanes_of, length-lanes_of}
-use Rattle.sched_base.proofs.TableLemmas.{no_row, row_within, slice_get-push}
+use Rattle.sched_base.proofs.TableLemmas.{no_row, row_within}
 use Rattle.sched_base.proofs.TickLemmas.{ticks_before-le}
 use Rattle.sched_laws.proofs.WholeRounds.{length-round}
 use Rattle.run_tree.specs.Plans.{PlanContents, IsPlan, rounds_of, schedule_of, stop_of}
@@ -23,16 +23,19 @@ use Rattle.event_core.specs.Rounds.{IsRoundStart, IsRoundUpTo, rows_before, roun
 use Rattle.event_core.proofs.PlanRounds.{is_round, next_lanes}
 use Rattle.event_core.proofs.RoundsInOrder.{next_rounds, no_rounds}
 use Rattle.book_machine.specs.declared.machine.LaneState.{LaneState}
-use Rattle.book_machine.specs.Machine.{PostedBefore, State, least_posted, posted_at, start}
-use Rattle.book_machine.proofs.Lanes.{each_lane-set, lane_at-start, least_le}
+use Rattle.book_machine.specs.Machine.{PostedBefore, State, lane_at, least_of, least_posted, posted_at, start}
+use Rattle.book_machine.proofs.Lanes.{each_lane-set, least_at, least_le, least-same, least-set}
 use Rattle.circular_buffer.specs.Buffer.{Buffer, buffer}
+use Rattle.circular_buffer.proofs.Places.{slice_get-some}
 use Rattle.plan_rounds.specs.PlanRows.{AreRoundsOf, RoundsContents, plan_rows}
 use Rattle.plan_rounds.proofs.RoundLemmas.{AreRoundsOf-first, AreRoundsOf-next, below_or, lanes_at, names_task, no_lanes, plan_lanes, plan_table, rounds_left, rows_ahead}
+use Rattle.plan_rounds.specs.Parts.{RowsKept}
 use Rattle.plan_rounds.proofs.RowLemmas.{RowsKept-set, RowsKept-start}
 use Rattle.book_steps.specs.declared.ring.PendingRow.{PendingRow}
-use Rattle.book_steps.specs.Pending.{AreCounted, ArePending, ArePushed, CanCount, IsPending, PendingContents, PendingKept, all_computed, given_to, pending, ring_at, rounds_up_to}
+use Rattle.book_steps.specs.Pending.{AreCounted, ArePending, CanCount, IsPending, PendingContents, PendingKept, all_computed, given_to, pending, rounds_up_to}
 use Rattle.book_steps.specs.Books.{no_rows}
 use Rattle.book_steps.specs.Turns.{with_ticks}
+use Rattle.book_steps.proofs.HeldRounds.{ArePending-less, ArePending-more, is_held, room_left}
 use Rattle.book_steps.proofs.BookLemmas.{is_task, length-with_ticks, with_ticks-at}
 use Rattle.book_steps.proofs.TickCounts.{place_ticks, row_ticks-some, ticks_in-next}
 
@@ -47,18 +50,9 @@ slice_get-new : {X : Type 0} (xs : List X) (x : X) → slice_get (xs ++ x ∷ []
 slice_get-new [] x = refl
 slice_get-new (y ∷ xs) x = slice_get-new xs x
 
-pub slice_get-drop_one : {X : Type 0} (xs : List X) (i : ℕ) → slice_get (drop 1 xs) i ≡ slice_get xs (suc i)
-slice_get-drop_one [] i = refl
-slice_get-drop_one (x ∷ xs) i = refl
-
-length-drop_one : {X : Type 0} (xs : List X) → 0 < length xs → length (drop 1 xs) + 1 ≡ length xs
-length-drop_one [] some = absurd (omega (arith, some))
-length-drop_one (x ∷ xs) some = omega arith
-
-pub ring_of_empty : (m q window : ℕ) → q < m → ring_at (replicate m (buffer [] window)) q ≡ buffer [] window
-ring_of_empty zero q window within = absurd (omega (arith, within))
-ring_of_empty (suc m) zero window within = refl
-ring_of_empty (suc m) (suc q) window within = ring_of_empty m q window (omega (arith, within))
+least_below : (lanes : List LaneState) (n : ℕ) → ((q : ℕ) → (lane_at lanes q).posted ≤ n) → least_of lanes ≤ n
+least_below [] n most = omega arith
+least_below (lane ∷ lanes) n most = let low = least_le (lane ∷ lanes) 0 (omega arith) in let here = most 0 in omega (arith, low, here)
 
 zero_in : (n t : ℕ) → slice_index (replicate n 0) t ≡ 0
 zero_in zero t = refl
@@ -137,34 +131,6 @@ module _ (old : List ℕ) (rows : List Row) (can : CanCount old rows) (k : ℕ) 
         omega (arith, so_far, added, more, one);
   }
 
--- ---- a round's rows, ring by ring
-
-module _ (given : List ℕ) (rows : List Row) (old : List (Buffer PendingRow)) (q : ℕ) (new : List (Buffer PendingRow)) (are : ArePushed given rows old q new) (within : q < length new) (r : Row) (at : slice_get rows q ≡ Some r)
-    (ring : Buffer PendingRow) (is : ring ≡ ring_at new q) (before : ℕ) (ticks : before ≡ given_to given r.leaf) where
-  abbrev more_ring : Buffer PendingRow
-  more_ring = buffer (ring.items ++ record { row = r; before = before } ∷ []) ring.capacity
-
-  ring_more : more_ring ≡ buffer ((ring_at old q).items ++ pending given r ∷ []) (ring_at old q).capacity
-  ring_more =
-      let was : ring ≡ ring_at old q = is ∙ are.same q (omega arith) in
-      ap (λ n. buffer (ring.items ++ record { row = r; before = n } ∷ []) ring.capacity) ticks ∙ ap (λ (b : Buffer PendingRow). buffer (b.items ++ pending given r ∷ []) b.capacity) was
-
-  pub ArePushed-next : ArePushed given rows old (q + 1) (set new q more_ring)
-  ArePushed-next = record {
-    many = length-set new q more_ring ∙ are.many;
-    more = λ u s low there. elim (cases_eq u q) [
-      | inl same ↦ (
-          let here : slice_get rows q ≡ Some s = subst (λ v. slice_get rows v ≡ Some s) same there in
-          let e : Some r ≡ Some s = sym at ∙ here in
-          let row : r ≡ s = cc in
-          subst (λ v. ring_at (set new q more_ring) v ≡ buffer ((ring_at old v).items ++ pending given s ∷ []) (ring_at old v).capacity) (sym same)
-          (get_or-set_same new q more_ring (buffer [] 0) within ∙ ring_more ∙ ap (λ (x : Row). buffer ((ring_at old q).items ++ pending given x ∷ []) (ring_at old q).capacity) row)
-          )
-      | inr other ↦ get_or-set_other new q u more_ring (buffer [] 0) other ∙ are.more u s (omega (arith, low, other)) there
-    ];
-    same = λ u low. get_or-set_other new q u more_ring (buffer [] 0) (λ e. absurd (omega (arith, e, low))) ∙ are.same u (omega (arith, low));
-  }
-
 module _ (p : PlanContents) (h : IsPlan p) where
   abbrev all : List (List Row)
   all = plan_rows p
@@ -195,25 +161,20 @@ module _ (p : PlanContents) (h : IsPlan p) where
       ap (λ ls. made ls (rounds_of p - rounds_before p n)) lanes ∙ ap (made (replicate processors [])) room
 
   module _ (window : ℕ) (s : State) (begins : s ≡ start processors) (r : PendingContents) where
-    none_posted : (q : ℕ) → posted_at s q ≡ 0
-    none_posted q = ap (λ (u : State). posted_at u q) begins ∙ ap (λ (l : LaneState). l.posted) (lane_at-start processors q)
-
-    pub PendingKept-start : IsCoreOf p r.core → r.core.tick ≡ 0 → r.width ≡ processors → r.rings ≡ replicate processors (buffer [] window) → r.computed ≡ 0
+    pub PendingKept-start : IsCoreOf p r.core → r.core.tick ≡ 0 → r.width ≡ processors → r.held ≡ buffer [] (window * processors) → r.computed ≡ 0
         → r.given ≡ replicate (length p.set.tasks) 0 → PendingKept p window s r
-    PendingKept-start belongs first wide rings none given =
+    PendingKept-start belongs first wide held none given =
         let lanes : lanes_at p r.core.tick ≡ replicate processors [] = ap (lanes_at p) first ∙ no_lanes p h in
         let before : rounds_before p r.core.tick ≡ 0 = ap (rounds_before p) first ∙ no_rounds p in
-        let ring : (q : ℕ) → q < processors → ring_at r.rings q ≡ buffer [] window = λ q within. ap (λ (rs : List (Buffer PendingRow)). ring_at rs q) rings ∙ ring_of_empty processors q window within in
         record {
           kept = RowsKept-start p window s (all_computed p r) (AreRoundsOf-first p h r.core r.width (rounds_up_to p r.core.tick) belongs first wide lanes (omega (arith, before))) lanes begins;
           computed = none ∙ sym before;
           counted = omega (arith, none);
-          many = ap length rings ∙ length-replicate processors (buffer [] window);
-          rows = λ q within. subst (λ (b : Buffer PendingRow). ArePending all q (posted_at s q) r.computed b.items) (sym (ring q within)) (record {
-            many = let posted = none_posted q in omega (arith, posted, none);
-            each = λ i next at. absurd (let e : None ≡ Some next = at in cc);
+          rows = subst (λ (b : Buffer PendingRow). ArePending all processors (least_posted s) r.computed b.items) (sym held) (record {
+            many = sym (ap (λ d. d * processors) (let n : r.computed - least_posted s ≡ 0 = omega (arith, none) in n) ∙ omega arith);
+            each = λ i q next inside at. absurd (let e : None ≡ Some next = at in cc);
           });
-          places = λ q within. ap (λ (b : Buffer PendingRow). b.capacity) (ring q within);
+          places = ap (λ (b : Buffer PendingRow). b.capacity) held;
           tasks = ap length given ∙ length-replicate (length p.set.tasks) 0;
           given = λ t below. ap (λ (xs : List ℕ). slice_index xs t) given ∙ zero_in (length p.set.tasks) t ∙ sym (ap (λ n. ticks_before t n all) none ∙ ticks_of_none t all);
         }
@@ -221,6 +182,10 @@ module _ (p : PlanContents) (h : IsPlan p) where
   -- the rounds that a contract sees are those that are counted
   pub computed_is : (window : ℕ) (s : State) (r : PendingContents) → PendingKept p window s r → rounds_in (all_computed p r).table.lanes ≡ r.computed
   computed_is window s r k = k.kept.rounds.count ∙ sym k.computed
+
+  -- no round that is held lies past the computed ones
+  least_computed : (window : ℕ) (s : State) (r : PendingContents) → PendingKept p window s r → least_posted s ≤ r.computed
+  least_computed window s r k = least_below s.lanes r.computed (λ q. let held = k.kept.posted q in let is = computed_is window s r k in omega (arith, held, is))
 
   -- ---- an event
 
@@ -234,55 +199,58 @@ module _ (p : PlanContents) (h : IsPlan p) where
       kept = RowsKept-set p window s q lane halted (all_computed p r) k.kept within (omega (arith, same)) (let held = k.kept.posted q in omega (arith, same, held)) (λ o. let below = out o in let is = computed_is window s r k in omega (arith, below, is));
       computed = k.computed;
       counted = k.counted;
-      many = k.many;
-      rows = λ v inside. each_lane-set (λ u l. u < processors → ArePending all u l.posted r.computed (ring_at r.rings u).items) s.lanes q lane within
-          (λ low. subst (λ n. ArePending all q n r.computed (ring_at r.rings q).items) (sym same) (k.rows q low)) (λ u other low. k.rows u low) v inside;
+      rows = subst (λ n. ArePending all processors n r.computed r.held.items) (least-same s.lanes q lane within same) k.rows;
       places = k.places;
       tasks = k.tasks;
       given = k.given;
     }
 
-    abbrev popped : PendingContents
-    popped = record r { rings = set r.rings q (buffer (drop 1 (ring_at r.rings q).items) (ring_at r.rings q).capacity) }
+    module _ (within : q < length s.lanes) (below : posted_at s q < r.computed) (one : lane.posted ≡ posted_at s q + 1) (free : lane.out ≡ false) where
+      kept_next : RowsKept p window next (all_computed p r)
+      kept_next = RowsKept-set p window s q lane halted (all_computed p r) k.kept within (omega (arith, one)) (let is = computed_is window s r k in omega (arith, one, below, is)) (λ o. let both : true ≡ false = sym o ∙ free in absurd (cc))
 
-    -- a post lets the lane's first pending row go
-    pub PendingKept-post : q < length s.lanes → q < processors → posted_at s q < r.computed → lane.posted ≡ posted_at s q + 1 → lane.out ≡ false → PendingKept p window next popped
-    PendingKept-post within inside below one free = record {
-      kept = RowsKept-set p window s q lane halted (all_computed p r) k.kept within (omega (arith, one)) (let is = computed_is window s r k in omega (arith, one, below, is)) (λ o. let both : true ≡ false = sym o ∙ free in absurd (cc));
-      computed = k.computed;
-      counted = k.counted;
-      many = length-set r.rings q _ ∙ k.many;
-      rows = λ v low. each_lane-set (λ u l. u < processors → ArePending all u l.posted r.computed (ring_at popped.rings u).items) s.lanes q lane within
-          (λ _. subst (λ (b : Buffer PendingRow). ArePending all q lane.posted r.computed b.items) (sym here) rest)
-          (λ u other less. subst (λ (b : Buffer PendingRow). ArePending all u (posted_at s u) r.computed b.items) (sym (there u other)) (k.rows u less)) v low;
-      places = λ v low. elim (cases_same v q) [
-        | inl same ↦ subst (λ u. (ring_at popped.rings u).capacity ≡ window) (sym same) (ap (λ (b : Buffer PendingRow). b.capacity) here ∙ k.places q inside)
-        | inr other ↦ ap (λ (b : Buffer PendingRow). b.capacity) (there v other) ∙ k.places v low
-      ];
-      tasks = k.tasks;
-      given = k.given;
-    }
-      where
-        old : Buffer PendingRow
-        old = ring_at r.rings q
+      -- a post lets the least posted count stay, or go up by one
+      least_stays : least_posted s ≤ least_posted next
+      least_stays = least-set s.lanes q lane within (omega (arith, one))
 
-        cases_same : (u v : ℕ) → (u ≡ v) ⊎ (u ≢ v)
-        cases_same u v = cases_eq u v
+      least_most : least_posted next ≤ least_posted s + 1
+      least_most =
+          let (v, inside, is) = least_at s.lanes (omega (arith, within)) in
+          let many : length next.lanes ≡ length s.lanes = length-set s.lanes q lane in
+          let low = least_le next.lanes v (omega (arith, inside, many)) in
+          let most = each_lane-set (λ u l. l.posted ≤ posted_at s u + 1) s.lanes q lane within (omega (arith, one)) (λ u _. omega arith) v in
+          omega (arith, is, low, most)
 
-        here : ring_at popped.rings q ≡ buffer (drop 1 old.items) old.capacity
-        here = get_or-set_same r.rings q (buffer (drop 1 old.items) old.capacity) (buffer [] 0) (let many = k.many in omega (arith, inside, many))
+      -- where it stays all that is held stays
+      pub PendingKept-stay : least_posted next ≤ least_posted s → PendingKept p window next r
+      PendingKept-stay stays = record {
+        kept = kept_next;
+        computed = k.computed;
+        counted = k.counted;
+        rows = subst (λ n. ArePending all processors n r.computed r.held.items) (let up = least_stays in omega (arith, up, stays)) k.rows;
+        places = k.places;
+        tasks = k.tasks;
+        given = k.given;
+      }
 
-        there : (u : ℕ) → u ≢ q → ring_at popped.rings u ≡ ring_at r.rings u
-        there u other = get_or-set_other r.rings q u (buffer (drop 1 old.items) old.capacity) (buffer [] 0) other
+      abbrev fewer : PendingContents
+      fewer = record r { held = buffer (drop r.width r.held.items) r.held.capacity }
 
-        rest : ArePending all q lane.posted r.computed (drop 1 old.items)
-        rest =
-            let was = k.rows q inside in
-            let many = was.many in
-            record {
-              many = let less = length-drop_one old.items (omega (arith, many, below)) in omega (arith, less, many, one);
-              each = λ i next at. subst (λ n. IsPending all q n next) (omega (arith, one)) (was.each (suc i) next (sym (slice_get-drop_one old.items i) ∙ at));
-            }
+      -- else the first round that is held goes
+      pub PendingKept-go : least_posted s < least_posted next → PendingKept p window next fewer
+      PendingKept-go moved = record {
+        kept = kept_next;
+        computed = k.computed;
+        counted = k.counted;
+        rows =
+            let wide : r.width ≡ processors = k.kept.rounds.width in
+            let low = least_le s.lanes q within in
+            subst (λ w. ArePending all processors (least_posted next) r.computed (drop w r.held.items)) (sym wide)
+            (ArePending-less all processors (least_posted s) r.computed r.held.items k.rows (omega (arith, low, below)) (least_posted next) (let most = least_most in omega (arith, moved, most)));
+        places = k.places;
+        tasks = k.tasks;
+        given = k.given;
+      }
 
   -- ---- a round more
 
@@ -343,7 +311,7 @@ module _ (p : PlanContents) (h : IsPlan p) where
     }
 
     module _ (m : PendingContents) (belongs : IsCoreOf p m.core) (round : IsRoundUpTo p r.core.tick m.core.tick) (same_width : m.width ≡ r.width)
-        (pushed : ArePushed r.given (rows_of_round p r.core.tick m.core.tick) r.rings processors m.rings) (one : m.computed ≡ r.computed + 1)
+        (pushed : m.held ≡ buffer (r.held.items ++ map (pending r.given) (rows_of_round p r.core.tick m.core.tick)) r.held.capacity) (one : m.computed ≡ r.computed + 1)
         (counted : AreCounted r.given (rows_of_round p r.core.tick m.core.tick) m.given) (below : r.computed < least_posted s + window) (fits : r.computed + 1 < 2 ^ 64) where
       abbrev begin : ℕ
       begin = r.core.tick
@@ -372,22 +340,6 @@ module _ (p : PlanContents) (h : IsPlan p) where
                 ap (given_to r.given) is ∙ k.given task.0 low;
           }
 
-      lane_more : (q : ℕ) → q < processors → (row : Row) → slice_get more_rows q ≡ Some row → ArePending all q (posted_at s q) m.computed (ring_at m.rings q).items
-      lane_more q inside row at =
-          let was = k.rows q inside in
-          let items : List PendingRow = (ring_at r.rings q).items in
-          subst (λ (b : Buffer PendingRow). ArePending all q (posted_at s q) m.computed b.items) (sym (pushed.more q row inside at)) (record {
-            many = let long = length_push items (pending r.given row) in let many = was.many in omega (arith, long, many, one);
-            each = λ i next there. elim (slice_get-push items (pending r.given row) next i there) [
-              | inl old ↦ was.each i next old.1
-              | inr new ↦ subst (λ (x : PendingRow). IsPending all q (posted_at s q + i) x) new.1
-                  (subst (λ n. IsPending all q n (pending r.given row)) (let many = was.many in let last = new.0 in omega (arith, many, last)) (new_pending q row at))
-            ];
-          })
-
-      row_there : (q : ℕ) → q < processors → slice_get more_rows q ≡ Some (get_or more_rows q no_row)
-      row_there q inside = slice_get-get_or more_rows q no_row (let many = wide begin m.core.tick round in omega (arith, inside, many))
-
       pub PendingKept-more : PendingKept p window s m
       PendingKept-more = record {
         kept = record {
@@ -398,9 +350,11 @@ module _ (p : PlanContents) (h : IsPlan p) where
         };
         computed = let next = next_round in let is = k.computed in omega (arith, one, next, is);
         counted = omega (arith, one, fits);
-        many = pushed.many ∙ k.many;
-        rows = λ q inside. lane_more q inside (get_or more_rows q no_row) (row_there q inside);
-        places = λ q inside. ap (λ (b : Buffer PendingRow). b.capacity) (pushed.more q (get_or more_rows q no_row) inside (row_there q inside)) ∙ k.places q inside;
+        rows =
+            let up = least_computed window s r k in
+            subst (λ (b : Buffer PendingRow). ArePending all processors (least_posted s) m.computed b.items) (sym pushed)
+            (ArePending-more all processors (least_posted s) r.computed r.held.items k.rows r.given more_rows (wide begin m.core.tick round) up new_pending m.computed one);
+        places = ap (λ (b : Buffer PendingRow). b.capacity) pushed ∙ k.places;
         tasks = counted.many ∙ k.tasks;
         given = λ t low.
             let so_far = k.given t low in
@@ -413,20 +367,29 @@ module _ (p : PlanContents) (h : IsPlan p) where
       }
 
     -- there is a place for each row of the next round
-    pub place_left : r.computed < least_posted s + window → (q : ℕ) → q < processors → q < length s.lanes → length (ring_at r.rings q).items < (ring_at r.rings q).capacity
-    place_left below q inside within =
-        let many = (k.rows q inside).many in
-        let places = k.places q inside in
-        let low = least_le s.lanes q within in
-        omega (arith, many, places, low, below)
+    pub places_left : r.computed < least_posted s + window → length r.held.items + r.width ≤ r.held.capacity
+    places_left below =
+        let many = k.rows.many in
+        let places = k.places in
+        let wide = k.kept.rounds.width in
+        let rounds : (r.computed - least_posted s) * processors + processors ≤ window * processors = room_left (r.computed - least_posted s) window processors (let up = least_computed window s r k in omega (arith, up, below)) in
+        omega (arith, many, places, wide, rounds)
 
   module _ (window : ℕ) (s : State) (r : PendingContents) (k : PendingKept p window s r) (q : ℕ) (inside : q < processors) (below : posted_at s q < r.computed) where
-    -- processor q has a pending row, and the first one is its next
-    pub some_pending : 0 < length (ring_at r.rings q).items
-    some_pending = let many = (k.rows q inside).many in omega (arith, many, below)
+    -- its next row is held
+    pub next_held : q < length s.lanes → (posted_at s q - least_posted s) * r.width + q < length r.held.items
+    next_held within =
+        let low = least_le s.lanes q within in
+        let wide : r.width ≡ processors = k.kept.rounds.width in
+        subst (λ w. (posted_at s q - least_posted s) * w + q < length r.held.items) (sym wide)
+        (is_held all processors (least_posted s) r.computed r.held.items k.rows (posted_at s q - least_posted s) q (omega (arith, low, below)) inside)
 
-    pub first_is : (next : PendingRow) → slice_get (ring_at r.rings q).items 0 ≡ Some next → IsPending all q (posted_at s q) next
-    first_is next at = subst (λ n. IsPending all q n next) (omega arith) ((k.rows q inside).each 0 next at)
+    pub next_is : q < length s.lanes → (next : PendingRow) → slice_get r.held.items ((posted_at s q - least_posted s) * r.width + q) ≡ Some next → IsPending all q (posted_at s q) next
+    next_is within next at =
+        let low = least_le s.lanes q within in
+        let wide : r.width ≡ processors = k.kept.rounds.width in
+        let here : slice_get r.held.items ((posted_at s q - least_posted s) * processors + q) ≡ Some next = subst (λ w. slice_get r.held.items ((posted_at s q - least_posted s) * w + q) ≡ Some next) wide at in
+        subst (λ n. IsPending all q n next) (omega (arith, low)) (k.rows.each (posted_at s q - least_posted s) q next inside here)
 
   module _ (window : ℕ) (s : State) (r : PendingContents) (k : PendingKept p window s r) where
     -- where the core stands at the end all rounds are computed, and before it some are left
@@ -446,27 +409,38 @@ module _ (p : PlanContents) (h : IsPlan p) where
     pub posted_most : (q : ℕ) → posted_at s q ≤ r.computed
     posted_most q = let held = k.kept.posted q in let seen = k.kept.rounds.count in let is = k.computed in omega (arith, held, seen, is)
 
-    module _ (q n : ℕ) (leaf : Leaf) (inside : q < processors) (most : n ≤ r.computed) where
+    module _ (q n : ℕ) (leaf : Leaf) (inside : q < processors) (within : q < length s.lanes) (most : n ≤ r.computed) where
+      abbrev least : ℕ
+      least = least_posted s
+
+      wide_held : r.width ≡ processors
+      wide_held = k.kept.rounds.width
+
+      -- the rows before round n are held
+      pub rows_held : (i : ℕ) → i < n - least → i * r.width + q < length r.held.items
+      rows_held i low = subst (λ w. i * w + q < length r.held.items) (sym wide_held) (is_held all processors least r.computed r.held.items k.rows i q (omega (arith, low, most)) inside)
+
+      pending_at : (i : ℕ) (next : PendingRow) → slice_get r.held.items (i * r.width + q) ≡ Some next → IsPending all q (least + i) next
+      pending_at i next at = k.rows.each i q next inside (subst (λ w. slice_get r.held.items (i * w + q) ≡ Some next) wide_held at)
+
       -- a pending row of the leaf before round n is unposted
-      pub row_of_pending : (i : ℕ) (next : PendingRow) → i < n - posted_at s q → slice_get (ring_at r.rings q).items i ≡ Some next → next.row.leaf ≡ leaf
+      pub row_of_pending : (i : ℕ) (next : PendingRow) → posted_at s q - least ≤ i → i < n - least → slice_get r.held.items (i * r.width + q) ≡ Some next → next.row.leaf ≡ leaf
           → (j : ℕ) × (row : Row) × (posted_at s q ≤ j) × (j < n) × RowAt all q j row × (row.leaf ≡ leaf)
-      row_of_pending i next low at is = (posted_at s q + i, next.row, omega arith, omega (arith, low), ((k.rows q inside).each i next at).row, is)
+      row_of_pending i next past low at is = (least + i, next.row, omega (arith, past), omega (arith, low), (pending_at i next at).row, is)
 
       -- and where none is of the leaf, all its rows before round n are posted
-      pub none_unposted : ((i : ℕ) (next : PendingRow) → i < n - posted_at s q → slice_get (ring_at r.rings q).items i ≡ Some next → next.row.leaf ≢ leaf)
+      pub none_unposted : ((i : ℕ) (next : PendingRow) → posted_at s q - least ≤ i → i < n - least → slice_get r.held.items (i * r.width + q) ≡ Some next → next.row.leaf ≢ leaf)
           → PostedBefore all s.lanes q n leaf
       none_unposted none j row early at is = elim (below_or j (posted_at s q)) [
         | inl posted ↦ posted
         | inr past ↦ absurd (
-            let items : List PendingRow = (ring_at r.rings q).items in
-            let blank : PendingRow = record { row = no_row; before = 0 } in
-            let i : ℕ = j - posted_at s q in
-            let many = (k.rows q inside).many in
-            let there : slice_get items i ≡ Some (get_or items i blank) = slice_get-get_or items i blank (omega (arith, past, early, most, many)) in
-            let pends = ((k.rows q inside).each i (get_or items i blank) there).row in
-            let round : posted_at s q + i ≡ j = omega (arith, past) in
-            let e : Some (get_or items i blank).row ≡ Some row = sym (subst (λ m. RowAt all q m (get_or items i blank).row) round pends) ∙ at in
-            let same : (get_or items i blank).row ≡ row = cc in
-            none i (get_or items i blank) (omega (arith, past, early)) there (ap (λ (x : Row). x.leaf) same ∙ is)
+            let low = least_le s.lanes q within in
+            let i : ℕ = j - least in
+            let (next, there) = slice_get-some r.held.items (i * r.width + q) (rows_held i (omega (arith, early, low, past))) in
+            let pends = (pending_at i next there).row in
+            let round : least + i ≡ j = omega (arith, low, past) in
+            let e : Some next.row ≡ Some row = sym (subst (λ n. RowAt all q n next.row) round pends) ∙ at in
+            let same : next.row ≡ row = cc in
+            none i next (omega (arith, low, past)) (omega (arith, early, low, past)) there (ap (λ (x : Row). x.leaf) same ∙ is)
             )
       ]

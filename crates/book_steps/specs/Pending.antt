@@ -1,5 +1,5 @@
--- The rows of a plan that are computed and not posted, processor by processor.
-use Rattle.std.specs.Prelude.{ℕ, ◌≡◌, ◌<◌, ◌≤◌, ◌+◌, ◌-◌, ◌^◌, List, [], ◌∷◌, ◌++◌, Some, length, slice_get, slice_index, slice_index_or}
+-- The rows of a plan that are computed and not yet let go, round by round.
+use Rattle.std.specs.Prelude.{ℕ, ◌≡◌, ◌<◌, ◌≤◌, ◌+◌, ◌-◌, ◌*◌, ◌^◌, List, Some, length, slice_get, slice_index}
 use Rattle.sched_base.specs.declared.rows.Leaf.{Leaf}
 use Rattle.sched_base.specs.declared.rows.Leaf.TheVariants.{Task, Wait, Idle, Empty}
 use Rattle.sched_base.specs.declared.rows.Row.{Row}
@@ -9,8 +9,8 @@ use Rattle.sched_base.specs.Tables.{Table, RowAt, ticks_before, ticks_in}
 use Rattle.run_tree.specs.Plans.{PlanContents, rounds_of}
 use Rattle.event_core.specs.Cores.{CoreContents}
 use Rattle.event_core.specs.Rounds.{rows_before, rounds_before}
-use Rattle.book_machine.specs.Machine.{State, posted_at}
-use Rattle.circular_buffer.specs.Buffer.{Buffer, buffer}
+use Rattle.book_machine.specs.Machine.{State, least_posted}
+use Rattle.circular_buffer.specs.Buffer.{Buffer}
 use Rattle.plan_rounds.specs.PlanRows.{RoundsContents, plan_rows}
 use Rattle.plan_rounds.specs.Parts.{RowsKept}
 use Rattle.book_steps.specs.declared.ring.PendingRow.{PendingRow}
@@ -19,15 +19,11 @@ pub record PendingContents : Type 0 where
   pub core : CoreContents
   -- how many rows of one round there is room for
   pub width : ℕ
-  -- of each processor its pending rows, and how many places there are for them
-  pub rings : List (Buffer PendingRow)
+  -- the rows of the rounds that are held, round by round and in each processor by processor, and how many places there are
+  pub held : Buffer PendingRow
   -- how many rounds are computed, and of each task the ticks of its rows in them
   pub computed : ℕ
   pub given : List ℕ
-
--- the pending rows of processor q; none where there is no such processor
-abbrev pub ring_at : List (Buffer PendingRow) → ℕ → Buffer PendingRow
-ring_at rings q = slice_index_or rings q (buffer [] 0)
 
 -- the ticks that a leaf's task was given
 abbrev pub given_to : List ℕ → Leaf → ℕ
@@ -39,13 +35,6 @@ given_to given Empty = 0
 -- a row with the ticks that its task was given before
 abbrev pub pending : List ℕ → Row → PendingRow
 pending given r = record { row = r; before = given_to given r.leaf }
-
--- the rings of the processors below p have one row more, and the others are as they were
-pub record ArePushed (given : List ℕ) (rows : List Row) (old : List (Buffer PendingRow)) (p : ℕ) (new : List (Buffer PendingRow)) : Type 0 where
-  pub many : length new ≡ length old
-  pub more : (q : ℕ) (r : Row) → q < p → slice_get rows q ≡ Some r →
-      ring_at new q ≡ buffer ((ring_at old q).items ++ pending given r ∷ []) (ring_at old q).capacity
-  pub same : (q : ℕ) → p ≤ q → ring_at new q ≡ ring_at old q
 
 -- each task was given the ticks of these rows besides
 pub record AreCounted (old : List ℕ) (rows : List Row) (new : List ℕ) : Type 0 where
@@ -63,10 +52,10 @@ pub record IsPending (rows : List (List Row)) (q k : ℕ) (next : PendingRow) : 
   pub row : RowAt rows q k next.row
   pub before : (task : TaskId) → next.row.leaf ≡ Task task → next.before ≡ ticks_before task.0 k rows
 
--- these are the rows of processor q from round k up to round n
-pub record ArePending (rows : List (List Row)) (q k n : ℕ) (items : List PendingRow) : Type 0 where
-  pub many : k + length items ≡ n
-  pub each : (i : ℕ) (next : PendingRow) → slice_get items i ≡ Some next → IsPending rows q (k + i) next
+-- these are the rows of rounds k up to n on m processors, round by round
+pub record ArePending (rows : List (List Row)) (m k n : ℕ) (items : List PendingRow) : Type 0 where
+  pub many : length items ≡ (n - k) * m
+  pub each : (i q : ℕ) (next : PendingRow) → q < m → slice_get items (i * m + q) ≡ Some next → IsPending rows q (k + i) next
 
 -- the rounds of a plan before tick n, and how many are left
 abbrev pub rounds_up_to : PlanContents → ℕ → Table
@@ -76,13 +65,12 @@ rounds_up_to p n = record { lanes = lanes_of p.tree.processors (rows_before p n)
 abbrev pub all_computed : PlanContents → PendingContents → RoundsContents
 all_computed p r = record { core = r.core; width = r.width; table = rounds_up_to p r.core.tick }
 
--- what a book keeps of its pending rows: each processor's from its posted count up to the core's tick, with a place for each row of a window
+-- what a book keeps of its pending rows: all from the least posted count up to the core's tick, with a place for each row of a window
 pub record PendingKept (p : PlanContents) (window : ℕ) (s : State) (r : PendingContents) : Type 0 where
   pub kept : RowsKept p window s (all_computed p r)
   pub computed : r.computed ≡ rounds_before p r.core.tick
   pub counted : r.computed < 2 ^ 64
-  pub many : length r.rings ≡ p.tree.processors
-  pub rows : (q : ℕ) → q < p.tree.processors → ArePending (plan_rows p) q (posted_at s q) r.computed (ring_at r.rings q).items
-  pub places : (q : ℕ) → q < p.tree.processors → (ring_at r.rings q).capacity ≡ window
+  pub rows : ArePending (plan_rows p) p.tree.processors (least_posted s) r.computed r.held.items
+  pub places : r.held.capacity ≡ window * p.tree.processors
   pub tasks : length r.given ≡ length p.set.tasks
   pub given : (t : ℕ) → t < length p.set.tasks → slice_index r.given t ≡ ticks_before t r.computed (plan_rows p)

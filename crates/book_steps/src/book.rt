@@ -1,5 +1,5 @@
 //! The book, how it begins, and what holds of it.
-ghost use Rattle.std.specs.Prelude.{◌≡◌, ◌≤◌, [], None, length, replicate, IfOk, IfErr};
+ghost use Rattle.std.specs.Prelude.{◌≡◌, ◌≤◌, ◌*◌, [], None, length, replicate, IfOk, IfErr};
 ghost use Rattle.circular_buffer.specs.Buffer.{buffer};
 ghost use Rattle.event_core.specs.Cores.{IsCoreOf};
 ghost use Rattle.book_machine.specs.Machine.{start};
@@ -58,10 +58,11 @@ struct Parts {
 
 impl Parts {
     fn new(alloc: Global, plan: &Plan, window: u32) -> Result<Parts, NoMemory>
+        requires { window ≤ 1024 }
         ensures core { IfOk result (λ q. IsCoreOf plan.now q.pending.core) }
         ensures start { IfOk result (λ q. q.pending.core.tick ≡ 0) }
         ensures width { IfOk result (λ q. q.pending.width ≡ plan.now.tree.processors) }
-        ensures rings { IfOk result (λ q. q.pending.rings ≡ replicate plan.now.tree.processors (buffer [] window)) }
+        ensures held { IfOk result (λ q. q.pending.held ≡ buffer [] (window * plan.now.tree.processors)) }
         ensures computed { IfOk result (λ q. q.pending.computed ≡ 0) }
         ensures given { IfOk result (λ q. q.pending.given ≡ replicate (length plan.now.set.tasks) 0) }
         ensures state { IfOk result (λ q. q.state ≡ start plan.now.tree.processors) }

@@ -1,5 +1,5 @@
-//! The rows that are computed and not posted, and what computes the next ones.
-ghost use Rattle.std.specs.Prelude.{◌≡◌, ◌≢◌, ◌≤◌, ◌<◌, ◌+◌, ◌-◌, ◌^◌, ℕ, [], Some, drop, length, replicate, slice_get, slice_index, slice_set, true, false, IfOk};
+//! The rows that are computed and not yet let go, and what computes the next ones.
+ghost use Rattle.std.specs.Prelude.{◌≡◌, ◌≢◌, ◌≤◌, ◌<◌, ◌+◌, ◌-◌, ◌*◌, ◌^◌, ◌++◌, ℕ, [], Some, drop, length, map, replicate, slice_get, slice_index, true, false, IfOk};
 ghost use Rattle.sched_base.specs.declared.rows.Leaf.TheVariants.{Task};
 ghost use Rattle.sched_base.specs.declared.rows.TaskId.{TaskId as DeclaredTaskId};
 ghost use Rattle.run_tree.specs.Plans.{stop_of};
@@ -7,7 +7,7 @@ ghost use Rattle.event_core.specs.Cores.{IsCoreOf};
 ghost use Rattle.event_core.specs.Rounds.{IsRoundUpTo, rows_of_round};
 ghost use Rattle.circular_buffer.specs.Buffer.{buffer};
 ghost use Rattle.book_steps.specs.declared.ring.PendingRow.{PendingRow as DeclaredRow};
-ghost use Rattle.book_steps.specs.Pending.{ArePushed, AreCounted, CanCount, given_to as ticks_given, ring_at};
+ghost use Rattle.book_steps.specs.Pending.{AreCounted, CanCount, given_to as ticks_given, pending};
 ghost use Rattle.book_steps.specs.Turns.{with_ticks};
 
 use crate::ring::{PendingRow, Ring};
@@ -17,13 +17,13 @@ use sched_base::{Leaf, NoMemory, Row, blank_rows};
 use std::alloc::Global;
 use std::marker::Model;
 
-/// The rows of a plan's schedule that are computed and not posted, processor by processor.
+/// The rows of a plan's schedule that are computed and not yet let go: round by round, and those of a round processor by processor.
 #[derive(Drop)]
 pub(crate) struct Pending {
     core: Core,
     // Room for the rows of one round.
     rows: Vec<Row>,
-    rings: Vec<Ring>,
+    held: Ring,
     // The number of rounds computed so far, and of each task the ticks of its rows in them.
     computed: u64,
     given: Vec<u128>,
@@ -35,29 +35,30 @@ impl Model for Pending {
 
     ghost Value = { PendingContents };
 
-    ghost view = { λ r. record { core = r.core; width = vec_len r.rows; rings = r.rings.items; computed = r.computed; given = r.given.items } };
+    ghost view = { λ r. record { core = r.core; width = vec_len r.rows; held = r.held; computed = r.computed; given = r.given.items } };
 }
 
 impl Pending {
     /// No row yet, with a place for each row of a window. All memory is taken here.
     pub(crate) fn new(alloc: Global, plan: &Plan, window: u32) -> Result<Pending, NoMemory>
+        requires { window ≤ 1024 }
         ensures core { IfOk result (λ r. IsCoreOf plan.now r.core) }
         ensures start { IfOk result (λ r. r.core.tick ≡ 0) }
         ensures width { IfOk result (λ r. r.width ≡ plan.now.tree.processors) }
-        ensures rings { IfOk result (λ r. r.rings ≡ replicate plan.now.tree.processors (buffer [] window)) }
+        ensures held { IfOk result (λ r. r.held ≡ buffer [] (window * plan.now.tree.processors)) }
         ensures computed { IfOk result (λ r. r.computed ≡ 0) }
         ensures given { IfOk result (λ r. r.given ≡ replicate (length plan.now.set.tasks) 0) }
     {
         let processors = plan.tree().processors();
         let tasks = plan.set().count();
-        let rings = empty_rings(alloc, processors, window)?;
+        let held = Ring::new(alloc, window as usize * processors as usize)?;
         let given = vec![in alloc; 0u128; tasks as usize]?;
         let rows = blank_rows(alloc, processors)?;
         let core = Core::new(alloc, plan)?;
         Ok(Pending {
             core,
             rows,
-            rings,
+            held,
             computed: 0,
             given,
         })
@@ -68,23 +69,18 @@ impl Pending {
         requires belongs { IsCoreOf plan.now self.old.core }
         requires early { self.old.core.tick < stop_of plan.now }
         requires width { self.old.width ≡ plan.now.tree.processors }
-        requires rings { length self.old.rings ≡ plan.now.tree.processors }
-        requires places { (q : ℕ) → q < plan.now.tree.processors → length (ring_at self.old.rings q).items < (ring_at self.old.rings q).capacity }
+        requires places { length self.old.held.items + self.old.width ≤ self.old.held.capacity }
         requires counted { self.old.computed + 1 < 2 ^ 64 }
         requires fits { (end : ℕ) → IsRoundUpTo plan.now self.old.core.tick end → CanCount self.old.given (rows_of_round plan.now self.old.core.tick end) }
         ensures belongs { IsCoreOf plan.now self.new.core }
         ensures round { IsRoundUpTo plan.now self.old.core.tick self.new.core.tick }
         ensures width { self.new.width ≡ self.old.width }
-        ensures rings { ArePushed self.old.given (rows_of_round plan.now self.old.core.tick self.new.core.tick) self.old.rings plan.now.tree.processors self.new.rings }
+        ensures held { self.new.held ≡ buffer (self.old.held.items ++ map (pending self.old.given) (rows_of_round plan.now self.old.core.tick self.new.core.tick)) self.old.held.capacity }
         ensures computed { self.new.computed ≡ self.old.computed + 1 }
         ensures given { AreCounted self.old.given (rows_of_round plan.now self.old.core.tick self.new.core.tick) self.new.given }
     {
         self.core.advance(plan, &mut self.rows);
-        push_each(
-            self.rings.as_mut_slice(),
-            self.given.as_slice(),
-            self.rows.as_slice(),
-        );
+        push_each(&mut self.held, self.given.as_slice(), self.rows.as_slice());
         count_each(&mut self.given, self.rows.as_slice());
         self.computed += 1;
     }
@@ -103,55 +99,54 @@ impl Pending {
         self.core.now()
     }
 
-    /// The first pending row of processor q.
-    pub(crate) fn first(&self, q: u32) -> PendingRow
-        requires processor { q < length self.now.rings }
-        requires some { 0 < length (ring_at self.now.rings q).items }
-        ensures { slice_get (ring_at self.now.rings q).items 0 ≡ Some result }
+    // The place of the row of processor q in the held round with this number, counted from the first one that is held.
+    fn place(&self, round: u64, q: u32) -> usize
+        requires { round * self.now.width + q < length self.now.held.items }
+        ensures { result ≡ round * self.now.width + q }
     {
-        self.rings[q as usize].first()
+        let _held = self.held.len();
+        round as usize * self.rows.len() + q as usize
     }
 
-    /// Whether one of the first `count` pending rows of processor q is of the leaf.
-    pub(crate) fn has(&self, q: u32, count: u64, leaf: Leaf) -> bool
-        requires processor { q < length self.now.rings }
-        requires count { count ≤ length (ring_at self.now.rings q).items }
-        ensures some { result ≡ true → (i : ℕ) × (next : DeclaredRow) × (i < count) × (slice_get (ring_at self.now.rings q).items i ≡ Some next) × (next.row.leaf ≡ leaf) }
-        ensures none { result ≡ false → (i : ℕ) (next : DeclaredRow) → i < count → slice_get (ring_at self.now.rings q).items i ≡ Some next → next.row.leaf ≢ leaf }
+    /// The row of processor q in the held round with this number, counted from the first one that is held.
+    pub(crate) fn row(&self, round: u64, q: u32) -> PendingRow
+        requires { round * self.now.width + q < length self.now.held.items }
+        ensures { slice_get self.now.held.items (round * self.now.width + q) ≡ Some result }
     {
-        self.rings[q as usize].has(count, leaf)
+        self.held.row(self.place(round, q))
     }
 
-    /// Lets the first pending row of processor q go.
-    pub(crate) fn pop(&mut self, q: u32)
-        requires processor { q < length self.old.rings }
-        ensures { self.new ≡ record self.old {
-          rings = slice_set self.old.rings q
-              (buffer (drop 1 (ring_at self.old.rings q).items) (ring_at self.old.rings q).capacity);
-        } }
+    /// Whether a row of processor q in the held rounds `from` to `to`, that without, is of the leaf.
+    pub(crate) fn has(&self, q: u32, from: u64, to: u64, leaf: Leaf) -> bool
+        requires { (i : ℕ) → i < to → i * self.now.width + q < length self.now.held.items }
+        ensures some { result ≡ true → (i : ℕ) × (next : DeclaredRow) × (from ≤ i) × (i < to)
+            × (slice_get self.now.held.items (i * self.now.width + q) ≡ Some next) × (next.row.leaf ≡ leaf) }
+        ensures none { result ≡ false → (i : ℕ) (next : DeclaredRow) → from ≤ i → i < to
+            → slice_get self.now.held.items (i * self.now.width + q) ≡ Some next → next.row.leaf ≢ leaf }
     {
-        self.rings[q as usize].pop();
+        for i in from..to {
+            if self.held.is_of(self.place(i, q), leaf) {
+                return true;
+            }
+        }
+        false
+    }
+
+    /// Lets the first held round go.
+    pub(crate) fn let_go(&mut self)
+        ensures { self.new ≡ record self.old { held = buffer (drop self.old.width self.old.held.items) self.old.held.capacity } }
+    {
+        self.held.let_go(self.rows.len());
     }
 }
 
-fn empty_rings(alloc: Global, processors: u32, places: u32) -> Result<Vec<Ring>, NoMemory>
-    ensures { IfOk result (λ v. v.items ≡ replicate processors (buffer [] places)) }
-{
-    let mut rings = Vec::new(alloc);
-    for _q in 0..processors {
-        rings.push(Ring::new(alloc, places)?)?;
-    }
-    Ok(rings)
-}
-
-// Appends to each ring its row of a round.
-fn push_each(rings: &mut [Ring], given: &[u128], rows: &[Row])
-    requires whole { length rows.now ≡ length rings.old }
-    requires places { (q : ℕ) → q < length rings.old → length (ring_at rings.old q).items < (ring_at rings.old q).capacity }
-    ensures { ArePushed given.now rows.now rings.old (length rows.now) rings.new }
+// Appends the rows of a round.
+fn push_each(held: &mut Ring, given: &[u128], rows: &[Row])
+    requires { length held.old.items + length rows.now ≤ held.old.capacity }
+    ensures { held.new ≡ buffer (held.old.items ++ map (pending given.now) rows.now) held.old.capacity }
 {
     for q in 0..rows.len() {
-        rings[q].push(PendingRow {
+        held.push(PendingRow {
             row: rows[q],
             before: given_to(given, rows[q].leaf),
         });

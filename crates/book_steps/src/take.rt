@@ -112,7 +112,7 @@ impl StepBook {
         if round - self.state.least() >= u64::from(self.window) {
             return Some(self.state.lowest());
         }
-        let next = self.pending.first(p);
+        let next = self.next_row(p);
         if self.is_clear(p, next) {
             None
         } else {
@@ -167,8 +167,13 @@ impl StepBook {
         ensures none { result ≡ false → PostedBefore (plan_rows self.now.plan) self.now.state.lanes q round leaf }
     {
         self.plan.know_lawful();
-        let posted = self.state.posted(q);
-        self.pending.has(q, round.saturating_sub(posted), leaf)
+        let least = self.state.least();
+        self.pending.has(
+            q,
+            self.state.posted(q) - least,
+            round.saturating_sub(least),
+            leaf,
+        )
     }
 
     // Hands the next row of processor p out, which may be taken.
@@ -180,8 +185,19 @@ impl StepBook {
         ensures { Hands self.old self.new p result }
     {
         self.plan.know_lawful();
-        let next = self.pending.first(p);
+        let next = self.next_row(p);
         self.state.hand_out(p);
         next.row
+    }
+
+    /// The row of processor p that is its next to be posted.
+    pub(crate) fn next_row(&self, p: u32) -> PendingRow
+        requires lane { p < length self.now.state.lanes }
+        requires held { posted_at self.now.state p < rounds_in self.now.table.lanes }
+        ensures { IsPending (plan_rows self.now.plan) p (posted_at self.now.state p) result }
+    {
+        self.plan.know_lawful();
+        self.pending
+            .row(self.state.posted(p) - self.state.least(), p)
     }
 }

@@ -2,10 +2,10 @@ use Rattle.std.proofs.Common.{◌≡◌, ◌<◌, ◌+◌, ◌^◌, inl, inr, re
 use Rattle.run_tree.specs.Plans.{stop_of}
 use Rattle.event_core.specs.Rounds.{rounds_before}
 use Rattle.book_machine.specs.Machine.{least_posted}
-use Rattle.plan_rounds.proofs.RoundLemmas.{below_or, plan_lanes}
+use Rattle.plan_rounds.proofs.RoundLemmas.{below_or}
 use Rattle.book_steps.specs.Pending.{PendingKept}
 use Rattle.book_steps.proofs.BookLemmas.{AreFaults-more}
-use Rattle.book_steps.proofs.PendingLemmas.{CanCount-next, PendingKept-more, place_left}
+use Rattle.book_steps.proofs.PendingLemmas.{CanCount-next, PendingKept-more, places_left}
 use Rattle.book_steps.proofs.book.StepBook.compute_next.Goals.{After-know_lawful}
 use Rattle.book_steps.proofs.book.StepBook.compute_next.Goals as goal
 
@@ -47,16 +47,10 @@ compute_next-requires-clause-early c =
 pub compute_next-requires-clause-width : goal.compute_next-requires-clause-width
 compute_next-requires-clause-width c = c.self.invariant.pending.kept.rounds.width
 
-pub compute_next-requires-clause-rings : goal.compute_next-requires-clause-rings
-compute_next-requires-clause-rings c = c.self.invariant.pending.many
-
 pub compute_next-requires-clause-places : goal.compute_next-requires-clause-places
 compute_next-requires-clause-places c =
     let r = (goal.at.compute_next-requires-clause-places c).After-know_lawful in
-    λ q inside. place_left c.self.inside.plan c.know_lawful.ensures.lawful c.self.inside.window c.self.inside.state c.self.inside.pending (pending r) (below r) q inside (
-    let long = c.self.invariant.led.1.reached.lanes in
-    let many = plan_lanes c.self.inside.plan c.know_lawful.ensures.lawful in
-    omega (arith, inside, long, many))
+    places_left c.self.inside.plan c.know_lawful.ensures.lawful c.self.inside.window c.self.inside.state c.self.inside.pending (pending r) (below r)
 
 pub compute_next-requires-clause-fits : goal.compute_next-requires-clause-fits
 compute_next-requires-clause-fits c =
@@ -84,7 +78,7 @@ invariant_of-self c =
       compiled = c.self.invariant.compiled;
       some_window = c.self.invariant.some_window;
       small_window = c.self.invariant.small_window;
-      pending = PendingKept-more c.self.inside.plan c.know_lawful.ensures.lawful c.self.inside.window c.self.inside.state c.self.inside.pending c.self.invariant.pending new done.belongs done.round done.width done.rings done.computed done.given (below r) (fits r);
+      pending = PendingKept-more c.self.inside.plan c.know_lawful.ensures.lawful c.self.inside.window c.self.inside.state c.self.inside.pending c.self.invariant.pending new done.belongs done.round done.width done.held done.computed done.given (below r) (fits r);
       led = c.self.invariant.led;
       totals = c.self.invariant.totals;
       faults = AreFaults-more c.self.inside.state c.self.inside.pending.computed new.computed c.self.inside.faults.items (let one = done.computed in omega (arith, one)) c.self.invariant.faults;
@@ -97,7 +91,7 @@ pub returns-clause-one_more : goal.returns-clause-one_more
 returns-clause-one_more c =
     let r = (goal.at.returns-clause-one_more c).After-know_lawful in
     let plan = c.self.inside.plan in
-    let kept = PendingKept-more plan c.know_lawful.ensures.lawful c.self.inside.window c.self.inside.state c.self.inside.pending c.self.invariant.pending c.compute_next.new.self c.compute_next.ensures.belongs c.compute_next.ensures.round c.compute_next.ensures.width c.compute_next.ensures.rings c.compute_next.ensures.computed c.compute_next.ensures.given (below r) (fits r) in
+    let kept = PendingKept-more plan c.know_lawful.ensures.lawful c.self.inside.window c.self.inside.state c.self.inside.pending c.self.invariant.pending c.compute_next.new.self c.compute_next.ensures.belongs c.compute_next.ensures.round c.compute_next.ensures.width c.compute_next.ensures.held c.compute_next.ensures.computed c.compute_next.ensures.given (below r) (fits r) in
     rw (← c.self.view_is) (
     let before = (pending r).kept.rounds.count in
     let after = kept.kept.rounds.count in

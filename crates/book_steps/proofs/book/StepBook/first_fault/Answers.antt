@@ -7,7 +7,7 @@ use Rattle.book_machine.specs.Machine.{posted_at}
 use Rattle.plan_rounds.proofs.RoundLemmas.{plan_lanes}
 use Rattle.book_steps.specs.Books.{HadFault}
 use Rattle.book_steps.specs.Pending.{PendingKept}
-use Rattle.book_steps.proofs.PendingLemmas.{first_is, some_pending}
+use Rattle.book_steps.proofs.PendingLemmas.{computed_is}
 use Rattle.book_steps.proofs.book.StepBook.first_fault.Goals.{In-Some}
 use Rattle.book_steps.proofs.book.StepBook.first_fault.Goals as goal
 
@@ -39,16 +39,15 @@ lowest_fault-requires c =
     c.processors.ensures.value ∙ ap (λ (t : Tree). t.processors) c.tree.ensures.value ∙ sym (plan_lanes c.self.inside.plan c.know_lawful.ensures.lawful)
     ∙ sym c.self.invariant.led.1.reached.lanes ∙ sym c.self.invariant.faults.many ∙ sym (ap length c.as_slice.ensures.value)
 
-pub first-requires-clause-processor : goal.first-requires-clause-processor
-first-requires-clause-processor c =
-    let low = inside (goal.at.first-requires-clause-processor c).In-Some in
-    let many = c.self.invariant.pending.many in
-    omega (arith, low, many)
+pub next_row-requires-clause-lane : goal.next_row-requires-clause-lane
+next_row-requires-clause-lane c = let low = within (goal.at.next_row-requires-clause-lane c).In-Some in rw (← c.self.view_is) low
 
-pub first-requires-clause-some : goal.first-requires-clause-some
-first-requires-clause-some c =
-    let r = (goal.at.first-requires-clause-some c).In-Some in
-    some_pending c.self.inside.plan c.know_lawful.ensures.lawful c.self.inside.window c.self.inside.state c.self.inside.pending (pending r) c.in-Some.p (inside r) (below r)
+pub next_row-requires-clause-held : goal.next_row-requires-clause-held
+next_row-requires-clause-held c =
+    let r = (goal.at.next_row-requires-clause-held c).In-Some in
+    let low = below r in
+    let is = computed_is c.self.inside.plan c.know_lawful.ensures.lawful c.self.inside.window c.self.inside.state c.self.inside.pending (pending r) in
+    rw (← c.self.view_is) (omega (arith, low, is))
 
 pub returns-in-Some-clause-some : goal.returns-in-Some-clause-some
 returns-in-Some-clause-some c =
@@ -57,7 +56,7 @@ returns-in-Some-clause-some c =
     record {
       had = rw (← c.self.view_is) (had r);
       first = rw (← c.self.view_is) lowest;
-      at = rw (← c.self.view_is) (first_is c.self.inside.plan c.know_lawful.ensures.lawful c.self.inside.window c.self.inside.state c.self.inside.pending (pending r) c.in-Some.p (inside r) (below r) c.first.result c.first.ensures).row;
+      at = c.next_row.ensures.row;
     }
 
 pub returns-in-None-clause-none : goal.returns-in-None-clause-none

@@ -1,5 +1,4 @@
-use Rattle.std.proofs.Common.{◌≡◌, ◌<◌, true, Some, refl, arith, length}
-use Rattle.std.specs.Prelude.{slice_get}
+use Rattle.std.proofs.Common.{◌<◌, true, refl, arith, length}
 use Rattle.sched_base.proofs.TableLemmas.{row_within}
 use Rattle.book_machine.specs.declared.machine.LaneState.{LaneState}
 use Rattle.book_machine.specs.declared.events.Event.TheVariants.{Take}
@@ -9,9 +8,9 @@ use Rattle.plan_rounds.specs.Parts.{processor}
 use Rattle.plan_rounds.proofs.RoundLemmas.{plan_lanes, plan_table}
 use Rattle.plan_rounds.proofs.RowLemmas.{ready_may_take}
 use Rattle.book_steps.specs.declared.ring.PendingRow.{PendingRow}
-use Rattle.book_steps.specs.Pending.{PendingKept, ring_at}
+use Rattle.book_steps.specs.Pending.{IsPending, PendingKept}
 use Rattle.book_steps.proofs.BookLemmas.{AreFaults-running, AreTotals-same, IsLed-next}
-use Rattle.book_steps.proofs.PendingLemmas.{PendingKept-same, computed_is, first_is, some_pending}
+use Rattle.book_steps.proofs.PendingLemmas.{PendingKept-same, computed_is}
 use Rattle.book_steps.proofs.book.StepBook.hand_out.Goals.{After-know_lawful}
 use Rattle.book_steps.proofs.book.StepBook.hand_out.Goals as goal
 
@@ -37,23 +36,17 @@ module _ (c : After-know_lawful) where
   inside : c.args.p < c.self.inside.plan.tree.processors
   inside = let low = in_all in let many = plan_lanes c.self.inside.plan c.know_lawful.ensures.lawful in omega (arith, low, many)
 
-pub first-next-requires-clause-processor : goal.first-next-requires-clause-processor
-first-next-requires-clause-processor c =
-    let r = (goal.at.first-next-requires-clause-processor c).After-know_lawful in
-    let low = inside r in
-    let many = c.self.invariant.pending.many in
-    omega (arith, low, many)
+pub next_row-next-requires-clause-lane : goal.next_row-next-requires-clause-lane
+next_row-next-requires-clause-lane c = let low = within (goal.at.next_row-next-requires-clause-lane c).After-know_lawful in rw (← c.self.view_is) low
 
-pub first-next-requires-clause-some : goal.first-next-requires-clause-some
-first-next-requires-clause-some c =
-    let r = (goal.at.first-next-requires-clause-some c).After-know_lawful in
-    some_pending c.self.inside.plan c.know_lawful.ensures.lawful c.self.inside.window c.self.inside.state c.self.inside.pending (pending r) c.args.p (inside r) (below r)
+pub next_row-next-requires-clause-held : goal.next_row-next-requires-clause-held
+next_row-next-requires-clause-held c = c.requires.held
 
--- the first pending row is the processor's next one, and it may take it
-may : (c : After-know_lawful) (next : PendingRow) → slice_get (ring_at c.self.inside.pending.rings c.args.p).items 0 ≡ Some next
+-- the next row may be taken
+may : (c : After-know_lawful) (next : PendingRow) → IsPending (plan_rows c.args.self.now.plan) c.args.p (posted_at c.args.self.now.state c.args.p) next
     → MayTake (plan_rows c.self.inside.plan) c.self.inside.window c.self.inside.state c.args.p next.row
-may c next got =
-    let there = (first_is c.self.inside.plan c.know_lawful.ensures.lawful c.self.inside.window c.self.inside.state c.self.inside.pending (pending c) c.args.p (inside c) (below c) next got).row in
+may c next is =
+    let there = (rw (← c.self.view_is) at is).row in
     ready_may_take (plan_rows c.self.inside.plan) c.self.inside.window c.self.inside.state c.args.p next.row (rw (← c.self.view_is) at c.requires.running) (rw (← c.self.view_is) at c.requires.free) there (ready c)
 
 pub hand_out-requires-clause-lane : goal.hand_out-requires-clause-lane
@@ -68,7 +61,7 @@ hand_out-requires-clause-counted c =
 pub invariant_of-self : goal.invariant_of-self
 invariant_of-self c =
     let r = (goal.at.invariant_of-self c).After-know_lawful in
-    let legal = may r c.first-next.result c.first-next.ensures in
+    let legal = may r c.next_row-next.result c.next_row-next.ensures in
     let q = c.args.p in
     let plan = c.self.inside.plan in
     let lawful = c.know_lawful.ensures.lawful in
@@ -79,7 +72,7 @@ invariant_of-self c =
       some_window = c.self.invariant.some_window;
       small_window = c.self.invariant.small_window;
       pending = PendingKept-same plan lawful c.self.inside.window s q lane s.halted c.self.inside.pending (pending r) (within r) refl (λ _. below r);
-      led = IsLed-next plan lawful c.self.inside.window s c.self.invariant.led (Take (processor q)) (c.first-next.result.row, legal);
+      led = IsLed-next plan lawful c.self.inside.window s c.self.invariant.led (Take (processor q)) (c.next_row-next.result.row, legal);
       totals = AreTotals-same plan s c.self.inside.totals.items q lane s.halted (within r) refl c.self.invariant.totals;
       faults = AreFaults-running s c.self.inside.pending.computed q lane c.self.inside.faults.items legal.running c.self.invariant.faults;
     })
@@ -87,7 +80,7 @@ invariant_of-self c =
 pub returns : goal.returns
 returns c =
     let r = (goal.at.returns c).After-know_lawful in
-    let legal = may r c.first-next.result c.first-next.ensures in
+    let legal = may r c.next_row-next.result c.next_row-next.ensures in
     record {
       legal = rw (← c.self.view_is) legal;
       book = rw (← c.self.view_is) (rw c.hand_out.ensures refl);

@@ -1,7 +1,8 @@
 use Rattle.std.proofs.Common.{◌<◌, ◌≤◌, length, arith}
+use Rattle.book_machine.proofs.Lanes.{least_le}
 use Rattle.plan_rounds.proofs.RoundLemmas.{plan_lanes}
 use Rattle.book_steps.specs.Pending.{PendingKept}
-use Rattle.book_steps.proofs.PendingLemmas.{computed_is, none_unposted, row_of_pending}
+use Rattle.book_steps.proofs.PendingLemmas.{computed_is, none_unposted, row_of_pending, rows_held}
 use Rattle.book_steps.proofs.book.StepBook.has_unposted.Goals.{After-know_lawful}
 use Rattle.book_steps.proofs.book.StepBook.has_unposted.Goals as goal
 
@@ -25,37 +26,39 @@ module _ (c : After-know_lawful) where
       let is = computed_is c.self.inside.plan c.know_lawful.ensures.lawful c.self.inside.window c.self.inside.state c.self.inside.pending pending in
       omega (arith, low, is)
 
-pub posted-posted-requires : goal.posted-posted-requires
-posted-posted-requires c = within (goal.at.posted-posted-requires c).After-know_lawful
+pub posted-requires : goal.posted-requires
+posted-requires c = within (goal.at.posted-requires c).After-know_lawful
 
-pub has-requires-clause-processor : goal.has-requires-clause-processor
-has-requires-clause-processor c =
-    let low = inside (goal.at.has-requires-clause-processor c).After-know_lawful in
-    let many = c.self.invariant.pending.many in
-    omega (arith, low, many)
+pub overflow_sub-posted : goal.overflow_sub-posted
+overflow_sub-posted c =
+    let r = (goal.at.overflow_sub-posted c).After-know_lawful in
+    let low = least_le c.self.inside.state.lanes c.args.q (within r) in
+    let posted = c.posted.ensures in
+    let least = c.least-least.ensures in
+    omega (arith, low, posted, least)
 
-pub has-requires-clause-count : goal.has-requires-clause-count
-has-requires-clause-count c =
-    let r = (goal.at.has-requires-clause-count c).After-know_lawful in
-    let many = ((pending r).rows c.args.q (inside r)).many in
-    let most = most r in
-    let posted = c.posted-posted.ensures in
+pub has-requires : goal.has-requires
+has-requires c = λ i low.
+    let r = (goal.at.has-requires c).After-know_lawful in
+    let least = c.least-least.ensures in
     let count = c.saturating_sub.ensures in
-    omega (arith, many, most, posted, count)
+    rows_held c.self.inside.plan c.know_lawful.ensures.lawful c.self.inside.window c.self.inside.state c.self.inside.pending (pending r) c.args.q c.args.round c.args.leaf (inside r) (within r) (most r) i (omega (arith, low, least, count))
 
 pub returns-clause-some : goal.returns-clause-some
 returns-clause-some c = λ yes.
     let r = (goal.at.returns-clause-some c).After-know_lawful in
-    let (i, next, low, at, is) = c.has.ensures.some yes in
-    let posted = c.posted-posted.ensures in
+    let (i, next, past, low, at, is) = c.has.ensures.some yes in
+    let posted = c.posted.ensures in
+    let least = c.least-least.ensures in
     let count = c.saturating_sub.ensures in
-    rw (← c.self.view_is) (row_of_pending c.self.inside.plan c.know_lawful.ensures.lawful c.self.inside.window c.self.inside.state c.self.inside.pending (pending r) c.args.q c.args.round c.args.leaf (inside r) (most r)
-    i next (omega (arith, low, posted, count)) at is)
+    rw (← c.self.view_is) (row_of_pending c.self.inside.plan c.know_lawful.ensures.lawful c.self.inside.window c.self.inside.state c.self.inside.pending (pending r) c.args.q c.args.round c.args.leaf (inside r) (within r) (most r)
+    i next (omega (arith, past, posted, least)) (omega (arith, low, least, count)) at is)
 
 pub returns-clause-none : goal.returns-clause-none
 returns-clause-none c = λ no.
     let r = (goal.at.returns-clause-none c).After-know_lawful in
-    let posted = c.posted-posted.ensures in
+    let posted = c.posted.ensures in
+    let least = c.least-least.ensures in
     let count = c.saturating_sub.ensures in
-    rw (← c.self.view_is) (none_unposted c.self.inside.plan c.know_lawful.ensures.lawful c.self.inside.window c.self.inside.state c.self.inside.pending (pending r) c.args.q c.args.round c.args.leaf (inside r) (most r)
-    (λ i next low at. c.has.ensures.none no i next (omega (arith, low, posted, count)) at))
+    rw (← c.self.view_is) (none_unposted c.self.inside.plan c.know_lawful.ensures.lawful c.self.inside.window c.self.inside.state c.self.inside.pending (pending r) c.args.q c.args.round c.args.leaf (inside r) (within r) (most r)
+    (λ i next past low at. c.has.ensures.none no i next (omega (arith, past, posted, least)) (omega (arith, low, least, count)) at))

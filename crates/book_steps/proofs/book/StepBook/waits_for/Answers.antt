@@ -1,13 +1,12 @@
-use Rattle.std.proofs.Common.{◌≡◌, ◌<◌, ◌≤◌, ◌+◌, ℕ, inl, inr, Option, Some, IfSome, length, subst, arith}
-use Rattle.std.specs.Prelude.{slice_get}
+use Rattle.std.proofs.Common.{◌≡◌, ◌<◌, ◌≤◌, ◌+◌, ℕ, inl, inr, Option, IfSome, length, subst, arith}
 use Rattle.book_machine.specs.Machine.{EarlierPosted, IsWaitedFor, WaitsFor, least_posted, posted_at}
 use Rattle.book_machine.proofs.Lanes.{least_le}
 use Rattle.plan_rounds.specs.PlanRows.{plan_rows}
 use Rattle.plan_rounds.proofs.RoundLemmas.{plan_lanes}
 use Rattle.plan_rounds.proofs.RowLemmas.{IfNone-by, IfSome-by, waited_is_behind}
 use Rattle.book_steps.specs.declared.ring.PendingRow.{PendingRow}
-use Rattle.book_steps.specs.Pending.{IsPending, PendingKept, ring_at}
-use Rattle.book_steps.proofs.PendingLemmas.{computed_is, first_is, some_pending}
+use Rattle.book_steps.specs.Pending.{IsPending, PendingKept}
+use Rattle.book_steps.proofs.PendingLemmas.{computed_is}
 use Rattle.book_steps.proofs.book.StepBook.waits_for.Goals.{After-know_lawful}
 use Rattle.book_steps.proofs.book.StepBook.waits_for.Goals as goal
 
@@ -35,22 +34,18 @@ module _ (c : After-know_lawful) where
       let is = computed_is c.self.inside.plan c.know_lawful.ensures.lawful c.self.inside.window c.self.inside.state c.self.inside.pending pending in
       omega (arith, held, is)
 
-  next_is : (next : PendingRow) → posted_at c.self.inside.state c.args.p < least_posted c.self.inside.state + c.self.inside.window → slice_get (ring_at c.self.inside.pending.rings c.args.p).items 0 ≡ Some next
-      → IsPending (plan_rows c.args.self.now.plan) c.args.p (posted_at c.args.self.now.state c.args.p) next
-  next_is next near got = rw (← c.self.view_is) (first_is c.self.inside.plan c.know_lawful.ensures.lawful c.self.inside.window c.self.inside.state c.self.inside.pending pending c.args.p inside (below near) next got)
-
   -- the lane that is found is the one waited for
-  waits_in : (next : PendingRow) → posted_at c.self.inside.state c.args.p < least_posted c.self.inside.state + c.self.inside.window → slice_get (ring_at c.self.inside.pending.rings c.args.p).items 0 ≡ Some next
+  waits_in : (next : PendingRow) → posted_at c.self.inside.state c.args.p < least_posted c.self.inside.state + c.self.inside.window → IsPending (plan_rows c.args.self.now.plan) c.args.p (posted_at c.args.self.now.state c.args.p) next
       → (round : ℕ) → round ≡ posted_at c.self.inside.state c.args.p → (found : Option ℕ) → IfSome found (λ q. IsWaitedFor (plan_rows c.args.self.now.plan) c.args.self.now.state.lanes c.args.p round next.row.leaf q)
       → IfSome found (λ q. WaitsFor (plan_rows c.args.self.now.plan) c.args.self.now.window c.args.self.now.state c.args.p q)
-  waits_in next close got round posted found waited =
+  waits_in next close is round posted found waited =
       let near : posted_at c.args.self.now.state c.args.p < least_posted c.args.self.now.state + c.args.self.now.window = rw (← c.self.view_is) close in
       let here : round ≡ posted_at c.args.self.now.state c.args.p = rw (← c.self.view_is) posted in
       IfSome-by found _ _ (λ q w. inr (
         near,
         (
           next.row,
-          (next_is next close got).row,
+          is.row,
           subst (λ n. IsWaitedFor (plan_rows c.args.self.now.plan) c.args.self.now.state.lanes c.args.p n next.row.leaf q) here w,
         ),
       )) waited
@@ -95,34 +90,24 @@ returns-then-round-least-clause-behind c =
     let far = c.if-round-least.true in
     rw (← c.self.view_is) (waited_is_behind (plan_rows c.self.inside.plan) c.self.inside.window c.self.inside.state c.args.p c.lowest.result c.self.invariant.some_window (inl (omega (arith, most, posted, least, window, far), c.lowest.ensures)))
 
-pub first-next-requires-clause-processor : goal.first-next-requires-clause-processor
-first-next-requires-clause-processor c =
-    let held = inside (goal.at.first-next-requires-clause-processor c).After-know_lawful in
-    let many = c.self.invariant.pending.many in
-    omega (arith, held, many)
+pub next_row-next-requires-clause-lane : goal.next_row-next-requires-clause-lane
+next_row-next-requires-clause-lane c = c.requires.lane
 
-pub first-next-requires-clause-some : goal.first-next-requires-clause-some
-first-next-requires-clause-some c =
-    let r = (goal.at.first-next-requires-clause-some c).After-know_lawful in
-    let most = low r in
+pub next_row-next-requires-clause-held : goal.next_row-next-requires-clause-held
+next_row-next-requires-clause-held c =
+    let most = low (goal.at.next_row-next-requires-clause-held c).After-know_lawful in
     let posted = c.posted-round.ensures in
     let least = c.least.ensures in
     let window = c.from.ensures in
     let near = c.if-round-least.false in
-    some_pending c.self.inside.plan c.know_lawful.ensures.lawful c.self.inside.window c.self.inside.state c.self.inside.pending (pending r) c.args.p (inside r) (below r (omega (arith, most, posted, least, window, near)))
+    let close : posted_at c.self.inside.state c.args.p < least_posted c.self.inside.state + c.self.inside.window = omega (arith, most, posted, least, window, near) in
+    c.requires.held (rw (← c.self.view_is) close)
 
 pub is_clear-requires-clause-lane : goal.is_clear-requires-clause-lane
 is_clear-requires-clause-lane c = c.requires.lane
 
 pub is_clear-requires-clause-next : goal.is_clear-requires-clause-next
-is_clear-requires-clause-next c =
-    let r = (goal.at.is_clear-requires-clause-next c).After-know_lawful in
-    let most = low r in
-    let posted = c.posted-round.ensures in
-    let least = c.least.ensures in
-    let window = c.from.ensures in
-    let near = c.if-round-least.false in
-    next_is r c.first-next.result (omega (arith, most, posted, least, window, near)) c.first-next.ensures
+is_clear-requires-clause-next c = c.next_row-next.ensures
 
 pub lowest_with-requires : goal.lowest_with-requires
 lowest_with-requires c =
@@ -147,7 +132,7 @@ returns-then-is_clear-clause-none c =
     let close : posted_at c.self.inside.state c.args.p < least_posted c.self.inside.state + c.self.inside.window = omega (arith, most, posted, least, window, near) in
     record {
       in_window = rw (← c.self.view_is) close;
-      next = (c.first-next.result.row, (next_is r c.first-next.result close c.first-next.ensures).row, c.is_clear.ensures c.if-is_clear.true);
+      next = (c.next_row-next.result.row, c.next_row-next.ensures.row, c.is_clear.ensures c.if-is_clear.true);
     }
 
 pub returns-else-is_clear-clause-some : goal.returns-else-is_clear-clause-some
@@ -159,7 +144,7 @@ returns-else-is_clear-clause-some c =
     let window = c.from.ensures in
     let near = c.if-round-least.false in
     let close : posted_at c.self.inside.state c.args.p < least_posted c.self.inside.state + c.self.inside.window = omega (arith, most, posted, least, window, near) in
-    waits_in r c.first-next.result close c.first-next.ensures c.posted-round.result posted c.lowest_with.result c.lowest_with.ensures.some
+    waits_in r c.next_row-next.result close c.next_row-next.ensures c.posted-round.result posted c.lowest_with.result c.lowest_with.ensures.some
 
 pub returns-else-is_clear-clause-behind : goal.returns-else-is_clear-clause-behind
 returns-else-is_clear-clause-behind c =
@@ -172,7 +157,7 @@ returns-else-is_clear-clause-behind c =
     let close : posted_at c.self.inside.state c.args.p < least_posted c.self.inside.state + c.self.inside.window = omega (arith, most, posted, least, window, near) in
     let some : 1 ≤ c.args.self.now.window = rw (← c.self.view_is) c.self.invariant.some_window in
     IfSome-by c.lowest_with.result _ _ (λ q. waited_is_behind (plan_rows c.args.self.now.plan) c.args.self.now.window c.args.self.now.state c.args.p q some)
-    (waits_in r c.first-next.result close c.first-next.ensures c.posted-round.result posted c.lowest_with.result c.lowest_with.ensures.some)
+    (waits_in r c.next_row-next.result close c.next_row-next.ensures c.posted-round.result posted c.lowest_with.result c.lowest_with.ensures.some)
 
 pub returns-else-is_clear-clause-none : goal.returns-else-is_clear-clause-none
 returns-else-is_clear-clause-none c =
@@ -187,8 +172,8 @@ returns-else-is_clear-clause-none c =
     IfNone-by c.lowest_with.result _ _ (λ earlier. record {
       in_window = rw (← c.self.view_is) close;
       next = (
-        c.first-next.result.row,
-        (next_is r c.first-next.result close c.first-next.ensures).row,
-        subst (λ n. EarlierPosted (plan_rows c.args.self.now.plan) c.args.self.now.state.lanes c.args.p n c.first-next.result.row.leaf) here earlier,
+        c.next_row-next.result.row,
+        c.next_row-next.ensures.row,
+        subst (λ n. EarlierPosted (plan_rows c.args.self.now.plan) c.args.self.now.state.lanes c.args.p n c.next_row-next.result.row.leaf) here earlier,
       );
     }) c.lowest_with.ensures.none
