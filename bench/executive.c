@@ -3,8 +3,10 @@
      cc -std=c99 -O2 -Iinclude -pthread bench/executive.c crates/furnacelime_c/out/libfurnacelime_c.a KIT/c/liblibc_c.a -o executive_bench
      ./executive_bench SET.toml one [WINDOW]       takes and posts by one thread, for all processors in turn
      ./executive_bench SET.toml crew [WINDOW]      fl_execute, a thread for each processor
+     ./executive_bench SET.toml open [WINDOW]      fl_open and fl_exec_open, in turns
 
-   It says the seconds by the clock and of the processors, without opening the book in the first case, and the nanoseconds of a row. */
+   It says the seconds by the clock and of the processors, without opening the book in the first case, and the nanoseconds of a row; of opening the
+   least microseconds. */
 #ifndef _GNU_SOURCE
 #define _GNU_SOURCE
 #endif
@@ -87,6 +89,35 @@ static int run_crew(const char *set, size_t length, uint32_t window, uint64_t *u
     return FL_DONE;
 }
 
+/* Opens and closes a plan and a book in turns, and says the least time of each. */
+static int time_opening(const char *set, size_t length, uint32_t window)
+{
+    double plan_least = 1e9, book_least = 1e9;
+    int turn, status = FL_DONE;
+    for (turn = 0; turn < 400 && status == FL_DONE; turn++) {
+        struct fl_plan plan = FL_NO_PLAN;
+        struct fl_exec exec = FL_NO_EXEC;
+        struct fl_about about;
+        struct fl_exec_about exec_about;
+        double began = seconds(CLOCK_MONOTONIC), took;
+        status = fl_open(&plan, set, length, &about);
+        took = seconds(CLOCK_MONOTONIC) - began;
+        plan_least = took < plan_least ? took : plan_least;
+        if (status != FL_DONE)
+            break;
+        fl_close(&plan);
+        began = seconds(CLOCK_MONOTONIC);
+        status = fl_exec_open(&exec, set, length, window, &exec_about);
+        took = seconds(CLOCK_MONOTONIC) - began;
+        book_least = took < book_least ? took : book_least;
+        if (status == FL_DONE)
+            fl_exec_close(&exec);
+    }
+    if (status == FL_DONE)
+        printf("open: fl_open %.1f us, fl_exec_open %.1f us (%+.1f)\n", 1e6 * plan_least, 1e6 * book_least, 1e6 * (book_least - plan_least));
+    return status;
+}
+
 int main(int count, char **words)
 {
     static char set[1048577];
@@ -96,12 +127,15 @@ int main(int count, char **words)
     size_t length;
     int status;
     if (!file) {
-        fputs("executive_bench SET.toml one|crew [WINDOW]\n", stderr);
+        fputs("executive_bench SET.toml one|crew|open [WINDOW]\n", stderr);
         return 2;
     }
     length = fread(set, 1, sizeof set, file);
     fclose(file);
-    status = words[2][0] == 'o' ? run_alone(set, length, window, used) : run_crew(set, length, window, used);
+    if (words[2][0] == 'c')
+        status = run_crew(set, length, window, used);
+    else
+        status = words[2][1] == 'n' ? run_alone(set, length, window, used) : time_opening(set, length, window);
     if (status != FL_DONE)
         fprintf(stderr, "executive_bench: status %d\n", status);
     return status;
