@@ -5,6 +5,7 @@ mod checked;
 mod faults;
 mod front;
 mod head_lines;
+mod known_words;
 mod laws;
 mod met_lines;
 mod name_table;

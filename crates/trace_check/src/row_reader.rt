@@ -1,11 +1,13 @@
 //! Row lines of a text that comes piece by piece.
-ghost use Rattle.std.specs.Prelude.{ℕ, ◌≡◌, ◌≤◌, true, false, List, ◌++◌, length, drop, IfOk};
+ghost use Rattle.std.specs.Prelude.{ℕ, ◌≡◌, ◌≤◌, true, false, List, ◌++◌, length, drop, IfOk, IfSome};
 ghost use Rattle.trace_check.specs.RowLines.{AreTotals};
+ghost use Rattle.trace_check.specs.RowWords.{SaysWholeRow};
 ghost use Rattle.trace_check.specs.WholeRows.{AreRowsOf, NextWhole, RowsEnd, StopIs};
 
+use crate::known_words::LastWords;
 use crate::name_table::NameTable;
 use crate::row_lines::{add_ticks, begins_row, row_from, row_of};
-use crate::row_words::whole_row_words;
+use crate::row_words::{RowWords, next_row_words, whole_row_words};
 use sched_base::{NoMemory, Row, TaskSet};
 use std::alloc::{AllocError, Global};
 use text_window::{Window, whole_line};
@@ -76,18 +78,30 @@ fn next_by_words<'a>(
     }
 }
 
+// The words of the first line, most often those of a row that goes on where the last one ends.
+fn words_of<'a>(text: &'a [u8], last: &mut LastWords<'a>) -> Option<RowWords<'a>>
+    ensures { IfSome result (SaysWholeRow text.now) }
+{
+    match next_row_words(text, last) {
+        Some(words) => Some(words),
+        None => whole_row_words(text, last),
+    }
+}
+
+// The next line. The words of the line before become its words, where it is a row line as they mostly are.
 fn next_line<'a>(
     set: &TaskSet,
     table: &NameTable,
     rows: &[Row],
     totals: &[u128],
+    last: &mut LastWords<'a>,
     text: &'a [u8],
 ) -> NextLine<'a>
     requires totals { AreTotals rows.now totals.now }
     requires count { length totals.now ≡ length set.now.tasks }
     ensures { NextWhole set.now.tasks rows.now text.now result }
 {
-    let words = match whole_row_words(text) {
+    let words = match words_of(text, last) {
         Some(words) => words,
         None => return next_by_words(set, table, rows, totals, text),
     };
@@ -138,9 +152,10 @@ impl RowReader {
         ensures stop { IfOk result (λ p. StopIs set.now.tasks self.new.rows.items (drop p.0 text.now) p.1) }
     {
         let mut rest = text;
+        let mut last = LastWords::none();
         loop {
             let gone = text.len() - rest.len();
-            match next_line(set, &self.table, &self.rows, &self.totals, rest) {
+            match next_line(set, &self.table, &self.rows, &self.totals, &mut last, rest) {
                 NextLine::Row(row, later) => {
                     add_ticks(set, &self.rows, &mut self.totals, &row);
                     self.rows.reserve(1)?;

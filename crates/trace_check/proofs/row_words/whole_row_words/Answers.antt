@@ -3,4 +3,4 @@ use Rattle.trace_check.proofs.row_words.whole_row_words.Goals as goal
 
 pub returns : goal.returns
 returns c =
-    says_whole_row c.args.text.now c.in-Some.rest.now c.in-Some-cut_number.rest.now c.in-Some-cut_number-2.rest.now c.in-Some-cut_number-3.rest.now _ c.in-Some.ensures c.in-Some-cut_number.ensures c.in-Some-cut_number-2.ensures c.in-Some-cut_number-3.ensures c.in-Some-whole_line.ensures.line
+    says_whole_row c.args.text.now c.in-Some.rest.now c.in-Some-cut_word.rest.now c.in-Some-cut_number.rest.now c.in-Some-cut_word-2.rest.now _ c.in-Some.ensures c.in-Some-cut_word.ensures c.in-Some-cut_number.ensures c.in-Some-cut_word-2.ensures c.in-Some-whole_line.ensures.line
