@@ -131,8 +131,8 @@ read_more tasks text rest later done more r sums new so read next now totals lon
       few = omega (arith, count, room);
     })
 
-pub read_ends : (tasks : List Task) (text : List ℕ) (read : RowsRead) → ReadSoFar tasks text read.rows.items read.totals.items read.rest.now
-    → ((first : ℕ) → rows_from first tasks read.rows.items (lines_of read.rest.now) ≡ Ok (read.rows.items, lines_of read.rest.now)) → ReadsRows tasks text read
+pub read_ends : (tasks : List Task) (text : List ℕ) (read : RowsRead) → ReadSoFar tasks text read.rows read.totals.items read.rest.now
+    → ((first : ℕ) → rows_from first tasks read.rows (lines_of read.rest.now) ≡ Ok (read.rows, lines_of read.rest.now)) → ReadsRows tasks text read
 read_ends tasks text read so ends = record { rows = so.lines ∙ ends (6 + length tasks); each = so.each; few = so.few; totals = so.totals; count = so.count }
 
 pub read_stops : (tasks : List Task) (text rest : List ℕ) (done : List Row) (sums : List ℕ) (line : ℕ) → ReadSoFar tasks text done sums rest

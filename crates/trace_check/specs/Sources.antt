@@ -39,4 +39,4 @@ StopsInRest left left' faults faults' w h tasks (BadLine line) = (more : List â„
 
 -- what a text says, before its rows are judged
 abbrev pub trace_of : Parts â†’ Trace
-trace_of p = record { set = p.set; scale = p.scale; rows = p.rows.items }
+trace_of p = record { set = p.set; scale = p.scale; rows = p.rows }

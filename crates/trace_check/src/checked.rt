@@ -4,17 +4,17 @@ ghost use Rattle.sched_base.specs.Valid.{IsValid};
 ghost use Rattle.trace_verdict.specs.Faults.{line_of_row, IsTrace, IsVerdict};
 ghost use Rattle.trace_verdict.specs.Findings.{AreTold, IsToldOfTask};
 
-use sched_base::{NoMemory, Row, TaskSet};
+use sched_base::{NoMemory, TaskSet};
 use std::alloc::Global;
 use std::marker::Model;
-use trace_verdict::{FIRST_TASK_LINE, Findings, Judged, Verdict, judge_rows};
+use trace_verdict::{FIRST_TASK_LINE, Findings, Judged, RowList, Verdict, judge_rows};
 
 /// A trace: a set, its scale and rows in the order of their lines, with the verdict on them and what was found of each task,
 /// which are made with it.
 pub struct CheckedTrace {
     set: TaskSet,
     scale: u128,
-    rows: Vec<Row>,
+    rows: RowList,
     judged: Judged,
 }
 
@@ -34,12 +34,12 @@ impl Model for CheckedTrace {
 
     ghost Value = { Trace };
 
-    ghost view = { λ t. record { set = t.set; scale = t.scale; rows = t.rows.items } };
+    ghost view = { λ t. record { set = t.set; scale = t.scale; rows = t.rows } };
 
     ghost invariant = { λ t. IsJudged (record {
       set = t.set;
       scale = t.scale;
-      rows = t.rows.items;
+      rows = t.rows;
     }) t.judged.found.items t.judged.verdict };
 }
 
@@ -51,22 +51,22 @@ impl CheckedTrace {
         alloc: Global,
         set: TaskSet,
         scale: u128,
-        rows: Vec<Row>,
+        rows: RowList,
     ) -> Result<CheckedTrace, NoMemory>
-        requires { IsTrace set scale rows.items }
-        ensures { IfOk result (λ t. t ≡ record { set = set; scale = scale; rows = rows.items }) }
+        requires { IsTrace set scale rows }
+        ensures { IfOk result (λ t. t ≡ record { set = set; scale = scale; rows = rows }) }
     {
         let judged = judge_rows(alloc, &set, scale, &rows)?;
         Ok(CheckedTrace::of(set, scale, rows, judged))
     }
 
     /// The trace of this set and these rows, which are judged.
-    pub(crate) fn of(set: TaskSet, scale: u128, rows: Vec<Row>, judged: Judged) -> CheckedTrace
-        requires trace { IsTrace set scale rows.items }
-        requires told { AreTold set scale rows.items judged.found.items }
+    pub(crate) fn of(set: TaskSet, scale: u128, rows: RowList, judged: Judged) -> CheckedTrace
+        requires trace { IsTrace set scale rows }
+        requires told { AreTold set scale rows judged.found.items }
         requires all { judged.verdict ≡ Verdict.Valid → length judged.found.items ≡ length set.tasks }
-        requires verdict { IsVerdict set scale rows.items judged.verdict }
-        ensures { result ≡ record { set = set; scale = scale; rows = rows.items } }
+        requires verdict { IsVerdict set scale rows judged.verdict }
+        ensures { result ≡ record { set = set; scale = scale; rows = rows } }
     {
         CheckedTrace {
             set,
@@ -91,11 +91,11 @@ impl CheckedTrace {
     }
 
     /// The rows, in the order of their lines.
-    pub fn rows(&self) -> &[Row]
+    pub fn rows(&self) -> &RowList
         ensures value { result.now ≡ self.now.rows }
         ensures lawful { IsTrace self.now.set self.now.scale self.now.rows }
     {
-        self.rows.as_slice()
+        &self.rows
     }
 
     /// The line of row i, counted from 1.

@@ -11,6 +11,7 @@ use crate::row_words::{RowWords, next_row_words, whole_row_words};
 use sched_base::{NoMemory, Row, TaskSet};
 use std::alloc::{AllocError, Global};
 use text_window::{Window, whole_line};
+use trace_verdict::RowList;
 
 /// What the first line of a text is of which more may follow.
 #[derive(Clone, Copy)]
@@ -57,7 +58,7 @@ impl Stop {
 fn next_by_words<'a>(
     set: &TaskSet,
     table: &NameTable,
-    rows: &[Row],
+    rows: &RowList,
     totals: &[u128],
     text: &'a [u8],
 ) -> NextLine<'a>
@@ -92,7 +93,7 @@ fn words_of<'a>(text: &'a [u8], last: &mut LastWords<'a>) -> Option<RowWords<'a>
 fn next_line<'a>(
     set: &TaskSet,
     table: &NameTable,
-    rows: &[Row],
+    rows: &RowList,
     totals: &[u128],
     last: &mut LastWords<'a>,
     text: &'a [u8],
@@ -125,31 +126,31 @@ fn next_line<'a>(
 #[derive(Drop)]
 pub(crate) struct RowReader {
     pub table: NameTable,
-    pub rows: Vec<Row>,
+    pub rows: RowList,
     pub totals: Vec<u128>,
 }
 
 impl RowReader {
     /// No rows of this set.
     pub fn new(alloc: Global, set: &TaskSet) -> Result<RowReader, NoMemory>
-        ensures { IfOk result (λ r. (text : List ℕ) → AreRowsOf set.now.tasks text r.rows.items r.totals.items text) }
+        ensures { IfOk result (λ r. (text : List ℕ) → AreRowsOf set.now.tasks text r.rows r.totals.items text) }
     {
         let table = NameTable::new(alloc, set)?;
         let totals = vec![in alloc; 0u128; set.tasks().len()]?;
         Ok(RowReader {
             table,
-            rows: Vec::new(alloc),
+            rows: RowList::new(alloc),
             totals,
         })
     }
 
     /// Reads the row lines at the front that have their line feeds: how many bytes they are, and why no more.
     pub fn take(&mut self, set: &TaskSet, text: &[u8]) -> Result<(usize, Stop), AllocError>
-        requires { (whole : List ℕ) × AreRowsOf set.now.tasks whole self.old.rows.items self.old.totals.items text.now }
+        requires { (whole : List ℕ) × AreRowsOf set.now.tasks whole self.old.rows self.old.totals.items text.now }
         ensures within { IfOk result (λ p. p.0 ≤ length text.now) }
-        ensures read { IfOk result (λ p. (whole : List ℕ) → AreRowsOf set.now.tasks whole self.old.rows.items self.old.totals.items text.now
-            → AreRowsOf set.now.tasks whole self.new.rows.items self.new.totals.items (drop p.0 text.now)) }
-        ensures stop { IfOk result (λ p. StopIs set.now.tasks self.new.rows.items (drop p.0 text.now) p.1) }
+        ensures read { IfOk result (λ p. (whole : List ℕ) → AreRowsOf set.now.tasks whole self.old.rows self.old.totals.items text.now
+            → AreRowsOf set.now.tasks whole self.new.rows self.new.totals.items (drop p.0 text.now)) }
+        ensures stop { IfOk result (λ p. StopIs set.now.tasks self.new.rows (drop p.0 text.now) p.1) }
     {
         let mut rest = text;
         let mut last = LastWords::none();
@@ -158,8 +159,7 @@ impl RowReader {
             match next_line(set, &self.table, &self.rows, &self.totals, &mut last, rest) {
                 NextLine::Row(row, later) => {
                     add_ticks(set, &self.rows, &mut self.totals, &row);
-                    self.rows.reserve(1)?;
-                    self.rows.push_reserved(row);
+                    self.rows.push(&row)?;
                     rest = later;
                 }
                 NextLine::Ends => return Ok((gone, Stop::Ends)),
@@ -171,10 +171,10 @@ impl RowReader {
 
     /// Goes past the row lines at the front of the window that have their line feeds, and tells why no more.
     pub fn take_from(&mut self, set: &TaskSet, window: &mut Window) -> Result<Stop, AllocError>
-        requires { (whole : List ℕ) × AreRowsOf set.now.tasks whole self.old.rows.items self.old.totals.items window.old.ahead }
-        ensures read { IfOk result (λ _. (whole : List ℕ) → AreRowsOf set.now.tasks whole self.old.rows.items self.old.totals.items window.old.ahead
-            → AreRowsOf set.now.tasks whole self.new.rows.items self.new.totals.items window.new.ahead) }
-        ensures stop { IfOk result (StopIs set.now.tasks self.new.rows.items window.new.ahead) }
+        requires { (whole : List ℕ) × AreRowsOf set.now.tasks whole self.old.rows self.old.totals.items window.old.ahead }
+        ensures read { IfOk result (λ _. (whole : List ℕ) → AreRowsOf set.now.tasks whole self.old.rows self.old.totals.items window.old.ahead
+            → AreRowsOf set.now.tasks whole self.new.rows self.new.totals.items window.new.ahead) }
+        ensures stop { IfOk result (StopIs set.now.tasks self.new.rows window.new.ahead) }
         ensures split { IfOk result (λ _. (gone : List ℕ) × (window.old.ahead ≡ gone ++ window.new.ahead)) }
         ensures count { window.new.count ≡ window.old.count }
         ensures limit { window.new.limit ≡ window.old.limit }
@@ -186,9 +186,9 @@ impl RowReader {
 
     /// The same where the source is at its end, so that the last line may lack its line feed.
     pub fn take_last(&mut self, set: &TaskSet, window: &mut Window) -> Result<Stop, AllocError>
-        requires { (whole : List ℕ) × AreRowsOf set.now.tasks whole self.old.rows.items self.old.totals.items window.old.ahead }
-        ensures { IfOk result (λ stop. (whole : List ℕ) → AreRowsOf set.now.tasks whole self.old.rows.items self.old.totals.items window.old.ahead
-            → RowsEnd set.now.tasks whole self.new.rows.items self.new.totals.items window.new.ahead stop) }
+        requires { (whole : List ℕ) × AreRowsOf set.now.tasks whole self.old.rows self.old.totals.items window.old.ahead }
+        ensures { IfOk result (λ stop. (whole : List ℕ) → AreRowsOf set.now.tasks whole self.old.rows self.old.totals.items window.old.ahead
+            → RowsEnd set.now.tasks whole self.new.rows self.new.totals.items window.new.ahead stop) }
     {
         window.end_line()?;
         let stop = self.take_from(set, window)?;

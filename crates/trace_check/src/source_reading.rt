@@ -34,9 +34,9 @@ fn read_rows<R: Source>(
 ) -> Result<Stop, TakeFault>
     requires within { window.old.count ≤ window.old.limit }
     requires small { window.old.limit < 2 ^ 63 }
-    requires none { AreRowsOf set.now.tasks window.old.ahead rows.old.rows.items rows.old.totals.items window.old.ahead }
+    requires none { AreRowsOf set.now.tasks window.old.ahead rows.old.rows rows.old.totals.items window.old.ahead }
     ensures read { IfOk result (λ stop. (more : List ℕ) × GaveRest (R.left source.old) (R.left source.new) window.old more
-        × RowsEnd set.now.tasks (window.old.ahead ++ more) rows.new.rows.items rows.new.totals.items window.new.ahead stop) }
+        × RowsEnd set.now.tasks (window.old.ahead ++ more) rows.new.rows rows.new.totals.items window.new.ahead stop) }
     ensures stops { IfErr result (StopsFilling (R.left source.old) (R.left source.new) (R.faults source.old) (R.faults source.new) window.old) }
     ensures later { R.faults source.old ≤ R.faults source.new }
 {
@@ -67,7 +67,7 @@ fn read_rest<R: Source>(
     requires scale { is_scale set.tasks head.now.scale ≡ true }
     ensures read { IfOk result (λ p. (more : List ℕ) × GaveRest (R.left source.old) (R.left source.new) window.old more
         × (body head.now set.tasks (lines_of (window.old.ahead ++ more)) ≡ Ok (trace_of p))) }
-    ensures lawful { IfOk result (λ p. IsTrace p.set p.scale p.rows.items) }
+    ensures lawful { IfOk result (λ p. IsTrace p.set p.scale p.rows) }
     ensures stops { IfErr result (StopsInRest (R.left source.old) (R.left source.new) (R.faults source.old) (R.faults source.new) window.old
         head.now set.tasks) }
 {
@@ -102,7 +102,7 @@ fn read_rest<R: Source>(
 fn read_source<R: Source>(alloc: Global, source: &mut R, limit: usize) -> Result<Parts, SourceFault>
     requires { limit < 2 ^ 63 }
     ensures read { IfOk result (λ p. GaveTraceText (R.left source.old) (R.left source.new) limit (trace_of p)) }
-    ensures lawful { IfOk result (λ p. IsTrace p.set p.scale p.rows.items) }
+    ensures lawful { IfOk result (λ p. IsTrace p.set p.scale p.rows) }
     ensures stops { IfErr result (GaveNoTraceText (R.left source.old) (R.left source.new) (R.faults source.old) (R.faults source.new) limit) }
 {
     let mut window = Window::new(alloc, limit);

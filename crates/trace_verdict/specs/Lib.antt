@@ -10,3 +10,4 @@ pub mod Findings
 pub mod Tally
 pub mod TaskOrders
 pub mod Timed
+pub mod RowLists

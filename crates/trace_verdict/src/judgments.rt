@@ -1,19 +1,21 @@
 //! The verdict on the rows of a trace, with the orders that are made for it.
-ghost use Rattle.std.specs.Prelude.{◌≡◌, ◌*◌, ◌≤◌, ◌^◌, length, not, nat_lt, nat_le, IfOk, IfSome, ◌↔◌};
+ghost use Rattle.std.specs.Prelude.{◌≡◌, ◌*◌, true, None, ◌≤◌, ◌^◌, length, not, nat_lt, nat_le, IfOk, IfSome, ◌↔◌};
 ghost use Rattle.sched_base.specs.Valid.{IsValid};
-ghost use Rattle.trace_verdict.specs.Orders.{processor_key, task_key, IsOrder, IsProcessorOrder, IsTaskOrder};
+ghost use Rattle.trace_verdict.specs.Orders.{processor_key, task_key, entries_from, IsOrder, IsProcessorOrder, IsTaskOrder};
 ghost use Rattle.trace_verdict.specs.Faults.{IsTrace, IsVerdict};
 ghost use Rattle.trace_verdict.specs.Findings.{AreTold};
+ghost use Rattle.trace_verdict.specs.Standing.{stand};
 ghost use Rattle.trace_verdict.specs.Searches.{kind_of, IsFirstHit, IsFirstUnfit};
 
 use crate::entries::Entry;
 use crate::faults::{FIRST_TASK_LINE, FaultKind, Verdict};
 use crate::findings::{Findings, findings_at};
-use crate::orders::{front_len, order_by_processor, order_by_task, places_of, starts_of};
+use crate::orders::{front_len, order_by_processor, order_by_task, places_of, starts_of, task_key};
+use crate::row_list::RowList;
 use crate::searches::{
-    first_processor_hit, first_task_hit, first_unfit, first_unsupplied, task_periods,
+    first_processor_hit, first_task_hit, first_unfit, first_unsupplied, is_fit, task_periods,
 };
-use crate::standing::{all_places, stand};
+use crate::standing::{all_places, comes_after, stand};
 use crate::supplied::{TaskOrder, supplied_order};
 use crate::timed::timed_findings;
 use sched_base::{NoMemory, Row, TaskSet};
@@ -230,7 +232,7 @@ pub fn judge_rows(
     alloc: Global,
     set: &TaskSet,
     scale: u128,
-    rows: &[Row],
+    rows: &RowList,
 ) -> Result<Judged, NoMemory>
     requires trace { IsTrace set.now scale rows.now }
     ensures found { IfOk result (λ j. AreTold set.now scale rows.now j.found.items) }
@@ -243,7 +245,8 @@ pub fn judge_rows(
             verdict: Verdict::Valid,
         });
     }
-    let judgment = judge(alloc, set, scale, rows)?;
+    let all = rows.to_vec(alloc)?;
+    let judgment = judge(alloc, set, scale, &all)?;
     Ok(Judged {
         found: judgment.found,
         verdict: judgment.verdict,
@@ -256,18 +259,38 @@ fn found_in_time(
     alloc: Global,
     set: &TaskSet,
     scale: u128,
-    rows: &[Row],
+    rows: &RowList,
 ) -> Result<Option<Vec<Findings>>, NoMemory>
     requires trace { IsTrace set.now scale rows.now }
     ensures found { IfOk result (λ o. IfSome o (λ v. AreTold set.now scale rows.now v.items)) }
     ensures all { IfOk result (λ o. IfSome o (λ v. length v.items ≡ length set.now.tasks)) }
     ensures valid { IfOk result (λ o. IfSome o (λ _. IsVerdict set.now scale rows.now Verdict.Valid)) }
 {
-    if !stand(rows) {
-        return Ok(None);
+    match count_standing(set, scale, rows) {
+        Some(total) => timed_findings(alloc, set, scale, rows, total),
+        None => Ok(None),
     }
-    if (first_unfit(set, scale, rows) as usize) < rows.len() {
-        return Ok(None);
+}
+
+// How many rows of tasks there are, where all rows stand by processor, those of one in the order of time, and none has a fault by
+// itself.
+fn count_standing(set: &TaskSet, scale: u128, rows: &RowList) -> Option<u64>
+    requires trace { IsTrace set.now scale rows.now }
+    ensures stands { IfSome result (λ _. stand None rows.now ≡ true) }
+    ensures fit { IfSome result (λ _. IsFirstUnfit set.now scale rows.now (length rows.now)) }
+    ensures total { IfSome result (λ total. total ≡ length (entries_from task_key 0 rows.now)) }
+{
+    let mut total = 0;
+    let mut last: Option<Row> = None;
+    for i in 0..rows.len() {
+        let row = rows.get(i);
+        if !comes_after(&last, &row) || !is_fit(set, scale, &row) {
+            return None;
+        }
+        if task_key(&row).is_some() {
+            total += 1;
+        }
+        last = Some(row);
     }
-    timed_findings(alloc, set, scale, rows)
+    Some(total)
 }

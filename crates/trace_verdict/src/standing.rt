@@ -6,7 +6,7 @@ ghost use Rattle.trace_verdict.specs.Standing.{comes_after, stand};
 use sched_base::{NoMemory, Row};
 use std::alloc::Global;
 
-fn comes_after(last: &Option<Row>, row: &Row) -> bool
+pub(crate) fn comes_after(last: &Option<Row>, row: &Row) -> bool
     ensures { result ≡ comes_after last.now row.now }
 {
     match last {

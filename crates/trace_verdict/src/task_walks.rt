@@ -1,10 +1,12 @@
 //! What has gone by of the rows of one task, where the rows of all tasks go by in the order of time.
 ghost use Rattle.std.specs.Prelude.{ℕ, ◌≡◌, ◌<◌, List, length, IsTrue, IfSome};
 ghost use Rattle.sched_base.specs.declared.rows.Row.{Row};
+ghost use Rattle.trace_verdict.specs.Faults.{row_at};
 ghost use Rattle.trace_verdict.specs.Supply.{AreLawful};
 ghost use Rattle.trace_verdict.specs.Timed.{IsReady, HasGone, EndsAs};
 
 use crate::findings::Findings;
+use crate::row_list::RowList;
 use crate::supply::Periods;
 use crate::tally::Tally;
 use crate::walks::Walk;
@@ -43,13 +45,13 @@ impl TaskWalk {
 
     /// The row at this place goes by, where it is one of the task, begins no sooner than the last one has ended, and keeps to
     /// what is due.
-    pub(crate) fn step(&mut self, rows: &[Row], task: u32, place: usize) -> bool
-        requires gone { HasGone rows.now task self.old }
-        requires within { place < length rows.now }
+    pub(crate) fn step(&mut self, _rows: &RowList, task: u32, place: usize, row: &Row) -> bool
+        requires gone { HasGone _rows.now task self.old }
+        requires within { place < length _rows.now }
+        requires row { row.now ≡ row_at _rows.now place }
         ensures periods { self.new.periods ≡ self.old.periods }
-        ensures gone { IsTrue result → HasGone rows.now task self.new }
+        ensures gone { IsTrue result → HasGone _rows.now task self.new }
     {
-        let row = &rows[place];
         if self.count >= self.limit {
             return false;
         }

@@ -10,24 +10,11 @@ ghost use Rattle.trace_verdict.specs.Timed.{HasGone, AreGoing, AreTimed};
 use crate::findings::Findings;
 use crate::hands::Hands;
 use crate::orders::task_key;
+use crate::row_list::RowList;
 use crate::searches::task_periods;
 use crate::task_walks::TaskWalk;
-use sched_base::{NoMemory, Row, TaskSet};
+use sched_base::{NoMemory, TaskSet};
 use std::alloc::Global;
-
-// How many rows of a task there are.
-fn count_task_rows(rows: &[Row]) -> u64
-    requires { length rows.now < 2 ^ 32 }
-    ensures { result ≡ length (entries_from task_key 0 rows.now) }
-{
-    let mut count = 0;
-    for row in rows {
-        if task_key(row).is_some() {
-            count += 1;
-        }
-    }
-    count
-}
 
 // A walk for each task.
 fn all_walks(alloc: Global, set: &TaskSet, scale: u128) -> Result<Vec<TaskWalk>, NoMemory>
@@ -44,20 +31,21 @@ fn all_walks(alloc: Global, set: &TaskSet, scale: u128) -> Result<Vec<TaskWalk>,
 }
 
 // The row at this place goes by, where it is one of a task. It is false where it may not.
-fn go_by(walks: &mut [TaskWalk], rows: &[Row], place: usize) -> bool
+fn go_by(walks: &mut [TaskWalk], rows: &RowList, place: usize) -> bool
     requires { (i : ℕ) (none : TaskWalk) → i < length walks.old → HasGone rows.now i (slice_index_or walks.old i none) }
     ensures { IsTrue result → (s : SetContents) (l : ℕ) → AreGoing s l rows.now 0 walks.old → AreGoing s l rows.now 0 walks.new }
 {
-    let Some(row) = rows.get(place) else {
+    if place >= rows.len() {
         return false;
-    };
-    let Some(task) = task_key(row) else {
+    }
+    let row = rows.get(place);
+    let Some(task) = task_key(&row) else {
         return true;
     };
     if task as usize >= walks.len() {
         return false;
     }
-    walks[task as usize].step(rows, task, place)
+    walks[task as usize].step(rows, task, place, &row)
 }
 
 // What the rows that went by tell, where all have gone by and give each task what it is to have.
@@ -65,10 +53,12 @@ fn found_of(
     alloc: Global,
     set: &TaskSet,
     scale: u128,
-    rows: &[Row],
+    rows: &RowList,
+    total: u64,
     walks: &mut [TaskWalk],
 ) -> Result<Option<Vec<Findings>>, NoMemory>
     requires trace { IsTrace set.now scale rows.now }
+    requires total { total ≡ length (entries_from task_key 0 rows.now) }
     requires count { length walks.old ≡ length set.now.tasks }
     requires going { AreGoing set.now scale rows.now 0 walks.old }
     ensures { IfOk result (λ o. IfSome o (λ v. AreTimed set.now scale rows.now v.items)) }
@@ -82,21 +72,23 @@ fn found_of(
         found.push(told)?;
         count += u64::from(walks[task].count);
     }
-    if count < count_task_rows(rows) {
+    if count < total {
         return Ok(None);
     }
     Ok(Some(found))
 }
 
-/// What the rows of each task tell, where each task has what it is to have and no two rows of one overlap. Where it finds
+/// What the rows of each task tell, of which there are so many, where each task has what it is to have and no two rows of one overlap. Where it finds
 /// nothing, that says nothing: it goes through the rows as if they stood by processor, those of one in the order of time.
 pub(crate) fn timed_findings(
     alloc: Global,
     set: &TaskSet,
     scale: u128,
-    rows: &[Row],
+    rows: &RowList,
+    total: u64,
 ) -> Result<Option<Vec<Findings>>, NoMemory>
     requires trace { IsTrace set.now scale rows.now }
+    requires total { total ≡ length (entries_from task_key 0 rows.now) }
     ensures { IfOk result (λ o. IfSome o (λ v. AreTimed set.now scale rows.now v.items)) }
 {
     let mut walks = all_walks(alloc, set, scale)?;
@@ -107,5 +99,5 @@ pub(crate) fn timed_findings(
             return Ok(None);
         }
     }
-    found_of(alloc, set, scale, rows, &mut walks)
+    found_of(alloc, set, scale, rows, total, &mut walks)
 }

@@ -9,11 +9,10 @@ use Rattle.trace_check.proofs.row_lines.read_rows.Goals.{else-loop-table-test, t
 pub next_row-requires : goal.next_row-requires
 next_row-requires c =
     let so = c.loop-table.invariant in
-    let rows = c.deref.ensures.value in
-    let totals = c.deref-in-loop-table.ensures.value in
+    let totals = c.deref.ensures.value in
     record {
       some = some_left (length c.loop-table.rest.now) (sym c.loop-table-test.ensures);
-      totals = rw (rows, totals) so.totals;
+      totals = rw totals so.totals;
       count = ap length totals ∙ so.count;
     }
 
@@ -22,19 +21,18 @@ returns-in-Fault-clause-fault c =
     let tasks = c.args.set.now.tasks in
     let rows = c.loop-table.rows in
     let count = c.from.ensures ∙ c.count.ensures.value in
-    let long = c.len.ensures ∙ rows.ok.0 in
-    read_stops tasks c.args.text.now c.loop-table.rest.now rows.items c.loop-table.totals.items (6 + c.from.result + c.len.result) c.loop-table.invariant (rw c.deref.ensures.value at c.in-Fault.ensures)
+    let long = c.len.ensures in
+    read_stops tasks c.args.text.now c.loop-table.rest.now rows c.loop-table.totals.items (6 + c.from.result + c.len.result) c.loop-table.invariant c.in-Fault.ensures
     (ap (λ n. 6 + n + c.len.result) count ∙ ap (λ n. 6 + length tasks + n) long)
 
 pub add_ticks-requires : goal.add_ticks-requires
 add_ticks-requires c =
     let so = c.loop-table.invariant in
-    let rows = c.deref-in-loop-table-2.ensures.value in
     let totals = c.deref_mut.ensures.value in
     record {
-      totals = rw (rows, totals) so.totals;
+      totals = rw totals so.totals;
       count = ap length totals ∙ so.count;
-      read = rw rows (rw c.deref.ensures.value at c.in-Row.ensures.0);
+      read = c.in-Row.ensures.0;
     }
 
 pub loop-table-preserved : goal.loop-table-preserved
@@ -43,18 +41,18 @@ loop-table-preserved c =
     let new = c.add_ticks.new.totals in
     let long = c.add_ticks.auto.totals ∙ ap length c.deref_mut.ensures.value in
     let back = take_at new (drop (length new) old.items) old.len (long ∙ sym old.ok.0) in
-    let next = rw c.deref.ensures.value at c.in-Row.ensures in
-    subst (λ sums. ReadSoFar c.args.set.now.tasks c.args.text.now c.push.new.self.items sums c.in-Row.later.now) (sym back)
-    (read_more c.args.set.now.tasks c.args.text.now c.loop-table.rest.now c.in-Row.later.now c.loop-table.rows.items c.push.new.self.items c.in-Row.row old.items new c.loop-table.invariant next.0 next.2
-    c.in_ok-push.ensures.items (rw c.deref-in-loop-table-2.ensures.value at c.add_ticks.ensures) long)
+    let next = c.in-Row.ensures in
+    subst (λ sums. ReadSoFar c.args.set.now.tasks c.args.text.now c.push.new.self sums c.in-Row.later.now) (sym back)
+    (read_more c.args.set.now.tasks c.args.text.now c.loop-table.rest.now c.in-Row.later.now c.loop-table.rows c.push.new.self c.in-Row.row old.items new c.loop-table.invariant next.0 next.2
+    c.in_ok-push.ensures c.add_ticks.ensures long)
 
 pub returns-clause-read : goal.returns-clause-read
 returns-clause-read c =
     let read : RowsRead = record { rows = c.loop-table.rows; totals = c.loop-table.totals; rest = c.loop-table.rest } in
     read_ends c.args.set.now.tasks c.args.text.now read c.loop-table.invariant
     (elim c.loop-table-test.branch [
-      | else-loop-table-test w ↦ none_left c.args.set.now.tasks read.rows.items read.rest.now (sym w.loop-table-test.ensures)
-      | then-loop-table-test+in-Ends w ↦ (rw w.deref.ensures.value at w.in-Ends.ensures)
+      | else-loop-table-test w ↦ none_left c.args.set.now.tasks read.rows read.rest.now (sym w.loop-table-test.ensures)
+      | then-loop-table-test+in-Ends w ↦ w.in-Ends.ensures
     ])
 
 pub returns-in_err-table-clause-read : goal.returns-in_err-table-clause-read
@@ -83,7 +81,7 @@ returns-clause-fault c = tt
 
 pub loop-table-init : goal.loop-table-init
 loop-table-init c =
-    read_none c.args.set.now.tasks c.args.text.now c.new-rows.result.items c.in_ok-totals.totals.items (length c.tasks.result.now) c.new-rows.ensures.items
+    read_none c.args.set.now.tasks c.args.text.now c.new-rows.result c.in_ok-totals.totals.items (length c.tasks.result.now) c.new-rows.ensures
     (c.in_ok-totals.ensures.items_if_clones_equal (λ x same. same)) (ap length c.tasks.ensures.value)
 
 pub loop-table-smaller : goal.loop-table-smaller
@@ -95,5 +93,5 @@ overflow_add-result c =
 
 pub overflow_add-result-in-Fault : goal.overflow_add-result-in-Fault
 overflow_add-result-in-Fault c =
-    row_line_fits c.from.result (length c.args.set.now.tasks) c.len.result (length c.loop-table.rows.items) (c.from.ensures ∙ c.count.ensures.value)
-    c.count.ensures.lawful.few_tasks (c.len.ensures ∙ c.loop-table.rows.ok.0) c.loop-table.invariant.few
+    row_line_fits c.from.result (length c.args.set.now.tasks) c.len.result (length c.loop-table.rows) (c.from.ensures ∙ c.count.ensures.value)
+    c.count.ensures.lawful.few_tasks c.len.ensures c.loop-table.invariant.few

@@ -11,4 +11,4 @@ pub returns-clause-lawful : goal.returns-clause-lawful
 returns-clause-lawful g c =
     let (more, rest, end) = c.in_ok-stop.ensures.read in
     let all = all_rows _ _ _ _ _ c.in_ok-stop.stop end (c.if-is_fault.ensures.other refl) in
-    trace_read c.args.set c.args.head.now.scale c.read_rows.new.rows.rows.items c.requires.scale all.few all.each
+    trace_read c.args.set c.args.head.now.scale c.read_rows.new.rows.rows c.requires.scale all.few all.each

@@ -1,9 +1,8 @@
-use Rattle.std.proofs.Common.{◌≡◌, ◌≤◌, ◌∙◌, true, None, Some, length, Option, sym, arith}
+use Rattle.std.proofs.Common.{None, Some, length, Option, arith}
 use Rattle.std.specs.Prelude.{IfSome}
 use Rattle.std.proofs.lemmas.Result.{IfOk-weaker}
 use Rattle.trace_verdict.specs.Orders.{processor_key}
 use Rattle.trace_verdict.specs.Searches.{IsFirstHit}
-use Rattle.trace_verdict.specs.Standing.{stand}
 use Rattle.trace_verdict.proofs.StandingLemmas.{hit_standing}
 use Rattle.trace_verdict.proofs.VerdictLemmas.{no_verdict}
 use Rattle.trace_verdict.proofs.judgments.found_in_time.Goals as goal
@@ -12,14 +11,11 @@ if_some : {X : Type 0} (o : Option X) (P Q : X → Type 0) → ((x : X) → P x 
 if_some None P Q f h = tt
 if_some (Some x) P Q f h = f x h
 
-pub returns-clause-valid : goal.returns-clause-valid
-returns-clause-valid c =
+pub returns-in-Some-clause-valid : goal.returns-in-Some-clause-valid
+returns-in-Some-clause-valid c =
     let s = c.args.set.now in
     let l = c.args.scale in
     let rows = c.args.rows.now in
-    let unfit = c.first_unfit.result in
-    let stands : stand None rows ≡ true = sym c.stand.ensures ∙ c.if-not-stand.false in
-    let hit : IsFirstHit processor_key rows (length rows) = hit_standing s rows c.requires.trace.each stands in
-    let all : length rows ≤ unfit = omega (arith, c.if-first_unfit-rows.false) in
+    let hit : IsFirstHit processor_key rows (length rows) = hit_standing s rows c.requires.trace.each c.in-Some.ensures.stands in
     IfOk-weaker c.timed_findings.result _ _ (λ o h. if_some o _ _ (λ v t.
-    no_verdict s l rows unfit (length rows) (length rows) (length s.tasks) c.first_unfit.ensures hit t.apart all (omega arith) (omega arith) t.supplied (omega arith)) h) c.timed_findings.ensures
+    no_verdict s l rows (length rows) (length rows) (length rows) (length s.tasks) c.in-Some.ensures.fit hit t.apart (omega arith) (omega arith) (omega arith) t.supplied (omega arith)) h) c.timed_findings.ensures

@@ -51,5 +51,5 @@ loop-task-preserved c =
 pub returns : goal.returns
 returns c =
     let all : c.loop-task.task ≡ length c.args.set.now.tasks = omega (arith, c.count-task-end.ensures.value, c.loop-task-test.false, c.loop-task.auto.task-end) in
-    let many : length (entries_from task_key 0 c.args.rows.now) ≤ c.loop-task.count = omega (arith, c.if-count-count_task_rows.false, c.count_task_rows.ensures) in
+    let many : length (entries_from task_key 0 c.args.rows.now) ≤ c.loop-task.count = omega (arith, c.if-count-total.false, c.requires.total) in
     gathered_all c.args.set.now c.args.scale c.args.rows.now c.loop-task.task c.loop-task.count c.loop-task.found.items c.loop-task.invariant.2 all many

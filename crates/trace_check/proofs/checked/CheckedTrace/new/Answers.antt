@@ -5,16 +5,16 @@ pub of-requires-clause-trace : goal.of-requires-clause-trace
 of-requires-clause-trace c = c.requires
 
 pub of-requires-clause-told : goal.of-requires-clause-told
-of-requires-clause-told c = rw c.deref.ensures.value at c.in_ok-judged.ensures.found
+of-requires-clause-told c = c.in_ok-judged.ensures.found
 
 pub of-requires-clause-all : goal.of-requires-clause-all
 of-requires-clause-all c = c.in_ok-judged.ensures.all
 
 pub of-requires-clause-verdict : goal.of-requires-clause-verdict
-of-requires-clause-verdict c = rw c.deref.ensures.value at c.in_ok-judged.ensures.verdict
+of-requires-clause-verdict c = c.in_ok-judged.ensures.verdict
 
 pub returns-in_err-judged : goal.returns-in_err-judged
 returns-in_err-judged c = IfOk-from_err _ _ c.from_residual.ensures.0
 
 pub judge_rows-requires : goal.judge_rows-requires
-judge_rows-requires c = record { trace = rw c.deref.ensures.value c.requires }
+judge_rows-requires c = record { trace = c.requires }

@@ -7,17 +7,17 @@ use Rattle.trace_check.proofs.row_reader.RowReader.take.Goals as goal
 pub next_line-requires-clause-totals : goal.next_line-requires-clause-totals
 next_line-requires-clause-totals c =
     let so = c.loop-row.invariant.1 c.requires.0 c.requires.1 in
-    rw (c.deref.ensures.value, c.deref-in-loop-row.ensures.value) so.totals
+    rw c.deref.ensures.value so.totals
 
 pub next_line-requires-clause-count : goal.next_line-requires-clause-count
 next_line-requires-clause-count c =
     let so = c.loop-row.invariant.1 c.requires.0 c.requires.1 in
-    ap length c.deref-in-loop-row.ensures.value ∙ so.count
+    ap length c.deref.ensures.value ∙ so.count
 
 pub add_ticks-requires-clause-totals : goal.add_ticks-requires-clause-totals
 add_ticks-requires-clause-totals c =
     let so = c.loop-row.invariant.1 c.requires.0 c.requires.1 in
-    rw (c.deref-in-Row.ensures.value, c.deref_mut.ensures.value) so.totals
+    rw c.deref_mut.ensures.value so.totals
 
 pub add_ticks-requires-clause-count : goal.add_ticks-requires-clause-count
 add_ticks-requires-clause-count c =
@@ -32,13 +32,13 @@ loop-row-preserved c =
     let new = c.add_ticks.new.totals in
     let long = c.add_ticks.auto.totals ∙ ap length c.deref_mut.ensures.value in
     let back = take_at new (drop (length new) old.items) old.len (long ∙ sym old.ok.0) in
-    let next = rw c.deref.ensures.value at c.in-Row.ensures in
+    let next = c.in-Row.ensures in
     let gone = c.loop-row.invariant.0.0 in
-    let items = c.push_reserved.ensures.items ∙ ap (λ t. t ++ c.in-Row.row ∷ []) c.in_ok-reserve-in-Row.ensures.items in (
+    let items = c.in_ok-push-in-Row.ensures in (
       (gone ++ next.1.0, c.loop-row.invariant.0.1 ∙ ap (λ t. gone ++ t) next.1.1 ∙ sym (append_assoc gone next.1.0 later)),
-      λ whole so. subst (λ sums. AreRowsOf tasks whole c.push_reserved.new.self.items sums later) (sym back)
-          (rows_more tasks whole c.loop-row.rest.now later c.loop-row.self.rows.items c.push_reserved.new.self.items c.in-Row.row old.items new (c.loop-row.invariant.1 whole so) next.0 next.3 items
-          (rw c.deref-in-Row.ensures.value at c.add_ticks.ensures) long),
+      λ whole so. subst (λ sums. AreRowsOf tasks whole c.push.new.self sums later) (sym back)
+          (rows_more tasks whole c.loop-row.rest.now later c.loop-row.self.rows c.push.new.self c.in-Row.row old.items new (c.loop-row.invariant.1 whole so) next.0 next.3 items
+          c.add_ticks.ensures long),
     )
 
 pub returns-in-Ends-clause-read : goal.returns-in-Ends-clause-read
