@@ -100,7 +100,7 @@ impl Pending {
     }
 
     // The place of the row of processor q in the held round with this number, counted from the first one that is held.
-    fn place(&self, round: u64, q: u32) -> usize
+    fn place_of(&self, round: u64, q: u32) -> usize
         requires { round * self.now.width + q < length self.now.held.items }
         ensures { result ≡ round * self.now.width + q }
     {
@@ -113,7 +113,7 @@ impl Pending {
         requires { round * self.now.width + q < length self.now.held.items }
         ensures { slice_get self.now.held.items (round * self.now.width + q) ≡ Some result }
     {
-        self.held.row(self.place(round, q))
+        self.held.row(self.place_of(round, q))
     }
 
     /// Whether a row of processor q in the held rounds `from` to `to`, that without, is of the leaf.
@@ -125,7 +125,7 @@ impl Pending {
             → slice_get self.now.held.items (i * self.now.width + q) ≡ Some next → next.row.leaf ≢ leaf }
     {
         for i in from..to {
-            if self.held.is_of(self.place(i, q), leaf) {
+            if self.held.is_of(self.place_of(i, q), leaf) {
                 return true;
             }
         }
