@@ -1,5 +1,6 @@
 //! One pass over the rounds of a plan.
 ghost use Rattle.std.specs.Prelude.{ℕ, ◌≡◌, ◌<◌, ◌≤◌, ◌+◌, ◌*◌, true, length, replicate, slice_index_or, IfOk, IfErr, None, vec_len};
+ghost use Rattle.std.specs.List.{AllByRecursion};
 ghost use Rattle.sched_base.specs.Tables.{row_limit};
 ghost use Rattle.run_tree.specs.Plans.{rounds_of, stop_of};
 ghost use Rattle.event_core.specs.Cores.{IsCoreOf};
@@ -61,6 +62,17 @@ fn forget_nodes(kept: &mut [Option<NodeId>])
     }
 }
 
+// With so few processors it costs least to look at each of them in each round.
+const FEW: u32 = 2;
+
+// Whether a core tells on which processors a round may show something else: no task is released late, and there are more than a few
+// processors.
+fn is_told(plan: &Plan) -> bool
+    ensures { result ≡ true → AllByRecursion (λ t. t.offset ≡ 0) plan.now.set.tasks }
+{
+    plan.tree().processors() > FEW && first_late(plan.set().tasks()).is_none()
+}
+
 /// Goes on with rounds up to the first that begins at tick `until` or later, or to the end of all. Of each processor a node is kept
 /// that shows what it did last; `told` is overwritten.
 pub(crate) fn merge_up_to(
@@ -80,7 +92,7 @@ pub(crate) fn merge_up_to(
     ensures reached { IfOk result (λ _. until ≤ core.new.tick) }
     ensures fault { IfErr result (λ fault. IsCountFault plan.now fault) }
 {
-    if first_late(plan.set().tasks()).is_some() {
+    if !is_told(plan) {
         return merge_looking(plan, core, kept, told, first, until);
     }
     forget_nodes(kept);

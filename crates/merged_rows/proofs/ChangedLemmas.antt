@@ -1,5 +1,5 @@
 -- Lanes of which some go on as is told, and the others as before.
-use Rattle.std.proofs.Common.{◌≡◌, ◌≢◌, ℕ, zero, suc, ◌+◌, ◌<◌, ◌≤◌, ◌⊎◌, inl, inr, true, false, List, [], ◌∷◌, ◌++◌, None, Some, length, length-set, set, get_or, get_or-set_same, get_or-set_other, Option, eqb, eq-eqb, refl, sym, ap, subst, ◌∙◌, arith}
+use Rattle.std.proofs.Common.{◌≡◌, ◌≢◌, ℕ, zero, suc, ◌+◌, ◌<◌, ◌⊎◌, inl, inr, true, List, [], ◌∷◌, ◌++◌, None, Some, length, length-set, set, get_or, get_or-set_same, get_or-set_other, Option, eq-eqb, refl, sym, ap, ◌∙◌, arith}
 use Rattle.std.proofs.lemmas.Bool.{cases_Bool, cases_eq, cases_lt, cond-true, cond-false}
 use Rattle.std.proofs.lemmas.List.{ext_get_or}
 use Rattle.sched_base.specs.declared.rows.Leaf.{Leaf}

@@ -1,5 +1,5 @@
 -- The first merged row of a lane, from a round on.
-use Rattle.std.proofs.Common.{◌≡◌, ◌<◌, ◌≤◌, ◌+◌, ℕ, zero, suc, inl, inr, true, false, List, [], ◌∷◌, None, Some, length, drop, sym, refl, ap, ◌∙◌, arith, add-one}
+use Rattle.std.proofs.Common.{◌≡◌, ◌≤◌, ◌+◌, ℕ, zero, suc, inl, inr, true, false, List, [], ◌∷◌, None, Some, length, drop, sym, refl, ap, ◌∙◌, arith, add-one}
 use Rattle.std.specs.Prelude.{slice_get}
 use Rattle.std.proofs.lemmas.Bool.{cases_Bool}
 use Rattle.sched_base.specs.declared.rows.Row.{Row}

@@ -37,6 +37,7 @@ impl MergedLane {
     }
 
     /// What is shown from tick `start` on: where the last row shows the same, it goes on.
+    #[inline(always)]
     pub(crate) fn show(&mut self, start: u128, leaf: Leaf) -> Result<(), NoMemory>
         ensures shown { OnOk result (self.new ≡ showing self.old start leaf) }
     {
@@ -47,6 +48,7 @@ impl MergedLane {
     }
 
     /// What is shown from tick `start` on, where a leaf is told; else the last row goes on.
+    #[inline(always)]
     pub(crate) fn go_on(&mut self, start: u128, told: Option<Leaf>) -> Result<(), NoMemory>
         ensures shown { OnOk result (self.new ≡ going_on self.old start told) }
     {

@@ -1,4 +1,4 @@
-use Rattle.std.proofs.Common.{◌<◌, ap, arith, get_or, length, refl, set}
+use Rattle.std.proofs.Common.{ap, arith, get_or, refl, set}
 use Rattle.merged_rows.proofs.ChangedLemmas.{on_none, on_step, on_all}
 use Rattle.merged_rows.proofs.merging.show_changed.Goals as goal
 
