@@ -1,7 +1,8 @@
 mod LookLemmas
 mod ScheduleLemmas
 mod SumLemmas
-mod LapLemmas
+pub mod LapLemmas
 mod ApartLemmas
 mod ChangeLemmas
 mod CountLemmas
+pub mod CountLemmas

@@ -1,3 +1,4 @@
 pub mod Passes
 pub mod Laps
 pub mod Changes
+pub mod Recurrences

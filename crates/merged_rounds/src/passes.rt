@@ -194,8 +194,8 @@ fn merge_with_laps(
     }
 }
 
-// Whether so many ticks are hyperperiods of `turn` ticks each, at least one.
-fn are_turns(plan: &Plan, turn: u128, ticks: u128) -> bool
+/// Whether so many ticks are hyperperiods of `turn` ticks each, at least one.
+pub(crate) fn are_turns(plan: &Plan, turn: u128, ticks: u128) -> bool
     requires turn { turn ≡ plan.now.tree.scale * plan.now.tree.scale }
     ensures { result ≡ true → AreTurns plan.now ticks }
 {
