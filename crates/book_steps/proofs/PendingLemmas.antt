@@ -3,14 +3,11 @@ use Rattle.std.proofs.Common.{◌≡◌, ◌≢◌, inl, inr, ℕ, zero, suc, �
 use Rattle.std.specs.Prelude.{slice_get, slice_index}
 use Rattle.std.proofs.lemmas.Bool.{eq-eqb}
 use Rattle.std.proofs.lemmas.List.{length-set, length-replicate}
-use Rattle.std.proofs.lemmas.List.Elements.{filter-append}
 use Rattle.std.proofs.lemmas.Option.{slice_get-get_or, slice_get_within}
-use Rattle.std.specs.Prelude.{◌==◌}
 use Rattle.sched_base.specs.declared.rows.Leaf.{Leaf}
 use Rattle.sched_base.specs.declared.rows.Leaf.TheVariants.{Task}
 use Rattle.sched_base.specs.declared.rows.Row.{Row}
 use Rattle.sched_base.specs.declared.rows.TaskId.{TaskId}
-use Rattle.sched_base.specs.Lanes.{rows_on}
 use Rattle.sched_base.specs.Rows.{is_of_task}
 use Rattle.sched_base.specs.Tables.{Table, lane_of, RowAt, IsTable, end_after, rounds_in, ticks_in, ticks_before, with_round}
 use Rattle.sched_base.proofs.ScheduleLanes.{lane_of-lanes_of, length-lanes_of}
@@ -28,7 +25,8 @@ use Rattle.book_machine.proofs.Lanes.{each_lane-set, least_at, least_le, least-s
 use Rattle.circular_buffer.specs.Buffer.{Buffer, buffer}
 use Rattle.circular_buffer.proofs.Places.{slice_get-some}
 use Rattle.plan_rounds.specs.PlanRows.{AreRoundsOf, RoundsContents, plan_rows}
-use Rattle.plan_rounds.proofs.RoundLemmas.{AreRoundsOf-first, AreRoundsOf-next, below_or, lanes_at, names_task, no_lanes, plan_lanes, plan_table, rounds_left, rows_ahead}
+use Rattle.plan_rounds.proofs.RoundLemmas.{AreRoundsOf-first, AreRoundsOf-next, below_or, lanes_at, names_task, no_lanes, plan_lanes, plan_table, rounds_left}
+use Rattle.plan_rounds.proofs.AgainLemmas.{new_row, row_of_plan}
 use Rattle.plan_rounds.specs.Parts.{RowsKept}
 use Rattle.plan_rounds.proofs.RowLemmas.{RowsKept-set, RowsKept-start}
 use Rattle.book_steps.specs.declared.ring.PendingRow.{PendingRow}
@@ -40,15 +38,6 @@ use Rattle.book_steps.proofs.BookLemmas.{is_task, length-with_ticks, with_ticks-
 use Rattle.book_steps.proofs.TickCounts.{place_ticks, row_ticks-some, ticks_in-next}
 
 -- ---- lists
-
-slice_get-append : {X : Type 0} (xs ys : List X) (k : ℕ) (x : X) → slice_get xs k ≡ Some x → slice_get (xs ++ ys) k ≡ Some x
-slice_get-append [] ys k x at = absurd (let e : None ≡ Some x = at in cc)
-slice_get-append (z ∷ xs) ys zero x at = at
-slice_get-append (z ∷ xs) ys (suc k) x at = slice_get-append xs ys k x at
-
-slice_get-new : {X : Type 0} (xs : List X) (x : X) → slice_get (xs ++ x ∷ []) (length xs) ≡ Some x
-slice_get-new [] x = refl
-slice_get-new (y ∷ xs) x = slice_get-new xs x
 
 least_below : (lanes : List LaneState) (n : ℕ) → ((q : ℕ) → (lane_at lanes q).posted ≤ n) → least_of lanes ≤ n
 least_below [] n most = omega arith
@@ -62,13 +51,6 @@ zero_in (suc n) (suc t) = zero_in n t
 ticks_of_none : (t : ℕ) (lanes : List (List Row)) → ticks_before t 0 lanes ≡ 0
 ticks_of_none t [] = refl
 ticks_of_none t (lane ∷ lanes) = let rest = ticks_of_none t lanes in omega (arith, rest)
-
--- the row of a round that a table has more
-new_row : (lanes : List (List Row)) (rows : List Row) (q : ℕ) (r : Row) → q < length lanes → slice_get rows q ≡ Some r → RowAt (with_round lanes rows) q (length (lane_of lanes q)) r
-new_row [] rows q r within at = absurd (omega (arith, within))
-new_row (lane ∷ lanes) [] q r within at = absurd (let e : None ≡ Some r = at in cc)
-new_row (lane ∷ lanes) (s ∷ rows) zero r within at = let e : Some s ≡ Some r = at in let same : s ≡ r = cc in subst (λ (x : Row). slice_get (lane ++ s ∷ []) (length lane) ≡ Some x) same (slice_get-new lane s)
-new_row (lane ∷ lanes) (s ∷ rows) (suc q) r within at = new_row lanes rows q r (omega (arith, within)) at
 
 -- one round more of ticks
 ticks_of_next : (t k : ℕ) (lanes : List (List Row)) (rows : List Row) → length rows ≡ length lanes → ((q : ℕ) (r : Row) → slice_get rows q ≡ Some r → RowAt lanes q k r)
@@ -138,15 +120,6 @@ module _ (p : PlanContents) (h : IsPlan p) where
   abbrev processors : ℕ
   processors = p.tree.processors
 
-  -- a row of the rounds up to the start of one is a row of the plan
-  row_of_plan : (n : ℕ) → IsRoundStart p n → n ≤ stop_of p → (q k : ℕ) (r : Row) → q < processors → RowAt (lanes_at p n) q k r → RowAt all q k r
-  row_of_plan n begins below q k r within at =
-      let (rest, ahead) = rows_ahead p h n begins below in
-      let here : lane_of (lanes_at p n) q ≡ rows_on q (rows_before p n) = lane_of-lanes_of processors (rows_before p n) q within in
-      let lane : lane_of all q ≡ lane_of (lanes_at p n) q ++ rows_on q rest =
-      lane_of-lanes_of processors (schedule_of p) q within ∙ ap (rows_on q) ahead ∙ filter-append (λ x. x.processor == q) (rows_before p n) rest ∙ ap (λ rows. rows ++ rows_on q rest) (sym here) in
-      subst (λ (rows : List Row). slice_get rows k ≡ Some r) (sym lane) (slice_get-append (lane_of (lanes_at p n) q) (rows_on q rest) k r at)
-
   -- ---- before the first event
 
   abbrev made : List (List Row) → ℕ → Table
@@ -167,7 +140,7 @@ module _ (p : PlanContents) (h : IsPlan p) where
         let lanes : lanes_at p r.core.tick ≡ replicate processors [] = ap (lanes_at p) first ∙ no_lanes p h in
         let before : rounds_before p r.core.tick ≡ 0 = ap (rounds_before p) first ∙ no_rounds p in
         record {
-          kept = RowsKept-start p window s (all_computed p r) (AreRoundsOf-first p h r.core r.width (rounds_up_to p r.core.tick) belongs first wide lanes (omega (arith, before))) lanes begins;
+          kept = RowsKept-start p window s (all_computed p r) (AreRoundsOf-first p h (all_computed p r) belongs refl first tt wide lanes (omega (arith, before))) lanes begins;
           computed = none ∙ sym before;
           counted = omega (arith, none);
           rows = subst (λ (b : Buffer PendingRow). ArePending all processors (least_posted s) r.computed b.items) (sym held) (record {
@@ -261,7 +234,7 @@ module _ (p : PlanContents) (h : IsPlan p) where
     wide : length rows ≡ processors
     wide = length-round p.set.tasks p.tree start end
 
-    module _ (c : RoundsContents) (are : AreRoundsOf p c) (at_tick : c.core.tick ≡ start) where
+    module _ (c : RoundsContents) (are : AreRoundsOf p c) (at_tick : c.tick ≡ start) where
       -- the rows of the round are rows of the plan
       pub row_of_round : (q : ℕ) (r : Row) → slice_get rows q ≡ Some r → RowAt all q (rounds_before p start) r
       row_of_round q r at =
@@ -272,7 +245,7 @@ module _ (p : PlanContents) (h : IsPlan p) where
           let count : rounds_in (lanes_at p start) ≡ rounds_before p start = sym (ap rounds_in lanes) ∙ are.count ∙ ap (rounds_before p) at_tick in
           let long : length (lane_of (lanes_at p start) q) ≡ rounds_before p start = table.whole q (omega (arith, inside, many)) ∙ count in
           let there = new_row (lanes_at p start) rows q r (omega (arith, inside, many)) at in
-          row_of_plan end round.last round.below q (rounds_before p start) r inside
+          row_of_plan p h end round.last round.below q (rounds_before p start) r inside
           (subst (λ (ls : List (List Row)). RowAt ls q (rounds_before p start) r) (sym (next_lanes p h start end round)) (subst (λ n. RowAt (with_round (lanes_at p start) rows) q n r) long there))
 
       -- a task's ticks up to the round's end
@@ -326,7 +299,7 @@ module _ (p : PlanContents) (h : IsPlan p) where
       next_round = next_rounds p begin m.core.tick round
 
       are : AreRoundsOf p (all_computed p m)
-      are = AreRoundsOf-next p h (all_computed p r) k.kept.rounds m.core m.width (rounds_up_to p m.core.tick) belongs round same_width (next_lanes p h begin m.core.tick round)
+      are = AreRoundsOf-next p h (all_computed p r) (all_computed p m) k.kept.rounds belongs (tt, inr refl) round same_width (next_lanes p h begin m.core.tick round)
           (let low = early in let next = next_round in omega (arith, low, next))
 
       -- the new row of a lane

@@ -1,5 +1,5 @@
 -- The rows of a plan that are computed and not yet let go, round by round.
-use Rattle.std.specs.Prelude.{ℕ, ◌≡◌, ◌<◌, ◌≤◌, ◌+◌, ◌-◌, ◌*◌, ◌^◌, List, Some, length, slice_get, slice_index}
+use Rattle.std.specs.Prelude.{ℕ, ◌≡◌, ◌<◌, ◌≤◌, ◌+◌, ◌-◌, ◌*◌, ◌^◌, List, None, Some, length, slice_get, slice_index}
 use Rattle.sched_base.specs.declared.rows.Leaf.{Leaf}
 use Rattle.sched_base.specs.declared.rows.Leaf.TheVariants.{Task, Wait, Idle, Empty}
 use Rattle.sched_base.specs.declared.rows.Row.{Row}
@@ -63,7 +63,7 @@ rounds_up_to p n = record { lanes = lanes_of p.tree.processors (rows_before p n)
 
 -- all rounds up to the tick at which the core stands
 abbrev pub all_computed : PlanContents → PendingContents → RoundsContents
-all_computed p r = record { core = r.core; width = r.width; table = rounds_up_to p r.core.tick }
+all_computed p r = record { core = r.core; tick = r.core.tick; again = None; width = r.width; table = rounds_up_to p r.core.tick }
 
 -- what a book keeps of its pending rows: all from the least posted count up to the core's tick, with a place for each row of a window
 pub record PendingKept (p : PlanContents) (window : ℕ) (s : State) (r : PendingContents) : Type 0 where
