@@ -6,10 +6,11 @@ use Rattle.sched_edges.specs.Streams.{GaveAll, GaveCount}
 use Rattle.command_words.specs.declared.command.Reading.{Reading}
 use Rattle.pure_commands.specs.declared.refusal.Refusal.{Refusal}
 use Rattle.pure_commands.specs.declared.refusal.Refusal.TheVariants as why
-use Rattle.pure_commands.specs.declared.status.Status.{Status}
-use Rattle.pure_commands.specs.declared.status.Status.TheVariants as status
+use Rattle.exit_status.specs.declared.Status.{Status}
+use Rattle.exit_status.specs.declared.Status.TheVariants as status
 use Rattle.pure_commands.specs.Commands.{Output, output_of, limit_of, Writes, Refuses}
-use Rattle.pure_commands.specs.Ends.{Streams, ErrorStream, streams, error_stream, Tells, StopsAs, Stops, IsAnswer, Answers, Ends}
+use Rattle.pure_commands.specs.Ends.{Streams, ErrorStream, Tells, StopsAs, Stops, IsAnswer, Answers, Ends}
+use Rattle.pure_commands.proofs.StreamLemmas.{streams, error_stream}
 use Rattle.pure_commands.specs.Refusals.{status_of, refusal_line}
 use Rattle.byte_calls.specs.Answers.{IsWhyNot, IsAnswered}
 

@@ -2,8 +2,8 @@
 use Rattle.std.specs.Prelude.{◌≡◌, ℕ, ◌+◌, ◌≤◌, ◌<◌, List, [], length}
 use Rattle.pure_commands.specs.declared.refusal.Refusal.{Refusal}
 use Rattle.pure_commands.specs.declared.refusal.Refusal.TheVariants.{Usage, ReadFault, WriteFault, NoMemory, InputTooLong}
-use Rattle.pure_commands.specs.declared.status.Status.{Status}
-use Rattle.pure_commands.specs.declared.status.Status.TheVariants as status
+use Rattle.exit_status.specs.declared.Status.{Status}
+use Rattle.exit_status.specs.declared.Status.TheVariants as status
 use Rattle.pure_commands.specs.Commands.{Output, of_set, of_tree, limit_of, Writes, Refuses}
 use Rattle.pure_commands.specs.SetTexts.{WritesSoundly}
 use Rattle.pure_commands.specs.Follow.{WritesFollowed}

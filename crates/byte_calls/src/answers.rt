@@ -3,11 +3,12 @@ ghost use Rattle.std.specs.Prelude.{◌≡◌, ◌⊎◌, []};
 ghost use Rattle.command_words.specs.Words.{DrawsSomeUnit};
 ghost use Rattle.pure_commands.specs.Commands.{output_of};
 ghost use Rattle.pure_commands.specs.Ends.{IsAnswer};
-ghost use Rattle.pure_commands.specs.declared.status.Status.{Status as Ended};
+ghost use Rattle.exit_status.specs.declared.Status.{Status as Ended};
 ghost use Rattle.byte_calls.specs.Answers.{IsAnswered};
 
 use crate::streams::{ByteSink, ByteSource};
-use pure_commands::{Reading, Status, run_reading};
+use exit_status::Status;
+use pure_commands::{Reading, run_reading};
 use std::alloc::Global;
 use std::marker::Model;
 

@@ -12,8 +12,9 @@ ghost use Rattle.run_tool.specs.Ready.{AreFirstGates};
 
 use command_words::asks_to_execute;
 use exec_workers::Kit;
+use exit_status::Status;
 use job_vm::VmJob;
-use run_tool::{Refusal, Status, close_run, refuse, run, run_without_crew};
+use run_tool::{Refusal, close_run, refuse, run, run_without_crew};
 use sched_base::NoMemory;
 use sched_edges::{Jobs, Sink, Source, StdSink, StdSource, SureGate};
 use std::alloc::Global;

@@ -4,11 +4,11 @@ use Rattle.std.specs.declared.option.Option.{Option}
 use Rattle.command_words.specs.declared.asking.Asked.{Asked}
 use Rattle.command_words.specs.declared.command.Reading.{Reading}
 use Rattle.command_words.specs.declared.command.Reading.TheVariants.{Rate, Tree, Trace, TraceMet, TraceWrap, Table, Check, Follow, Draw}
-use Rattle.pure_commands.specs.declared.status.Status.{Status}
-use Rattle.pure_commands.specs.declared.status.Status.TheVariants.{NoMemory}
+use Rattle.exit_status.specs.declared.Status.{Status}
+use Rattle.exit_status.specs.declared.Status.TheVariants.{NoMemory}
 use Rattle.pure_commands.specs.Commands.{output_of}
 use Rattle.pure_commands.specs.Ends.{IsAnswer}
-use Rattle.pure_commands.specs.Status.{code_of}
+use Rattle.exit_status.specs.Status.{code_of}
 use Rattle.byte_calls.specs.Held.{AnswerHeld}
 use Rattle.byte_calls.specs.Answers.{IsAnswered}
 use Rattle.furnacelime_c.specs.declared.answers.Question.{Question}

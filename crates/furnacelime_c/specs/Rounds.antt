@@ -6,7 +6,8 @@ use Rattle.run_tree.specs.Plans.{PlanContents, stop_of}
 use Rattle.event_core.specs.Rounds.{IsRoundUpTo, rows_of_round}
 use Rattle.round_steps.specs.declared.halves.Halves.{Halves}
 use Rattle.round_steps.specs.declared.faults.OpenFault.{OpenFault}
-use Rattle.round_steps.specs.Refusals.{code_of, IsRefusedFor}
+use Rattle.exit_status.specs.Status.{code_of}
+use Rattle.round_steps.specs.Refusals.{status_of, IsRefusedFor}
 use Rattle.round_steps.specs.Steps.{StepsHeld, IsPlanOf, task_shown}
 use Rattle.furnacelime_c.specs.declared.rounds.About.{About}
 use Rattle.furnacelime_c.specs.declared.rounds.Round.{Round}
@@ -32,7 +33,7 @@ IsOpened bytes opened told = (s : StepsHeld) × (opened ≡ Some s) × Begins by
 
 -- the bytes are refused with the status of this number, and the handle has no steps
 abbrev pub IsNotOpened : List ℕ → Option StepsHeld → ℕ → Type 0
-IsNotOpened bytes opened code = (opened ≡ None) × ((fault : OpenFault) × (code ≡ code_of fault) × IsRefusedFor bytes fault)
+IsNotOpened bytes opened code = (opened ≡ None) × ((fault : OpenFault) × (code ≡ code_of (status_of fault)) × IsRefusedFor bytes fault)
 
 -- from these steps to those by the next round of the schedule: its ticks, and the task on each processor
 pub record IsRound (old new : StepsHeld) (told : Round) (shown : List ℕ) : Type 0 where

@@ -3,17 +3,13 @@ ghost use Rattle.std.specs.Prelude.{◌≡◌, ◌≢◌, ◌<◌, length, Some,
 ghost use Rattle.command_words.specs.Words.{DrawsSomeUnit};
 ghost use Rattle.furnacelime_c.specs.Answers.{reading_of, asked_by, AnswerGives, IsNotCalled, IsCopied, IsShort};
 
+use crate::numbers::WRONG_CALL;
 use byte_calls::call;
 use c_handles::AnswerHandle;
 use command_words::Asked;
+use exit_status::Status;
 use pure_commands::Reading;
 use std::alloc::Global;
-
-/// The status of a call that can't be done.
-const WRONG_CALL: u8 = 64;
-
-/// The status where memory was refused.
-const NO_MEMORY: u8 = 5;
 
 /// What is asked of the bytes: the number of a command, and which units `draw` draws; no units are as many as are easily looked at.
 #[repr(C)]
@@ -51,7 +47,7 @@ pub extern "C" fn furnacelime_ask(
             *kept = AnswerHandle::of(boxed);
             status
         }
-        Err(_) => NO_MEMORY,
+        Err(_) => Status::NoMemory.code(),
     }
 }
 

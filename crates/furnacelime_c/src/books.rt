@@ -6,22 +6,11 @@ ghost use Rattle.book_steps.specs.Turns.{Posts, Halts, Waits};
 ghost use Rattle.furnacelime_c.specs.Books.{TellsBook, IsBookOpened, IsBookNotOpened, Goes, IsRowTold, IsAllPosted, IsHalted, CantTake};
 ghost use Rattle.furnacelime_c.specs.Books.{CantPost, CantPostAndTake, PostsAndTakes, PostsAndWaits, PostsAndEnds, PostsAndHalts, TellsEnd, TellsFault, IsShortOf};
 
+use crate::numbers::{HALTED, OVER, WAIT, WRONG_CALL};
 use book_steps::{BookFault, StepBook, Turn};
 use c_handles::BookHandle;
 use round_steps::{Halves, NO_TASK, halves_of, task_shown};
 use std::alloc::Global;
-
-/// The status of a call that can't be made now.
-const WRONG_CALL: u8 = 64;
-
-/// The status of a take after the last row of the processor.
-const OVER: u8 = 65;
-
-/// The status of a take that hands nothing out yet.
-const WAIT: u8 = 66;
-
-/// The status of a take after a failure.
-const HALTED: u8 = 67;
 
 /// What a book is about: the ticks of a unit, the tick at which the last round ends, the numbers of processors and tasks, and 1 where the schedule
 /// can be run again and again, else 0.
@@ -80,7 +69,7 @@ pub extern "C" fn furnacelime_exec_open(
             *book = BookHandle::of(opened);
             0
         }
-        Err(fault) => fault.code(),
+        Err(fault) => fault.status().code(),
     }
 }
 

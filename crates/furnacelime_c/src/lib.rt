@@ -5,4 +5,5 @@
 
 mod answers;
 mod books;
+mod numbers;
 mod rounds;

@@ -5,15 +5,10 @@ ghost use Rattle.round_steps.specs.Refusals.{IsRefusedFor};
 ghost use Rattle.round_steps.specs.Steps.{StepsHeld};
 ghost use Rattle.furnacelime_c.specs.Rounds.{Tells, Begins, IsOpened, IsNotOpened, IsRound, IsNext, IsOver, IsShort};
 
+use crate::numbers::{OVER, WRONG_CALL};
 use c_handles::StepsHandle;
 use round_steps::{Halves, OpenFault, Steps, halves_of};
 use std::alloc::Global;
-
-/// The status of a call that has room for too few tasks.
-const WRONG_CALL: u8 = 64;
-
-/// The status of a call after the last round.
-const OVER: u8 = 65;
 
 /// What a plan is about: the ticks of a unit, the tick at which the last round ends, and the number of processors.
 #[repr(C)]
@@ -51,7 +46,7 @@ pub extern "C" fn furnacelime_open(
             *plan = StepsHandle::of(steps);
             0
         }
-        Err(fault) => fault.code(),
+        Err(fault) => fault.status().code(),
     }
 }
 

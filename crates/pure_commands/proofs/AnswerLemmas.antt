@@ -1,5 +1,5 @@
 -- Where nothing fails, the answer for the bytes is given.
-use Rattle.std.proofs.Common.{◌≡◌, ◌⊎◌, inl, inr, ℕ, ◌^◌, ◌≤◌, ◌<◌, List, Result, Ok, Err, Option, Some, None, refl}
+use Rattle.std.proofs.Common.{◌≡◌, ◌⊎◌, inl, inr, ℕ, ◌*◌, ◌^◌, ◌≤◌, ◌<◌, List, Result, Ok, Err, Option, Some, None, refl}
 use Rattle.std.proofs.Common.{sym, ◌∙◌, ap, subst, arith}
 use Rattle.sched_base.specs.Sets.{SetContents}
 use Rattle.sched_base.specs.Scale.{IsScale, PassesAt, total_of, room_of}
@@ -7,6 +7,7 @@ use Rattle.sched_base.specs.Tables.{row_limit}
 use Rattle.repeat_laws.specs.Repeats.{up_to}
 use Rattle.repeat_laws.proofs.Repeating.{of_task}
 use Rattle.run_tree.specs.Plans.{stop_of}
+use Rattle.wrap_sched.specs.Wrapped.{wrapped_rounds}
 use Rattle.task_reader.specs.Reading.{set_read_from}
 use Rattle.task_reader.specs.declared.refusals.ReadSet.{ReadSet}
 use Rattle.trace_check.specs.Traces.{Trace as TraceRead}
@@ -17,14 +18,13 @@ use Rattle.command_words.specs.declared.command.Command.{Command}
 use Rattle.command_words.specs.declared.command.Command.TheVariants.{Read, Batch, Execute}
 use Rattle.pure_commands.specs.declared.refusal.Refusal.{Refusal}
 use Rattle.pure_commands.specs.declared.refusal.Refusal.TheVariants as why
-use Rattle.pure_commands.specs.declared.status.Status.{Status}
-use Rattle.pure_commands.specs.declared.status.Status.TheVariants.{Done, Invalid, NoMemory, BadInput, TooLong, TooWide}
+use Rattle.exit_status.specs.declared.Status.{Status}
+use Rattle.exit_status.specs.declared.Status.TheVariants.{Done, Invalid, NoMemory, BadInput, TooLong, TooWide}
 use Rattle.pure_commands.specs.Commands.{SetText, rates, server_tree, schedule_rows, wrapped_rows, c_table, repeating, Output, of_set, of_trace, of_picture, of_tree, of_batch}
-use Rattle.pure_commands.specs.Commands.{output_of, limit_of, plan_of, rows_of, wrapped_rows_of, HasRoom, WritesSet, RefusesText}
+use Rattle.pure_commands.specs.Commands.{output_of, limit_of, plan_of, rows_of, HasRoom, WritesSet, RefusesText}
 use Rattle.pure_commands.specs.Commands.{Writes, CallsFor, Refuses}
-use Rattle.pure_commands.specs.SetTexts.{IsSchedulable, IsUnfit, IsTooLongSet, IsTooWidePlan, IsTooWideSet, IsUnrepeated, LacksRepeat, LacksText, Repeats}
+use Rattle.pure_commands.specs.SetTexts.{IsSchedulable, IsUnfit, IsTooLongSet, IsTooWideSet, IsUnrepeated, LacksRepeat, LacksText, Repeats}
 use Rattle.pure_commands.specs.Checks.{TellsTrace, Judges, RefusesTrace}
-use Rattle.pure_commands.specs.Draws.{AreDrawn}
 use Rattle.pure_commands.specs.Refusals.{status_of, set_status}
 use Rattle.pure_commands.specs.Ends.{Streams, ErrorStream, IsDone, Stops, Answers, IsAnswered}
 use Rattle.pure_commands.specs.Refuse.{IsRefused}
@@ -74,16 +74,16 @@ not_too_long : (what : SetText) (s : SetContents) (scale rows : ℕ) → IsSched
 not_too_long rates s scale rows run room long = long
 not_too_long server_tree s scale rows run room long = long
 not_too_long (schedule_rows met) s scale rows run room long =
-    let (other, run', over, is) = long in
-    let over' = moved (λ n. row_limit < rows_of (plan_of s n)) s other scale run' run over in
+    let (other, run', past) = long in
+    let over' = moved (λ n. row_limit < rows_of (plan_of s n)) s other scale run' run past.0 in
     absurd (omega (arith, room, over'))
 not_too_long wrapped_rows s scale rows run room long =
-    let (other, run', over, is) = long in
-    let over' = moved (λ n. row_limit < wrapped_rows_of s n) s other scale run' run over in
+    let (other, run', past) = long in
+    let over' = moved (λ n. row_limit < wrapped_rounds n s * s.processors) s other scale run' run past.0 in
     absurd (omega (arith, room, over'))
 not_too_long c_table s scale rows run room long =
-    let (other, run', over, is) = long.1 in
-    let over' = moved (λ n. row_limit < rows_of (plan_of s n)) s other scale run' run over in
+    let (other, run', past) = long.1 in
+    let over' = moved (λ n. row_limit < rows_of (plan_of s n)) s other scale run' run past.0 in
     let few = room.1 in
     absurd (omega (arith, few, over'))
 not_too_long (repeating what) s scale rows run room long =
@@ -92,7 +92,7 @@ not_too_long (repeating what) s scale rows run room long =
     not_too_long what (up_to scale s) scale rows (up_to_fits s scale scale run) room.1 here
 
 -- a schedule with few ticks hasn't too many
-few_ticks : (s : SetContents) (scale ticks : ℕ) → IsSchedulable s scale → stop_of (plan_of s scale) < 2 ^ 64 → IsTooWidePlan s ticks → ⊥
+few_ticks : (s : SetContents) (scale ticks : ℕ) → IsSchedulable s scale → stop_of (plan_of s scale) < 2 ^ 64 → IsTooWideSet c_table s ticks → ⊥
 few_ticks s scale ticks run few wide =
     let (other, run', over, is) = wide in
     let few' = moved (λ n. stop_of (plan_of s n) < 2 ^ 64) s scale other run run' few in
@@ -302,10 +302,10 @@ told_trace bytes text Invalid t read told = (t, read, told.0)
 told_trace bytes text _ t read told = absurd told
 
 -- a trace that is drawn isn't refused
-drawn_or_refused : (bytes : List ℕ) (status : Status) (r : Refusal) → AreDrawn bytes status → RefusesTrace bytes r → ⊥
-drawn_or_refused bytes status r is refuses =
+drawn_or_refused : (bytes : List ℕ) (t : TraceRead) (r : Refusal) → reading bytes ≡ Ok t → RefusesTrace bytes r → ⊥
+drawn_or_refused bytes t r read refuses =
     let line = refused_line bytes r refuses in
-    not_both_traces bytes is.1.0 line.0.0 is.1.1 line.0.1
+    not_both_traces bytes t line.0.0 read line.0.1
 
 -- ---- all commands
 
@@ -313,7 +313,7 @@ drawn_or_refused bytes status r is refuses =
 told_or_refused : (o : Output) (bytes : List ℕ) (status : Status) (r : Refusal) → CallsFor o bytes status → Refuses o bytes r → ⊥
 told_or_refused (of_set what) bytes status r is refuses = set_writes_or_refuses what bytes is.0 status r is.1 refuses
 told_or_refused of_trace bytes status r is refuses = judged_or_refused bytes status r is refuses
-told_or_refused (of_picture asked) bytes status r is refuses = drawn_or_refused bytes status r is refuses
+told_or_refused (of_picture asked) bytes status r is refuses = drawn_or_refused bytes is.1.0 r is.1.1 refuses
 told_or_refused of_tree bytes status r is refuses = followed_or_refused bytes is.0 status r is.1 refuses
 told_or_refused of_batch bytes status r is refuses = refuses
 

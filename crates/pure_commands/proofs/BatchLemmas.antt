@@ -14,7 +14,7 @@ use Rattle.pure_commands.specs.Commands.{of_batch, set_limit}
 use Rattle.pure_commands.specs.Ends.{Streams, IsDone, Stops}
 use Rattle.pure_commands.specs.Faults.{of_take}
 use Rattle.pure_commands.specs.declared.refusal.Refusal.TheVariants as why
-use Rattle.pure_commands.specs.declared.status.Status.TheVariants.{Done}
+use Rattle.exit_status.specs.declared.Status.TheVariants.{Done}
 
 module _ (old new : Streams) where
   -- the source wasn't read to its end

@@ -4,7 +4,7 @@ use Rattle.std.specs.Io.KnownBytes.{Appends, Keeps}
 use Rattle.trace_check.specs.Traces.{Trace}
 use Rattle.pure_commands.specs.declared.refusal.Refusal.{Refusal}
 use Rattle.pure_commands.specs.declared.refusal.Refusal.TheVariants as why
-use Rattle.pure_commands.specs.declared.status.Status.{Status}
+use Rattle.exit_status.specs.declared.Status.{Status}
 use Rattle.pure_commands.specs.Commands.{trace_limit}
 use Rattle.pure_commands.specs.Checks.{TellsTrace, WritesVerdict, RefusesTrace, StopsAtTrace}
 use Rattle.pure_commands.specs.Ends.{Streams, IsTold, StopsAs}

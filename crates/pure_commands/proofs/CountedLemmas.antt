@@ -23,7 +23,7 @@ pub uncounted : (met : Bool) (p : PlanContents) (out : Option (List ℕ)) (fault
     → p.tree ≡ tree_of p.tree.scale p.set → IsCountFault p e → StopsAtSet (schedule_rows met) out out faults faults p.set (of_count e)
 uncounted met p out faults (count.TooLong rows) run is long =
     let told = subst (λ (q : PlanContents). (row_limit < rows_of q) × (rows ≡ (row_limit / q.tree.processors + 1) * q.tree.processors)) (plan_is p is) long in
-    ((p.tree.scale, run, told.0, told.1), keeps_same out)
+    ((p.tree.scale, run, told), keeps_same out)
 uncounted met p out faults count.NoMemory run is long = (tt, keeps_same out)
 
 -- the schedule of a plan has room where its rounds were counted

@@ -14,8 +14,8 @@ use Rattle.pure_commands.specs.declared.mode_refusal.ModeRefusal.{ModeRefusal}
 use Rattle.pure_commands.specs.declared.mode_refusal.ModeRefusal.TheVariants as mode
 use Rattle.pure_commands.specs.declared.refusal.Refusal.{Refusal}
 use Rattle.pure_commands.specs.declared.refusal.Refusal.TheVariants as why
-use Rattle.pure_commands.specs.declared.status.Status.{Status}
-use Rattle.pure_commands.specs.declared.status.Status.TheVariants.{Done, Invalid, Usage}
+use Rattle.exit_status.specs.declared.Status.{Status}
+use Rattle.exit_status.specs.declared.Status.TheVariants.{Done, Invalid, Usage}
 use Rattle.pure_commands.specs.Checks.{TellsTrace}
 use Rattle.pure_commands.specs.Commands.{Output, of_set, of_trace, of_picture, of_tree, of_batch, output_of, Writes}
 use Rattle.pure_commands.specs.Ends.{Streams, ErrorStream, IsQuiet, IsUnread, IsDone, Stops, Ends, IsAnswered}

@@ -30,8 +30,8 @@ use Rattle.tree_reader.specs.Reading.{reading}
 use Rattle.tree_text_laws.proofs.FormLemmas.{set_read}
 use Rattle.pure_commands.specs.declared.refusal.Refusal.{Refusal}
 use Rattle.pure_commands.specs.declared.refusal.Refusal.TheVariants as why
-use Rattle.pure_commands.specs.declared.status.Status.{Status}
-use Rattle.pure_commands.specs.declared.status.Status.TheVariants.{Done, BadInput, BadTree, TooLong}
+use Rattle.exit_status.specs.declared.Status.{Status}
+use Rattle.exit_status.specs.declared.Status.TheVariants.{Done, BadInput, BadTree, TooLong}
 use Rattle.pure_commands.specs.Faults.{of_check_tree, of_count}
 use Rattle.pure_commands.specs.Commands.{set_limit}
 use Rattle.pure_commands.specs.Ends.{Streams, IsTold, StopsAs}

@@ -6,6 +6,7 @@ pub mod LineLemmas
 pub mod TraceLemmas
 pub mod CountedLemmas
 pub mod EndLemmas
+pub mod StreamLemmas
 pub mod SetLemmas
 pub mod CheckLemmas
 pub mod SoundLemmas

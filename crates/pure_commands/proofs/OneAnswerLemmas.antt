@@ -6,9 +6,9 @@ use Rattle.sched_edges.specs.Streams.{GaveAll, GaveCount}
 use Rattle.sched_edges.proofs.Pieces.{holds_more}
 use Rattle.pure_commands.specs.declared.refusal.Refusal.{Refusal}
 use Rattle.pure_commands.specs.declared.refusal.Refusal.TheVariants as why
-use Rattle.pure_commands.specs.declared.status.Status.{Status}
-use Rattle.pure_commands.specs.declared.status.Status.TheVariants.{Done, Invalid, Usage, ReadFault, WriteFault, NoMemory, BadInput, Overload}
-use Rattle.pure_commands.specs.declared.status.Status.TheVariants.{ScaleTooLarge, TooLong, GateFault, JobFault, InputTooLong, ModeFault, BadTree, TooWide}
+use Rattle.exit_status.specs.declared.Status.{Status}
+use Rattle.exit_status.specs.declared.Status.TheVariants.{Done, Invalid, Usage, ReadFault, WriteFault, NoMemory, BadInput, Overload}
+use Rattle.exit_status.specs.declared.Status.TheVariants.{ScaleTooLarge, TooLong, GateFault, JobFault, InputTooLong, ModeFault, BadTree, TooWide}
 use Rattle.pure_commands.specs.Refusals.{status_of}
 use Rattle.pure_commands.specs.Ends.{Streams, ErrorStream, IsTold, StopsAs, IsAnswerAs, AnswersAs}
 use Rattle.pure_commands.specs.Refuse.{IsRefused}

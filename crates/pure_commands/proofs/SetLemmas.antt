@@ -6,7 +6,7 @@ use Rattle.std.proofs.lemmas.Result.{IfErr-weaker, on_ok_weaker}
 use Rattle.sched_base.specs.Sets.{SetContents}
 use Rattle.pure_commands.specs.declared.refusal.Refusal.{Refusal}
 use Rattle.pure_commands.specs.declared.refusal.Refusal.TheVariants as why
-use Rattle.pure_commands.specs.declared.status.Status.TheVariants.{Done}
+use Rattle.exit_status.specs.declared.Status.TheVariants.{Done}
 use Rattle.pure_commands.specs.Commands.{SetText, set_limit, text_of, ReadsSet, WritesSet, RefusesText}
 use Rattle.pure_commands.specs.Ends.{Streams, IsTold, StopsAs}
 use Rattle.pure_commands.specs.Input.{GaveSet, GaveNoSet, IsRefusedSet, StopsAtSet, WroteSet}

@@ -20,8 +20,8 @@ use Rattle.task_reader.specs.Reading.{set_read_from}
 use Rattle.pure_commands.specs.Commands.{SetText, rates, server_tree, schedule_rows, wrapped_rows, c_table, repeating, plan_of, HasRoom, IsSound}
 use Rattle.pure_commands.specs.SetTexts.{IsSchedulable, IsSoundTable, table_rows}
 use Rattle.pure_commands.specs.Commands.{Output, of_set, of_tree}
-use Rattle.pure_commands.specs.declared.status.Status.{Status}
-use Rattle.pure_commands.specs.declared.status.Status.TheVariants.{Done}
+use Rattle.exit_status.specs.declared.Status.{Status}
+use Rattle.exit_status.specs.declared.Status.TheVariants.{Done}
 use Rattle.pure_commands.specs.Follow.{FollowsTrees}
 use Rattle.pure_commands.specs.Ends.{Streams, IsAlwaysSound, IsDone, IsDoneSoundly}
 use Rattle.wrap_sched.specs.Wrapped.{wrapped}

@@ -14,21 +14,19 @@ use Rattle.stat_report.specs.Report.{IsValidTrace}
 use Rattle.stat_report.specs.Text.{report_text}
 use Rattle.pure_commands.specs.declared.refusal.Refusal.{Refusal}
 use Rattle.pure_commands.specs.declared.refusal.Refusal.TheVariants.{BadLine, WriteFault}
-use Rattle.pure_commands.specs.declared.status.Status.{Status}
-use Rattle.pure_commands.specs.declared.status.Status.TheVariants.{Done, Invalid}
+use Rattle.exit_status.specs.declared.Status.{Status}
+use Rattle.exit_status.specs.declared.Status.TheVariants.{Done, Invalid}
 
 -- the line that tells the first fault of a trace: where it is, and of which kind
 unfoldable pub invalid_line : ℕ → FaultKind → List ℕ
 invalid_line line kind = line_of (codes "invalid") (codes "line" ∷ decimal line ∷ kind_text kind ∷ [])
 
--- the first fault of a trace is told by this text
-abbrev pub TellsFirstFault : Trace → List ℕ → Type 0
-TellsFirstFault t text = (line : ℕ) × (kind : FaultKind) × IsVerdict t.set t.scale t.rows (Fault line kind) × (text ≡ invalid_line line kind)
-
 -- this text is written of a trace, with this status: the report of a valid one, the first fault of another
 abbrev pub TellsTrace : Trace → Status → List ℕ → Type 0
 TellsTrace t Done text = IsValidTrace t × (text ≡ report_text t.set t.scale t.rows)
-TellsTrace t Invalid text = ¬ (IsValidTrace t) × TellsFirstFault t text
+TellsTrace t Invalid text =
+    ¬ (IsValidTrace t)
+    × ((line : ℕ) × (kind : FaultKind) × IsVerdict t.set t.scale t.rows (Fault line kind) × (text ≡ invalid_line line kind))
 TellsTrace t _ text = ⊥
 
 -- `check` writes this text for these bytes, and ends with this status

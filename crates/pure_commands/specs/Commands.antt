@@ -1,23 +1,23 @@
 -- What each command that executes nothing writes, and which bytes it refuses and why. A new such command adds its case to these definitions.
-use Rattle.std.specs.Prelude.{◌≡◌, ℕ, true, false, List}
+use Rattle.std.specs.Prelude.{◌≡◌, ℕ, true, false, List, Ok}
 use Rattle.command_words.specs.declared.asking.Asked.{Asked}
 use Rattle.command_words.specs.declared.command.Reading.{Reading}
 use Rattle.command_words.specs.declared.command.Reading.TheVariants.{Rate, Tree, Trace, TraceMet, TraceWrap, TraceRepeat, Table, TableRepeat, Check, Follow, Draw}
+use Rattle.trace_check.specs.Traces.{Trace as TraceRead}
+use Rattle.trace_check.specs.Reading.{reading}
 use Rattle.pure_commands.specs.declared.refusal.Refusal.{Refusal}
 use Rattle.pure_commands.specs.Batch.{WritesBatch}
 use Rattle.pure_commands.specs.Checks.{WritesVerdict, Judges, RefusesTrace}
-use Rattle.pure_commands.specs.Draws.{WritesPicture, AreDrawn}
+use Rattle.pure_commands.specs.Draws.{WritesPicture}
 use Rattle.pure_commands.specs.Follow.{WritesFollow, RefusesFollow}
-use Rattle.pure_commands.specs.declared.status.Status.{Status}
-use Rattle.pure_commands.specs.declared.status.Status.TheVariants.{Done}
+use Rattle.exit_status.specs.declared.Status.{Status}
+use Rattle.exit_status.specs.declared.Status.TheVariants.{Done}
 pub use Rattle.pure_commands.specs.SetTexts.{SetText, rates, server_tree, schedule_rows, wrapped_rows, c_table, repeating, ReadsSet, plan_of, some_late, version_of}
-pub use Rattle.pure_commands.specs.SetTexts.{schedule_text, wrapped_text, plan_table, text_of, rows_of, wrapped_rows_of}
+pub use Rattle.pure_commands.specs.SetTexts.{schedule_text, wrapped_text, plan_table, text_of, rows_of}
 pub use Rattle.pure_commands.specs.SetTexts.{HasRoom, WritesSet, IsSound, RefusesText}
+pub use Rattle.sched_base.specs.Limits.{set_limit}
 
--- the most bytes of a task set or a tree text, and of a trace text
-abbrev pub set_limit : ℕ
-set_limit = 1048576
-
+-- the most bytes of a trace text; those of a task set, a tree text or a job text are `set_limit`
 abbrev pub trace_limit : ℕ
 trace_limit = 536870912
 
@@ -64,7 +64,7 @@ Writes of_batch bytes status text = WritesBatch bytes status text
 -- that of `draw` is `Done` for each trace, that of `batch` is `Done` for all bytes
 abbrev pub CallsFor : Output → List ℕ → Status → Type 0
 CallsFor of_trace bytes status = Judges bytes status
-CallsFor (of_picture asked) bytes status = AreDrawn bytes status
+CallsFor (of_picture asked) bytes status = (status ≡ Done) × ((t : TraceRead) × (reading bytes ≡ Ok t))
 CallsFor of_batch bytes status = status ≡ Done
 CallsFor output bytes status = (text : List ℕ) × Writes output bytes status text
 

@@ -10,9 +10,8 @@ use Rattle.command_words.specs.declared.command.Command.{Command}
 use Rattle.command_words.specs.declared.command.Command.TheVariants.{Read, Batch}
 use Rattle.pure_commands.specs.declared.refusal.Refusal.{Refusal}
 use Rattle.pure_commands.specs.declared.refusal.Refusal.TheVariants as why
-use Rattle.pure_commands.specs.declared.status.Status.{Status}
-use Rattle.pure_commands.specs.declared.status.Status.TheVariants.{Done, Invalid, Usage, NoMemory, BadInput, Overload, ScaleTooLarge, TooLong, InputTooLong}
-use Rattle.pure_commands.specs.declared.status.Status.TheVariants.{ModeFault, BadTree, TooWide}
+use Rattle.exit_status.specs.declared.Status.{Status}
+use Rattle.exit_status.specs.declared.Status.TheVariants.{Done, Invalid, Usage, ReadFault, WriteFault, NoMemory, GateFault, JobFault, InputTooLong}
 use Rattle.sched_base.specs.Sets.{SetContents}
 use Rattle.sched_base.specs.Scale.{Fits}
 use Rattle.pure_commands.specs.Commands.{SetText, Output, of_set, of_tree, of_batch, output_of, limit_of, ReadsSet, HasRoom, Writes, CallsFor, Refuses, IsSound}
@@ -30,31 +29,23 @@ pub record Streams : Type 0 where
   pub out : Option (List ℕ)
   pub out_faults : ℕ
 
--- what contracts see of the source and `out`
-abbrev pub streams : Option (List ℕ) → ℕ → Option (List ℕ) → ℕ → Streams
-streams left read_faults out out_faults = record {
-  left = left;
-  read_faults = read_faults;
-  out = out;
-  out_faults = out_faults;
-}
-
 -- what a source and a sink tell
 abbrev pub streams_of : {R W : Type 0} → SourceTells R → SinkTells W → R → W → Streams
-streams_of source_tells out_tells source out =
-    streams (source_tells.left source) (source_tells.faults source) (out_tells.taken out) (out_tells.faults out)
+streams_of source_tells out_tells source out = record {
+  left = source_tells.left source;
+  read_faults = source_tells.faults source;
+  out = out_tells.taken out;
+  out_faults = out_tells.faults out;
+}
 
 -- what contracts see of `err`
 pub record ErrorStream : Type 0 where
   pub taken : Option (List ℕ)
   pub faults : ℕ
 
-abbrev pub error_stream : Option (List ℕ) → ℕ → ErrorStream
-error_stream taken faults = record { taken = taken; faults = faults }
-
 -- what the sink tells
 abbrev pub error_of : {E : Type 0} → SinkTells E → E → ErrorStream
-error_of tells err = error_stream (tells.taken err) (tells.faults err)
+error_of tells err = record { taken = tells.taken err; faults = tells.faults err }
 
 -- nothing was read, and the source didn't fail
 pub record IsUnread (old new : Streams) : Type 0 where
@@ -120,24 +111,19 @@ pub record IsUsage (old new : Streams) (err err' : ErrorStream) (status : Status
   pub out_faults : new.out_faults ≡ old.out_faults
   pub line : ((status ≡ Usage) × Tells err err' (refusal_line why.Usage)) ⊎ ((status ≡ NoMemory) × Tells err err' (refusal_line why.NoMemory))
 
--- these bytes are refused with this status
-abbrev pub IsRefusedAs : ℕ → (List ℕ → Refusal → Type 0) → List ℕ → Status → Type 0
-IsRefusedAs limit Refuses bytes status =
-    (length bytes ≤ limit) × ((refusal : Refusal) × (status_of refusal ≡ status) × Refuses bytes refusal)
-
 -- the answer for these bytes, where nothing fails and memory is there: the status that they call for, or the one with which they are refused
 abbrev pub IsAnswerAs : ℕ → (List ℕ → Status → Type 0) → (List ℕ → Refusal → Type 0) → List ℕ → Status → Type 0
 IsAnswerAs limit CallsFor Refuses bytes Done = (length bytes ≤ limit) × CallsFor bytes Done
 IsAnswerAs limit CallsFor Refuses bytes Invalid = (length bytes ≤ limit) × CallsFor bytes Invalid
 IsAnswerAs limit CallsFor Refuses bytes InputTooLong = limit < length bytes
-IsAnswerAs limit CallsFor Refuses bytes BadInput = IsRefusedAs limit Refuses bytes BadInput
-IsAnswerAs limit CallsFor Refuses bytes Overload = IsRefusedAs limit Refuses bytes Overload
-IsAnswerAs limit CallsFor Refuses bytes ScaleTooLarge = IsRefusedAs limit Refuses bytes ScaleTooLarge
-IsAnswerAs limit CallsFor Refuses bytes TooLong = IsRefusedAs limit Refuses bytes TooLong
-IsAnswerAs limit CallsFor Refuses bytes ModeFault = IsRefusedAs limit Refuses bytes ModeFault
-IsAnswerAs limit CallsFor Refuses bytes BadTree = IsRefusedAs limit Refuses bytes BadTree
-IsAnswerAs limit CallsFor Refuses bytes TooWide = IsRefusedAs limit Refuses bytes TooWide
-IsAnswerAs limit CallsFor Refuses bytes _ = ⊥
+IsAnswerAs limit CallsFor Refuses bytes Usage = ⊥
+IsAnswerAs limit CallsFor Refuses bytes ReadFault = ⊥
+IsAnswerAs limit CallsFor Refuses bytes WriteFault = ⊥
+IsAnswerAs limit CallsFor Refuses bytes NoMemory = ⊥
+IsAnswerAs limit CallsFor Refuses bytes GateFault = ⊥
+IsAnswerAs limit CallsFor Refuses bytes JobFault = ⊥
+IsAnswerAs limit CallsFor Refuses bytes status =
+    (length bytes ≤ limit) × ((refusal : Refusal) × (status_of refusal ≡ status) × Refuses bytes refusal)
 
 -- where the source tells its bytes and nothing fails, their answer is given, or memory was refused
 abbrev pub AnswersAs : ℕ → (List ℕ → Status → Type 0) → (List ℕ → Refusal → Type 0) → Option (List ℕ) → Streams → Streams → Status → Type 0

@@ -18,8 +18,9 @@ use Rattle.tree_check.specs.TextTree.{text_tree, IsTextOfTree}
 use Rattle.tree_reader.specs.Reading.{reading}
 use Rattle.pure_commands.specs.declared.refusal.Refusal.{Refusal}
 use Rattle.pure_commands.specs.declared.refusal.Refusal.TheVariants.{ReadFault, WriteFault, NoMemory, BadLine, BadTree, TooLong, InputTooLong}
-use Rattle.pure_commands.specs.declared.status.Status.{Status}
-use Rattle.pure_commands.specs.declared.status.Status.TheVariants.{Done}
+use Rattle.pure_commands.specs.SetTexts.{HasTooMany}
+use Rattle.exit_status.specs.declared.Status.{Status}
+use Rattle.exit_status.specs.declared.Status.TheVariants.{Done}
 
 -- ---- what is written
 
@@ -50,14 +51,10 @@ WritesFollow bytes status text = (status ≡ Done) × ((w : Written) × (reading
 
 -- ---- what is refused
 
--- the schedule has too many rows; `rows` is the least multiple of the processors above the limit
-abbrev pub HasTooMany : Written → ℕ → Type 0
-HasTooMany w rows = (row_limit < rows_told w) × (rows ≡ (row_limit / w.set.processors + 1) * w.set.processors)
-
 -- why a text that is read isn't followed: this is its first fault, or it is that of a tree, and the schedule is too long
 abbrev pub RefusesPlan : Written → Refusal → Type 0
 RefusesPlan w (BadTree line kind) = IsFirstFault w line kind
-RefusesPlan w (TooLong rows) = IsTextOfTree w × HasTooMany w rows
+RefusesPlan w (TooLong rows) = IsTextOfTree w × HasTooMany (rows_told w) w.set.processors rows
 RefusesPlan w _ = ⊥
 
 -- these bytes are refused: they are no tree text, and this line is the first at fault, or their text isn't followed

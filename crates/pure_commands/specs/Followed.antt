@@ -5,7 +5,7 @@ use Rattle.sched_base.specs.Sets.{SetContents}
 use Rattle.sched_base.specs.Tables.{row_limit}
 use Rattle.trace_format.specs.Conditions.{AreOnTime}
 use Rattle.tree_text.specs.Text.{tree_text}
-use Rattle.pure_commands.specs.declared.status.Status.TheVariants.{Done}
+use Rattle.exit_status.specs.declared.Status.TheVariants.{Done}
 use Rattle.pure_commands.specs.Commands.{ReadsSet, plan_of, schedule_text, rows_of}
 use Rattle.pure_commands.specs.Follow.{WritesFollow}
 

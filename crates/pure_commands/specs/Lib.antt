@@ -1,4 +1,3 @@
-pub mod Status
 pub mod Refusals
 pub mod RateText
 pub mod Faults

@@ -19,9 +19,9 @@ use Rattle.pure_commands.specs.declared.refusal.Refusal.TheVariants.{TooLong, Ga
 use Rattle.pure_commands.specs.declared.refusal.Refusal.TheVariants.{NoRepeat, WideRepeat}
 use Rattle.pure_commands.specs.declared.mode_refusal.ModeRefusal.{ModeRefusal}
 use Rattle.pure_commands.specs.declared.mode_refusal.ModeRefusal.TheVariants as mode
-use Rattle.pure_commands.specs.declared.status.Status.{Status}
-use Rattle.pure_commands.specs.declared.status.Status.TheVariants as status
-use Rattle.pure_commands.specs.Status.{code_of}
+use Rattle.exit_status.specs.declared.Status.{Status}
+use Rattle.exit_status.specs.declared.Status.TheVariants as status
+use Rattle.exit_status.specs.Status.{code_of}
 
 -- the status of bytes that are no set
 abbrev pub set_status : ReadSet → Status
@@ -128,18 +128,14 @@ job_words row name =
     codes "JobFault" ∷ codes "task" ∷ printed_name name ∷ codes "processor" ∷ decimal row.processor ∷ codes "row" ∷ decimal row.start
     ∷ decimal row.end ∷ []
 
--- why a set can't be a mode
-abbrev pub kind_words : ModeKind → List (List ℕ)
-kind_words kind.Processors = codes "Mode" ∷ codes "processors" ∷ []
-kind_words (kind.Offset task) = codes "Mode" ∷ codes "offset" ∷ decimal task ∷ []
-kind_words (kind.Period task) = codes "Mode" ∷ codes "period" ∷ decimal task ∷ []
-kind_words (kind.Overload total room) = overload_words total room
-kind_words (kind.TooLong rows) = rows_words rows
-
 -- why a mode wasn't done
 abbrev pub mode_words : ModeRefusal → List (List ℕ)
 mode_words (mode.BadSet refusal) = set_words refusal
-mode_words (mode.NotJoined k) = kind_words k
+mode_words (mode.NotJoined kind.Processors) = codes "Mode" ∷ codes "processors" ∷ []
+mode_words (mode.NotJoined (kind.Offset task)) = codes "Mode" ∷ codes "offset" ∷ decimal task ∷ []
+mode_words (mode.NotJoined (kind.Period task)) = codes "Mode" ∷ codes "period" ∷ decimal task ∷ []
+mode_words (mode.NotJoined (kind.Overload total room)) = overload_words total room
+mode_words (mode.NotJoined (kind.TooLong rows)) = rows_words rows
 mode_words (mode.GateFault row name) = gate_words row name
 mode_words (mode.JobFault row name) = job_words row name
 

@@ -1,7 +1,7 @@
 -- What is told of a refusal.
 use Rattle.std.specs.Prelude.{◌≡◌}
 use Rattle.pure_commands.specs.declared.refusal.Refusal.{Refusal}
-use Rattle.pure_commands.specs.declared.status.Status.{Status}
+use Rattle.exit_status.specs.declared.Status.{Status}
 use Rattle.pure_commands.specs.Refusals.{status_of, refusal_line}
 use Rattle.pure_commands.specs.Ends.{ErrorStream, Tells}
 

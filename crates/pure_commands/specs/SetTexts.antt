@@ -25,8 +25,8 @@ use Rattle.table_text.specs.Table.{table_text}
 use Rattle.tree_text.specs.Text.{tree_text}
 use Rattle.wrap_sched.specs.Wrapped.{wrapped, wrapped_rounds}
 use Rattle.pure_commands.specs.RateText.{rate_text}
-use Rattle.pure_commands.specs.declared.status.Status.{Status}
-use Rattle.pure_commands.specs.declared.status.Status.TheVariants.{Done}
+use Rattle.exit_status.specs.declared.Status.{Status}
+use Rattle.exit_status.specs.declared.Status.TheVariants.{Done}
 
 -- a text of a set that fits: its rates, its tree, its schedule, with or without when each period was done, its wrapped schedule, or its
 -- schedule as C source; or such a text of the set up to the least horizon at which its schedule repeats
@@ -91,9 +91,9 @@ text_of (repeating what) s scale = text_of what (up_to scale s) scale
 abbrev pub rows_of : PlanContents → ℕ
 rows_of p = rounds_of p * p.tree.processors
 
--- how many rows the wrapped schedule of a set has, one for each processor and round
-abbrev pub wrapped_rows_of : SetContents → ℕ → ℕ
-wrapped_rows_of s scale = wrapped_rounds scale s * s.processors
+-- a schedule wants this many rows, which is past the limit, and `rows` is the least multiple of the processors above that
+abbrev pub HasTooMany : ℕ → ℕ → ℕ → Type 0
+HasTooMany wanted processors rows = (row_limit < wanted) × (rows ≡ (row_limit / processors + 1) * processors)
 
 -- a set that fits has this text: a schedule that is told has at most 2,097,152 rows, and in C its ticks are below 2 ^ 64; one up to the
 -- least horizon at which it repeats has such a horizon
@@ -101,7 +101,7 @@ abbrev pub HasRoom : SetText → SetContents → ℕ → Type 0
 HasRoom rates s scale = Unit {0}
 HasRoom server_tree s scale = Unit {0}
 HasRoom (schedule_rows met) s scale = rows_of (plan_of s scale) ≤ row_limit
-HasRoom wrapped_rows s scale = wrapped_rows_of s scale ≤ row_limit
+HasRoom wrapped_rows s scale = wrapped_rounds scale s * s.processors ≤ row_limit
 HasRoom c_table s scale = (stop_of (plan_of s scale) < 2 ^ 64) × (rows_of (plan_of s scale) ≤ row_limit)
 HasRoom (repeating what) s scale = Repeats s scale × HasRoom what (up_to scale s) scale
 
@@ -151,37 +151,21 @@ IsUnfit s (Overload total room) =
     (scale : ℕ) × IsScale s.tasks scale × (scale ≤ 2 ^ 94) × (room < total) × (total ≡ total_of scale s.tasks) × (room ≡ room_of scale s)
 IsUnfit s _ = ⊥
 
--- the schedule of a set that fits has too many rows; `rows` is the least multiple of the processors above the limit
-abbrev pub IsTooLongPlan : SetContents → ℕ → Type 0
-IsTooLongPlan s rows =
-    (scale : ℕ) × IsSchedulable s scale × (row_limit < rows_of (plan_of s scale))
-    × (rows ≡ (row_limit / (plan_of s scale).tree.processors + 1) * (plan_of s scale).tree.processors)
-
--- the same of its wrapped schedule
-abbrev pub IsTooLongWrap : SetContents → ℕ → Type 0
-IsTooLongWrap s rows =
-    (scale : ℕ) × IsSchedulable s scale × (row_limit < wrapped_rows_of s scale) × (rows ≡ (row_limit / s.processors + 1) * s.processors)
-
--- the schedule of a set that fits has 2 ^ 64 ticks or more
-abbrev pub IsTooWidePlan : SetContents → ℕ → Type 0
-IsTooWidePlan s ticks = (scale : ℕ) × IsSchedulable s scale × (2 ^ 64 ≤ ticks) × (ticks ≡ stop_of (plan_of s scale))
-
--- it has fewer
-abbrev pub IsNarrowPlan : SetContents → Type 0
-IsNarrowPlan s = (scale : ℕ) × IsSchedulable s scale × (stop_of (plan_of s scale) < 2 ^ 64)
-
--- the set fits, and doesn't have this text for its many rows
+-- the set fits, and doesn't have this text for its many rows; in C there may be none for its many ticks, and then it isn't for its rows
 abbrev pub IsTooLongSet : SetText → SetContents → ℕ → Type 0
 IsTooLongSet rates s rows = ⊥
 IsTooLongSet server_tree s rows = ⊥
-IsTooLongSet (schedule_rows met) s rows = IsTooLongPlan s rows
-IsTooLongSet wrapped_rows s rows = IsTooLongWrap s rows
-IsTooLongSet c_table s rows = IsNarrowPlan s × IsTooLongPlan s rows
+IsTooLongSet (schedule_rows met) s rows =
+    (scale : ℕ) × IsSchedulable s scale × HasTooMany (rows_of (plan_of s scale)) (plan_of s scale).tree.processors rows
+IsTooLongSet wrapped_rows s rows = (scale : ℕ) × IsSchedulable s scale × HasTooMany (wrapped_rounds scale s * s.processors) s.processors rows
+IsTooLongSet c_table s rows =
+    ((scale : ℕ) × IsSchedulable s scale × (stop_of (plan_of s scale) < 2 ^ 64))
+    × ((scale : ℕ) × IsSchedulable s scale × HasTooMany (rows_of (plan_of s scale)) (plan_of s scale).tree.processors rows)
 IsTooLongSet (repeating what) s rows = (scale : ℕ) × IsSchedulable s scale × Repeats s scale × IsTooLongSet what (up_to scale s) rows
 
--- the set fits, and doesn't have this text for its many ticks
+-- the set fits, and doesn't have this text for its many ticks, 2 ^ 64 or more
 abbrev pub IsTooWideSet : SetText → SetContents → ℕ → Type 0
-IsTooWideSet c_table s ticks = IsTooWidePlan s ticks
+IsTooWideSet c_table s ticks = (scale : ℕ) × IsSchedulable s scale × (2 ^ 64 ≤ ticks) × (ticks ≡ stop_of (plan_of s scale))
 IsTooWideSet (repeating what) s ticks = (scale : ℕ) × IsSchedulable s scale × Repeats s scale × IsTooWideSet what (up_to scale s) ticks
 IsTooWideSet _ s ticks = ⊥
 

@@ -1,27 +1,28 @@
 //! The command `batch`.
-ghost use Rattle.std.specs.Prelude.{◌≡◌, ◌≢◌, ◌≤◌, ◌+◌, ◌↔◌, true, length, map, string_bytes, None, Some, IfOk, OnOk, IfErr};
+ghost use Rattle.std.specs.Prelude.{◌≡◌, ◌≢◌, ◌≤◌, ◌+◌, ◌++◌, ◌↔◌, true, length, map, codes, string_bytes, None, Some, IfOk, OnOk, IfErr};
 ghost use Rattle.std.specs.List.{AllZip};
 ghost use Rattle.sched_edges.specs.Causes.{HasCause};
+ghost use Rattle.sched_edges.specs.Lines.{number_line};
 ghost use Rattle.sched_edges.specs.Streams.{Wrote};
 ghost use Rattle.task_reader.specs.Pieces.{pieces_of};
 ghost use Rattle.batch_compile.specs.declared.answers.Answer.TheVariants.{Fits};
 ghost use Rattle.batch_compile.specs.Answers.{IsAnswer};
-ghost use Rattle.pure_commands.specs.Batch.{answer_text, answer_line, answer_lines, batch_head, batch_text};
+ghost use Rattle.pure_commands.specs.Batch.{answer_text, answer_line, batch_text};
+ghost use Rattle.pure_commands.specs.Numbered.{numbered};
 ghost use Rattle.command_words.specs.Words.{command_of, asks_for_batch};
 ghost use Rattle.pure_commands.specs.Commands.{of_batch};
 ghost use Rattle.pure_commands.specs.Ends.{streams_of, error_of, IsDone, IsUsage, Stops, Ends, IsAnswered};
 ghost use Rattle.command_words.specs.declared.command.Command.TheVariants.{Batch};
-ghost use Rattle.pure_commands.specs.declared.status.Status.TheVariants.{Done};
+ghost use Rattle.exit_status.specs.declared.Status.TheVariants.{Done};
 
-use crate::input::SET_LIMIT;
 use crate::mode_line::set_start;
 use crate::refusal::Refusal;
 use crate::refusal_line::{overload_line, refuse, scale_line, write_line, write_set_refusal};
-use crate::status::Status;
 use crate::unwritten::written;
 use batch_compile::{Answer, Answers, answers_of};
 use command_words::is_batch;
-use sched_base::NoMemory;
+use exit_status::Status;
+use sched_base::{NoMemory, SET_LIMIT};
 use sched_edges::{Failed, Line, Sink, Source, number_line, read_all, write_all, write_lines};
 use std::alloc::Global;
 use std::thread::Threads;
@@ -100,7 +101,7 @@ fn write_answers<W: Sink>(answers: &Answers, out: &mut W) -> Result<(), Failed>
 
 // Writes the version, and how many sets there are.
 fn write_head<W: Sink>(count: u32, out: &mut W) -> Result<(), Failed>
-    ensures wrote { Wrote (W.taken out.old) (W.taken out.new) (batch_head count) result }
+    ensures wrote { Wrote (W.taken out.old) (W.taken out.new) (number_line (codes "run-batch") 1 ++ number_line (codes "sets") count) result }
     ensures cause { HasCause (W.faults out.old) (W.faults out.new) result }
 {
     let lines = [
@@ -112,7 +113,7 @@ fn write_head<W: Sink>(count: u32, out: &mut W) -> Result<(), Failed>
 
 // Writes the line of each set.
 fn write_sets<W: Sink>(answers: &Answers, out: &mut W) -> Result<(), Failed>
-    ensures wrote { Wrote (W.taken out.old) (W.taken out.new) (answer_lines 0 answers.now) result }
+    ensures wrote { Wrote (W.taken out.old) (W.taken out.new) (numbered answer_line 0 answers.now) result }
     ensures cause { HasCause (W.faults out.old) (W.faults out.new) result }
 {
     for j in 0..answers.count() {

@@ -7,7 +7,7 @@ ghost use Rattle.pure_commands.specs.Ends.{streams_of, IsTold, StopsAs};
 
 use crate::input::read_checked_input;
 use crate::refusal::Refusal;
-use crate::status::Status;
+use exit_status::Status;
 use sched_edges::{Line, Sink, Source, write_all};
 use stat_report::write_report;
 use std::alloc::Global;

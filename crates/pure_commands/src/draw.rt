@@ -4,7 +4,7 @@ ghost use Rattle.pure_commands.specs.Commands.{trace_limit};
 ghost use Rattle.pure_commands.specs.Checks.{RefusesTrace};
 ghost use Rattle.pure_commands.specs.Draws.{WritesPicture};
 ghost use Rattle.pure_commands.specs.Ends.{streams_of, IsTold, StopsAs};
-ghost use Rattle.pure_commands.specs.declared.status.Status.TheVariants.{Done};
+ghost use Rattle.exit_status.specs.declared.Status.TheVariants.{Done};
 
 use crate::input::read_trace_input;
 use crate::refusal::Refusal;

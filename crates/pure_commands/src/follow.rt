@@ -9,14 +9,14 @@ ghost use Rattle.trace_format.specs.Conditions.{AreOnTime};
 ghost use Rattle.pure_commands.specs.Commands.{set_limit};
 ghost use Rattle.pure_commands.specs.Ends.{streams_of, IsTold, StopsAs};
 ghost use Rattle.pure_commands.specs.Follow.{WritesFollow, RefusesFollow, GaveTree, GaveNoTree, WrotePlan, StopsAtPlan, plan_told, rows_told};
-ghost use Rattle.pure_commands.specs.declared.status.Status.TheVariants.{Done};
+ghost use Rattle.exit_status.specs.declared.Status.TheVariants.{Done};
 
-use crate::input::SET_LIMIT;
 use crate::refusal::Refusal;
 use crate::trace::merged_rows_of;
 use crate::unwritten::written;
 use merged_rows::MergedRows;
 use run_tree::Plan;
+use sched_base::SET_LIMIT;
 use sched_edges::{Sink, Source, read_all};
 use std::alloc::Global;
 use trace_writer::write_merged;

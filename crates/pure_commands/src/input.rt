@@ -3,14 +3,11 @@ ghost use Rattle.std.specs.Prelude.{IfOk, IfErr};
 ghost use Rattle.pure_commands.specs.Input.{GaveSet, GaveNoSet, GaveTrace, GaveNoTrace};
 
 use crate::refusal::Refusal;
-use sched_base::TaskSet;
+use sched_base::{SET_LIMIT, TaskSet};
 use sched_edges::{Source, read_all};
 use std::alloc::Global;
 use task_reader::read_set;
 use trace_check::{CheckedTrace, ReadTrace, read_checked_source, read_trace_source};
-
-/// The most bytes of a task set.
-pub const SET_LIMIT: usize = 1_048_576;
 
 /// The most bytes of a trace text.
 pub(crate) const TRACE_LIMIT: usize = 536_870_912;

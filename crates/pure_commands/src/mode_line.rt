@@ -11,7 +11,7 @@ use crate::mode_refusal::ModeRefusal;
 use crate::refusal_line::{
     add_number, begin, gate_line, job_line, overload_line, rows_line, write_line, write_set_refusal,
 };
-use crate::status::Status;
+use exit_status::Status;
 use mode_join::ModeKind;
 use sched_edges::{Failed, Line, Sink, write_all};
 

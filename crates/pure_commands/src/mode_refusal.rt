@@ -2,7 +2,7 @@
 ghost use Rattle.std.specs.Prelude.{◌≡◌};
 ghost use Rattle.pure_commands.specs.Refusals.{kind_status, mode_status};
 
-use crate::status::Status;
+use exit_status::Status;
 use mode_join::ModeKind;
 use sched_base::{Name, Row};
 use task_reader::ReadSet;

@@ -3,7 +3,7 @@ ghost use Rattle.std.specs.Prelude.{◌≡◌, ◌<◌};
 ghost use Rattle.pure_commands.specs.Refusals.{status_of};
 
 use crate::mode_refusal::ModeRefusal;
-use crate::status::Status;
+use exit_status::Status;
 use sched_base::{Name, Row};
 use task_reader::ReadSet;
 use tree_check::TreeKind;

@@ -3,7 +3,7 @@ ghost use Rattle.std.specs.Prelude.{false, OnOk, IfOk, IfErr};
 ghost use Rattle.pure_commands.specs.Commands.{c_table, repeating, schedule_rows, set_limit, WritesSet, RefusesText};
 ghost use Rattle.pure_commands.specs.Ends.{streams_of, IsTold, StopsAs};
 ghost use Rattle.pure_commands.specs.Input.{WroteSet, StopsAtSet, IsRepeating, IsNotRepeating};
-ghost use Rattle.pure_commands.specs.declared.status.Status.TheVariants.{Done};
+ghost use Rattle.exit_status.specs.declared.Status.TheVariants.{Done};
 
 use crate::input::read_input;
 use crate::refusal::Refusal;

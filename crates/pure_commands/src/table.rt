@@ -11,7 +11,7 @@ ghost use Rattle.repeat_laws.specs.Repeats.{repeat_unit};
 ghost use Rattle.pure_commands.specs.Commands.{c_table, set_limit, plan_table, WritesSet, RefusesText};
 ghost use Rattle.pure_commands.specs.Ends.{streams_of, IsTold, StopsAs};
 ghost use Rattle.pure_commands.specs.Input.{IsSchedulable, WroteSet, StopsAtSet};
-ghost use Rattle.pure_commands.specs.declared.status.Status.TheVariants.{Done};
+ghost use Rattle.exit_status.specs.declared.Status.TheVariants.{Done};
 
 use crate::input::read_input;
 use crate::plan::plan_of;

@@ -5,7 +5,7 @@ ghost use Rattle.pure_commands.specs.Ends.{streams_of, error_of, IsDone, IsDoneS
 ghost use Rattle.pure_commands.specs.Commands.{of_trace, output_of};
 ghost use Rattle.command_words.specs.declared.command.Command.TheVariants.{Read};
 ghost use Rattle.command_words.specs.declared.command.Reading.TheVariants.{Check};
-ghost use Rattle.pure_commands.specs.declared.status.Status.TheVariants.{Done, Invalid};
+ghost use Rattle.exit_status.specs.declared.Status.TheVariants.{Done, Invalid};
 
 use crate::check::check;
 use crate::draw::draw;
@@ -15,12 +15,12 @@ use crate::refusal::Refusal;
 use crate::refusal_line::refuse;
 use crate::repeat::{table_repeat, trace_repeat};
 use crate::sound::{follow_law, sound_law};
-use crate::status::Status;
 use crate::table::table;
 use crate::trace::trace;
 use crate::tree::tree;
 use crate::wrap::trace_by_wrapping;
 use command_words::{Reading, reading_of};
+use exit_status::Status;
 use sched_edges::{Sink, Source};
 use std::alloc::Global;
 

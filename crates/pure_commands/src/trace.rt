@@ -17,7 +17,7 @@ ghost use Rattle.row_totals.specs.Sums.{totals_of};
 ghost use Rattle.pure_commands.specs.Commands.{schedule_rows, set_limit, schedule_text, some_late, version_of, WritesSet, RefusesText};
 ghost use Rattle.pure_commands.specs.Ends.{streams_of, IsTold, StopsAs};
 ghost use Rattle.pure_commands.specs.Input.{IsSchedulable, WroteSet, StopsAtSet};
-ghost use Rattle.pure_commands.specs.declared.status.Status.TheVariants.{Done};
+ghost use Rattle.exit_status.specs.declared.Status.TheVariants.{Done};
 
 use crate::input::read_input;
 use crate::plan::plan_of;

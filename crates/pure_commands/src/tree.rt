@@ -3,7 +3,7 @@ ghost use Rattle.std.specs.Prelude.{OnOk, IfErr};
 ghost use Rattle.pure_commands.specs.Ends.{streams_of, IsTold, StopsAs};
 ghost use Rattle.pure_commands.specs.Input.{WroteSet, StopsAtSet};
 ghost use Rattle.pure_commands.specs.Commands.{server_tree, set_limit, WritesSet, RefusesText};
-ghost use Rattle.pure_commands.specs.declared.status.Status.TheVariants.{Done};
+ghost use Rattle.exit_status.specs.declared.Status.TheVariants.{Done};
 
 use crate::input::read_input;
 use crate::plan::plan_of;

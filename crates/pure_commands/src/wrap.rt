@@ -11,7 +11,7 @@ ghost use Rattle.wrap_sched.specs.Wrapped.{wrapped_rounds};
 ghost use Rattle.pure_commands.specs.Commands.{some_late, wrapped_rows, wrapped_text, set_limit, WritesSet, RefusesText};
 ghost use Rattle.pure_commands.specs.Ends.{streams_of, IsTold, StopsAs};
 ghost use Rattle.pure_commands.specs.Input.{IsSchedulable, IsRefusedSet, WroteSet, StopsAtSet};
-ghost use Rattle.pure_commands.specs.declared.status.Status.TheVariants.{Done};
+ghost use Rattle.exit_status.specs.declared.Status.TheVariants.{Done};
 
 use crate::input::read_input;
 use crate::refusal::Refusal;

@@ -1,6 +1,8 @@
 -- Why a set isn't opened.
 use Rattle.std.specs.Prelude.{◌≡◌, ℕ, ◌<◌, List, length, Ok, Err}
 use Rattle.sched_base.specs.Sets.{SetContents}
+use Rattle.exit_status.specs.declared.Status.{Status}
+use Rattle.exit_status.specs.declared.Status.TheVariants as status
 use Rattle.task_reader.specs.Reading.{set_read_from}
 use Rattle.task_reader.specs.declared.refusals.ReadSet.TheVariants as set
 use Rattle.run_compile.specs.Answers.{IsRefused}
@@ -8,15 +10,15 @@ use Rattle.run_compile.specs.declared.faults.CompileFault.TheVariants as compile
 use Rattle.round_steps.specs.declared.faults.OpenFault.{OpenFault}
 use Rattle.round_steps.specs.declared.faults.OpenFault.TheVariants as fault
 
--- the number of the status with which the program refuses the set
-abbrev pub code_of : OpenFault → ℕ
-code_of fault.NoMemory = 5
-code_of (fault.BadSet set.NoMemory) = 5
-code_of (fault.BadSet refusal) = 6
-code_of (fault.NotRun compile.NoMemory) = 5
-code_of (fault.NotRun (compile.Overload total room)) = 7
-code_of (fault.NotRun (compile.ScaleTooLarge at)) = 8
-code_of fault.InputTooLong = 12
+-- the status with which the program refuses the set
+abbrev pub status_of : OpenFault → Status
+status_of fault.NoMemory = status.NoMemory
+status_of (fault.BadSet set.NoMemory) = status.NoMemory
+status_of (fault.BadSet refusal) = status.BadInput
+status_of (fault.NotRun compile.NoMemory) = status.NoMemory
+status_of (fault.NotRun (compile.Overload total room)) = status.Overload
+status_of (fault.NotRun (compile.ScaleTooLarge at)) = status.ScaleTooLarge
+status_of fault.InputTooLong = status.InputTooLong
 
 -- these bytes aren't opened for this reason; want of memory alone has none
 abbrev pub IsRefusedFor : List ℕ → OpenFault → Type 0

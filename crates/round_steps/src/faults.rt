@@ -1,7 +1,8 @@
 //! Why a set isn't opened.
-ghost use Rattle.std.specs.Prelude.{◌≡◌};
-ghost use Rattle.round_steps.specs.Refusals.{code_of};
+ghost use Rattle.std.specs.Prelude.{◌≡◌, ◌≢◌};
+ghost use Rattle.round_steps.specs.Refusals.{status_of};
 
+use exit_status::Status;
 use run_compile::CompileFault;
 use sched_base::NoMemory;
 use task_reader::ReadSet;
@@ -20,18 +21,19 @@ pub enum OpenFault {
 }
 
 impl OpenFault {
-    /// The number of the status with which the program refuses the set.
-    pub fn code(&self) -> u8
-        ensures { result ≡ code_of self.now }
+    /// The status with which the program refuses the set.
+    pub fn status(&self) -> Status
+        ensures status { result ≡ status_of self.now }
+        ensures refuses { result ≢ Status.Done }
     {
         match self {
-            OpenFault::NoMemory => 5,
-            OpenFault::BadSet(ReadSet::NoMemory) => 5,
-            OpenFault::NotRun(CompileFault::NoMemory) => 5,
-            OpenFault::BadSet(_) => 6,
-            OpenFault::NotRun(CompileFault::Overload { .. }) => 7,
-            OpenFault::NotRun(CompileFault::ScaleTooLarge { .. }) => 8,
-            OpenFault::InputTooLong => 12,
+            OpenFault::NoMemory => Status::NoMemory,
+            OpenFault::BadSet(ReadSet::NoMemory) => Status::NoMemory,
+            OpenFault::NotRun(CompileFault::NoMemory) => Status::NoMemory,
+            OpenFault::BadSet(_) => Status::BadInput,
+            OpenFault::NotRun(CompileFault::Overload { .. }) => Status::Overload,
+            OpenFault::NotRun(CompileFault::ScaleTooLarge { .. }) => Status::ScaleTooLarge,
+            OpenFault::InputTooLong => Status::InputTooLong,
         }
     }
 }

@@ -10,12 +10,13 @@ use Rattle.pure_commands.specs.Commands.{of_trace}
 use Rattle.pure_commands.specs.Ends.{Streams, ErrorStream, IsDone, IsUnread, IsUsage}
 use Rattle.pure_commands.specs.Refuse.{IsRefused}
 use Rattle.pure_commands.specs.declared.refusal.Refusal.TheVariants as why
-use Rattle.pure_commands.specs.declared.status.Status.{Status}
-use Rattle.pure_commands.specs.declared.status.Status.TheVariants.{Done, Invalid, Usage, NoMemory}
+use Rattle.exit_status.specs.declared.Status.{Status}
+use Rattle.exit_status.specs.declared.Status.TheVariants.{Done, Invalid, Usage, NoMemory}
 use Rattle.run_tool.specs.Alone.{EndsAlone, EndsWithOwn}
 use Rattle.run_tool.specs.Ends.{IsCommandDone}
 use Rattle.run_tool.specs.Executed.{EndsWith}
-use Rattle.run_tool.specs.Executions.{Crew, crew, IsFreshCrew}
+use Rattle.run_tool.specs.Executions.{Crew, IsFreshCrew}
+use Rattle.run_tool.proofs.CrewMade.{crew}
 use Rattle.run_tool.proofs.AskedLemmas.{words_unread}
 
 module _ (words : List (List ℕ)) (old new : Streams) (err err' : ErrorStream) (status : Status) where

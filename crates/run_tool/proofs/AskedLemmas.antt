@@ -6,21 +6,19 @@ use Rattle.command_words.specs.declared.command.Command.TheVariants.{Execute}
 use Rattle.command_words.specs.declared.command.Execution.{Execution}
 use Rattle.command_words.proofs.WordLemmas.{some_is}
 use Rattle.exec_lanes.proofs.ErrorLemmas.{untrue}
-use Rattle.pure_commands.specs.Commands.{SetText}
-use Rattle.pure_commands.specs.Ends.{Streams, ErrorStream, IsUnread, IsQuiet, IsAlwaysSound}
-use Rattle.pure_commands.specs.Follow.{FollowsTrees}
+use Rattle.pure_commands.specs.Ends.{Streams, ErrorStream, IsUnread, IsQuiet}
 use Rattle.pure_commands.specs.Refusals.{status_of}
 use Rattle.pure_commands.specs.Refuse.{IsRefused}
 use Rattle.pure_commands.specs.declared.refusal.Refusal.{Refusal}
 use Rattle.pure_commands.specs.declared.refusal.Refusal.TheVariants as why
-use Rattle.pure_commands.specs.declared.status.Status.{Status}
-use Rattle.pure_commands.specs.declared.status.Status.TheVariants.{Done, Invalid, Usage}
+use Rattle.exit_status.specs.declared.Status.{Status}
+use Rattle.exit_status.specs.declared.Status.TheVariants.{Done, Invalid, Usage}
 use Rattle.pure_commands.proofs.EndLemmas.{is_fault, not_fault, no_none}
 use Rattle.run_tool.specs.ExecutionWords.{EndsAsked}
 use Rattle.run_tool.specs.Executed.{ToldRun, StopsRun, may_have_run}
 use Rattle.run_tool.specs.Executions.{Crew, AreBack}
-use Rattle.run_tool.proofs.ExecutionAnswerLemmas.{done_answered, stops_answered, wanting_answered, none_asked, execution_soundly}
-use Rattle.run_tool.proofs.RunLemmas.{back_same, stopped_fault, done_is, own_told, stop_is, none_failed, ends_unread, ends_done, ends_stopped, uncalled_by}
+use Rattle.run_tool.proofs.ExecutionAnswerLemmas.{done_answered, stops_answered, wanting_answered, none_asked}
+use Rattle.run_tool.proofs.RunLemmas.{back_same, stopped_fault, done_is, stop_is, none_failed, ends_unread, ends_done, ends_stopped, uncalled_by}
 
 module _ (words : List (List ℕ)) (old new : Streams) (err err' : ErrorStream) (Uncalled : Type 0) where
   -- there was no memory to read the words
@@ -52,19 +50,18 @@ module _ (words : List (List ℕ)) (old new : Streams) (err err' : ErrorStream) 
   }
 
   -- an execution was done
-  pub execution_done : (b n : Crew) (e : Execution) → Some (Execute e) ≡ command_of words → ((what : SetText) → IsAlwaysSound what) → FollowsTrees
-      → ToldRun e old new b n → IsQuiet err err' → AreBack b n → EndsAsked words old new err err' b n Uncalled Done
-  execution_done b n e asked truth follows ran quiet back =
-      let told = done_is e old new b n ran in
+  pub execution_done : (b n : Crew) (e : Execution) → Some (Execute e) ≡ command_of words → ToldRun e old new b n → IsQuiet err err' → AreBack b n
+      → EndsAsked words old new err err' b n Uncalled Done
+  execution_done b n e asked ran quiet back =
       record {
         usage = λ wanted. (λ is. absurd (let bad : Done ≡ Usage = is in cc), λ none. absurd (no_none (command_of words) (Execute e) (sym asked) none));
         unread = λ none. absurd (no_none (command_of words) (Execute e) (sym asked) none);
-        done = λ is. (Execute e, sym asked, execution_soundly truth follows e Done old new b told (own_told e old new b n ran));
+        done = λ is. (Execute e, sym asked, (refl, (n, ran)));
         valid = λ is. let bad : Done ≡ Invalid = is in cc;
         ends = λ k is. ends_done e k old new err err' b n (some_is _ k (asked ∙ is)) ran quiet;
         uncalled = λ called. untrue (sym called);
         back = back;
-        answered = λ failed. done_answered (command_of words) e Done old new asked told;
+        answered = λ failed. done_answered (command_of words) e Done old new asked (done_is e old new b n ran);
       }
 
   -- an execution stopped

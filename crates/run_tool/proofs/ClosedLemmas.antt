@@ -6,13 +6,15 @@ use Rattle.command_words.specs.declared.command.Command.{Command}
 use Rattle.command_words.specs.declared.command.Command.TheVariants.{Read, Batch, Execute}
 use Rattle.command_words.specs.declared.command.Execution.{Execution}
 use Rattle.command_words.specs.declared.command.Execution.TheVariants.{Exec, ExecMet, Drill, Jobs, Modes}
-use Rattle.pure_commands.specs.declared.status.Status.{Status}
-use Rattle.pure_commands.specs.declared.status.Status.TheVariants.{Done, Invalid, Usage, WriteFault, NoMemory}
+use Rattle.exit_status.specs.declared.Status.{Status}
+use Rattle.exit_status.specs.declared.Status.TheVariants.{Done, Invalid, Usage, WriteFault, NoMemory}
 use Rattle.pure_commands.specs.Commands.{Output, of_set, of_tree, of_batch, output_of}
-use Rattle.pure_commands.specs.Ends.{Streams, IsUnread, IsTold, IsDoneSoundly}
+use Rattle.pure_commands.specs.Ends.{Streams, IsTold, IsDoneSoundly}
 use Rattle.run_tool.specs.Closing.{closed}
 use Rattle.run_tool.specs.Executions.{Crew}
-use Rattle.run_tool.specs.Ends.{IsDrilled, IsExecutionDone, IsCommandDone}
+use Rattle.run_tool.specs.Drill.{drill_text}
+use Rattle.run_tool.specs.Ends.{IsCommandDone}
+use Rattle.run_tool.specs.Executed.{ToldRun}
 
 -- ---- the status
 
@@ -57,17 +59,17 @@ module _ (old mid : Streams) (out : Option (List ℕ)) (faults : ℕ) (kept : Ke
   soundly_closed of_tree t = told_closed _ _ Done t
   soundly_closed _ t = told_closed _ _ Done t
 
-  execution_closed : (e : Execution) (before : Crew) → IsExecutionDone e Done old mid before → IsExecutionDone e Done old now before
-  execution_closed (Exec window) before t = told_closed _ _ Done t
-  execution_closed ExecMet before t = told_closed _ _ Done t
-  execution_closed Jobs before t = told_closed _ _ Done t
-  execution_closed Modes before t = told_closed _ _ Done t
-  execution_closed (Drill number) before t = record {
-    unread = record { left = t.unread.left; faults = t.unread.faults };
-    told = (t.told.0, t.told.1, appends_kept old.out mid.out out t.told.0 t.told.2 kept);
-  }
+  execution_closed : (e : Execution) (before after : Crew) → ToldRun e old mid before after → ToldRun e old now before after
+  execution_closed (Exec window) before after t = told_closed _ _ Done t
+  execution_closed ExecMet before after t = told_closed _ _ Done t
+  execution_closed Jobs before after t = told_closed _ _ Done t
+  execution_closed Modes before after t = told_closed _ _ Done t
+  execution_closed (Drill number) before after t =
+      let (unread, ran) = t in
+      let (scale, is, took, all) = ran in
+      (record { left = unread.left; faults = unread.faults }, (scale, is, appends_kept old.out mid.out out (drill_text number scale) took kept, all))
 
   pub command_closed : (c : Command) (before : Crew) → IsCommandDone c Done old mid before → IsCommandDone c Done old now before
   command_closed (Read reading) before t = soundly_closed (output_of reading) t
   command_closed Batch before t = soundly_closed of_batch t
-  command_closed (Execute e) before t = execution_closed e before t
+  command_closed (Execute e) before t = (t.0, (t.1.0, execution_closed e before t.1.0 t.1.1))

@@ -3,8 +3,8 @@ use Rattle.std.proofs.Common.{◌≡◌, ◌≢◌, ◌⊎◌, inl, inr, ◌∙�
 use Rattle.sched_edges.specs.Causes.{Rose, HasCause}
 use Rattle.sched_edges.specs.declared.streams.Failed.{Failed}
 use Rattle.pure_commands.specs.declared.refusal.Refusal.TheVariants as why
-use Rattle.pure_commands.specs.declared.status.Status.{Status}
-use Rattle.pure_commands.specs.declared.status.Status.TheVariants.{Done, Invalid, WriteFault}
+use Rattle.exit_status.specs.declared.Status.{Status}
+use Rattle.exit_status.specs.declared.Status.TheVariants.{Done, Invalid, WriteFault}
 use Rattle.pure_commands.specs.Refusals.{refusal_line}
 use Rattle.pure_commands.specs.Ends.{ErrorStream, IsQuiet, Tells}
 use Rattle.run_tool.specs.Closing.{closed, after_fault, TellsClosed}

@@ -36,8 +36,9 @@ use Rattle.exec_workers.specs.Runs.{CountsGate, Ran, RanWhole, Outcome, AreFresh
 use Rattle.exec_lanes.proofs.StageLemmas.{same_job}
 use Rattle.exec_workers.proofs.HeadlineLemmas.{take_next}
 use Rattle.exec_workers.proofs.WholeLemmas.{ticks_at_end, posted_at_end}
-use Rattle.run_tool.specs.Executions.{GateSeen, JobSeen, Crew, crew, gates_of, jobs_of, Holds, IsFreshCrew, AreBack, RanAll, RanPart, GateRose, GateKept}
-use Rattle.run_tool.specs.Executions.{JobRose, JobKept, ShowsFailed, next_leaf, GateStopped, JobStopped}
+use Rattle.run_tool.specs.Executions.{GateSeen, JobSeen, Crew, gates_of, jobs_of, Holds, IsFreshCrew, AreBack, RanAll, RanPart, GateRose, GateKept}
+use Rattle.run_tool.proofs.CrewMade.{crew}
+use Rattle.run_tool.specs.Executions.{JobRose, ShowsFailed, next_leaf, GateStopped, JobStopped}
 use Rattle.run_tool.proofs.CrewLemmas.{below_or, grown_none, same_shown, seen_gate, seen_job, gate_in_kit, kit_shown, job_in_place, place_shown, gates_ran_all}
 use Rattle.run_tool.proofs.CrewLemmas.{back_after, back_kept}
 
@@ -354,7 +355,7 @@ module _ {G J : Type 0} (ran : G → Option (List Row)) (gate_faults : G → ℕ
     -- a job of whose task no such row ran didn't fail
     job_kept : (i : ℕ)
         → ((q : ℕ) → slice_index (posted_by lanes) q < slice_index (ran_by lanes) q → next_leaf p (posted_by lanes) q ≡ Some (Task (record { 0 = i })) → ⊥)
-        → JobKept before after i
+        → (j k : JobSeen) → Holds before.jobs i j → Holds after.jobs i k → k.faults ≡ j.faults
     job_kept i none j k at back =
         let (now, there, own, worked, kept, programmed) = job_now i j at in
         ap (λ (x : JobSeen). x.faults) (same_seen (slice_get (jobs_of id used job_faults made places') i) k now back there)

@@ -17,7 +17,8 @@ use Rattle.exec_lanes.specs.declared.kits.Kit.{Kit}
 use Rattle.exec_lanes.specs.Kits.{KitAt}
 use Rattle.exec_lanes.specs.Lanes.{LaneContents, NoneFailed, AllAt, lane_in, unposted}
 use Rattle.exec_workers.specs.Runs.{CountsGate, Ran}
-use Rattle.run_tool.specs.Executions.{GateSeen, JobSeen, Crew, crew, gates_of, jobs_of, Holds, AreBack}
+use Rattle.run_tool.specs.Executions.{GateSeen, JobSeen, Crew, gates_of, jobs_of, Holds, AreBack}
+use Rattle.run_tool.proofs.CrewMade.{crew}
 
 slice_get-map : {A B : Type 0} (f : A → B) (xs : List A) (i : ℕ) → slice_get (map f xs) i ≡ option_map f (slice_get xs i)
 slice_get-map f [] i = refl

@@ -10,7 +10,8 @@ use Rattle.run_tree.specs.Plans.{PlanContents}
 use Rattle.pure_commands.specs.declared.refusal.Refusal.{Refusal}
 use Rattle.pure_commands.specs.declared.refusal.Refusal.TheVariants as why
 use Rattle.pure_commands.proofs.EndLemmas.{keeps_same}
-use Rattle.run_tool.specs.Drill.{drilled, drill_plan, IsDrill, drill_text}
+use Rattle.pure_commands.specs.SetTexts.{plan_of}
+use Rattle.run_tool.specs.Drill.{drilled, IsDrill, drill_text}
 use Rattle.run_tool.specs.Executions.{Crew, RanAll, usual_window}
 use Rattle.run_tool.specs.Executed.{RanDrill, StopsAtDrill, StopsInRun, WroteDrill, StopsAtText}
 
@@ -24,7 +25,7 @@ pub drill_unwritten : (number scale : ℕ) (out out' : Option (List ℕ)) (fault
     → text ≡ drill_text number scale → TookPart out out' text → Rose faults faults' → StopsAtText number scale out out' faults faults' why.WriteFault
 drill_unwritten number scale out out' faults faults' text is same took rose = (is, subst (λ (t : List ℕ). TookPart out out' t) same took, rose)
 
-module _ (number : ℕ) (p : PlanContents) (plan : p ≡ drill_plan number p.tree.scale) where
+module _ (number : ℕ) (p : PlanContents) (plan : p ≡ plan_of (drilled number) p.tree.scale) where
   -- all was run and written
   pub run_told : {T E : Type 0} (result : Result T E) (old new : Crew) (out out' : Option (List ℕ)) → RanAll p old new
       → OnOk result (WroteDrill number p.tree.scale out out') → OnOk result (RanDrill number out out' old new)

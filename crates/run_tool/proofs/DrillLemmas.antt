@@ -23,7 +23,8 @@ use Rattle.stat_report.specs.Report.{IsValidTrace}
 use Rattle.task_gen.specs.Words.{words_of_number}
 use Rattle.task_gen.specs.Drill.{made_from}
 use Rattle.run_tool.specs.declared.summary.Summary.{Summary}
-use Rattle.run_tool.specs.Drill.{drilled, drill_plan, IsDrill, summary_by, summary_lines, drill_text}
+use Rattle.pure_commands.specs.SetTexts.{plan_of}
+use Rattle.run_tool.specs.Drill.{drilled, IsDrill, summary_by, summary_lines, drill_text}
 
 -- ---- the set
 
@@ -70,7 +71,7 @@ drill_horizon number = refl
 -- ---- the plan
 
 pub plan_is : (number : ℕ) (s : SetContents) (p : PlanContents) → s ≡ drilled number → p.set ≡ s → p.tree ≡ tree_of p.tree.scale s
-    → p ≡ drill_plan number p.tree.scale
+    → p ≡ plan_of (drilled number) p.tree.scale
 plan_is number s p drawn set tree = λ i. record { set = (set ∙ drawn) i; tree = (tree ∙ ap (tree_of p.tree.scale) drawn) i }
 
 -- each round has some tick
@@ -102,7 +103,7 @@ pub trace_valid : (t : Trace) (s : SetContents) (scale : ℕ) (lanes : List (Lis
 trace_valid t s scale lanes is valid = subst IsValidTrace (sym is) valid
 
 -- what is told of a plan's rows is the text of the drill
-pub text_is : (number rounds : ℕ) (p : PlanContents) (told : Summary) → p ≡ drill_plan number p.tree.scale → rounds ≡ rounds_of p
+pub text_is : (number rounds : ℕ) (p : PlanContents) (told : Summary) → p ≡ plan_of (drilled number) p.tree.scale → rounds ≡ rounds_of p
     → told ≡ summary_by number rounds (trace_again p.set p.tree.scale (merged_lanes (plan_rows p)))
     → concat (summary_lines told) ≡ drill_text number p.tree.scale
 unfolding drill_text
@@ -111,7 +112,7 @@ text_is number rounds p told plan count is =
     ∙ (λ i. summary_by number ((count ∙ ap rounds_of plan) i) (trace_again (plan i).set p.tree.scale (merged_lanes (plan_rows (plan i))))))
 
 -- and the drill's trace is the one that was judged
-pub drill_is : (number : ℕ) (p : PlanContents) → p ≡ drill_plan number p.tree.scale → IsScale (drilled number).tasks p.tree.scale
+pub drill_is : (number : ℕ) (p : PlanContents) → p ≡ plan_of (drilled number) p.tree.scale → IsScale (drilled number).tasks p.tree.scale
     → IsValidTrace (trace_again p.set p.tree.scale (merged_lanes (plan_rows p))) → IsDrill number p.tree.scale
 drill_is number p plan is_scale valid =
     record { is_scale = is_scale; valid = subst (λ (q : PlanContents). IsValidTrace (trace_again q.set p.tree.scale (merged_lanes (plan_rows q)))) plan valid }

@@ -22,7 +22,7 @@ use Rattle.job_vm.specs.Results.{told_at, jobs_text}
 use Rattle.command_words.specs.declared.command.Execution.TheVariants.{Jobs}
 use Rattle.pure_commands.specs.declared.refusal.Refusal.{Refusal}
 use Rattle.pure_commands.specs.declared.refusal.Refusal.TheVariants as why
-use Rattle.pure_commands.specs.declared.status.Status.TheVariants.{Done}
+use Rattle.exit_status.specs.declared.Status.TheVariants.{Done}
 use Rattle.pure_commands.specs.Commands.{set_limit, schedule_rows, plan_of, rows_of, HasRoom}
 use Rattle.event_core.specs.declared.counts.CountFault.{CountFault}
 use Rattle.event_core.specs.declared.counts.CountFault.TheVariants as count_fault
@@ -32,9 +32,11 @@ use Rattle.pure_commands.specs.Input.{IsSchedulable, IsRefusedSet}
 use Rattle.pure_commands.proofs.EndLemmas.{keeps_same}
 use Rattle.run_tool.specs.JobPrograms.{ReadsJobs, IsJobsToRun, set_bytes, result_text}
 use Rattle.pure_commands.specs.Ends.{Streams}
-use Rattle.run_tool.specs.Executions.{GateSeen, JobSeen, Crew, crew, IsFreshCrew, RanAll, usual_window}
+use Rattle.run_tool.specs.Executions.{GateSeen, JobSeen, Crew, IsFreshCrew, RanAll, usual_window}
+use Rattle.run_tool.proofs.CrewMade.{crew}
 use Rattle.run_tool.proofs.LoadedLemmas.{results_are}
-use Rattle.run_tool.specs.Executed.{StopsInRun, loaded_crew, ToldRun, StopsRun, may_have_run}
+use Rattle.run_tool.specs.Executed.{StopsInRun, ToldRun, StopsRun, may_have_run}
+use Rattle.run_tool.specs.Executions.{loaded_crew}
 use Rattle.pure_commands.specs.Refusals.{status_of}
 use Rattle.command_words.specs.declared.command.Command.TheVariants.{Execute}
 use Rattle.run_tool.specs.JobInput.{GaveJobs, GaveNoJobs, RanJobs, StopsAtJobs}
@@ -85,7 +87,7 @@ refused_stops text out faults c s _ refused = absurd refused
 
 -- memory was refused while programs were loaded
 pub loading_stops : (text : JobTextHeld) (out : Option (List ℕ)) (faults scale n : ℕ) (old new : Crew) (s : SetContents) → IsSchedulable s scale
-    → new ≡ loaded_crew text scale (take n s.tasks) old → StopsAtJobs text out out faults faults old new s why.NoMemory
+    → new ≡ loaded_crew text.programs scale (take n s.tasks) old → StopsAtJobs text out out faults faults old new s why.NoMemory
 loading_stops text out faults scale n old new s run is = (inr (scale, n, run, is), keeps_same out)
 
 -- where a gate or a job failed, or memory was refused, something may have been done
@@ -109,8 +111,10 @@ module _ (text : JobTextHeld) (s : SetContents) (p : PlanContents) (is_set : p.s
     (
       p.tree.scale,
       run,
-      subst (λ (q : PlanContents). row_limit < rows_of q) same is.0,
-      subst (λ (q : PlanContents). rows ≡ (row_limit / q.tree.processors + 1) * q.tree.processors) same is.1,
+      (
+        subst (λ (q : PlanContents). row_limit < rows_of q) same is.0,
+        subst (λ (q : PlanContents). rows ≡ (row_limit / q.tree.processors + 1) * q.tree.processors) same is.1,
+      ),
     ),
     keeps_same out,
   )
@@ -118,13 +122,13 @@ module _ (text : JobTextHeld) (s : SetContents) (p : PlanContents) (is_set : p.s
 
   -- a gate or a job failed, or memory was refused once all programs were loaded
   pub running_stops : (out : Option (List ℕ)) (faults count : ℕ) (old held new : Crew) (r : Refusal) → IsSchedulable s p.tree.scale → count ≡ rounds_of p
-      → count * p.tree.processors ≤ row_limit → held ≡ loaded_crew text p.tree.scale s.tasks old → StopsInRun p usual_window held new r
+      → count * p.tree.processors ≤ row_limit → held ≡ loaded_crew text.programs p.tree.scale s.tasks old → StopsInRun p usual_window held new r
       → (r ≡ why.NoMemory → new ≡ held) → StopsAtJobs text out out faults faults old new s r
   running_stops out faults count old held new (why.GateFault row name) run is few held_is stops left = (
     p.tree.scale,
     run,
     room count is few,
-    subst (λ (q : PlanContents). StopsInRun q usual_window (loaded_crew text p.tree.scale s.tasks old) new (why.GateFault row name)) same
+    subst (λ (q : PlanContents). StopsInRun q usual_window (loaded_crew text.programs p.tree.scale s.tasks old) new (why.GateFault row name)) same
         (subst (λ (x : Crew). StopsInRun p usual_window x new (why.GateFault row name)) held_is stops),
     keeps_same out,
   )
@@ -132,40 +136,40 @@ module _ (text : JobTextHeld) (s : SetContents) (p : PlanContents) (is_set : p.s
     p.tree.scale,
     run,
     room count is few,
-    subst (λ (q : PlanContents). StopsInRun q usual_window (loaded_crew text p.tree.scale s.tasks old) new (why.JobFault row name)) same
+    subst (λ (q : PlanContents). StopsInRun q usual_window (loaded_crew text.programs p.tree.scale s.tasks old) new (why.JobFault row name)) same
         (subst (λ (x : Crew). StopsInRun p usual_window x new (why.JobFault row name)) held_is stops),
     keeps_same out,
   )
   running_stops out faults count old held new why.NoMemory run is few held_is stops left =
       loading_stops text out faults p.tree.scale (length s.tasks) old new s run
-      (left refl ∙ held_is ∙ ap (λ tasks. loaded_crew text p.tree.scale tasks old) (sym (take_all (length s.tasks) s.tasks (omega arith))))
+      (left refl ∙ held_is ∙ ap (λ tasks. loaded_crew text.programs p.tree.scale tasks old) (sym (take_all (length s.tasks) s.tasks (omega arith))))
   running_stops out faults count old held new _ run is few held_is stops left = absurd stops
 
   -- the places hold the jobs with their programs
   pub loaded_is : (gates : List (Option GateSeen)) (was now : List (Option JobSeen)) (scale : ℕ) (set : SetContents) → scale ≡ p.tree.scale → set ≡ p.set
-      → now ≡ loaded scale text.programs set.tasks was → crew gates now ≡ loaded_crew text p.tree.scale s.tasks (crew gates was)
+      → now ≡ loaded scale text.programs set.tasks was → crew gates now ≡ loaded_crew text.programs p.tree.scale s.tasks (crew gates was)
   loaded_is gates was now scale set scale_is set_is now_is =
       ap (crew gates) (now_is ∙ (λ i. loaded (scale_is i) text.programs ((set_is ∙ is_set) i).tasks was))
 
   -- the same where only the programs of the first tasks were loaded
   pub loaded_part : (gates : List (Option GateSeen)) (was now : List (Option JobSeen)) (scale n : ℕ) (set : SetContents) → scale ≡ p.tree.scale → set ≡ p.set
-      → now ≡ loaded scale text.programs (take n set.tasks) was → crew gates now ≡ loaded_crew text p.tree.scale (take n s.tasks) (crew gates was)
+      → now ≡ loaded scale text.programs (take n set.tasks) was → crew gates now ≡ loaded_crew text.programs p.tree.scale (take n s.tasks) (crew gates was)
   loaded_part gates was now scale n set scale_is set_is now_is =
       ap (crew gates) (now_is ∙ (λ i. loaded (scale_is i) text.programs (take n ((set_is ∙ is_set) i).tasks) was))
 
   -- what is written is the text of the results
   told_are : (old new : Crew) (scale : ℕ) (set : SetContents) → scale ≡ p.tree.scale → set ≡ p.set → length s.tasks ≤ 256 → IsFreshCrew old
-      → RanAll p (loaded_crew text p.tree.scale s.tasks old) new → jobs_text (told_at scale new.jobs) set.tasks ≡ result_text text (plan_of s p.tree.scale) old.jobs
+      → RanAll p (loaded_crew text.programs p.tree.scale s.tasks old) new → jobs_text (told_at scale new.jobs) set.tasks ≡ result_text text (plan_of s p.tree.scale) old.jobs
   told_are old new scale set scale_is set_is few ready ran =
       (λ i. jobs_text (told_at (scale_is i) new.jobs) (set_is i).tasks)
       ∙ (results_are text p old new (subst (λ (x : SetContents). length x.tasks ≤ 256) (sym is_set) few) ready
-      (subst (λ (x : SetContents). RanAll p (loaded_crew text p.tree.scale x.tasks old) new) (sym is_set) ran)
+      (subst (λ (x : SetContents). RanAll p (loaded_crew text.programs p.tree.scale x.tasks old) new) (sym is_set) ran)
       ∙ ap (λ (q : PlanContents). result_text text q old.jobs) same)
 
   -- all was run and written
   pub jobs_ran : (out out' : Option (List ℕ)) (count : ℕ) (old held new : Crew) (scale : ℕ) (set : SetContents) → IsSchedulable s p.tree.scale → count ≡ rounds_of p
       → count * p.tree.processors ≤ row_limit → scale ≡ p.tree.scale → set ≡ p.set → length s.tasks ≤ 256 → IsFreshCrew old
-      → held ≡ loaded_crew text p.tree.scale s.tasks old → RanAll p held new
+      → held ≡ loaded_crew text.programs p.tree.scale s.tasks old → RanAll p held new
       → Appends out out' (jobs_text (told_at scale new.jobs) set.tasks) → RanJobs text out out' old new s
   jobs_ran out out' count old held new scale set run is few scale_is set_is count_few ready held_is ran took =
       let all = subst (λ (x : Crew). RanAll p x new) held_is ran in (
@@ -173,13 +177,13 @@ module _ (text : JobTextHeld) (s : SetContents) (p : PlanContents) (is_set : p.s
         run,
         room count is few,
         subst (λ (t : List ℕ). Appends out out' t) (told_are old new scale set scale_is set_is count_few ready all) took,
-        subst (λ (q : PlanContents). RanAll q (loaded_crew text p.tree.scale s.tasks old) new) same all,
+        subst (λ (q : PlanContents). RanAll q (loaded_crew text.programs p.tree.scale s.tasks old) new) same all,
       )
 
   -- all was run, and not all was written
   pub jobs_unwritten : (out out' : Option (List ℕ)) (faults faults' count : ℕ) (old held new : Crew) (scale : ℕ) (set : SetContents) → IsSchedulable s p.tree.scale
       → count ≡ rounds_of p → count * p.tree.processors ≤ row_limit → scale ≡ p.tree.scale → set ≡ p.set → length s.tasks ≤ 256 → IsFreshCrew old
-      → held ≡ loaded_crew text p.tree.scale s.tasks old → RanAll p held new
+      → held ≡ loaded_crew text.programs p.tree.scale s.tasks old → RanAll p held new
       → TookPart out out' (jobs_text (told_at scale new.jobs) set.tasks) → Rose faults faults' → StopsAtJobs text out out' faults faults' old new s why.WriteFault
   jobs_unwritten out out' faults faults' count old held new scale set run is few scale_is set_is count_few ready held_is ran took rose =
       let all = subst (λ (x : Crew). RanAll p x new) held_is ran in (
@@ -188,7 +192,7 @@ module _ (text : JobTextHeld) (s : SetContents) (p : PlanContents) (is_set : p.s
         room count is few,
         subst (λ (t : List ℕ). TookPart out out' t) (told_are old new scale set scale_is set_is count_few ready all) took,
         rose,
-        subst (λ (q : PlanContents). RanAll q (loaded_crew text p.tree.scale s.tasks old) new) same all,
+        subst (λ (q : PlanContents). RanAll q (loaded_crew text.programs p.tree.scale s.tasks old) new) same all,
       )
 
 -- ---- the whole

@@ -4,18 +4,16 @@ use Rattle.sched_base.specs.Sets.{SetContents}
 use Rattle.task_reader.specs.Reading.{set_read_from}
 use Rattle.task_reader.specs.declared.refusals.ReadSet.{ReadSet}
 use Rattle.job_vm.specs.Programs.{JobTextHeld, reading as job_reading}
-use Rattle.job_vm.specs.Seen.{JobSeen}
 use Rattle.job_vm.specs.Strays.{first_stray}
 use Rattle.sched_edges.proofs.Pieces.{ok_is_no_fault}
 use Rattle.command_words.proofs.WordLemmas.{no_some}
 use Rattle.pure_commands.specs.declared.refusal.Refusal.{Refusal}
 use Rattle.pure_commands.specs.declared.refusal.Refusal.TheVariants as why
-use Rattle.pure_commands.specs.declared.status.Status.{Status}
-use Rattle.pure_commands.specs.declared.status.Status.TheVariants.{Done}
+use Rattle.exit_status.specs.declared.Status.TheVariants.{Done}
 use Rattle.pure_commands.specs.Refusals.{status_of, set_status}
 use Rattle.pure_commands.specs.SetTexts.{schedule_rows, text_of, RefusesText}
 use Rattle.pure_commands.proofs.AnswerLemmas.{set_writes_or_refuses, one_text_status}
-use Rattle.run_tool.specs.JobPrograms.{ReadsJobs, set_bytes, WritesResult, HasBadProgram, RefusesJobs}
+use Rattle.run_tool.specs.JobPrograms.{ReadsJobs, IsJobsToRun, set_bytes, HasBadProgram, RefusesJobs}
 
 same_value : {T E : Type 0} (a b : T) → ◌≡◌ {A = Result T E} (Ok a) (Ok b) → a ≡ b
 same_value a b e = cc
@@ -58,9 +56,8 @@ no_bad_set : (bytes : List ℕ) (t u : JobTextHeld) (s : SetContents) (q : ReadS
 no_bad_set bytes t u s q reads read set = ok_is_no_fault (same_job_set bytes t u (Err q) s reads read set)
 
 -- nothing is told of the jobs of bytes that are refused
-pub jobs_or_refused : (bytes result : List ℕ) (jobs : List (Option JobSeen)) (status : Status) (r : Refusal) → WritesResult jobs bytes status result → RefusesJobs bytes r → ⊥
-jobs_or_refused bytes result jobs status r writes refuses =
-    let (t, s, scale, run, is) = writes.1 in
+pub jobs_or_refused : (bytes : List ℕ) (t : JobTextHeld) (s : SetContents) (scale : ℕ) (r : Refusal) → IsJobsToRun bytes t s scale → RefusesJobs bytes r → ⊥
+jobs_or_refused bytes t s scale r run refuses =
     elim (as_jobs bytes r refuses) [
       | inl bad ↦ no_bad_program bytes t s bad.0 run.reads bad.2
       | inr (inl set) ↦ no_bad_set bytes t set.2.0 s set.0 run.reads set.2.1 set.2.2

@@ -7,6 +7,7 @@ pub mod JobRunLemmas
 pub mod RunLemmas
 pub mod AskedLemmas
 pub mod AloneLemmas
+pub mod CrewMade
 pub mod CrewLemmas
 pub mod CrewEndLemmas
 pub mod PartLemmas

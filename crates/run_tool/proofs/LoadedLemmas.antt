@@ -17,9 +17,10 @@ use Rattle.job_vm.specs.Loading.{code_of, anew, loaded}
 use Rattle.job_vm.specs.Results.{Told, told_at, told_of, job_line, jobs_text}
 use Rattle.job_vm.proofs.ResultsLemmas.{jobs_text_is}
 use Rattle.run_tool.specs.JobPrograms.{made_at, told_of_task, result_text}
-use Rattle.run_tool.specs.Executions.{GateSeen, JobSeen, Crew, crew, gates_of, jobs_of, Holds, IsFreshCrew, AreBack, RanAll, JobRose}
+use Rattle.run_tool.specs.Executions.{GateSeen, JobSeen, Crew, gates_of, jobs_of, Holds, IsFreshCrew, AreBack, RanAll, JobRose}
+use Rattle.run_tool.proofs.CrewMade.{crew}
 use Rattle.run_tool.proofs.CrewLemmas.{job_in_place}
-use Rattle.run_tool.specs.Executed.{loaded_crew}
+use Rattle.run_tool.specs.Executions.{loaded_crew}
 
 -- a job whose program was loaded is the one that it was
 pub record IsSameJob (old new : JobSeen) : Type 0 where
@@ -67,7 +68,7 @@ length-loaded scale programs (t ∷ tasks) [] = refl
 length-loaded scale programs (t ∷ tasks) (job ∷ jobs) = ap suc (length-loaded scale programs tasks jobs)
 
 -- all is ready once the programs are loaded
-pub ready_loaded : (text : JobTextHeld) (scale : ℕ) (tasks : List Task) (c : Crew) → IsFreshCrew c → IsFreshCrew (loaded_crew text scale tasks c)
+pub ready_loaded : (text : JobTextHeld) (scale : ℕ) (tasks : List Task) (c : Crew) → IsFreshCrew c → IsFreshCrew (loaded_crew text.programs scale tasks c)
 ready_loaded text scale tasks c ready = record {
   gates = ready.gates;
   count = length-loaded scale text.programs tasks c.jobs ∙ ready.count;
@@ -78,7 +79,7 @@ ready_loaded text scale tasks c ready = record {
 }
 
 -- what is back after a run is back after the loading too
-pub back_loaded : (text : JobTextHeld) (scale : ℕ) (tasks : List Task) (c now : Crew) → AreBack (loaded_crew text scale tasks c) now → AreBack c now
+pub back_loaded : (text : JobTextHeld) (scale : ℕ) (tasks : List Task) (c now : Crew) → AreBack (loaded_crew text.programs scale tasks c) now → AreBack c now
 back_loaded text scale tasks c now back = record {
   gates = back.gates;
   jobs = λ i j at.
@@ -88,7 +89,7 @@ back_loaded text scale tasks c now back = record {
 }
 
 -- a loading alone leaves all in their places
-pub back_alone : (text : JobTextHeld) (scale : ℕ) (tasks : List Task) (c : Crew) → AreBack c (loaded_crew text scale tasks c)
+pub back_alone : (text : JobTextHeld) (scale : ℕ) (tasks : List Task) (c : Crew) → AreBack c (loaded_crew text.programs scale tasks c)
 back_alone text scale tasks c = record {
   gates = λ p g at. (g, at, omega arith);
   jobs = λ i j at.
@@ -98,13 +99,13 @@ back_alone text scale tasks c = record {
 }
 
 -- the same of the moment at which the programs are loaded
-pub ready_at : (text : JobTextHeld) (scale : ℕ) (tasks : List Task) (old held : Crew) → held ≡ loaded_crew text scale tasks old → IsFreshCrew old → IsFreshCrew held
+pub ready_at : (text : JobTextHeld) (scale : ℕ) (tasks : List Task) (old held : Crew) → held ≡ loaded_crew text.programs scale tasks old → IsFreshCrew old → IsFreshCrew held
 ready_at text scale tasks old held is ready = subst (λ (x : Crew). IsFreshCrew x) (sym is) (ready_loaded text scale tasks old ready)
 
-pub back_at : (text : JobTextHeld) (scale : ℕ) (tasks : List Task) (old new : Crew) → new ≡ loaded_crew text scale tasks old → AreBack old new
+pub back_at : (text : JobTextHeld) (scale : ℕ) (tasks : List Task) (old new : Crew) → new ≡ loaded_crew text.programs scale tasks old → AreBack old new
 back_at text scale tasks old new is = subst (λ (x : Crew). AreBack old x) (sym is) (back_alone text scale tasks old)
 
-pub back_by_run : (text : JobTextHeld) (scale : ℕ) (tasks : List Task) (old held new : Crew) → held ≡ loaded_crew text scale tasks old → AreBack held new → AreBack old new
+pub back_by_run : (text : JobTextHeld) (scale : ℕ) (tasks : List Task) (old held new : Crew) → held ≡ loaded_crew text.programs scale tasks old → AreBack held new → AreBack old new
 back_by_run text scale tasks old held new is back = back_loaded text scale tasks old new (subst (λ (x : Crew). AreBack x new) is back)
 
 -- kits and places that are as before show the same
@@ -115,7 +116,7 @@ crew_left ran gate_faults id used made job_faults kits kits' places places' same
     (λ i. crew (gates_of ran gate_faults (same.0 i)) (jobs_of id used job_faults made (same.1 i)))
 
 -- a job that failed after the loading failed
-pub rose_loaded : (text : JobTextHeld) (scale : ℕ) (tasks : List Task) (c now : Crew) (i : ℕ) → JobRose (loaded_crew text scale tasks c) now i → JobRose c now i
+pub rose_loaded : (text : JobTextHeld) (scale : ℕ) (tasks : List Task) (c now : Crew) (i : ℕ) → JobRose (loaded_crew text.programs scale tasks c) now i → JobRose c now i
 rose_loaded text scale tasks c now i rose =
     let (k, l, at, here, more) = rose in
     let (j, there, same) = unloaded scale text.programs tasks c.jobs i k at in
@@ -164,7 +165,7 @@ made_held (place ∷ jobs) (suc i) j at = made_held jobs i j at
 
 -- what is told of the job of task i
 pub told_is : (text : JobTextHeld) (p : PlanContents) (old new : Crew) (i : ℕ) (j : JobSeen) → i < length p.set.tasks → Holds old.jobs i j
-    → RanAll p (loaded_crew text p.tree.scale p.set.tasks old) new → told_at p.tree.scale new.jobs i ≡ told_of_task text.programs p old.jobs i
+    → RanAll p (loaded_crew text.programs p.tree.scale p.set.tasks old) new → told_at p.tree.scale new.jobs i ≡ told_of_task text.programs p old.jobs i
 told_is text p old new i j within at ran =
     let code = code_of text.programs (task_at p.set.tasks i).name in
     let after = ran.jobs i (anew p.tree.scale code j) (loaded_at p.tree.scale text.programs p.set.tasks old.jobs i j within at) in
@@ -176,7 +177,7 @@ told_is text p old new i j within at ran =
 
 -- what is written of the jobs after a run is what is told of the tasks
 pub results_are : (text : JobTextHeld) (p : PlanContents) (old new : Crew) → length p.set.tasks ≤ 256 → IsFreshCrew old
-    → RanAll p (loaded_crew text p.tree.scale p.set.tasks old) new → jobs_text (told_at p.tree.scale new.jobs) p.set.tasks ≡ result_text text p old.jobs
+    → RanAll p (loaded_crew text.programs p.tree.scale p.set.tasks old) new → jobs_text (told_at p.tree.scale new.jobs) p.set.tasks ≡ result_text text p old.jobs
 results_are text p old new few ready ran =
     same_results (told_at p.tree.scale new.jobs) (told_of_task text.programs p old.jobs) p.set.tasks
     (λ i within. let (j, at, own, none) = ready.jobs i (omega (arith, few, within)) in told_is text p old new i j within at ran)

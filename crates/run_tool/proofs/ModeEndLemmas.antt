@@ -23,7 +23,7 @@ use Rattle.command_words.specs.declared.command.Execution.TheVariants.{Modes}
 use Rattle.pure_commands.specs.declared.mode_refusal.ModeRefusal.TheVariants as mode
 use Rattle.pure_commands.specs.declared.refusal.Refusal.{Refusal}
 use Rattle.pure_commands.specs.declared.refusal.Refusal.TheVariants as why
-use Rattle.pure_commands.specs.declared.status.Status.TheVariants.{Done}
+use Rattle.exit_status.specs.declared.Status.TheVariants.{Done}
 use Rattle.pure_commands.specs.Commands.{set_limit}
 use Rattle.pure_commands.specs.Ends.{Streams}
 use Rattle.run_tool.specs.Executions.{Crew}

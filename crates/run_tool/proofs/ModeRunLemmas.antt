@@ -31,8 +31,10 @@ use Rattle.mode_switch.specs.declared.answers.ModesFault.TheVariants as fault
 use Rattle.mode_switch.specs.Runs as modes
 use Rattle.pure_commands.specs.declared.mode_refusal.ModeRefusal.{ModeRefusal}
 use Rattle.pure_commands.specs.declared.mode_refusal.ModeRefusal.TheVariants as mode
-use Rattle.run_tool.specs.Executions.{GateSeen, JobSeen, Crew, crew, gates_of, jobs_of, Holds, IsFreshCrew, AreBack, RanAll, GateRose, JobRose, GateStopped, JobStopped, name_at}
-use Rattle.run_tool.specs.ModeRuns.{begun_crew, made_after, RanThrough, StopsInMode, StopsBetween}
+use Rattle.run_tool.specs.Executions.{GateSeen, JobSeen, Crew, gates_of, jobs_of, Holds, IsFreshCrew, AreBack, RanAll, GateRose, JobRose, GateStopped, JobStopped, name_at}
+use Rattle.run_tool.proofs.CrewMade.{crew}
+use Rattle.run_tool.specs.ModeRuns.{made_after, RanThrough, StopsInMode, StopsBetween}
+use Rattle.run_tool.specs.Executions.{loaded_crew}
 use Rattle.run_tool.proofs.CrewLemmas.{below_or, seen_gate, seen_job, gate_in_kit, kit_shown, job_in_place, place_shown}
 use Rattle.run_tool.proofs.CrewEndLemmas.{same_seen, no_ticks_at_all, ran_to_end, gate_stopped, gate_names, gate_below, job_stopped, job_names}
 use Rattle.run_tool.proofs.LoadedLemmas.{loaded_held, loaded_at, unloaded}
@@ -50,7 +52,7 @@ ready_staffed c ready = record {
   jobs = λ i within. let (j, at, own, none) = ready.jobs i within in (j, at, own);
 }
 
-begun_staffed : (tasks : List Task) (c : Crew) → IsStaffed c → IsStaffed (begun_crew tasks c)
+begun_staffed : (tasks : List Task) (c : Crew) → IsStaffed c → IsStaffed (loaded_crew [] 1 tasks c)
 begun_staffed tasks c staffed = record {
   gates = staffed.gates;
   jobs = λ i within.
@@ -103,7 +105,7 @@ abbrev used_in : PlanContents → ℕ → ℕ → ℕ
 used_in p i used = if nat_lt i (length p.set.tasks) then ticks_in i (all_rows (plan_rows p)) else used
 
 module _ (m : Mode) (ms : List Mode) (names : AllByRecursion (λ rows. AllByRecursion (λ r. NamesOneOf m.plan.set.tasks r.leaf) rows) (plan_rows m.plan))
-    (a b c : Crew) (first : RanAll m.plan (begun_crew m.plan.set.tasks a) b) (rest : RanThrough ms b c) where
+    (a b c : Crew) (first : RanAll m.plan (loaded_crew [] 1 m.plan.set.tasks a) b) (rest : RanThrough ms b c) where
   -- a job after the first mode
   job_then : (i : ℕ) (j : JobSeen) → Holds a.jobs i j
       → (k : JobSeen) × Holds b.jobs i k × (k.id ≡ j.id) × (k.used ≡ used_in m.plan i j.used) × (k.faults ≡ j.faults)
@@ -161,7 +163,7 @@ module _ {G J : Type 0} (gate : GateTells G) (job : JobTells J)
       (x, there)
 
   module _ (p : PlanContents) (h : IsPlan p) (old begun : CrewHeld G J) (begins : modes.HasBegun job p.set.tasks old begun) (staffed : IsStaffed (crew_at old)) where
-    begun_is : crew_at begun ≡ begun_crew p.set.tasks (crew_at old)
+    begun_is : crew_at begun ≡ loaded_crew [] 1 p.set.tasks (crew_at old)
     begun_is = λ i. crew (gates_of gate.ran gate.faults (begins.gates i)) (begins.jobs i)
 
     still_staffed : IsStaffed (crew_at begun)
@@ -182,7 +184,7 @@ module _ {G J : Type 0} (gate : GateTells G) (job : JobTells J)
 
   -- a mode that was run whole
   mode_whole : (p : PlanContents) → IsPlan p → (old new : CrewHeld G J) (e : Executed) → IsStaffed (crew_at old) → RanMode gate job p (Ok e) old new
-      → RanAll p (begun_crew p.set.tasks (crew_at old)) (crew_at new)
+      → RanAll p (loaded_crew [] 1 p.set.tasks (crew_at old)) (crew_at new)
   mode_whole p h old new e staffed ran =
       let begun = ran.begun in
       let o = ran.outcome in
@@ -240,7 +242,7 @@ module _ {G J : Type 0} (gate : GateTells G) (job : JobTells J)
 
   -- a gate that failed in a mode failed since the first
   gate_rose_since : (ms : List Mode) (tasks : List Task) (old between new : Crew) (q : ℕ) → q < 32 → IsStaffed old → RanThrough ms old between
-      → GateRose (begun_crew tasks between) new q → GateRose old new q
+      → GateRose (loaded_crew [] 1 tasks between) new q → GateRose old new q
   gate_rose_since ms tasks old between new q within staffed ran rose =
       let (g, h, at, there, more) = rose in
       let (first, begun) = staffed.gates q within in
@@ -249,7 +251,7 @@ module _ {G J : Type 0} (gate : GateTells G) (job : JobTells J)
       (first, h, begun, there, subst (λ n. Rose n h.faults) kept more)
 
   job_rose_since : (ms : List Mode) (tasks : List Task) (old between new : Crew) (t : ℕ) → t < 256 → IsStaffed old → RanThrough ms old between
-      → JobRose (begun_crew tasks between) new t → JobRose old new t
+      → JobRose (loaded_crew [] 1 tasks between) new t → JobRose old new t
   job_rose_since ms tasks old between new t within staffed ran rose =
       let (j, k, at, there, more) = rose in
       let (i, held, kept) = unloaded 1 [] tasks between.jobs t j at in
@@ -281,7 +283,7 @@ module _ {G J : Type 0} (gate : GateTells G) (job : JobTells J)
         let here : GateStopped p ran.window (crew_at begun) (crew_at new) row =
         gate_stopped gate.ran gate.faults job.id job.used job.made job.faults p ran.window h begun.kits new.kits begun.places new.places
         full new_jobs (names p h) o.0 o.1 q row o.2.0 o.2.1 in
-        let stopped : GateStopped p ran.window (begun_crew p.set.tasks (crew_at stops.between)) (crew_at new) row =
+        let stopped : GateStopped p ran.window (loaded_crew [] 1 p.set.tasks (crew_at stops.between)) (crew_at new) row =
         subst (λ (c : Crew). GateStopped p ran.window c (crew_at new) row) (begun_is p h stops.between begun ran.begins still) here in
         let below = gate_below gate.ran gate.faults job.id job.used job.made job.faults p ran.window h begun.kits new.kits begun.places new.places
         full new_jobs (names p h) o.0 o.1 q row o.2.0 in
@@ -316,7 +318,7 @@ module _ {G J : Type 0} (gate : GateTells G) (job : JobTells J)
         let here : JobStopped p ran.window (crew_at begun) (crew_at new) row =
         job_stopped gate.ran gate.faults job.id job.used job.made job.faults p ran.window h begun.kits new.kits begun.places new.places
         full new_jobs (names p h) o.0 o.1 q t o.2.1.0 row o.2.1.1 o.2.0 o.2.2 in
-        let stopped : JobStopped p ran.window (begun_crew p.set.tasks (crew_at stops.between)) (crew_at new) row =
+        let stopped : JobStopped p ran.window (loaded_crew [] 1 p.set.tasks (crew_at stops.between)) (crew_at new) row =
         subst (λ (c : Crew). JobStopped p ran.window c (crew_at new) row) (begun_is p h stops.between begun ran.begins still) here in
         let named = job_names gate.ran gate.faults job.id job.used job.made job.faults p ran.window h begun.kits new.kits begun.places new.places
         full new_jobs (names p h) o.0 o.1 q t o.2.1.0 row o.2.1.1 in

@@ -10,14 +10,14 @@ use Rattle.task_reader.specs.Reading.{set_read_from}
 use Rattle.mode_join.specs.declared.faults.ModeKind.{ModeKind}
 use Rattle.mode_join.specs.declared.faults.ModeKind.TheVariants as kind
 use Rattle.mode_join.specs.Joining.{IsRefused, rank}
-use Rattle.mode_join.specs.Modes.{sets_of}
+use Rattle.mode_join.specs.Modes.{ModesContents, sets_of}
 use Rattle.pure_commands.specs.declared.mode_refusal.ModeRefusal.{ModeRefusal}
 use Rattle.pure_commands.specs.declared.mode_refusal.ModeRefusal.TheVariants as mode
 use Rattle.pure_commands.specs.declared.refusal.Refusal.{Refusal}
 use Rattle.pure_commands.specs.declared.refusal.Refusal.TheVariants as why
-use Rattle.pure_commands.specs.declared.status.Status.{Status}
-use Rattle.pure_commands.specs.declared.status.Status.TheVariants as status
-use Rattle.run_tool.specs.ModeTexts.{ReadsSets, WritesModes, IsFirstBad, RefusesMode, RefusesModes}
+use Rattle.exit_status.specs.declared.Status.{Status}
+use Rattle.exit_status.specs.declared.Status.TheVariants as status
+use Rattle.run_tool.specs.ModeTexts.{ReadsSets, ReadsModes, IsFirstBad, RefusesMode, RefusesModes}
 use Rattle.pure_commands.specs.Refusals.{status_of, set_status, kind_status}
 
 -- ---- pieces that are sets
@@ -128,9 +128,8 @@ why_refused bytes (why.OfMode j q) refuses = why_mode bytes j q refuses
 why_refused bytes _ refuses = absurd refuses
 
 -- nothing is told of bytes that are refused
-pub modes_or_refused : (bytes text : List ℕ) (status : Status) (r : Refusal) → WritesModes bytes status text → RefusesModes bytes r → ⊥
-modes_or_refused bytes text status r writes refuses =
-    let (m, reads, is) = writes.1 in
+pub modes_or_refused : (bytes : List ℕ) (m : ModesContents) (r : Refusal) → ReadsModes bytes m → RefusesModes bytes r → ⊥
+modes_or_refused bytes m r reads refuses =
     elim (why_refused bytes r refuses) [
       | inl bad ↦ none_bad bytes (sets_of m.modes) bad.0 bad.1 reads.read bad.2
       | inr unjoined ↦

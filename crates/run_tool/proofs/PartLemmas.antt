@@ -11,8 +11,8 @@ use Rattle.pure_commands.specs.Ends.{Streams, IsUnread}
 use Rattle.pure_commands.specs.Refusals.{status_of}
 use Rattle.pure_commands.specs.declared.refusal.Refusal.{Refusal}
 use Rattle.pure_commands.specs.declared.refusal.Refusal.TheVariants as why
-use Rattle.pure_commands.specs.declared.status.Status.{Status}
-use Rattle.pure_commands.specs.declared.status.Status.TheVariants.{WriteFault}
+use Rattle.exit_status.specs.declared.Status.{Status}
+use Rattle.exit_status.specs.declared.Status.TheVariants.{WriteFault}
 use Rattle.run_tool.specs.Executed.{ToldRun, StopsRun, RanDrill, StopsAtDrill, EndsPart, EndsExecution, may_have_called, takes_memory_late, may_have_run}
 use Rattle.run_tool.specs.Executions.{Crew, AreBack}
 use Rattle.run_tool.proofs.RunLemmas.{back_same, drill_ran, drill_done_as, drill_stopped_as, uncalled_early}

@@ -6,7 +6,8 @@ use Rattle.std.specs.Prelude.{slice_get}
 use Rattle.std.proofs.lemmas.List.{map-append, length-append}
 use Rattle.sched_base.specs.declared.rows.Row.{Row}
 use Rattle.exec_lanes.specs.declared.kits.Kit.{Kit}
-use Rattle.run_tool.specs.Executions.{GateSeen, JobSeen, crew, gates_of, jobs_of, IsFreshCrew}
+use Rattle.run_tool.specs.Executions.{GateSeen, JobSeen, gates_of, jobs_of, IsFreshCrew}
+use Rattle.run_tool.proofs.CrewMade.{crew}
 use Rattle.run_tool.specs.Ready.{AreFirstGates, AreFirstJobs}
 
 get-push_before : {X : Type 0} (xs : List X) (x y : X) (i : ℕ) → slice_get xs i ≡ Some y → slice_get (xs ++ x ∷ []) i ≡ Some y

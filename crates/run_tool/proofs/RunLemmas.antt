@@ -11,11 +11,10 @@ use Rattle.command_words.specs.declared.command.Execution.{Execution}
 use Rattle.command_words.specs.declared.command.Execution.TheVariants.{Exec, ExecMet, Drill, Jobs, Modes}
 use Rattle.pure_commands.specs.declared.refusal.Refusal.{Refusal}
 use Rattle.pure_commands.specs.declared.refusal.Refusal.TheVariants as why
-use Rattle.pure_commands.specs.declared.status.Status.{Status}
-use Rattle.pure_commands.specs.declared.status.Status.TheVariants.{Done, NoMemory}
+use Rattle.exit_status.specs.declared.Status.{Status}
+use Rattle.exit_status.specs.declared.Status.TheVariants.{Done, NoMemory}
 use Rattle.command_words.specs.Words.{command_of, reading_of, execution_of, asks_to_execute, asks_for_batch, asks_for_threads}
-use Rattle.run_tool.specs.Drill.{drill_text}
-use Rattle.pure_commands.specs.Commands.{schedule_rows, of_batch, output_of, set_limit, WritesSet, RefusesText}
+use Rattle.pure_commands.specs.Commands.{schedule_rows, of_batch, output_of, set_limit, RefusesText}
 use Rattle.pure_commands.specs.Refusals.{status_of, set_status, kind_status, mode_status}
 use Rattle.pure_commands.specs.Refuse.{IsRefused}
 use Rattle.pure_commands.proofs.EndLemmas.{keeps_same, is_fault}
@@ -24,15 +23,18 @@ use Rattle.task_reader.specs.declared.refusals.ReadSet.TheVariants as set
 use Rattle.mode_join.specs.declared.faults.ModeKind.{ModeKind}
 use Rattle.mode_join.specs.declared.faults.ModeKind.TheVariants as kind
 use Rattle.pure_commands.specs.declared.mode_refusal.ModeRefusal.{ModeRefusal}
-use Rattle.pure_commands.specs.Ends.{Streams, ErrorStream, streams, IsUnread, IsQuiet, IsTold, StopsAs, Ends}
+use Rattle.pure_commands.specs.Ends.{Streams, ErrorStream, IsUnread, IsQuiet, IsTold, StopsAs, Ends}
+use Rattle.pure_commands.proofs.StreamLemmas.{streams}
 use Rattle.command_words.proofs.WordLemmas.{executes, reads, batches, only_read, only_batch, only_execute}
 use Rattle.run_tool.specs.Executions.{Crew, AreBack, NothingRose, usual_window}
-use Rattle.run_tool.specs.JobPrograms.{WritesResults, RefusesJobs}
+use Rattle.run_tool.specs.JobPrograms.{RefusesJobs}
 use Rattle.pure_commands.specs.declared.mode_refusal.ModeRefusal.TheVariants as mode
 use Rattle.run_tool.specs.ModeRuns.{WritesModesRun, RefusesModesRun}
-use Rattle.run_tool.specs.ModeTexts.{WritesModes, RefusesModes}
+use Rattle.run_tool.specs.ModeTexts.{RefusesModes}
 use Rattle.run_tool.proofs.LoadedLemmas.{rose_loaded}
-use Rattle.run_tool.proofs.ExecutionAnswerLemmas.{IsToldBy, IsOwnTold, StopsBy, StopsDrill}
+use Rattle.run_tool.proofs.ExecutionAnswerLemmas.{WritesCalled, IsToldBy, StopsBy, StopsDrill}
+use Rattle.run_tool.specs.Commands.{IsToRun, CallsForExecution}
+use Rattle.sched_base.specs.Sets.{SetContents}
 use Rattle.run_tool.specs.Executed.{WritesJobsRun, RefusesJobsRun}
 use Rattle.run_tool.specs.Executed.{WritesRun, RefusesRun, RanDrill, StopsAtDrill, ToldRun, StopsRun, EndsWith, NoneFailed, may_have_called, takes_memory_late, may_have_run}
 
@@ -55,86 +57,63 @@ ends_batch words k old new err err' b n status asks is ends =
     let own : k ≡ Batch = only_batch words k (sym (batches words asks) ∙ is) in
     subst (λ (x : Command). EndsWith x old new err err' b n status) (sym own) (ends (is ∙ ap Some own))
 
--- what was run was written
-weaker_writes : (met : Bool) (b n : Crew) (bytes : List ℕ) (status : Status) (text : List ℕ) → WritesRun met b n bytes status text
-    → WritesSet (schedule_rows met) bytes status text
-weaker_writes met b n bytes status text w = (w.0, (w.1.0, w.1.1, w.1.2.reads, w.1.2.fits, w.1.2.room, w.1.3))
+-- what was run was called for
+weaker_writes : (e : Execution) (met : Bool) (b n : Crew) → ((bytes : List ℕ) (status : Status)
+    → (status ≡ Done) × ((s : SetContents) × (scale : ℕ) × IsToRun met bytes s scale) → CallsForExecution e bytes status)
+    → (bytes : List ℕ) (status : Status) (text : List ℕ) → WritesRun met b n bytes status text → WritesCalled e bytes status text
+weaker_writes e met b n calls bytes status text w = calls bytes status (w.0, (w.1.0, w.1.1, w.1.2))
 
-weaker_told : (met : Bool) (old new : Streams) (b n : Crew) → IsTold set_limit (WritesRun met b n) Done old new
-    → IsTold set_limit (WritesSet (schedule_rows met)) Done old new
-weaker_told met old new b n t = record { told = (t.told.0, t.told.1, t.told.2, weaker_writes met b n t.told.0 Done t.told.1 t.told.3, t.told.4) }
+weaker_results : (b n : Crew) (bytes : List ℕ) (status : Status) (result : List ℕ) → WritesJobsRun b n bytes status result
+    → WritesCalled Jobs bytes status result
+weaker_results b n bytes status result w = (w.0, (w.1.0, w.1.1, w.1.2, w.1.3))
 
--- what a drill ran was written
-drill_told : (number : ℕ) (old new : Streams) (b n : Crew) → ToldRun (Drill number) old new b n → IsToldBy (Drill number) Done old new
-drill_told number old new b n t =
-    let (unread, ran) = t in
-    let (scale, is_scale, took, all) = ran in
-    record { unread = unread; told = (drill_text number scale, (refl, (scale, is_scale, refl)), took) }
+weaker_modes : (b n : Crew) (bytes : List ℕ) (status : Status) (text : List ℕ) → WritesModesRun b n bytes status text → WritesCalled Modes bytes status text
+weaker_modes b n bytes status text w = (w.0, (w.1.0, w.1.1))
 
--- what was computed was written
-weaker_results : (b n : Crew) (bytes : List ℕ) (status : Status) (result : List ℕ) → WritesJobsRun b n bytes status result → WritesResults bytes status result
-weaker_results b n bytes status result w = (b.jobs, (w.0, (w.1.0, w.1.1, w.1.2, w.1.3, w.1.4)))
-
-jobs_told : (old new : Streams) (b n : Crew) → IsTold set_limit (WritesJobsRun b n) Done old new → IsTold set_limit WritesResults Done old new
-jobs_told old new b n t = record { told = (t.told.0, t.told.1, t.told.2, weaker_results b n t.told.0 Done t.told.1 t.told.3, t.told.4) }
-
--- it is what the jobs computed that there were
-pub own_told : (e : Execution) (old new : Streams) (b n : Crew) → ToldRun e old new b n → IsOwnTold e Done old new b
-own_told Jobs old new b n t = record {
-  told =
-      let w = t.told.3 in
-      (t.told.0, t.told.1, t.told.2, (w.0, (w.1.0, w.1.1, w.1.2, w.1.3, w.1.4)), t.told.4);
-}
-own_told _ old new b n t = tt
-
--- what was run as modes was written
-weaker_modes : (b n : Crew) (bytes : List ℕ) (status : Status) (text : List ℕ) → WritesModesRun b n bytes status text → WritesModes bytes status text
-weaker_modes b n bytes status text w = (w.0, (w.1.0, w.1.1, w.1.2))
-
-modes_told : (old new : Streams) (b n : Crew) → IsTold set_limit (WritesModesRun b n) Done old new → IsTold set_limit WritesModes Done old new
-modes_told old new b n t = record { told = (t.told.0, t.told.1, t.told.2, weaker_modes b n t.told.0 Done t.told.1 t.told.3, t.told.4) }
+-- what was told by the one text was told by the other, where that is so of each
+told_as : (Writes Calls : List ℕ → Status → List ℕ → Type 0) → ((bytes : List ℕ) (status : Status) (text : List ℕ) → Writes bytes status text
+    → Calls bytes status text) → (old new : Streams) → IsTold set_limit Writes Done old new → IsTold set_limit Calls Done old new
+told_as Writes Calls weaker old new t = record { told = (t.told.0, t.told.1, t.told.2, weaker t.told.0 Done t.told.1 t.told.3, t.told.4) }
 
 pub done_is : (e : Execution) (old new : Streams) (b n : Crew) → ToldRun e old new b n → IsToldBy e Done old new
-done_is (Exec window) old new b n t = weaker_told false old new b n t
-done_is ExecMet old new b n t = weaker_told true old new b n t
-done_is Jobs old new b n t = jobs_told old new b n t
-done_is Modes old new b n t = modes_told old new b n t
-done_is (Drill number) old new b n t = drill_told number old new b n t
+done_is (Exec window) old new b n t =
+    told_as (WritesRun false b n) (WritesCalled (Exec window)) (weaker_writes (Exec window) false b n (λ bytes status calls. calls)) old new t
+done_is ExecMet old new b n t = told_as (WritesRun true b n) (WritesCalled ExecMet) (weaker_writes ExecMet true b n (λ bytes status calls. calls)) old new t
+done_is Jobs old new b n t = told_as (WritesJobsRun b n) (WritesCalled Jobs) (weaker_results b n) old new t
+done_is Modes old new b n t = told_as (WritesModesRun b n) (WritesCalled Modes) (weaker_modes b n) old new t
+done_is (Drill number) old new b n t = refl
 
 -- where nothing failed, what stopped it is what would stop a trace
-weaker_stops : (window : ℕ) (met : Bool) (old new : Streams) (b n : Crew) (r : Refusal) → NothingRose b n
-    → StopsAs set_limit (WritesRun met b n) (RefusesRun window met b n) old new r
-    → StopsAs set_limit (WritesSet (schedule_rows met)) (RefusesText (schedule_rows met)) old new r
-weaker_stops window met old new b n why.Usage quiet s = s
-weaker_stops window met old new b n why.ReadFault quiet s = s
-weaker_stops window met old new b n why.WriteFault quiet s = (s.0, s.1, s.2, s.3, weaker_writes met b n s.0 s.2 s.1 s.4, s.5, s.6)
-weaker_stops window met old new b n why.NoMemory quiet s = s
-weaker_stops window met old new b n (why.BadSet q) quiet s = s
-weaker_stops window met old new b n (why.BadLine line) quiet s = s
-weaker_stops window met old new b n (why.BadProgram line) quiet s = s
-weaker_stops window met old new b n (why.BadTree line kind) quiet s = s
-weaker_stops window met old new b n (why.OfMode j q) quiet s = s
-weaker_stops window met old new b n (why.Overload total room) quiet s = s
-weaker_stops window met old new b n (why.ScaleTooLarge task) quiet s = s
-weaker_stops window met old new b n (why.TooLong rows) quiet s = s
-weaker_stops window met old new b n (why.TooWide ticks) quiet s = s
-weaker_stops window met old new b n (why.NoRepeat task) quiet s = s
-weaker_stops window met old new b n (why.WideRepeat units) quiet s = s
-weaker_stops window met old new b n (why.GateFault row name) quiet s = absurd (quiet.gates row.processor s.2.3.rose)
-weaker_stops window met old new b n (why.JobFault row name) quiet s = absurd (quiet.jobs s.2.3.task.0.0 s.2.3.task.2)
-weaker_stops window met old new b n (why.InputTooLong count) quiet s = s
+weaker_stops : (window : ℕ) (met : Bool) (Calls : List ℕ → Status → List ℕ → Type 0) → ((b n : Crew) (bytes : List ℕ) (status : Status) (text : List ℕ)
+    → WritesRun met b n bytes status text → Calls bytes status text) → (old new : Streams) (b n : Crew) (r : Refusal) → NothingRose b n
+    → StopsAs set_limit (WritesRun met b n) (RefusesRun window met b n) old new r → StopsAs set_limit Calls (RefusesText (schedule_rows met)) old new r
+weaker_stops window met Calls weaker old new b n why.Usage quiet s = s
+weaker_stops window met Calls weaker old new b n why.ReadFault quiet s = s
+weaker_stops window met Calls weaker old new b n why.WriteFault quiet s = (s.0, s.1, s.2, s.3, weaker b n s.0 s.2 s.1 s.4, s.5, s.6)
+weaker_stops window met Calls weaker old new b n why.NoMemory quiet s = s
+weaker_stops window met Calls weaker old new b n (why.BadSet q) quiet s = s
+weaker_stops window met Calls weaker old new b n (why.BadLine line) quiet s = s
+weaker_stops window met Calls weaker old new b n (why.BadProgram line) quiet s = s
+weaker_stops window met Calls weaker old new b n (why.BadTree line kind) quiet s = s
+weaker_stops window met Calls weaker old new b n (why.OfMode j q) quiet s = s
+weaker_stops window met Calls weaker old new b n (why.Overload total room) quiet s = s
+weaker_stops window met Calls weaker old new b n (why.ScaleTooLarge task) quiet s = s
+weaker_stops window met Calls weaker old new b n (why.TooLong rows) quiet s = s
+weaker_stops window met Calls weaker old new b n (why.TooWide ticks) quiet s = s
+weaker_stops window met Calls weaker old new b n (why.NoRepeat task) quiet s = s
+weaker_stops window met Calls weaker old new b n (why.WideRepeat units) quiet s = s
+weaker_stops window met Calls weaker old new b n (why.GateFault row name) quiet s = absurd (quiet.gates row.processor s.2.3.rose)
+weaker_stops window met Calls weaker old new b n (why.JobFault row name) quiet s = absurd (quiet.jobs s.2.3.task.0.0 s.2.3.task.2)
+weaker_stops window met Calls weaker old new b n (why.InputTooLong count) quiet s = s
 
 -- where nothing failed, a drill stopped for want of memory or at a fault of `out`
 drill_stops : (number : ℕ) (old new : Streams) (b n : Crew) (r : Refusal) → NothingRose b n → StopsRun (Drill number) old new b n r
-    → StopsDrill number old new r
+    → StopsDrill old new r
 drill_stops number old new b n why.WriteFault quiet s =
     let (unread, stops) = s in
     let (scale, is_scale, took, rose, ran) = stops in
-    (unread, (drill_text number scale, (refl, (scale, is_scale, refl)), took), rose)
-drill_stops number old new b n why.NoMemory quiet s =
-    let (unread, stops) = s in
-    let (fails, keeps) = stops in
-    (unread, keeps)
+    rose
+drill_stops number old new b n why.NoMemory quiet s = tt
 drill_stops number old new b n (why.GateFault row name) quiet s =
     let (unread, stops) = s in
     let (fails, keeps) = stops in
@@ -148,11 +127,11 @@ drill_stops number old new b n (why.JobFault row name) quiet s =
     let (at, named) = stopped in
     let (task, leaf, rose) = at.task in
     absurd (quiet.jobs task.0 rose)
-drill_stops number old new b n _ quiet s = let (unread, stops) = s in let (fails, keeps) = stops in absurd fails
+drill_stops number old new b n _ quiet s = let (unread, stops) = s in absurd stops
 
 -- where nothing failed, what stopped `jobs` is a fault of a stream, want of memory, or a refusal of the bytes
 jobs_stops : (old new : Streams) (b n : Crew) (r : Refusal) → NothingRose b n → StopsAs set_limit (WritesJobsRun b n) (RefusesJobsRun b n) old new r
-    → StopsAs set_limit WritesResults RefusesJobs old new r
+    → StopsAs set_limit (WritesCalled Jobs) RefusesJobs old new r
 jobs_stops old new b n why.WriteFault quiet s = (s.0, s.1, s.2, s.3, weaker_results b n s.0 s.2 s.1 s.4, s.5, s.6)
 jobs_stops old new b n (why.GateFault row name) quiet s = absurd (quiet.gates row.processor s.2.4.0.rose)
 jobs_stops old new b n (why.JobFault row name) quiet s =
@@ -163,7 +142,7 @@ jobs_stops old new b n _ quiet s = s
 
 -- where nothing failed, what stopped `modes` is a fault of a stream, want of memory, or a refusal of the bytes
 modes_stops : (old new : Streams) (b n : Crew) (r : Refusal) → NothingRose b n → StopsAs set_limit (WritesModesRun b n) (RefusesModesRun b n) old new r
-    → StopsAs set_limit WritesModes RefusesModes old new r
+    → StopsAs set_limit (WritesCalled Modes) RefusesModes old new r
 modes_stops old new b n why.WriteFault quiet s = (s.0, s.1, s.2, s.3, weaker_modes b n s.0 s.2 s.1 s.4, s.5, s.6)
 modes_stops old new b n (why.OfMode j (mode.GateFault row name)) quiet s =
     let (m, reads, stops) = s.2 in
@@ -178,8 +157,10 @@ modes_stops old new b n _ quiet s = s
 
 pub stop_is : (e : Execution) (old new : Streams) (b n : Crew) (r : Refusal) → NothingRose b n → StopsRun e old new b n r
     → StopsBy e old new r
-stop_is (Exec window) old new b n r quiet s = weaker_stops window false old new b n r quiet s
-stop_is ExecMet old new b n r quiet s = weaker_stops usual_window true old new b n r quiet s
+stop_is (Exec window) old new b n r quiet s =
+    weaker_stops window false (WritesCalled (Exec window)) (λ b n. weaker_writes (Exec window) false b n (λ bytes status calls. calls)) old new b n r quiet s
+stop_is ExecMet old new b n r quiet s =
+    weaker_stops usual_window true (WritesCalled ExecMet) (λ b n. weaker_writes ExecMet true b n (λ bytes status calls. calls)) old new b n r quiet s
 stop_is Jobs old new b n r quiet s = jobs_stops old new b n r quiet s.0
 stop_is Modes old new b n r quiet s = modes_stops old new b n r quiet s.0
 stop_is (Drill number) old new b n r quiet s = drill_stops number old new b n r quiet s
@@ -192,14 +173,14 @@ none_failed asked e b n is quiet = subst (λ (a : Option Command). NoneFailed a 
 pub ends_done : (e : Execution) (k : Command) (old new : Streams) (err err' : ErrorStream) (b n : Crew) → Execute e ≡ k → ToldRun e old new b n
     → IsQuiet err err' → EndsWith k old new err err' b n Done
 ends_done e k old new err err' b n same t quiet =
-    subst (λ (x : Command). EndsWith x old new err err' b n Done) same (inl (record { done = refl; told = t; quiet = quiet }))
+    subst (λ (x : Command). EndsWith x old new err err' b n Done) same (inl (refl, t, quiet))
 
 -- the same of one that stopped
 pub ends_stopped : (e : Execution) (k : Command) (old new : Streams) (err err' : ErrorStream) (b n : Crew) (r : Refusal) (status : Status) → Execute e ≡ k
     → StopsRun e old new b n r → IsRefused r err err' status → EndsWith k old new err err' b n status
 ends_stopped e k old new err err' b n r status same s refused =
     subst (λ (x : Command). EndsWith x old new err err' b n status) same
-    (inr (r, record { status_is = refused.status_is; stops = s; tells = refused.tells }))
+    (inr (r, refused.status_is, s, refused.tells))
 
 -- where the words weren't read for want of memory, nothing was done
 unread_stops : (e : Execution) (old new : Streams) (b n : Crew) → IsUnread old new → Keeps old.out new.out → n ≡ b → StopsRun e old new b n why.NoMemory
@@ -239,7 +220,7 @@ no_usage (Exec window) old new b n stops = stops
 no_usage ExecMet old new b n stops = stops
 no_usage Jobs old new b n stops = stops.0
 no_usage Modes old new b n stops = stops.0
-no_usage (Drill number) old new b n stops = stops.1.0
+no_usage (Drill number) old new b n stops = stops.1
 
 pub stopped_fault : (e : Execution) (old new : Streams) (b n : Crew) (r : Refusal) → StopsRun e old new b n r → is_fault (status_of r) ≡ true
 stopped_fault e old new b n why.Usage stops = absurd (no_usage e old new b n stops)
@@ -254,7 +235,7 @@ drill_ran number out out' faults faults' b n why.WriteFault s = refl
 drill_ran number out out' faults faults' b n why.NoMemory s = refl
 drill_ran number out out' faults faults' b n (why.GateFault row name) s = refl
 drill_ran number out out' faults faults' b n (why.JobFault row name) s = refl
-drill_ran number out out' faults faults' b n _ s = let (fails, keeps) = s in absurd fails
+drill_ran number out out' faults faults' b n _ s = absurd s
 
 -- what is so where nothing was called is so at the status of a refusal too
 pub uncalled_by : {P : Type 0} (asked : Option Command) (e : Execution) (r : Refusal) (err err' : ErrorStream) (status : Status) → Some (Execute e) ≡ asked

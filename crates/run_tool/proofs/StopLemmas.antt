@@ -13,14 +13,15 @@ use Rattle.event_core.specs.declared.counts.CountFault.TheVariants as count_faul
 use Rattle.event_core.specs.Counts.{IsCountFault}
 use Rattle.pure_commands.specs.declared.refusal.Refusal.{Refusal}
 use Rattle.pure_commands.specs.declared.refusal.Refusal.TheVariants as why
-use Rattle.pure_commands.specs.declared.status.Status.TheVariants.{Done}
+use Rattle.exit_status.specs.declared.Status.TheVariants.{Done}
 use Rattle.pure_commands.specs.Commands.{set_limit, schedule_rows, schedule_text, plan_of, rows_of, text_of, HasRoom}
 use Rattle.pure_commands.specs.Ends.{Streams, IsTold, StopsAs}
 use Rattle.pure_commands.specs.Faults.{of_count}
 use Rattle.pure_commands.specs.Input.{GaveSet, GaveNoSet, IsSchedulable, IsRefusedSet, IsTooLongSet}
 use Rattle.pure_commands.proofs.EndLemmas.{keeps_same}
 use Rattle.run_tool.specs.Executions.{Crew, RanAll}
-use Rattle.run_tool.specs.Executed.{IsToRun, WritesRun, RefusesRun, RanSet, StopsInRun, StopsAtRun}
+use Rattle.run_tool.specs.Commands.{IsToRun}
+use Rattle.run_tool.specs.Executed.{WritesRun, RefusesRun, RanSet, StopsInRun, StopsAtRun}
 
 -- ---- running and writing
 
@@ -44,8 +45,10 @@ module _ (s : SetContents) (p : PlanContents) (set : p.set ≡ s) (tree : p.tree
   too_long met rows run is = (
     p.tree.scale,
     run,
-    subst (λ (q : PlanContents). row_limit < rows_of q) same_plan is.0,
-    subst (λ (q : PlanContents). rows ≡ (row_limit / q.tree.processors + 1) * q.tree.processors) same_plan is.1,
+    (
+      subst (λ (q : PlanContents). row_limit < rows_of q) same_plan is.0,
+      subst (λ (q : PlanContents). rows ≡ (row_limit / q.tree.processors + 1) * q.tree.processors) same_plan is.1,
+    ),
   )
 
   pub uncounted : (window : ℕ) (met : Bool) (out : Option (List ℕ)) (faults : ℕ) (c : Crew) (f : CountFault) → IsSchedulable s p.tree.scale → IsCountFault p f

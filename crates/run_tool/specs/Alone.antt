@@ -6,8 +6,8 @@ use Rattle.command_words.specs.declared.command.Command.TheVariants.{Read}
 use Rattle.command_words.specs.declared.command.Reading.TheVariants.{Check}
 use Rattle.pure_commands.specs.Commands.{of_trace}
 use Rattle.pure_commands.specs.Ends.{Streams, ErrorStream, IsDone}
-use Rattle.pure_commands.specs.declared.status.Status.{Status}
-use Rattle.pure_commands.specs.declared.status.Status.TheVariants.{Done, Invalid, Usage, NoMemory}
+use Rattle.exit_status.specs.declared.Status.{Status}
+use Rattle.exit_status.specs.declared.Status.TheVariants.{Done, Invalid, Usage, NoMemory}
 use Rattle.run_tool.specs.Ends.{IsCommandDone}
 use Rattle.run_tool.specs.Executed.{EndsWith}
 use Rattle.run_tool.specs.Executions.{Crew, IsFreshCrew}

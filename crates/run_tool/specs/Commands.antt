@@ -1,26 +1,33 @@
--- What each execution writes, and which bytes it refuses and why, whatever the gates and the jobs do. A new execution adds its case to
+-- Which bytes each execution executes, and which it refuses and why, whatever the gates and the jobs do. A new execution adds its case to
 -- these definitions.
-use Rattle.std.specs.Prelude.{ℕ, true, false, List}
+use Rattle.std.specs.Prelude.{ℕ, ◌≡◌, Bool, true, false, List}
+use Rattle.sched_base.specs.Sets.{SetContents}
+use Rattle.sched_base.specs.Scale.{Fits}
+use Rattle.job_vm.specs.Programs.{JobTextHeld}
+use Rattle.mode_join.specs.Modes.{ModesContents}
 use Rattle.command_words.specs.declared.command.Execution.{Execution}
 use Rattle.command_words.specs.declared.command.Execution.TheVariants.{Exec, ExecMet, Drill, Jobs, Modes}
 use Rattle.pure_commands.specs.declared.refusal.Refusal.{Refusal}
-use Rattle.pure_commands.specs.declared.status.Status.{Status}
-use Rattle.pure_commands.specs.SetTexts.{schedule_rows, WritesSet, RefusesText}
-use Rattle.run_tool.specs.Drill.{WritesDrill}
-use Rattle.run_tool.specs.JobPrograms.{WritesResults, RefusesJobs}
-use Rattle.run_tool.specs.ModeTexts.{WritesModes, RefusesModes}
+use Rattle.exit_status.specs.declared.Status.{Status}
+use Rattle.exit_status.specs.declared.Status.TheVariants.{Done}
+use Rattle.pure_commands.specs.SetTexts.{schedule_rows, ReadsSet, HasRoom, RefusesText}
+use Rattle.run_tool.specs.JobPrograms.{IsJobsToRun, RefusesJobs}
+use Rattle.run_tool.specs.ModeTexts.{ReadsModes, RefusesModes}
 
--- this text is written for these bytes, and the execution ends with this status; a drill reads none
-abbrev pub WritesExecution : Execution → List ℕ → Status → List ℕ → Type 0
-WritesExecution (Exec window) bytes status text = WritesSet (schedule_rows false) bytes status text
-WritesExecution ExecMet bytes status text = WritesSet (schedule_rows true) bytes status text
-WritesExecution Jobs bytes status text = WritesResults bytes status text
-WritesExecution Modes bytes status text = WritesModes bytes status text
-WritesExecution (Drill number) bytes status text = WritesDrill number status text
+-- the bytes are a set that fits, whose schedule has room
+pub record IsToRun (met : Bool) (bytes : List ℕ) (s : SetContents) (scale : ℕ) : Type 0 where
+  pub reads : ReadsSet bytes s scale
+  pub fits : Fits scale s
+  pub room : HasRoom (schedule_rows met) s scale
 
--- the bytes call for this status
+-- the bytes call for this status: that of an execution is `Done` where they can be executed; a drill reads none
 abbrev pub CallsForExecution : Execution → List ℕ → Status → Type 0
-CallsForExecution e bytes status = (text : List ℕ) × WritesExecution e bytes status text
+CallsForExecution (Exec window) bytes status = (status ≡ Done) × ((s : SetContents) × (scale : ℕ) × IsToRun false bytes s scale)
+CallsForExecution ExecMet bytes status = (status ≡ Done) × ((s : SetContents) × (scale : ℕ) × IsToRun true bytes s scale)
+CallsForExecution Jobs bytes status =
+    (status ≡ Done) × ((text : JobTextHeld) × (s : SetContents) × (scale : ℕ) × IsJobsToRun bytes text s scale)
+CallsForExecution Modes bytes status = (status ≡ Done) × ((m : ModesContents) × ReadsModes bytes m)
+CallsForExecution (Drill number) bytes status = status ≡ Done
 
 -- these bytes are refused for this reason; a drill refuses none
 abbrev pub RefusesExecution : Execution → List ℕ → Refusal → Type 0

@@ -4,8 +4,7 @@ use Rattle.std.specs.List.{concat}
 use Rattle.sched_base.specs.Sets.{SetContents}
 use Rattle.sched_base.specs.Scale.{IsScale}
 use Rattle.sched_edges.specs.Lines.{word_line, number_line}
-use Rattle.run_tree.specs.Compiled.{tree_of}
-use Rattle.run_tree.specs.Plans.{PlanContents, rounds_of}
+use Rattle.run_tree.specs.Plans.{rounds_of}
 use Rattle.plan_rounds.specs.PlanRows.{plan_rows}
 use Rattle.merged_rows.specs.Merging.{merged_lanes}
 use Rattle.trace_check.specs.Traces.{Trace}
@@ -14,20 +13,15 @@ use Rattle.stat_report.specs.Report.{preemptions, migrations, IsValidTrace}
 use Rattle.task_gen.specs.Words.{words_of_number}
 use Rattle.task_gen.specs.Drill.{made_from}
 use Rattle.run_tool.specs.declared.summary.Summary.{Summary}
-use Rattle.pure_commands.specs.declared.status.Status.{Status}
-use Rattle.pure_commands.specs.declared.status.Status.TheVariants.{Done}
+use Rattle.pure_commands.specs.SetTexts.{plan_of}
 
 -- the set that a number draws
 unfoldable pub drilled : ℕ → SetContents
 drilled number = made_from (words_of_number number)
 
--- the plan of a drill of this scale
-abbrev pub drill_plan : ℕ → ℕ → PlanContents
-drill_plan number scale = record { set = drilled number; tree = tree_of scale (drilled number) }
-
 -- what reading the trace text of its schedule gives
 abbrev pub drill_trace : ℕ → ℕ → Trace
-drill_trace number scale = trace_again (drilled number) scale (merged_lanes (plan_rows (drill_plan number scale)))
+drill_trace number scale = trace_again (drilled number) scale (merged_lanes (plan_rows (plan_of (drilled number) scale)))
 
 -- the set of a drill has this scale, and the trace is valid
 pub record IsDrill (number scale : ℕ) : Type 0 where
@@ -60,8 +54,4 @@ summary_lines told =
 
 -- the text of a drill whose set has this scale
 unfoldable pub drill_text : ℕ → ℕ → List ℕ
-drill_text number scale = concat (summary_lines (summary_by number (rounds_of (drill_plan number scale)) (drill_trace number scale)))
-
--- this text is written of a drill; the status is always `Done`
-abbrev pub WritesDrill : ℕ → Status → List ℕ → Type 0
-WritesDrill number status text = (status ≡ Done) × ((scale : ℕ) × IsDrill number scale × (text ≡ drill_text number scale))
+drill_text number scale = concat (summary_lines (summary_by number (rounds_of (plan_of (drilled number) scale)) (drill_trace number scale)))

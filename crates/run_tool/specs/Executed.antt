@@ -1,13 +1,11 @@
 -- What `exec` writes, and why it stops: with what the gates and the jobs did.
 use Rattle.std.specs.Prelude.{ℕ, ◌≡◌, ◌⊎◌, Bool, true, false, List, take, Option, Some, Result, OnOk, IfErr}
 use Rattle.std.specs.Io.KnownBytes.{Appends, Keeps}
-use Rattle.sched_base.specs.declared.sets.Task.{Task}
 use Rattle.sched_base.specs.Sets.{SetContents}
-use Rattle.sched_base.specs.Scale.{IsScale, Fits}
+use Rattle.sched_base.specs.Scale.{IsScale}
 use Rattle.sched_edges.specs.Causes.{Rose}
 use Rattle.sched_edges.specs.Streams.{GaveAll, TookPart}
 use Rattle.job_vm.specs.Programs.{JobTextHeld}
-use Rattle.job_vm.specs.Loading.{loaded}
 use Rattle.run_tool.specs.JobPrograms.{ReadsJobs, IsJobsToRun, result_text, RefusesJobs}
 use Rattle.command_words.specs.declared.command.Command.{Command}
 use Rattle.command_words.specs.declared.command.Command.TheVariants.{Read, Batch, Execute}
@@ -15,22 +13,17 @@ use Rattle.command_words.specs.declared.command.Execution.{Execution}
 use Rattle.command_words.specs.declared.command.Execution.TheVariants.{Exec, ExecMet, Drill, Jobs, Modes}
 use Rattle.pure_commands.specs.declared.refusal.Refusal.{Refusal}
 use Rattle.pure_commands.specs.declared.refusal.Refusal.TheVariants as why
-use Rattle.pure_commands.specs.declared.status.Status.{Status}
-use Rattle.pure_commands.specs.declared.status.Status.TheVariants.{Done, WriteFault, NoMemory, GateFault, JobFault}
-use Rattle.pure_commands.specs.Commands.{schedule_rows, of_batch, output_of, set_limit, ReadsSet, HasRoom, text_of, plan_of, RefusesText}
+use Rattle.exit_status.specs.declared.Status.{Status}
+use Rattle.exit_status.specs.declared.Status.TheVariants.{Done, WriteFault, NoMemory, GateFault, JobFault}
+use Rattle.pure_commands.specs.Commands.{schedule_rows, of_batch, output_of, set_limit, HasRoom, text_of, plan_of, RefusesText}
 use Rattle.pure_commands.specs.Refusals.{status_of, refusal_line}
-use Rattle.run_tool.specs.Drill.{drilled, drill_plan, IsDrill, drill_text}
+use Rattle.run_tool.specs.Drill.{drilled, IsDrill, drill_text}
 use Rattle.pure_commands.specs.Ends.{Streams, ErrorStream, IsUnread, IsQuiet, Tells, IsTold, StopsAs, Ends}
 use Rattle.run_tree.specs.Plans.{PlanContents}
 use Rattle.pure_commands.specs.Input.{IsSchedulable, IsRefusedSet, IsTooLongSet}
-use Rattle.run_tool.specs.Executions.{Crew, AreBack, RanAll, GateStopped, JobStopped, NothingRose, name_at, usual_window}
+use Rattle.run_tool.specs.Executions.{Crew, AreBack, loaded_crew, RanAll, GateStopped, JobStopped, NothingRose, name_at, usual_window}
+use Rattle.run_tool.specs.Commands.{IsToRun}
 use Rattle.run_tool.specs.ModeRuns.{WritesModesRun, RefusesModesRun, MayHaveRun}
-
--- the bytes are a set that fits, whose schedule has room
-pub record IsToRun (met : Bool) (bytes : List ℕ) (s : SetContents) (scale : ℕ) : Type 0 where
-  pub reads : ReadsSet bytes s scale
-  pub fits : Fits scale s
-  pub room : HasRoom (schedule_rows met) s scale
 
 -- this text is written for these bytes once the gates and the jobs have run the whole schedule of their set
 abbrev pub WritesRun : Bool → Crew → Crew → List ℕ → Status → List ℕ → Type 0
@@ -76,23 +69,22 @@ StopsAtRun window met out out' faults faults' old new s refusal = IsRefusedSet s
 -- a drill's schedule was run, and its text written
 abbrev pub RanDrill : ℕ → Option (List ℕ) → Option (List ℕ) → Crew → Crew → Type 0
 RanDrill number out out' old new =
-    (scale : ℕ) × IsDrill number scale × Appends out out' (drill_text number scale) × RanAll (drill_plan number scale) old new
+    (scale : ℕ) × IsDrill number scale × Appends out out' (drill_text number scale) × RanAll (plan_of (drilled number) scale) old new
 
--- why a drill's text isn't written: a gate or a job failed, or memory was refused, before anything was called or once all was run
-abbrev pub FailsDrill : ℕ → Crew → Crew → Refusal → Type 0
-FailsDrill number old new (why.GateFault row name) =
-    (scale : ℕ) × IsScale (drilled number).tasks scale × StopsInRun (drill_plan number scale) usual_window old new (why.GateFault row name)
-FailsDrill number old new (why.JobFault row name) =
-    (scale : ℕ) × IsScale (drilled number).tasks scale × StopsInRun (drill_plan number scale) usual_window old new (why.JobFault row name)
-FailsDrill number old new why.NoMemory =
-    (new ≡ old) ⊎ ((scale : ℕ) × IsScale (drilled number).tasks scale × RanAll (drill_plan number scale) old new)
-FailsDrill number old new _ = ⊥
-
--- why a drill's schedule wasn't run, or its text not written
+-- why a drill's schedule wasn't run, or its text not written: `out` failed, a gate or a job did, or memory was refused, before anything
+-- was called or once all was run
 abbrev pub StopsAtDrill : ℕ → Option (List ℕ) → Option (List ℕ) → ℕ → ℕ → Crew → Crew → Refusal → Type 0
 StopsAtDrill number out out' faults faults' old new why.WriteFault =
-    (scale : ℕ) × IsDrill number scale × TookPart out out' (drill_text number scale) × Rose faults faults' × RanAll (drill_plan number scale) old new
-StopsAtDrill number out out' faults faults' old new refusal = FailsDrill number old new refusal × Keeps out out'
+    (scale : ℕ) × IsDrill number scale × TookPart out out' (drill_text number scale) × Rose faults faults' × RanAll (plan_of (drilled number) scale) old new
+StopsAtDrill number out out' faults faults' old new (why.GateFault row name) =
+    ((scale : ℕ) × IsScale (drilled number).tasks scale × StopsInRun (plan_of (drilled number) scale) usual_window old new (why.GateFault row name))
+    × Keeps out out'
+StopsAtDrill number out out' faults faults' old new (why.JobFault row name) =
+    ((scale : ℕ) × IsScale (drilled number).tasks scale × StopsInRun (plan_of (drilled number) scale) usual_window old new (why.JobFault row name))
+    × Keeps out out'
+StopsAtDrill number out out' faults faults' old new why.NoMemory =
+    ((new ≡ old) ⊎ ((scale : ℕ) × IsScale (drilled number).tasks scale × RanAll (plan_of (drilled number) scale) old new)) × Keeps out out'
+StopsAtDrill number out out' faults faults' old new _ = ⊥
 
 -- the text of a drill that was run was written
 abbrev pub WroteDrill : ℕ → ℕ → Option (List ℕ) → Option (List ℕ) → Type 0
@@ -106,28 +98,24 @@ StopsAtText number scale out out' faults faults' _ = ⊥
 
 -- ---- `jobs`
 
--- the gates and the jobs, once the programs of these tasks are loaded
-abbrev pub loaded_crew : JobTextHeld → ℕ → List Task → Crew → Crew
-loaded_crew text scale tasks c = record c { jobs = loaded scale text.programs tasks c.jobs }
-
 -- the programs of the first tasks, of none or of all, were loaded, and else nothing was done: no gate was called, and no job worked
 abbrev pub HasLoaded : JobTextHeld → SetContents → Crew → Crew → Type 0
-HasLoaded text s old new = (scale n : ℕ) × IsSchedulable s scale × (new ≡ loaded_crew text scale (take n s.tasks) old)
+HasLoaded text s old new = (scale n : ℕ) × IsSchedulable s scale × (new ≡ loaded_crew text.programs scale (take n s.tasks) old)
 
 -- what is told of these bytes is written once the gates and the jobs, with their programs, have run the whole schedule of their set
 abbrev pub WritesJobsRun : Crew → Crew → List ℕ → Status → List ℕ → Type 0
 WritesJobsRun old new bytes status result =
     (status ≡ Done) × ((text : JobTextHeld) × (s : SetContents) × (scale : ℕ) × IsJobsToRun bytes text s scale
-    × (result ≡ result_text text (plan_of s scale) old.jobs) × RanAll (plan_of s scale) (loaded_crew text scale s.tasks old) new)
+    × (result ≡ result_text text (plan_of s scale) old.jobs) × RanAll (plan_of s scale) (loaded_crew text.programs scale s.tasks old) new)
 
 -- why nothing is written for these bytes: a gate or a job failed, or they are refused
 abbrev pub RefusesJobsRun : Crew → Crew → List ℕ → Refusal → Type 0
 RefusesJobsRun old new bytes (why.GateFault row name) =
     (text : JobTextHeld) × (s : SetContents) × (scale : ℕ) × IsJobsToRun bytes text s scale
-    × StopsInRun (plan_of s scale) usual_window (loaded_crew text scale s.tasks old) new (why.GateFault row name)
+    × StopsInRun (plan_of s scale) usual_window (loaded_crew text.programs scale s.tasks old) new (why.GateFault row name)
 RefusesJobsRun old new bytes (why.JobFault row name) =
     (text : JobTextHeld) × (s : SetContents) × (scale : ℕ) × IsJobsToRun bytes text s scale
-    × StopsInRun (plan_of s scale) usual_window (loaded_crew text scale s.tasks old) new (why.JobFault row name)
+    × StopsInRun (plan_of s scale) usual_window (loaded_crew text.programs scale s.tasks old) new (why.JobFault row name)
 RefusesJobsRun old new bytes refusal = RefusesJobs bytes refusal
 
 -- where memory was refused, nothing was begun, or some of the programs were loaded
@@ -158,28 +146,13 @@ StopsRun Modes old new before now refusal =
 StopsRun (Drill number) old new before now refusal =
     IsUnread old new × StopsAtDrill number old.out new.out old.out_faults new.out_faults before now refusal
 
--- an execution was done, and `out` took its whole text
-pub record IsRunDone (e : Execution) (old new : Streams) (err err' : ErrorStream) (before now : Crew) (status : Status) : Type 0 where
-  pub done : status ≡ Done
-  pub told : ToldRun e old new before now
-  pub quiet : IsQuiet err err'
-
--- an execution stopped for this reason, which gives its status, and `err` took its line
-pub record IsRunStopped (e : Execution) (old new : Streams) (err err' : ErrorStream) (before now : Crew) (status : Status) (refusal : Refusal) : Type 0 where
-  pub status_is : status ≡ status_of refusal
-  pub stops : StopsRun e old new before now refusal
-  pub tells : Tells err err' (refusal_line refusal)
-
--- how an execution ends with this status
-abbrev pub EndsRun : Execution → Streams → Streams → ErrorStream → ErrorStream → Crew → Crew → Status → Type 0
-EndsRun e old new err err' before now status =
-    IsRunDone e old new err err' before now status ⊎ ((refusal : Refusal) × IsRunStopped e old new err err' before now status refusal)
-
--- how each command ends with this status, and what the gates and the jobs did
+-- how each command ends with this status, what `err` took, and what the gates and the jobs did
 abbrev pub EndsWith : Command → Streams → Streams → ErrorStream → ErrorStream → Crew → Crew → Status → Type 0
 EndsWith (Read reading) old new err err' before now status = Ends (output_of reading) old new err err' status
 EndsWith Batch old new err err' before now status = Ends of_batch old new err err' status
-EndsWith (Execute e) old new err err' before now status = EndsRun e old new err err' before now status
+EndsWith (Execute e) old new err err' before now status =
+    ((status ≡ Done) × ToldRun e old new before now × IsQuiet err err')
+    ⊎ ((refusal : Refusal) × (status ≡ status_of refusal) × StopsRun e old new before now refusal × Tells err err' (refusal_line refusal))
 
 -- no gate and no job failed, where the command calls any
 abbrev pub NoneFailed : Option Command → Crew → Crew → Type 0

@@ -3,8 +3,8 @@ use Rattle.std.specs.Prelude.{ℕ, ◌≡◌, ◌≢◌, ◌↔◌, false, List,
 use Rattle.command_words.specs.Words.{command_of}
 use Rattle.command_words.specs.declared.command.Command.{Command}
 use Rattle.pure_commands.specs.Ends.{Streams, ErrorStream, IsUsage}
-use Rattle.pure_commands.specs.declared.status.Status.{Status}
-use Rattle.pure_commands.specs.declared.status.Status.TheVariants.{Done, Invalid, Usage, NoMemory}
+use Rattle.exit_status.specs.declared.Status.{Status}
+use Rattle.exit_status.specs.declared.Status.TheVariants.{Done, Invalid, Usage, NoMemory}
 use Rattle.run_tool.specs.Ends.{IsCommandDone, IsCommandAnswered}
 use Rattle.run_tool.specs.Executed.{EndsWith, NoneFailed, may_have_run}
 use Rattle.run_tool.specs.Executions.{Crew, AreBack}

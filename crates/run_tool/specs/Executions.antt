@@ -17,6 +17,8 @@ use Rattle.sched_edges.specs.Jobs.{JobPlaces}
 -- a place holds this: a job, or what a kit shows of its gate
 pub use Rattle.sched_edges.specs.Jobs.{JobAt as Holds}
 pub use Rattle.job_vm.specs.Seen.{JobSeen, jobs_of}
+use Rattle.job_vm.specs.Programs.{Program}
+use Rattle.job_vm.specs.Loading.{loaded}
 use Rattle.run_tree.specs.Plans.{PlanContents, stop_of}
 use Rattle.plan_rounds.specs.PlanRows.{plan_rows}
 use Rattle.exec_lanes.specs.declared.kits.Kit.{Kit}
@@ -35,12 +37,16 @@ pub record Crew : Type 0 where
 abbrev pub gates_of : {G : Type 0} → (G → Option (List Row)) → (G → ℕ) → List (Kit G) → List (Option GateSeen)
 gates_of ran faults kits = map (λ kit. option_map (λ gate. record { ran = ran gate; faults = faults gate }) kit.gate) kits
 
-abbrev pub crew : List (Option GateSeen) → List (Option JobSeen) → Crew
-crew gates jobs = record { gates = gates; jobs = jobs }
-
 -- what the gates and the jobs tell
 abbrev pub crew_of : {G J A : Type 0} → GateTells G → JobTells J → Vec (Kit G) A → JobPlaces J → Crew
-crew_of gate job kits jobs = crew (gates_of gate.ran gate.faults kits.items) (jobs_of job.id job.used job.faults job.made jobs.places)
+crew_of gate job kits jobs = record {
+  gates = gates_of gate.ran gate.faults kits.items;
+  jobs = jobs_of job.id job.used job.faults job.made jobs.places;
+}
+
+-- the gates and the jobs, once these programs are loaded into the jobs of these tasks
+abbrev pub loaded_crew : List Program → ℕ → List Task → Crew → Crew
+loaded_crew programs scale tasks c = record c { jobs = loaded scale programs tasks c.jobs }
 
 -- there is a gate for each of 32 processors, which has run nothing yet where it tells its rows, and 256 jobs, which have
 -- worked no tick
@@ -70,10 +76,6 @@ next_leaf p counts q = option_map (λ row. row.leaf) (slice_get (lane_of (plan_r
 abbrev pub JobRose : Crew → Crew → ℕ → Type 0
 JobRose old new i = (j k : JobSeen) × Holds old.jobs i j × Holds new.jobs i k × Rose j.faults k.faults
 
--- job i didn't fail
-abbrev pub JobKept : Crew → Crew → ℕ → Type 0
-JobKept old new i = (j k : JobSeen) → Holds old.jobs i j → Holds new.jobs i k → k.faults ≡ j.faults
-
 -- what is shown is a task, whose job failed
 abbrev pub ShowsFailed : Crew → Crew → Option Leaf → Type 0
 ShowsFailed old new (Some (leaf.Task task)) = JobRose old new task.0
@@ -92,7 +94,7 @@ pub record RanPart (p : PlanContents) (window : ℕ) (old new : Crew) (posted ra
       → (k : JobSeen) × Holds new.jobs i k × (k.used ≡ j.used + ticks_of i (plan_rows p) posted) × (k.made ≡ j.made)
   pub failed : (q : ℕ) → slice_index posted q < slice_index ran q → ShowsFailed old new (next_leaf p posted q)
   pub kept : (i : ℕ) → ((q : ℕ) → slice_index posted q < slice_index ran q → next_leaf p posted q ≡ Some (leaf.Task (record { 0 = i })) → ⊥)
-      → JobKept old new i
+      → (j k : JobSeen) → Holds old.jobs i j → Holds new.jobs i k → k.faults ≡ j.faults
   pub front : IsFrontAt p posted
   pub within : (q : ℕ) → slice_index ran q ≤ least_count posted + window
   pub others : (q : ℕ) → p.tree.processors ≤ q → slice_get new.gates q ≡ slice_get old.gates q

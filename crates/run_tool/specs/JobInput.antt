@@ -13,7 +13,8 @@ use Rattle.pure_commands.specs.SetTexts.{schedule_rows, plan_of, HasRoom}
 use Rattle.run_tool.specs.JobPrograms.{ReadsJobs, HasBadProgram, set_bytes, result_text}
 use Rattle.pure_commands.specs.Input.{IsSchedulable, IsRefusedSet, IsTooLongSet}
 use Rattle.run_tool.specs.Executions.{Crew, RanAll, usual_window}
-use Rattle.run_tool.specs.Executed.{StopsInRun, loaded_crew, HasLoaded}
+use Rattle.run_tool.specs.Executed.{StopsInRun, HasLoaded}
+use Rattle.run_tool.specs.Executions.{loaded_crew}
 
 -- the source gave all its bytes, at most the limit, and they are this job text with this set
 pub record GaveJobs (left left' : Option (List ℕ)) (limit : ℕ) (text : JobTextHeld) (s : SetContents) : Type 0 where
@@ -42,20 +43,20 @@ RefusesJobText bytes _ = ⊥
 abbrev pub RanJobs : JobTextHeld → Option (List ℕ) → Option (List ℕ) → Crew → Crew → SetContents → Type 0
 RanJobs text out out' old new s =
     (scale : ℕ) × IsSchedulable s scale × HasRoom (schedule_rows false) s scale × Appends out out' (result_text text (plan_of s scale) old.jobs)
-    × RanAll (plan_of s scale) (loaded_crew text scale s.tasks old) new
+    × RanAll (plan_of s scale) (loaded_crew text.programs scale s.tasks old) new
 
 -- why the schedule wasn't run, or the text not written. Where memory was refused, no gate was called and no job worked, and the
 -- programs of the first tasks may have been loaded
 abbrev pub StopsAtJobs : JobTextHeld → Option (List ℕ) → Option (List ℕ) → ℕ → ℕ → Crew → Crew → SetContents → Refusal → Type 0
 StopsAtJobs text out out' faults faults' old new s why.WriteFault =
     (scale : ℕ) × IsSchedulable s scale × HasRoom (schedule_rows false) s scale × TookPart out out' (result_text text (plan_of s scale) old.jobs)
-    × Rose faults faults' × RanAll (plan_of s scale) (loaded_crew text scale s.tasks old) new
+    × Rose faults faults' × RanAll (plan_of s scale) (loaded_crew text.programs scale s.tasks old) new
 StopsAtJobs text out out' faults faults' old new s (why.GateFault row name) =
     (scale : ℕ) × IsSchedulable s scale × HasRoom (schedule_rows false) s scale
-    × StopsInRun (plan_of s scale) usual_window (loaded_crew text scale s.tasks old) new (why.GateFault row name) × Keeps out out'
+    × StopsInRun (plan_of s scale) usual_window (loaded_crew text.programs scale s.tasks old) new (why.GateFault row name) × Keeps out out'
 StopsAtJobs text out out' faults faults' old new s (why.JobFault row name) =
     (scale : ℕ) × IsSchedulable s scale × HasRoom (schedule_rows false) s scale
-    × StopsInRun (plan_of s scale) usual_window (loaded_crew text scale s.tasks old) new (why.JobFault row name) × Keeps out out'
+    × StopsInRun (plan_of s scale) usual_window (loaded_crew text.programs scale s.tasks old) new (why.JobFault row name) × Keeps out out'
 StopsAtJobs text out out' faults faults' old new s (why.TooLong rows) = IsTooLongSet (schedule_rows false) s rows × Keeps out out'
 StopsAtJobs text out out' faults faults' old new s why.NoMemory = ((new ≡ old) ⊎ HasLoaded text s old new) × Keeps out out'
 StopsAtJobs text out out' faults faults' old new s refusal = IsRefusedSet s refusal × Keeps out out'

@@ -14,9 +14,7 @@ use Rattle.job_vm.specs.Results.{Told, jobs_text}
 use Rattle.job_vm.specs.Seen.{JobSeen}
 use Rattle.pure_commands.specs.declared.refusal.Refusal.{Refusal}
 use Rattle.pure_commands.specs.declared.refusal.Refusal.TheVariants.{BadProgram, BadSet}
-use Rattle.pure_commands.specs.declared.status.Status.{Status}
-use Rattle.pure_commands.specs.declared.status.Status.TheVariants.{Done}
-use Rattle.pure_commands.specs.SetTexts.{schedule_rows, ReadsSet, HasRoom, plan_of, RefusesText}
+use Rattle.pure_commands.specs.SetTexts.{schedule_rows, ReadsSet, HasRoom, RefusesText}
 
 -- the bytes behind the line `tasks`, where the set stands
 abbrev pub set_bytes : JobTextHeld → List ℕ → List ℕ
@@ -51,16 +49,6 @@ told_of_task programs p jobs i =
 -- the text of a plan, where the jobs were these before
 abbrev pub result_text : JobTextHeld → PlanContents → List (Option JobSeen) → List ℕ
 result_text text p jobs = jobs_text (told_of_task text.programs p jobs) p.set.tasks
-
--- this text is written for these bytes where the jobs were these before. The status is always `Done`
-abbrev pub WritesResult : List (Option JobSeen) → List ℕ → Status → List ℕ → Type 0
-WritesResult jobs bytes status result =
-    (status ≡ Done) × ((text : JobTextHeld) × (s : SetContents) × (scale : ℕ) × IsJobsToRun bytes text s scale
-    × (result ≡ result_text text (plan_of s scale) jobs))
-
--- the same, whichever jobs there were
-abbrev pub WritesResults : List ℕ → Status → List ℕ → Type 0
-WritesResults bytes status result = (jobs : List (Option JobSeen)) × WritesResult jobs bytes status result
 
 -- the bytes are no job text, at this line, or are one with a program of no task, which this line begins
 abbrev pub HasBadProgram : List ℕ → ℕ → Type 0

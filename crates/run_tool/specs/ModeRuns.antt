@@ -3,13 +3,11 @@ use Rattle.std.specs.Prelude.{ℕ, ◌≡◌, ◌⊎◌, nat_lt, if◌then◌els
 use Rattle.std.specs.List.{AllByRecursion}
 use Rattle.sched_base.specs.declared.rows.Leaf.TheVariants.{Task as OfTask}
 use Rattle.sched_base.specs.declared.rows.TaskId.{TaskId}
-use Rattle.sched_base.specs.declared.sets.Task.{Task}
 use Rattle.sched_base.specs.Tables.{all_rows}
 use Rattle.sched_base.specs.Valid.{IsValid}
 use Rattle.sched_edges.specs.Gates.{grown}
 use Rattle.sched_edges.specs.Jobs.{reloaded}
 use Rattle.sched_edges.specs.Streams.{GaveAll}
-use Rattle.job_vm.specs.Loading.{loaded}
 use Rattle.run_tree.specs.Plans.{PlanContents, stop_of}
 use Rattle.plan_rounds.specs.PlanRows.{plan_rows}
 use Rattle.mode_join.specs.declared.mode.Mode.{Mode}
@@ -19,20 +17,12 @@ use Rattle.pure_commands.specs.declared.mode_refusal.ModeRefusal.{ModeRefusal}
 use Rattle.pure_commands.specs.declared.mode_refusal.ModeRefusal.TheVariants as mode
 use Rattle.pure_commands.specs.declared.refusal.Refusal.{Refusal}
 use Rattle.pure_commands.specs.declared.refusal.Refusal.TheVariants as why
-use Rattle.pure_commands.specs.declared.status.Status.{Status}
-use Rattle.pure_commands.specs.declared.status.Status.TheVariants.{Done}
+use Rattle.exit_status.specs.declared.Status.{Status}
+use Rattle.exit_status.specs.declared.Status.TheVariants.{Done}
 use Rattle.pure_commands.specs.Commands.{set_limit}
 use Rattle.pure_commands.specs.Ends.{Streams}
-use Rattle.run_tool.specs.Executions.{GateSeen, JobSeen, Crew, Holds, GateStopped, JobStopped, GateRose, JobRose, name_at}
-use Rattle.run_tool.specs.ModeTexts.{ReadsModes, RefusesMode, RefusesModes, modes_text}
-
--- the gates and the jobs, once the jobs of these tasks began anew without a program
-abbrev pub begun_crew : List Task → Crew → Crew
-begun_crew tasks c = record c { jobs = loaded 1 [] tasks c.jobs }
-
--- the rows of a mode are a valid schedule of its set over its whole horizon
-abbrev pub HasValidRows : Mode → Type 0
-HasValidRows m = IsValid m.plan.set m.plan.tree.scale (stop_of m.plan) (stop_of m.plan) (all_rows (plan_rows m.plan))
+use Rattle.run_tool.specs.Executions.{GateSeen, JobSeen, Crew, Holds, loaded_crew, GateStopped, JobStopped, GateRose, JobRose, name_at}
+use Rattle.run_tool.specs.ModeTexts.{ReadsModes, RefusesModes, modes_text}
 
 -- what a job is made of after the modes: of the empty program, in units of one tick, where one has its task
 abbrev pub made_after : List Mode → ℕ → Option (ℕ × List ℕ) → Option (ℕ × List ℕ)
@@ -46,7 +36,7 @@ pub record RanThrough (modes : List Mode) (old new : Crew) : Type 0 where
   pub jobs : (i : ℕ) (j : JobSeen) → Holds old.jobs i j
       → (k : JobSeen) × Holds new.jobs i k × (k.id ≡ j.id) × (k.used ≡ used_after modes i j.used) × (k.faults ≡ j.faults)
       × (k.made ≡ made_after modes i j.made)
-  pub valid : AllByRecursion HasValidRows modes
+  pub valid : AllByRecursion (λ m. IsValid m.plan.set m.plan.tree.scale (stop_of m.plan) (stop_of m.plan) (all_rows (plan_rows m.plan))) modes
 
 -- why the rows of a plan weren't all run
 abbrev pub StopsInPlan : PlanContents → Crew → Crew → ModeRefusal → Type 0
@@ -67,7 +57,7 @@ pub record StopsInMode (modes : List Mode) (j : ℕ) (old new : Crew) (refusal :
   pub at : slice_get modes j ≡ Some mode
   pub between : Crew
   pub before : RanThrough (take j modes) old between
-  pub stopped : StopsInPlan mode.plan (begun_crew mode.plan.set.tasks between) new refusal
+  pub stopped : StopsInPlan mode.plan (loaded_crew [] 1 mode.plan.set.tasks between) new refusal
   pub rose : NamedRose old new refusal
 
 -- some of the modes were run whole, and the jobs of the next one's tasks began anew
@@ -77,7 +67,7 @@ pub record StopsBetween (modes : List Mode) (old new : Crew) : Type 0 where
   pub at : slice_get modes number ≡ Some mode
   pub between : Crew
   pub before : RanThrough (take number modes) old between
-  pub begun : new ≡ begun_crew mode.plan.set.tasks between
+  pub begun : new ≡ loaded_crew [] 1 mode.plan.set.tasks between
 
 -- why modes weren't all run. Where memory was refused, nothing was begun, or it was between two modes
 abbrev pub StopsInModes : List Mode → Crew → Crew → Refusal → Type 0
@@ -90,17 +80,12 @@ abbrev pub WritesModesRun : Crew → Crew → List ℕ → Status → List ℕ �
 WritesModesRun old new bytes status text =
     (status ≡ Done) × ((m : ModesContents) × ReadsModes bytes m × (text ≡ modes_text m.modes) × RanThrough m.modes old new)
 
--- why mode j isn't told of: a gate or a job failed in it, or the bytes are refused for it
-abbrev pub RefusesModeRun : Crew → Crew → List ℕ → ℕ → ModeRefusal → Type 0
-RefusesModeRun old new bytes j (mode.GateFault row name) =
-    (m : ModesContents) × ReadsModes bytes m × StopsInMode m.modes j old new (mode.GateFault row name)
-RefusesModeRun old new bytes j (mode.JobFault row name) =
-    (m : ModesContents) × ReadsModes bytes m × StopsInMode m.modes j old new (mode.JobFault row name)
-RefusesModeRun old new bytes j refusal = RefusesMode bytes j refusal
-
--- why no text is written for these bytes
+-- why no text is written for these bytes: a gate or a job failed in a mode, or they are refused
 abbrev pub RefusesModesRun : Crew → Crew → List ℕ → Refusal → Type 0
-RefusesModesRun old new bytes (why.OfMode j refusal) = RefusesModeRun old new bytes j refusal
+RefusesModesRun old new bytes (why.OfMode j (mode.GateFault row name)) =
+    (m : ModesContents) × ReadsModes bytes m × StopsInMode m.modes j old new (mode.GateFault row name)
+RefusesModesRun old new bytes (why.OfMode j (mode.JobFault row name)) =
+    (m : ModesContents) × ReadsModes bytes m × StopsInMode m.modes j old new (mode.JobFault row name)
 RefusesModesRun old new bytes refusal = RefusesModes bytes refusal
 
 -- where memory was refused, nothing was begun, or some of the modes were run whole

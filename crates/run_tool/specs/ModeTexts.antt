@@ -1,9 +1,9 @@
 -- What `modes` writes, and which bytes it refuses and why.
-use Rattle.std.specs.Prelude.{ℕ, ◌≡◌, ◌<◌, List, [], ◌∷◌, ◌++◌, Some, Ok, Err, codes, decimal, length, slice_get}
+use Rattle.std.specs.Prelude.{ℕ, ◌≡◌, ◌<◌, List, [], ◌∷◌, ◌++◌, Some, Ok, Err, codes, decimal, slice_get}
 use Rattle.std.specs.List.{AllByRecursion, AllZip}
 use Rattle.sched_base.specs.Lanes.{lanes_of}
 use Rattle.sched_base.specs.Sets.{SetContents}
-use Rattle.sched_edges.specs.Lines.{line_of, number_line}
+use Rattle.sched_edges.specs.Lines.{line_of}
 use Rattle.run_tree.specs.Plans.{PlanContents, schedule_of}
 use Rattle.task_reader.specs.declared.refusals.ReadSet.{ReadSet}
 use Rattle.task_reader.specs.Pieces.{pieces_of}
@@ -18,9 +18,7 @@ use Rattle.pure_commands.specs.declared.mode_refusal.ModeRefusal.{ModeRefusal}
 use Rattle.pure_commands.specs.declared.mode_refusal.ModeRefusal.TheVariants as mode
 use Rattle.pure_commands.specs.declared.refusal.Refusal.{Refusal}
 use Rattle.pure_commands.specs.declared.refusal.Refusal.TheVariants.{OfMode}
-use Rattle.pure_commands.specs.declared.status.Status.{Status}
-use Rattle.pure_commands.specs.Numbered.{numbered}
-use Rattle.pure_commands.specs.declared.status.Status.TheVariants.{Done}
+use Rattle.pure_commands.specs.Numbered.{several}
 
 -- ---- what is read
 
@@ -49,21 +47,9 @@ mode_head j start horizon = line_of (codes "mode") (decimal j ∷ decimal start 
 abbrev pub mode_part : ℕ → Mode → List ℕ
 mode_part j m = mode_head j m.start m.plan.set.horizon ++ mode_text m.plan
 
--- what is written of modes, of which the first has the number j
-abbrev pub mode_parts : ℕ → List Mode → List ℕ
-mode_parts j modes = numbered mode_part j modes
-
--- the version and how many modes there are
-abbrev pub modes_head : ℕ → List ℕ
-modes_head count = number_line (codes "run-modes") 1 ++ number_line (codes "modes") count
-
 -- the text of modes
 abbrev pub modes_text : List Mode → List ℕ
-modes_text modes = modes_head (length modes) ++ mode_parts 0 modes
-
--- this text is written for these bytes. The status is always `Done`
-abbrev pub WritesModes : List ℕ → Status → List ℕ → Type 0
-WritesModes bytes status text = (status ≡ Done) × ((m : ModesContents) × ReadsModes bytes m × (text ≡ modes_text m.modes))
+modes_text modes = several (codes "run-modes") (codes "modes") mode_part modes
 
 -- ---- what is refused
 

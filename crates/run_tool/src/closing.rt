@@ -8,7 +8,8 @@ ghost use Rattle.run_tool.specs.Closing.{closed, IsClosed, TellsClosed};
 ghost use Rattle.pure_commands.specs.Refusals.{refusal_line};
 ghost use Rattle.pure_commands.specs.declared.refusal.Refusal.TheVariants as why;
 
-use pure_commands::{Refusal, Status, refuse};
+use exit_status::Status;
+use pure_commands::{Refusal, refuse};
 use sched_edges::{Failed, Sink, StdSink};
 use std::io::{BufWriter, Write};
 

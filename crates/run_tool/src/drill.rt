@@ -9,7 +9,8 @@ ghost use Rattle.plan_rounds.specs.PlanRows.{plan_rows};
 ghost use Rattle.merged_rows.specs.Merging.{merged_lanes};
 ghost use Rattle.trace_check.specs.RoundTrip.{trace_again};
 ghost use Rattle.stat_report.specs.Report.{IsValidTrace};
-ghost use Rattle.run_tool.specs.Drill.{drilled, drill_plan, summary_by};
+ghost use Rattle.pure_commands.specs.SetTexts.{plan_of};
+ghost use Rattle.run_tool.specs.Drill.{drilled, summary_by};
 ghost use Rattle.run_tool.specs.Executions.{crew_of, IsFreshCrew};
 ghost use Rattle.run_tool.specs.Executed.{RanDrill, StopsAtDrill, WroteDrill, StopsAtText, EndsPart, may_have_run};
 ghost use Rattle.command_words.specs.declared.command.Command.TheVariants.{Execute};
@@ -66,7 +67,7 @@ fn write_judged<W: Sink>(
     table: &RowTable,
     out: &mut W,
 ) -> Result<(), Refusal>
-    requires plan { plan.now ≡ drill_plan number plan.now.tree.scale }
+    requires plan { plan.now ≡ plan_of (drilled number) plan.now.tree.scale }
     requires scale { IsScale (drilled number).tasks plan.now.tree.scale }
     requires rounds { rounds ≡ rounds_of plan.now }
     requires lanes { table.now.lanes ≡ plan_rows plan.now }
@@ -82,7 +83,7 @@ fn write_judged<W: Sink>(
 
 // The plan of the set that a number draws: each such set fits, and its scale is small.
 fn drawn_plan(alloc: Global, number: u64) -> Result<Plan, NoMemory>
-    ensures plan { IfOk result (λ plan. plan ≡ drill_plan number plan.tree.scale) }
+    ensures plan { IfOk result (λ plan. plan ≡ plan_of (drilled number) plan.tree.scale) }
     ensures scale { IfOk result (λ plan. IsScale (drilled number).tasks plan.tree.scale) }
     ensures few { IfOk result (λ plan. rounds_of plan * plan.tree.processors ≤ row_limit) }
 {

@@ -12,7 +12,8 @@ mod summary;
 
 pub use closing::{close_flushed, close_run};
 pub use command_words::{Command, Execution, Reading};
+pub use exit_status::Status;
 pub use pure_commands::{
-    ModeRefusal, Refusal, Status, follow_law, refuse, run_reading, run_still, sound_law, write_rate,
+    ModeRefusal, Refusal, follow_law, refuse, run_reading, run_still, sound_law, write_rate,
 };
 pub use running::{run, run_without_crew};

@@ -1,9 +1,9 @@
 //! The text of modes that were run.
-ghost use Rattle.std.specs.Prelude.{◌≡◌, ◌≤◌, ◌<◌, ◌*◌, length, slice_get, Some};
+ghost use Rattle.std.specs.Prelude.{◌≡◌, ◌≤◌, ◌<◌, ◌*◌, ◌++◌, length, codes, slice_get, Some};
 ghost use Rattle.std.specs.List.{AllZip};
 ghost use Rattle.sched_base.specs.Tables.{row_limit};
 ghost use Rattle.sched_edges.specs.Causes.{HasCause};
-ghost use Rattle.sched_edges.specs.Lines.{line_of};
+ghost use Rattle.sched_edges.specs.Lines.{line_of, number_line};
 ghost use Rattle.sched_edges.specs.Streams.{Wrote};
 ghost use Rattle.plan_rounds.specs.PlanRows.{plan_rows};
 ghost use Rattle.mode_join.specs.declared.mode.Mode.{Mode};
@@ -11,7 +11,8 @@ ghost use Rattle.mode_switch.specs.Runs.{IsRunOf};
 ghost use Rattle.run_tree.specs.Plans.{rounds_of};
 ghost use Rattle.trace_format.specs.Conditions.{AreOnTime};
 ghost use Rattle.row_totals.specs.Sums.{totals_of};
-ghost use Rattle.run_tool.specs.ModeTexts.{mode_head, mode_text, mode_part, mode_parts, modes_head, modes_text};
+ghost use Rattle.pure_commands.specs.Numbered.{numbered};
+ghost use Rattle.run_tool.specs.ModeTexts.{mode_head, mode_text, mode_part, modes_text};
 
 use mode_switch::{Modes, ModesRun};
 use round_table::table_law;
@@ -35,7 +36,7 @@ pub(crate) fn write_modes<W: Sink>(modes: &Modes, run: &ModesRun, out: &mut W) -
 
 // Writes the version, and how many modes there are.
 fn write_head<W: Sink>(count: u32, out: &mut W) -> Result<(), Failed>
-    ensures wrote { Wrote (W.taken out.old) (W.taken out.new) (modes_head count) result }
+    ensures wrote { Wrote (W.taken out.old) (W.taken out.new) (number_line (codes "run-modes") 1 ++ number_line (codes "modes") count) result }
     ensures cause { HasCause (W.faults out.old) (W.faults out.new) result }
 {
     let lines = [
@@ -48,7 +49,7 @@ fn write_head<W: Sink>(count: u32, out: &mut W) -> Result<(), Failed>
 // Writes each mode.
 fn write_each<W: Sink>(modes: &Modes, run: &ModesRun, out: &mut W) -> Result<(), Failed>
     requires { AllZip IsRunOf modes.now.modes run.now }
-    ensures wrote { Wrote (W.taken out.old) (W.taken out.new) (mode_parts 0 modes.now.modes) result }
+    ensures wrote { Wrote (W.taken out.old) (W.taken out.new) (numbered mode_part 0 modes.now.modes) result }
     ensures cause { HasCause (W.faults out.old) (W.faults out.new) result }
 {
     for j in 0..modes.count() {

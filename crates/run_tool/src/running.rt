@@ -10,7 +10,7 @@ ghost use Rattle.run_tool.specs.Executed.{EndsExecution, EndsWith, NoneFailed, m
 ghost use Rattle.command_words.specs.declared.command.Command.{Command};
 ghost use Rattle.command_words.specs.declared.command.Command.TheVariants.{Read};
 ghost use Rattle.command_words.specs.declared.command.Reading.TheVariants.{Check};
-ghost use Rattle.pure_commands.specs.declared.status.Status.TheVariants.{Done, Invalid};
+ghost use Rattle.exit_status.specs.declared.Status.TheVariants.{Done, Invalid};
 
 use crate::drill::drill;
 use crate::exec::exec;
@@ -18,7 +18,8 @@ use crate::jobs::run_jobs;
 use crate::modes::modes;
 use command_words::{Execution, USUAL_WINDOW, asks_for_batch, asks_to_execute, execution_of};
 use exec_workers::Kit;
-use pure_commands::{Refusal, Status, follow_law, refuse, run_batch, run_still, sound_law};
+use exit_status::Status;
+use pure_commands::{Refusal, refuse, run_batch, run_still};
 use sched_edges::{BoxedJob, Gate, Job, Jobs, Sink, Source};
 use std::alloc::Global;
 use std::sync::Wait;
@@ -149,8 +150,6 @@ fn run_execution<R: Source, W: Sink, E: Sink, G: Gate + Send, X: Threads + Wait 
         (crew_of G.Gate ⟦<BoxedJob as Job>⟧ kits.old jobs.old) (crew_of G.Gate ⟦<BoxedJob as Job>⟧ kits.new jobs.new)
         ((kits.new.items ≡ kits.old.items) × (jobs.new.places ≡ jobs.old.places)) result }
 {
-    sound_law();
-    follow_law();
     match execution_of(alloc, words) {
         Err(_) => refuse(&Refusal::NoMemory, err),
         Ok(None) => refuse(&Refusal::Usage, err),

@@ -76,7 +76,7 @@ fn status_of(rt: &impl Abort, alloc: Global, set: &[u8], rounds: &[Told]) -> u8 
             assert_told(rt, &mut steps, rounds);
             0
         }
-        Err(fault) => fault.code(),
+        Err(fault) => fault.status().code(),
     }
 }
 

@@ -21,7 +21,7 @@ fn candidate((end, remain): Member) -> Candidate {
 }
 
 #[test]
-fn picks(rt: HostRuntime) {
+fn picks_the_earliest_deadline(rt: HostRuntime) {
     for (a, b, c, picked) in MEMBERS {
         let candidates = [candidate(*a), candidate(*b), candidate(*c)];
         assert!(rt; earliest(&candidates) == *picked);

@@ -2,7 +2,7 @@ use Rattle.std.proofs.Common.{◌≡◌, ◌∙◌, inl, inr, Some, None, refl, 
 use Rattle.command_words.specs.Words.{command_of}
 use Rattle.command_words.specs.declared.command.Command.TheVariants.{Batch}
 use Rattle.pure_commands.specs.declared.refusal.Refusal.TheVariants as why
-use Rattle.pure_commands.specs.declared.status.Status.TheVariants.{Done, Invalid, Usage}
+use Rattle.exit_status.specs.declared.Status.TheVariants.{Done, Invalid, Usage}
 use Rattle.pure_commands.specs.Commands.{of_batch}
 use Rattle.pure_commands.proofs.AnswerLemmas.{asked_answers, done_answers, stops_answers, unread_answered}
 use Rattle.pure_commands.proofs.EndLemmas.{keeps_same, quiet_same, unread_same, is_fault, not_fault, stopped_fault, stopped_ends, none_answered, no_none}

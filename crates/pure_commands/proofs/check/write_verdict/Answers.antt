@@ -2,7 +2,7 @@ use Rattle.std.proofs.Common.{refl, ◌∙◌, rules}
 use Rattle.std.proofs.lemmas.Result.{err_from_is_err_and}
 use Rattle.stat_report.specs.Text.{report_text}
 use Rattle.pure_commands.specs.Checks.{TellsTrace}
-use Rattle.pure_commands.specs.declared.status.Status.TheVariants.{Done, Invalid}
+use Rattle.exit_status.specs.declared.Status.TheVariants.{Done, Invalid}
 use Rattle.pure_commands.proofs.check.write_verdict.Goals as goal
 
 pub returns-in_err-write_report-in-Valid-clause-stops : goal.returns-in_err-write_report-in-Valid-clause-stops

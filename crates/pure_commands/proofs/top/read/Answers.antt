@@ -1,8 +1,8 @@
 use Rattle.std.proofs.Common.{◌≡◌, Result, Ok, Err}
 use Rattle.std.specs.Result.{MatchResult, IfOk, IfErr, OnOk}
 use Rattle.pure_commands.specs.declared.refusal.Refusal.{Refusal}
-use Rattle.pure_commands.specs.declared.status.Status.{Status}
-use Rattle.pure_commands.specs.declared.status.Status.TheVariants.{Done}
+use Rattle.exit_status.specs.declared.Status.{Status}
+use Rattle.exit_status.specs.declared.Status.TheVariants.{Done}
 use Rattle.pure_commands.specs.Commands.{Output, output_of}
 use Rattle.pure_commands.specs.Ends.{Streams, streams_of, IsDone, Stops}
 use Rattle.pure_commands.proofs.top.read.Goals as goal

@@ -2,7 +2,7 @@ use Rattle.std.proofs.Common.{refl}
 use Rattle.pure_commands.proofs.AnswerLemmas.{done_answers, stops_answers}
 use Rattle.pure_commands.specs.Commands.{output_of}
 use Rattle.pure_commands.proofs.SoundLemmas.{done_soundly_as}
-use Rattle.pure_commands.specs.declared.status.Status.TheVariants.{Done, Invalid, Usage}
+use Rattle.exit_status.specs.declared.Status.TheVariants.{Done, Invalid, Usage}
 use Rattle.pure_commands.proofs.EndLemmas.{not_fault, stopped_fault, stopped_ends, told_ends, told_no_usage, told_invalid}
 use Rattle.pure_commands.proofs.top.run_reading.Goals as goal
 

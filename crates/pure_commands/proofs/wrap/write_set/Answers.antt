@@ -15,7 +15,7 @@ use Rattle.pure_commands.proofs.wrap.write_set.Goals as goal
 -- a set whose wrapped schedule isn't counted
 uncounted : (s : SetContents) (scale : ℕ) (out : Option (List ℕ)) (faults : ℕ) (e : WrapFault) → IsSchedulable s scale → IsWrapFault scale s e
     → StopsAtSet wrapped_rows out out faults faults s (of_wrap e)
-uncounted s scale out faults (wrap.TooLong rows) run is = ((scale, run, is.0, is.1), keeps_same out)
+uncounted s scale out faults (wrap.TooLong rows) run is = ((scale, run, is), keeps_same out)
 uncounted s scale out faults wrap.NoMemory run is = (tt, keeps_same out)
 
 pub returns-in_err-scale-clause-done : goal.returns-in_err-scale-clause-done

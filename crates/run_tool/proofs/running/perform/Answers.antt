@@ -1,7 +1,7 @@
 use Rattle.std.proofs.Common.{refl, subst, arith}
 use Rattle.command_words.specs.Words.{HasWindow}
 use Rattle.command_words.specs.declared.command.Execution.TheVariants.{Exec, ExecMet, Jobs, Modes}
-use Rattle.pure_commands.specs.Ends.{streams}
+use Rattle.pure_commands.proofs.StreamLemmas.{streams}
 use Rattle.run_tool.proofs.PartLemmas.{ends_as, ends_early, ends_drill}
 use Rattle.run_tool.proofs.RunLemmas.{unread_same}
 use Rattle.run_tool.proofs.running.perform.Goals as goal

@@ -23,8 +23,7 @@ pub returns-in-Ok : goal.returns-in-Ok
 returns-in-Ok g c =
     let asked : Some (Execute c.in-Ok-Some.execution) ≡ command_of (map string_bytes c.args.words.now) =
     ap (option_map Execute) (sym c.in-Ok-Some.field-0-is) ∙ c.in-Ok-Some.ensures.line in
-    execution_done _ _ _ _ _ _ _ _ c.in-Ok-Some.execution asked c.sound_law.ensures c.follow_law.ensures.trees c.in-Ok.ensures.told (quiet_same _)
-    c.in-Ok.ensures.back
+    execution_done _ _ _ _ _ _ _ _ c.in-Ok-Some.execution asked c.in-Ok.ensures.told (quiet_same _) c.in-Ok.ensures.back
 
 pub returns-in-Err-perform : goal.returns-in-Err-perform
 returns-in-Err-perform g c =

@@ -1,6 +1,8 @@
-//! Statuses.
+//! How a call ends, and the number by which it is told.
+#![tactic(auto)]
+
 ghost use Rattle.std.specs.Prelude.{◌≡◌};
-ghost use Rattle.pure_commands.specs.Status.{code_of};
+ghost use Rattle.exit_status.specs.Status.{code_of};
 
 /// How a call ended. Its code is the exit status of the program.
 #[derive(Clone, Copy, PartialEq, Eq)]
@@ -42,7 +44,8 @@ pub enum Status {
 impl Status {
     /// The number of the status.
     pub fn code(self) -> u8
-        ensures { result ≡ code_of self }
+        ensures code { result ≡ code_of self }
+        ensures done { result ≡ 0 → self ≡ Status.Done }
     {
         match self {
             Status::Done => 0,
