@@ -1,5 +1,6 @@
 //! The rows that are computed and not yet let go, and what computes the next ones.
-ghost use Rattle.std.specs.Prelude.{◌≡◌, ◌≢◌, ◌≤◌, ◌<◌, ◌+◌, ◌-◌, ◌*◌, ◌^◌, ◌++◌, ℕ, [], Some, drop, length, map, replicate, slice_get, slice_index, true, false, IfOk};
+ghost use Rattle.std.specs.Prelude.{◌≡◌, ◌≢◌, ◌≤◌, ◌<◌, ◌+◌, ◌-◌, ◌*◌, ◌^◌, ◌++◌, ℕ, [], Some, drop, length, map};
+ghost use Rattle.std.specs.Prelude.{replicate, slice_get, slice_index, true, false, IfOk};
 ghost use Rattle.sched_base.specs.declared.rows.Leaf.TheVariants.{Task};
 ghost use Rattle.sched_base.specs.declared.rows.TaskId.{TaskId as DeclaredTaskId};
 ghost use Rattle.run_tree.specs.Plans.{stop_of};
@@ -75,7 +76,8 @@ impl Pending {
         ensures belongs { IsCoreOf plan.now self.new.core }
         ensures round { IsRoundUpTo plan.now self.old.core.tick self.new.core.tick }
         ensures width { self.new.width ≡ self.old.width }
-        ensures held { self.new.held ≡ buffer (self.old.held.items ++ map (pending self.old.given) (rows_of_round plan.now self.old.core.tick self.new.core.tick)) self.old.held.capacity }
+        ensures held { self.new.held ≡ buffer (self.old.held.items ++ map (pending self.old.given) (rows_of_round plan.now self.old.core.tick self.new.core.tick))
+            self.old.held.capacity }
         ensures computed { self.new.computed ≡ self.old.computed + 1 }
         ensures given { AreCounted self.old.given (rows_of_round plan.now self.old.core.tick self.new.core.tick) self.new.given }
     {

@@ -163,7 +163,8 @@ impl StepBook {
     fn has_unposted(&self, q: u32, round: u64, leaf: Leaf) -> bool
         requires processor { q < length self.now.state.lanes }
         requires round { round ≤ rounds_in self.now.table.lanes }
-        ensures some { result ≡ true → (j : ℕ) × (r : DeclaredRow) × (posted_at self.now.state q ≤ j) × (j < round) × RowAt (plan_rows self.now.plan) q j r × (r.leaf ≡ leaf) }
+        ensures some { result ≡ true → (j : ℕ) × (r : DeclaredRow) × (posted_at self.now.state q ≤ j) × (j < round)
+            × RowAt (plan_rows self.now.plan) q j r × (r.leaf ≡ leaf) }
         ensures none { result ≡ false → PostedBefore (plan_rows self.now.plan) self.now.state.lanes q round leaf }
     {
         self.plan.know_lawful();

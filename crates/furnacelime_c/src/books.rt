@@ -4,7 +4,8 @@ ghost use Rattle.book_steps.specs.Books.{IsBookOf};
 ghost use Rattle.book_steps.specs.Refusals.{IsNotBooked};
 ghost use Rattle.book_steps.specs.Turns.{Posts, Halts, Waits};
 ghost use Rattle.furnacelime_c.specs.Books.{TellsBook, IsBookOpened, IsBookNotOpened, Goes, IsRowTold, IsAllPosted, IsHalted, CantTake};
-ghost use Rattle.furnacelime_c.specs.Books.{CantPost, CantPostAndTake, PostsAndTakes, PostsAndWaits, PostsAndEnds, PostsAndHalts, TellsEnd, TellsFault, IsShortOf};
+ghost use Rattle.furnacelime_c.specs.Books.{CantPost, CantPostAndTake, PostsAndTakes, PostsAndWaits, PostsAndEnds, PostsAndHalts};
+ghost use Rattle.furnacelime_c.specs.Books.{TellsEnd, TellsFault, IsShortOf};
 
 use crate::numbers::{HALTED, OVER, WAIT, WRONG_CALL};
 use book_steps::{BookFault, StepBook, Turn};

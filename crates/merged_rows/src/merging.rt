@@ -76,7 +76,8 @@ impl MergedRows {
     ) -> Result<MergedRows, NoMemory>
         requires whole { length told.now ≡ length self.lanes }
         requires within { (k : ℕ) → k < length changed.now → slice_index changed.now k < length self.lanes }
-        requires rest { (p : ℕ) → p < length told.now → ((k : ℕ) → k < length changed.now → slice_index changed.now k ≢ p) → slice_index_or told.now p None ≡ None }
+        requires rest { (p : ℕ) → p < length told.now → ((k : ℕ) → k < length changed.now → slice_index changed.now k ≢ p)
+            → slice_index_or told.now p None ≡ None }
         ensures merged { IfOk result (λ m. (lanes : List (List declared_row)) (rows : List declared_row) → self.lanes ≡ map merged lanes
             → IsRound self.end rows → end_after self.end rows ≡ end → AreTold self.lanes told.now rows
             → m.lanes ≡ map merged (with_round lanes rows)) }

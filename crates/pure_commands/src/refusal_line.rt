@@ -11,7 +11,8 @@ ghost use Rattle.exit_status.specs.Status.{code_of};
 ghost use Rattle.pure_commands.specs.Ends.{error_of};
 ghost use Rattle.pure_commands.specs.Refuse.{IsRefused};
 ghost use Rattle.exit_status.specs.declared.Status.TheVariants.{BadInput};
-ghost use Rattle.pure_commands.specs.declared.refusal.Refusal.TheVariants.{BadSet, Overload, ScaleTooLarge, TooLong, GateFault, JobFault, BadTree, TooWide, NoRepeat, WideRepeat};
+ghost use Rattle.pure_commands.specs.declared.refusal.Refusal.TheVariants.{BadSet, Overload, ScaleTooLarge, TooLong, GateFault, JobFault};
+ghost use Rattle.pure_commands.specs.declared.refusal.Refusal.TheVariants.{BadTree, TooWide, NoRepeat, WideRepeat};
 ghost use Rattle.task_reader.specs.declared.refusals.ReadSet.TheVariants.{UnknownKey};
 
 use crate::mode_line::write_mode_refusal;

@@ -25,7 +25,8 @@ pub fn trace_law()
     ensures { (t : Trace) → IsValidTrace t → CanRepeat t.set → (n : ℕ) → IsValidTrace (times n t) }
 {}
 
-/// The law of merged plans, whatever reduction tree of its set a plan has: the rows of each processor in RUN's schedule are a table's, and merged they are a valid schedule too: those
+/// The law of merged plans, whatever reduction tree of its set a plan has: the rows of each processor in RUN's schedule are a table's, and merged they are a
+/// valid schedule too: those
 /// that a table in C tells.
 pub fn merged_plan_law()
     ensures table { (p : PlanContents) → HasTree p → IsTable (lanes_of p.tree.processors (schedule_of p)) }
