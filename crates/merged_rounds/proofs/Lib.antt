@@ -4,5 +4,4 @@ mod SumLemmas
 pub mod LapLemmas
 mod ApartLemmas
 mod ChangeLemmas
-mod CountLemmas
 pub mod CountLemmas

@@ -126,7 +126,7 @@ all_few p sum is = subst (λ (n : ℕ). n * p.tree.processors ≤ row_limit) is.
 
 -- where no node is kept
 pub none_kept : (p : PlanContents) (tick q : ℕ) (rows : List Row) (node : Option NodeId) → node ≡ None → IsKept p tick rows node
-none_kept p tick q rows node nobody = record {
+none_kept p tick q rows shown nobody = record {
   leaf = Empty;
   stays = λ n t e le. absurd (let e' : None ≡ Some n = sym nobody ∙ e in cc);
   last = λ n e. absurd (let e' : None ≡ Some n = sym nobody ∙ e in cc);
