@@ -1,7 +1,7 @@
 //! Many sets at once, and the line `batch`.
 
 use super::calls::{Outside, SURE};
-use super::cases::{Cases, DoneCase, FaultCase, Table, assert_call, assert_tables};
+use super::cases::{Cases, DoneCase, Failing, FaultCase, Table, assert_call, assert_tables};
 use super::lanes::Did;
 use super::texts::{OVERLOAD, THREE_TASKS};
 use run_tool::Status;
@@ -48,57 +48,32 @@ const BATCHES: &[DoneCase] = &[
     ),
 ];
 
-const FAULTS: &[FaultCase] = &[
-    (
-        Outside {
-            source: &[1],
-            ..SURE
-        },
-        Status::ReadFault,
-        "",
-        "refused 3 ReadFault\n",
-        Did::Nothing,
-    ),
-    (
-        Outside { out: &[1], ..SURE },
-        Status::WriteFault,
-        "",
-        "refused 4 WriteFault\n",
-        Did::Nothing,
-    ),
-    (
-        Outside { out: &[2], ..SURE },
-        Status::WriteFault,
-        "run-batch 1\n",
-        "refused 4 WriteFault\n",
-        Did::Nothing,
-    ),
-    (
-        Outside { out: &[3], ..SURE },
-        Status::WriteFault,
-        "run-batch 1\nsets 1\n",
-        "refused 4 WriteFault\n",
-        Did::Nothing,
-    ),
-    (
-        Outside {
-            out_room: 25,
-            ..SURE
-        },
-        Status::WriteFault,
-        "run-batch 1\nsets 1\nset 0 ",
-        "refused 4 WriteFault\n",
-        Did::Nothing,
-    ),
+const FAILING: &[Failing] = &[
+    Failing::Source(&[1]),
+    Failing::Out(&[1], ""),
+    Failing::Out(&[2], "run-batch 1\n"),
+    Failing::Out(&[3], "run-batch 1\nsets 1\n"),
 ];
+
+const FAULTS: &[FaultCase] = &[(
+    Outside {
+        out_room: 25,
+        ..SURE
+    },
+    Status::WriteFault,
+    "run-batch 1\nsets 1\nset 0 ",
+    "refused 4 WriteFault\n",
+    Did::Nothing,
+)];
 
 const TABLES: &[Table] = &[
     (&["batch"], Cases::Done(BATCHES)),
+    (&["batch"], Cases::Failing(&[THREE_TASKS], FAILING)),
     (&["batch"], Cases::Faults(&[THREE_TASKS], FAULTS)),
 ];
 
 #[test]
-fn sets_in_one_text(rt: HostRuntime) {
+fn each_set_of_a_text_has_its_answer(rt: HostRuntime) {
     assert_tables(&rt, rt.alloc(), TABLES);
 }
 
@@ -146,6 +121,6 @@ fn assert_small_sets<X: Abort + Threads + Wait + Sync>(rt: &X, alloc: Global) {
 }
 
 #[test]
-fn many_small_sets(rt: HostRuntime) {
+fn many_small_sets_have_one_answer_each(rt: HostRuntime) {
     assert_small_sets(&rt, rt.alloc());
 }

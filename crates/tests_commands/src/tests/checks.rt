@@ -2,8 +2,8 @@
 
 use super::calls::{Outside, SURE};
 use super::cases::{
-    Cases, DoneCase, FaultCase, RefusedCase, ReplacedCase, Table, assert_call, assert_tables,
-    joined,
+    Case, Cases, DoneCase, Failing, FaultCase, RefusedCase, ReplacedCase, Table, assert_row,
+    assert_tables, joined,
 };
 use super::lanes::Did;
 use super::texts::LATE_ROWS;
@@ -164,38 +164,14 @@ const CHANGES: &[ReplacedCase] = &[
 ];
 
 /// A fault leaves the lines before.
-const FAULTS: &[FaultCase] = &[
-    (
-        Outside {
-            source: &[2],
-            ..SURE
-        },
-        Status::ReadFault,
-        "",
-        "refused 3 ReadFault\n",
-        Did::Nothing,
-    ),
-    (
-        Outside { out: &[1], ..SURE },
-        Status::WriteFault,
-        "",
-        "refused 4 WriteFault\n",
-        Did::Nothing,
-    ),
-    (
-        Outside { out: &[3], ..SURE },
-        Status::WriteFault,
-        "valid\nrows 4\n",
-        "refused 4 WriteFault\n",
-        Did::Nothing,
-    ),
+const FAILING: &[Failing] = &[
+    Failing::Source(&[2]),
+    Failing::Out(&[1], ""),
+    Failing::Out(&[3], "valid\nrows 4\n"),
     // The last line of the report.
-    (
-        Outside { out: &[9], ..SURE },
-        Status::WriteFault,
+    Failing::Out(
+        &[9],
         "valid\nrows 4\npreemptions 1\nmigrations 1\nresponse a 9\nresponse b 9\nresponse c 6\nchart 0 baa\n",
-        "refused 4 WriteFault\n",
-        Did::Nothing,
     ),
 ];
 
@@ -249,17 +225,23 @@ fn end_with(err: &str) -> (Status, &str, &str) {
     }
 }
 
-// Makes sure of what `check` leaves of a text, which is told in parts.
+// Makes sure of what `check` leaves of a text, which is told in parts, for the line of this number.
 fn assert_check<X: Abort + Threads + Wait + Sync>(
     rt: &X,
     alloc: Global,
+    number: usize,
     input: &[&str],
     err: &str,
 ) {
     let (status, out, err) = end_with(err);
     let out = [out];
     let end = (status, out.as_slice(), err);
-    assert_call(rt, alloc, &["check"], input, &SURE, end, Did::Nothing);
+    let at = Case {
+        words: &["check"],
+        line: "check",
+        number,
+    };
+    assert_row(rt, alloc, at, input, &SURE, end, Did::Nothing);
 }
 
 // Makes sure of what is told where the text ends after this line, and where this line and all behind it stand once more.
@@ -269,7 +251,7 @@ fn assert_cut<X: Abort + Threads + Wait + Sync>(
     (lines, last): (&[&str], usize),
     (at_cut, at_double): (&str, &str),
 ) {
-    assert!(rt; last < lines.len());
+    assert!(rt; last < lines.len(), "no line {last}");
     let (first, rest) = (
         joined(rt, alloc, &lines[..=last]),
         joined(rt, alloc, &lines[last..]),
@@ -277,9 +259,9 @@ fn assert_cut<X: Abort + Threads + Wait + Sync>(
     let first = first.as_str();
     // The last line feed may be missing.
     let unended = first.strip_suffix("\n").expect(rt, "a line feed");
-    assert_check(rt, alloc, &[first], at_cut);
-    assert_check(rt, alloc, &[unended], at_cut);
-    assert_check(rt, alloc, &[first, rest.as_str()], at_double);
+    assert_check(rt, alloc, last, &[first], at_cut);
+    assert_check(rt, alloc, last, &[unended], at_cut);
+    assert_check(rt, alloc, last, &[first, rest.as_str()], at_double);
 }
 
 // The same of each line.
@@ -296,7 +278,7 @@ fn assert_cuts<X: Abort + Threads + Wait + Sync>(
 }
 
 #[test]
-fn texts_cut_and_doubled(rt: HostRuntime) {
+fn traces_cut_or_doubled_are_told_at_their_line(rt: HostRuntime) {
     assert_cuts(&rt, rt.alloc(), LINES, CUT);
 }
 
@@ -357,7 +339,7 @@ const EARLY: &[FaultCase] = &[(
 
 const TABLES: &[Table] = &[
     (&["check"], Cases::Replaced(ROWS, CHANGES)),
-    (&["check"], Cases::Faults(&[ROWS], FAULTS)),
+    (&["check"], Cases::Failing(&[ROWS], FAILING)),
     (&["check"], Cases::Faults(&[INVALID_ROWS], INVALID_FAULTS)),
     (&["check"], Cases::Done(VALID)),
     (&["check"], Cases::Refused(REFUSED)),
@@ -365,6 +347,6 @@ const TABLES: &[Table] = &[
 ];
 
 #[test]
-fn verdicts_of_traces(rt: HostRuntime) {
+fn each_trace_has_its_verdict(rt: HostRuntime) {
     assert_tables(&rt, rt.alloc(), TABLES);
 }

@@ -1,9 +1,7 @@
 //! Pictures of traces by the command: worked ones, the windows of lines, refused texts, and faults in mid-stream. The pictures
 //! were made by a plain program of its own, and looked at. The tests of pictures have some byte for byte, with the style sheet.
 
-use super::calls::{Outside, SURE};
-use super::cases::{Cases, FaultCase, ReplacedCase, ShownCase, Table, assert_tables};
-use super::lanes::Did;
+use super::cases::{Cases, Failing, ReplacedCase, ShownCase, Table, assert_tables};
 use super::texts::LATE_ROWS;
 use run_tool::Status;
 
@@ -155,7 +153,7 @@ const WINDOWS: &[Table] = &[
 ];
 
 #[test]
-fn lines_and_their_windows(rt: HostRuntime) {
+fn the_units_that_are_asked_for_are_drawn(rt: HostRuntime) {
     assert_tables(&rt, rt.alloc(), WINDOWS);
 }
 
@@ -194,30 +192,12 @@ const REPLACED: &[ReplacedCase] = &[
 ];
 
 /// A fault leaves a first part.
-const FAULTS: &[FaultCase] = &[
-    (
-        Outside {
-            source: &[2],
-            ..SURE
-        },
-        Status::ReadFault,
-        "",
-        "refused 3 ReadFault\n",
-        Did::Nothing,
-    ),
-    (
-        Outside { out: &[1], ..SURE },
-        Status::WriteFault,
-        "",
-        "refused 4 WriteFault\n",
-        Did::Nothing,
-    ),
-    (
-        Outside { out: &[3], ..SURE },
-        Status::WriteFault,
+const FAILING: &[Failing] = &[
+    Failing::Source(&[2]),
+    Failing::Out(&[1], ""),
+    Failing::Out(
+        &[3],
         "<svg xmlns='http://www.w3.org/2000/svg' role='img' aria-labelledby='t d'\n viewBox='0 0 12000 3870'>\n",
-        "refused 4 WriteFault\n",
-        Did::Nothing,
     ),
 ];
 
@@ -225,10 +205,10 @@ const TABLES: &[Table] = &[
     (&["draw", "--from", "1", "--units=1"], Cases::Shown(UNIT)),
     (&["draw"], Cases::Shown(OVERLAP)),
     (&["draw"], Cases::Replaced(ROWS, REPLACED)),
-    (&["draw"], Cases::Faults(&[ROWS], FAULTS)),
+    (&["draw"], Cases::Failing(&[ROWS], FAILING)),
 ];
 
 #[test]
-fn pictures_and_texts_and_streams_that_fail(rt: HostRuntime) {
+fn texts_and_streams_that_fail_leave_no_whole_picture(rt: HostRuntime) {
     assert_tables(&rt, rt.alloc(), TABLES);
 }

@@ -1,7 +1,7 @@
 //! Faults of the streams in mid-stream, and the end of a run.
 
 use super::calls::{Outside, SURE};
-use super::cases::{Cases, FaultCase, Table, assert_tables};
+use super::cases::{Cases, Failing, FaultCase, Table, assert_tables, shown};
 use super::lanes::Did;
 use super::texts::{THREE_RATES, THREE_TASKS};
 use run_tool::{Status, close_flushed, close_run};
@@ -13,26 +13,14 @@ use std::io::{BufWriter, Write};
 use std::process::Abort;
 
 /// Faults leave a first part.
-const FAULTS: &[FaultCase] = &[
+const FAILING: &[Failing] = &[
     // The first read gives all, and the second one is to find the end.
-    (
-        Outside {
-            source: &[2],
-            ..SURE
-        },
-        Status::ReadFault,
-        "",
-        "refused 3 ReadFault\n",
-        Did::Nothing,
-    ),
+    Failing::Source(&[2]),
     // Each line is one piece.
-    (
-        Outside { out: &[3], ..SURE },
-        Status::WriteFault,
-        "processors 2\nhorizon 3\n",
-        "refused 4 WriteFault\n",
-        Did::Nothing,
-    ),
+    Failing::Out(&[3], "processors 2\nhorizon 3\n"),
+];
+
+const FAULTS: &[FaultCase] = &[
     // A fault of `err` changes nothing.
     (
         Outside {
@@ -54,7 +42,10 @@ const FAULTS: &[FaultCase] = &[
     ),
 ];
 
-const TABLES: &[Table] = &[(&["rate"], Cases::Faults(&[THREE_TASKS], FAULTS))];
+const TABLES: &[Table] = &[
+    (&["rate"], Cases::Failing(&[THREE_TASKS], FAILING)),
+    (&["rate"], Cases::Faults(&[THREE_TASKS], FAULTS)),
+];
 
 #[test]
 fn faults_leave_a_first_part(rt: HostRuntime) {
@@ -92,9 +83,10 @@ fn assert_closed(
     let flushed = if is_flushed { Ok(()) } else { Err(Failed) };
     let mut err = MemSink::new(alloc, 64, &[]).expect(rt, "there is memory");
     let closed = close_flushed(status, flushed, &mut err);
+    let (began, got, told) = (status.code(), closed.code(), shown(err.taken()));
     assert!(rt;
         closed == at_the_end && err.taken() == line.as_bytes(),
-        "{line}"
+        "a run of status {began}, handed on: {is_flushed}: status {got}, err `{told}`"
     );
 }
 
@@ -146,9 +138,10 @@ fn assert_handed_on(
     assert!(rt; write_all(&mut out, b"rate 2\n") == Ok(()) && bytes.get() == 0);
     let mut err = MemSink::new(alloc, 64, &[]).expect(rt, "there is memory");
     let closed = close_run(Status::Done, &mut out, &mut err);
+    let (got, took, told) = (closed.code(), bytes.get(), shown(err.taken()));
     assert!(rt;
-        closed == at_the_end && bytes.get() == count && err.taken() == line.as_bytes(),
-        "{line}"
+        closed == at_the_end && took == count && err.taken() == line.as_bytes(),
+        "broken: {is_broken}: status {got}, {took} bytes handed on, err `{told}`"
     );
 }
 

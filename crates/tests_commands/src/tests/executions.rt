@@ -72,7 +72,7 @@ const TABLES: &[Table] = &[
 ];
 
 #[test]
-fn executions_of_worked_sets(rt: HostRuntime) {
+fn an_execution_runs_what_it_prints(rt: HostRuntime) {
     assert_tables(&rt, rt.alloc(), TABLES);
 }
 
@@ -105,6 +105,6 @@ fn assert_nine<X: Abort + Threads + Wait + Sync>(rt: &X, alloc: Global) {
 }
 
 #[test]
-fn nine_tasks_of_a_vehicle(rt: HostRuntime) {
+fn nine_tasks_of_a_vehicle_run_as_they_are_traced(rt: HostRuntime) {
     assert_nine(&rt, rt.alloc());
 }

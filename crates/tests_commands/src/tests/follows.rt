@@ -1,9 +1,8 @@
 //! The command `follow` on trees that another rule packed, on those that `tree` writes, and on texts that are refused.
 
-use super::calls::{Outside, SURE};
+use super::calls::SURE;
 use super::cases::{
-    Cases, DoneCase, FaultCase, ReplacedCase, ReportCase, Table, assert_call, assert_tables,
-    text_of,
+    Cases, DoneCase, Failing, ReplacedCase, ReportCase, Table, assert_call, assert_tables, text_of,
 };
 use super::lanes::Did;
 use super::texts::{FULL_RATE, NINE_TASKS, NO_TASKS, ONE_IDLE, THREE_TASKS, TWO_REDUCTIONS};
@@ -119,31 +118,16 @@ const REPLACED: &[ReplacedCase] = &[
     ),
 ];
 
-const FAULTS: &[FaultCase] = &[
-    (
-        Outside {
-            source: &[2],
-            ..SURE
-        },
-        Status::ReadFault,
-        "",
-        "refused 3 ReadFault\n",
-        Did::Nothing,
-    ),
-    (
-        Outside { out: &[3], ..SURE },
-        Status::WriteFault,
-        "run-trace 1\nprocessors 3\n",
-        "refused 4 WriteFault\n",
-        Did::Nothing,
-    ),
+const FAILING: &[Failing] = &[
+    Failing::Source(&[2]),
+    Failing::Out(&[3], "run-trace 1\nprocessors 3\n"),
 ];
 
 const TABLES: &[Table] = &[
     (&["follow"], Cases::Done(FOLLOWED)),
     (&["follow"], Cases::Reports(REPORTS)),
     (&["follow"], Cases::Replaced(OTHER_TREE, REPLACED)),
-    (&["follow"], Cases::Faults(&[OTHER_TREE], FAULTS)),
+    (&["follow"], Cases::Failing(&[OTHER_TREE], FAILING)),
 ];
 
 #[test]

@@ -1,6 +1,7 @@
 //! The rows of each processor in worked sets, a round a row, and what a call left of them.
 
 use super::calls::{Left, Told, Worked};
+use super::cases::Case;
 use exec_workers::Kit;
 use sched_base::{Leaf, Row, TaskId};
 use sched_edges::ListGate;
@@ -144,65 +145,89 @@ pub(super) enum Did {
     Stopped(Front),
 }
 
-/// Makes sure of what the gates and the jobs did.
-pub(super) fn assert_did(rt: &impl Abort, left: &Left, did: Did) {
+/// Makes sure of what the gates and the jobs did in the call of a row.
+pub(super) fn assert_did(rt: &impl Abort, at: Case, left: &Left, did: Did) {
     match did {
         Did::Unseen => (),
-        Did::Unread(count) => assert_unread(rt, &left.told, count),
-        Did::Nothing => assert_ran(rt, left, &[], &[]),
+        Did::Unread(count) => assert_unread(rt, at, &left.told, count),
+        Did::Nothing => assert_ran(rt, at, left, &[], &[]),
         Did::NothingRead(count) => {
-            assert_unread(rt, &left.told, count);
-            assert_ran(rt, left, &[], &[]);
+            assert_unread(rt, at, &left.told, count);
+            assert_ran(rt, at, left, &[], &[]);
         }
-        Did::Worked(ticks) => assert_worked(rt, left, ticks),
+        Did::Worked(ticks) => assert_worked(rt, at, left, ticks),
         Did::Ran(schedule) => {
-            assert_unread(rt, &left.told, 0);
-            assert_ran(rt, left, lanes_of(schedule), ticks_of(schedule));
+            assert_unread(rt, at, &left.told, 0);
+            assert_ran(rt, at, left, lanes_of(schedule), ticks_of(schedule));
         }
         Did::Drilled(rounds, count, ticks) => {
-            assert_unread(rt, &left.told, count);
-            assert_rounds(rt, left, rounds);
-            assert_worked(rt, left, ticks);
+            assert_unread(rt, at, &left.told, count);
+            assert_rounds(rt, at, left, rounds);
+            assert_worked(rt, at, left, ticks);
         }
         Did::Stopped(front) => {
-            assert_gates_stopped(rt, left, &front);
-            assert_jobs_stopped(rt, left, &front);
+            assert_gates_stopped(rt, at, left, &front);
+            assert_jobs_stopped(rt, at, left, &front);
         }
     }
 }
 
 /// Makes sure that the source has so many bytes still to give.
-fn assert_unread(rt: &impl Abort, told: &Told, count: usize) {
-    assert!(rt; told.unread == count);
+fn assert_unread(rt: &impl Abort, at: Case, told: &Told, count: usize) {
+    let Case { line, number, .. } = at;
+    let unread = told.unread;
+    assert!(rt;
+        unread == count,
+        "row {number} of `{line}`: {unread} bytes are unread"
+    );
 }
 
 /// Makes sure that each gate ran the rows of its processor, and each job worked the ticks of its task. Nothing failed.
-fn assert_ran(rt: &impl Abort, left: &Left, lanes: &[&[Row]], ticks: &[u128]) {
+fn assert_ran(rt: &impl Abort, at: Case, left: &Left, lanes: &[&[Row]], ticks: &[u128]) {
+    let Case { line, number, .. } = at;
     for (p, kit) in left.kits.iter().enumerate() {
-        assert!(rt; list_of(rt, kit) == lane_of(lanes, p), "on processor {p}");
+        let list = list_of(rt, kit);
+        let ran = list.len();
+        assert!(rt;
+            list == lane_of(lanes, p),
+            "row {number} of `{line}`: other rows on processor {p}, {ran} of them"
+        );
     }
-    assert!(rt; left.kits.len() == 32);
-    assert_worked(rt, left, ticks);
+    assert!(rt;
+        left.kits.len() == 32,
+        "row {number} of `{line}`: a kit is gone"
+    );
+    assert_worked(rt, at, left, ticks);
 }
 
 /// Makes sure that each of the 256 jobs is back in its place and worked so many ticks, none where no ticks are told, and that
 /// none failed.
-fn assert_worked(rt: &impl Abort, left: &Left, ticks: &[u128]) {
+fn assert_worked(rt: &impl Abort, at: Case, left: &Left, ticks: &[u128]) {
+    let Case { line, number, .. } = at;
     for (i, job) in left.jobs.iter().enumerate() {
         let want = ticks.get(i).copied().unwrap_or(0);
+        let Worked { ticks, faults, .. } = *job;
         assert!(rt;
-            job.id as usize == i && job.ticks == want && job.faults == 0,
-            "of job {i}"
+            job.id as usize == i && ticks == want && faults == 0,
+            "row {number} of `{line}`: job {i} worked {ticks} ticks, with {faults} faults"
         );
     }
-    assert!(rt; left.jobs.len() == 256);
+    assert!(rt;
+        left.jobs.len() == 256,
+        "row {number} of `{line}`: a job is gone"
+    );
 }
 
 /// Makes sure that each gate of four processors ran so many rows, and no other ran any.
-fn assert_rounds(rt: &impl Abort, left: &Left, rounds: usize) {
+fn assert_rounds(rt: &impl Abort, at: Case, left: &Left, rounds: usize) {
+    let Case { line, number, .. } = at;
     for (p, kit) in left.kits.iter().enumerate() {
         let want = if p < 4 { rounds } else { 0 };
-        assert!(rt; list_of(rt, kit).len() == want, "on processor {p}");
+        let ran = list_of(rt, kit).len();
+        assert!(rt;
+            ran == want,
+            "row {number} of `{line}`: {ran} rows on processor {p}"
+        );
     }
 }
 
@@ -225,28 +250,44 @@ pub(super) struct Front {
 
 /// Makes sure that each gate ran first rows of its processor, no more than the most, and the one of the fault's processor just so
 /// many.
-fn assert_gates_stopped(rt: &impl Abort, left: &Left, front: &Front) {
+fn assert_gates_stopped(rt: &impl Abort, at: Case, left: &Left, front: &Front) {
+    let Case { line, number, .. } = at;
     let lanes = lanes_of(front.schedule);
     for (p, kit) in left.kits.iter().enumerate() {
         let list = list_of(rt, kit);
         let is_front = p == front.processor as usize;
         let is_first = lane_of(lanes, p).starts_with(list);
         let is_counted = list.len() <= front.most && (!is_front || list.len() == front.ran);
-        assert!(rt; is_first && is_counted, "on processor {p}");
+        let ran = list.len();
+        assert!(rt;
+            is_first && is_counted,
+            "row {number} of `{line}`: other rows on processor {p}, {ran} of them"
+        );
     }
-    assert!(rt; left.kits.len() == 32);
+    assert!(rt;
+        left.kits.len() == 32,
+        "row {number} of `{line}`: a kit is gone"
+    );
 }
 
 /// Makes sure that each job has worked at most the ticks of the rows that were run, and the one whose ticks are known just those.
 /// The job that failed, where one did, failed once and worked nothing, and no other failed.
-fn assert_jobs_stopped(rt: &impl Abort, left: &Left, front: &Front) {
+fn assert_jobs_stopped(rt: &impl Abort, at: Case, left: &Left, front: &Front) {
+    let Case { line, number, .. } = at;
     for (i, job) in left.jobs.iter().enumerate() {
         let is_failed = Some(job.id) == front.failed;
         let is_own = job.id as usize == i && job.faults == u64::from(is_failed);
         let is_within = job.ticks <= ticks_run(rt, left, job.id) && (!is_failed || job.ticks == 0);
-        assert!(rt; is_own && is_within && is_known(front, job), "of job {i}");
+        let Worked { ticks, faults, .. } = *job;
+        assert!(rt;
+            is_own && is_within && is_known(front, job),
+            "row {number} of `{line}`: job {i} worked {ticks} ticks, with {faults} faults"
+        );
     }
-    assert!(rt; left.jobs.len() == 256);
+    assert!(rt;
+        left.jobs.len() == 256,
+        "row {number} of `{line}`: a job is gone"
+    );
 }
 
 /// Whether a job worked the ticks that are known of it, if they are.

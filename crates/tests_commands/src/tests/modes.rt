@@ -1,7 +1,7 @@
 //! Sets that follow each other as modes, and the line `modes`.
 
 use super::calls::{Outside, SURE, Told, call};
-use super::cases::{Cases, DoneCase, FaultCase, RefusedCase, Table, assert_tables};
+use super::cases::{Cases, DoneCase, FaultCase, RefusedCase, Table, assert_tables, shown};
 use super::lanes::{Did, Front, Schedule};
 use super::texts::{
     NO_TASKS, NO_TASKS_ROWS, ONE_IDLE, ONE_IDLE_ROWS, OVERLOAD, THREE_ROWS, THREE_TASKS,
@@ -290,7 +290,7 @@ const TABLES: &[Table] = &[
 ];
 
 #[test]
-fn sets_as_modes(rt: HostRuntime) {
+fn sets_run_one_behind_the_other_or_are_refused(rt: HostRuntime) {
     assert_tables(&rt, rt.alloc(), TABLES);
 }
 
@@ -323,11 +323,15 @@ fn assert_cut_told(rt: &impl Abort, told: &Told, end: usize) {
         "set 1 refused 6 "
     };
     let is_told = is_whole || told.err.taken().starts_with(start.as_bytes());
-    assert!(rt; told.status == status && is_told, "after {end}");
+    let (got, line) = (told.status.code(), shown(told.err.taken()));
+    assert!(rt;
+        told.status == status && is_told,
+        "cut after {end} bytes: status {got}, err `{line}`"
+    );
 }
 
 #[test]
-fn a_text_cut_after_each_byte(rt: HostRuntime) {
+fn modes_cut_after_each_byte_are_done_or_refused(rt: HostRuntime) {
     let text = CUT.as_bytes();
     for end in 0..=text.len() {
         assert_cut(&rt, rt.alloc(), &text[..end]);

@@ -319,6 +319,6 @@ const TABLES: &[Table] = &[
 ];
 
 #[test]
-fn sets_with_programs(rt: HostRuntime) {
+fn programs_give_their_numbers_or_are_refused(rt: HostRuntime) {
     assert_tables(&rt, rt.alloc(), TABLES);
 }

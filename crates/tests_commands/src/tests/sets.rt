@@ -1,7 +1,7 @@
 //! The commands `rate` and `tree` on worked sets.
 
 use super::calls::{Outside, SURE};
-use super::cases::{Cases, DoneCase, RefusedCase, Table, assert_call, assert_tables};
+use super::cases::{Case, Cases, DoneCase, RefusedCase, Table, assert_row, assert_tables};
 use super::lanes::Did;
 use super::texts::{
     NINE_TASKS, NO_TASKS, ONE_IDLE, OVERLOAD, THREE_RATES, THREE_TASKS, TWO_REDUCTIONS,
@@ -149,7 +149,7 @@ const TABLES: &[Table] = &[
 ];
 
 #[test]
-fn rates_and_trees_of_worked_sets(rt: HostRuntime) {
+fn worked_sets_have_their_rates_and_trees(rt: HostRuntime) {
     assert_tables(&rt, rt.alloc(), TABLES);
 }
 
@@ -220,25 +220,26 @@ fn padded(rt: &impl Abort, alloc: Global, text: &str, count: usize) -> String {
 }
 
 // Makes sure of what a command leaves of a text with so many bytes.
-fn assert_padded<X: Abort + Threads + Wait + Sync>(rt: &X, alloc: Global, row: &Padded) {
+fn assert_padded<X: Abort + Threads + Wait + Sync>(
+    rt: &X,
+    alloc: Global,
+    (number, row): (usize, &Padded),
+) {
     let (word, text, count, outside, status, out, err) = row;
     let text = padded(rt, alloc, text, *count);
     let out = [*out];
     let end = (*status, out.as_slice(), *err);
-    assert_call(
-        rt,
-        alloc,
-        &[*word],
-        &[text.as_str()],
-        outside,
-        end,
-        Did::Unseen,
-    );
+    let at = Case {
+        words: &[*word],
+        line: word,
+        number,
+    };
+    assert_row(rt, alloc, at, &[text.as_str()], outside, end, Did::Unseen);
 }
 
 #[test]
 fn a_set_has_at_most_a_mebibyte(rt: HostRuntime) {
-    for row in PADDED {
+    for row in PADDED.iter().enumerate() {
         assert_padded(&rt, rt.alloc(), row);
     }
 }

@@ -240,6 +240,6 @@ const TABLES: &[Table] = &[
 ];
 
 #[test]
-fn worked_schedules_in_c(rt: HostRuntime) {
+fn worked_schedules_stand_in_c(rt: HostRuntime) {
     assert_tables(&rt, rt.alloc(), TABLES);
 }

@@ -1,8 +1,7 @@
 //! The schedules of worked sets, and the lines of `trace`.
 
-use super::calls::{Outside, SURE};
 use super::cases::{
-    Cases, DoneCase, FaultCase, RefusedCase, ReportCase, ShownCase, Table, assert_tables,
+    Cases, DoneCase, Failing, RefusedCase, ReportCase, ShownCase, Table, assert_tables,
 };
 use super::lanes::Did;
 use super::texts::{
@@ -69,42 +68,12 @@ const WITHOUT: &[RefusedCase] = &[
 ];
 
 /// A fault leaves the lines before.
-const FAULTS: &[FaultCase] = &[
-    (
-        Outside { out: &[1], ..SURE },
-        Status::WriteFault,
-        "",
-        "refused 4 WriteFault\n",
-        Did::Nothing,
-    ),
-    (
-        Outside { out: &[2], ..SURE },
-        Status::WriteFault,
-        "run-trace 1\n",
-        "refused 4 WriteFault\n",
-        Did::Nothing,
-    ),
-    (
-        Outside { out: &[3], ..SURE },
-        Status::WriteFault,
-        "run-trace 1\nprocessors 2\n",
-        "refused 4 WriteFault\n",
-        Did::Nothing,
-    ),
-    (
-        Outside { out: &[4], ..SURE },
-        Status::WriteFault,
-        "run-trace 1\nprocessors 2\nhorizon 3\n",
-        "refused 4 WriteFault\n",
-        Did::Nothing,
-    ),
-    (
-        Outside { out: &[5], ..SURE },
-        Status::WriteFault,
-        "run-trace 1\nprocessors 2\nhorizon 3\nscale 3\n",
-        "refused 4 WriteFault\n",
-        Did::Nothing,
-    ),
+const FAILING: &[Failing] = &[
+    Failing::Out(&[1], ""),
+    Failing::Out(&[2], "run-trace 1\n"),
+    Failing::Out(&[3], "run-trace 1\nprocessors 2\n"),
+    Failing::Out(&[4], "run-trace 1\nprocessors 2\nhorizon 3\n"),
+    Failing::Out(&[5], "run-trace 1\nprocessors 2\nhorizon 3\nscale 3\n"),
 ];
 
 /// How the schedule of nine tasks of a vehicle begins, and the rows of its second processor.
@@ -123,12 +92,12 @@ const TABLES: &[Table] = &[
     (&["trace"], Cases::Done(SCHEDULES)),
     (&["trace", "--met"], Cases::Done(MET)),
     (&["trace"], Cases::Refused(WITHOUT)),
-    (&["trace"], Cases::Faults(&[THREE_TASKS], FAULTS)),
+    (&["trace"], Cases::Failing(&[THREE_TASKS], FAILING)),
     (&["trace"], Cases::Shown(NINE)),
     (&["trace"], Cases::Reports(NINE_REPORT)),
 ];
 
 #[test]
-fn schedules_of_worked_sets(rt: HostRuntime) {
+fn worked_sets_have_their_schedules(rt: HostRuntime) {
     assert_tables(&rt, rt.alloc(), TABLES);
 }

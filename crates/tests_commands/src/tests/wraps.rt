@@ -75,6 +75,6 @@ const TABLES: &[Table] = &[
 ];
 
 #[test]
-fn wrapped_schedules_of_worked_sets(rt: HostRuntime) {
+fn worked_sets_have_their_wrapped_schedules(rt: HostRuntime) {
     assert_tables(&rt, rt.alloc(), TABLES);
 }

@@ -2,7 +2,7 @@
 ghost use Rattle.std.specs.Prelude.{◌≡◌, ◌+◌, ◌<◌, None};
 
 use crate::tests::calls::{Outside, SURE, kits_of, perform};
-use crate::tests::cases::assert_told;
+use crate::tests::cases::{Case, assert_told};
 use crate::tests::texts::{THREE_ROWS, THREE_TASKS};
 use run_tool::Status;
 use sched_base::NoMemory;
@@ -128,7 +128,7 @@ fn run_lasting<X: Threads + Wait + Abort + Sync>(
     rt: &X,
     alloc: Global,
     drops: &Arc<AtomicU64>,
-    (job_fails, outside, status, out, err): &Lasting,
+    (number, (job_fails, outside, status, out, err)): (usize, &Lasting),
 ) {
     let mut jobs = Jobs::with_room(alloc, 256).expect(rt, "there is memory");
     for id in 0..256 {
@@ -137,21 +137,27 @@ fn run_lasting<X: Threads + Wait + Abort + Sync>(
     }
     let mut kits = kits_of(rt, alloc, outside);
     let input = THREE_TASKS.as_bytes();
-    let told = perform(rt, alloc, &["exec"], input, outside, &mut kits, &mut jobs);
-    assert_told(rt, alloc, &told, (*status, &[*out], *err));
-    assert!(rt; drops.load(Ordering::SeqCst) == 0);
+    let at = Case {
+        words: &["exec"],
+        line: "exec",
+        number,
+    };
+    let told = perform(rt, alloc, at.words, input, outside, &mut kits, &mut jobs);
+    assert_told(rt, alloc, at, &told, (*status, &[*out], *err));
+    assert!(rt; drops.load(Ordering::SeqCst) == 0, "row {number}");
 }
 
 /// Makes sure that the jobs are let go by the end and no sooner.
-fn assert_lasting<X: Threads + Wait + Abort + Sync>(rt: &X, alloc: Global, row: &Lasting) {
+fn assert_lasting<X: Threads + Wait + Abort + Sync>(rt: &X, alloc: Global, row: (usize, &Lasting)) {
+    let number = row.0;
     let drops = Arc::new(alloc, AtomicU64::new(0)).expect(rt, "there is memory");
     run_lasting(rt, alloc, &drops, row);
-    assert!(rt; drops.load(Ordering::SeqCst) == 256);
+    assert!(rt; drops.load(Ordering::SeqCst) == 256, "row {number}");
 }
 
 #[test]
 fn jobs_last_until_they_are_let_go(rt: HostRuntime) {
-    for lasting in LASTING {
+    for lasting in LASTING.iter().enumerate() {
         assert_lasting(&rt, rt.alloc(), lasting);
     }
 }

@@ -5,7 +5,7 @@ ghost use Rattle.run_tool.specs.Ready.{AreFirstGates};
 
 use super::patient_gate::PatientGate;
 use crate::tests::calls::{SURE, call_with};
-use crate::tests::cases::assert_told;
+use crate::tests::cases::{Case, assert_told};
 use crate::tests::texts::{THREE_ROWS, THREE_TASKS, TWO_REDUCTIONS, TWO_ROWS};
 use exec_workers::Kit;
 use run_tool::Status;
@@ -97,16 +97,22 @@ const MEETINGS: &[Meeting] = &[
 fn assert_meeting<X: Abort + Threads + Wait + Clock + Copy + Send + Sync>(
     rt: X,
     alloc: Global,
-    (words, input, waits, status, out, err): &Meeting,
+    (number, (words, input, waits, status, out, err)): (usize, &Meeting),
 ) {
     let mut kits = kits_of(rt, alloc, waits);
     let (told, _jobs) = call_with(&rt, alloc, words, input.as_bytes(), &SURE, &mut kits);
-    assert_told(&rt, alloc, &told, (*status, &[*out], *err));
+    let line = words.join(alloc, " ").expect(&rt, "there is memory");
+    let at = Case {
+        words,
+        line: line.as_str(),
+        number,
+    };
+    assert_told(&rt, alloc, at, &told, (*status, &[*out], *err));
 }
 
 #[test]
 fn two_gates_meet_where_the_window_lets_them(rt: HostRuntime) {
-    for meeting in MEETINGS {
+    for meeting in MEETINGS.iter().enumerate() {
         assert_meeting(rt, rt.alloc(), meeting);
     }
 }
