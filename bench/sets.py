@@ -36,6 +36,12 @@ SETS = {
     "thirty-two-many": wide(256, 32, 0.97, ROUND),
     "thirty-two-deep": deep(52, 32, 0.98, ROUND),
 }
+# Sets unlike these: periods whose common multiple is large, one long period beside short ones, periods that divide one another, processors half used.
+SETS["coprime-2-5"] = wide(5, 2, 0.95, [997, 1009, 1013, 1019, 1021])
+SETS["coprime-8-64"] = wide(64, 8, 0.97, PRIME)
+SETS["long-beside-short"] = {**wide(12, 4, 0.95, [2, 3, 4, 5, 6, 8, 10]), "last": 1_000_003}
+SETS["harmonic-8-128"] = wide(128, 8, 0.97, [16, 32, 64, 128, 256])
+SETS["half-16-200"] = wide(200, 16, 0.5, ROUND)
 for tasks in (4, 8, 16, 32, 64, 128, 256):
     SETS["tasks-%d" % tasks] = wide(tasks, 2, 0.95, [p * max(1, tasks // 8) for p in ROUND])
 for processors in (1, 2, 4, 8, 16, 32):
@@ -47,6 +53,7 @@ def tasks_of(name, spec):
     draw = random.Random(name)
     count, goal = spec["count"], spec["processors"] * spec["share"]
     periods = [draw.choice(spec["periods"]) for _ in range(count)]
+    periods[-1] = spec.get("last", periods[-1])
     weights = [draw.uniform(0.9, 1.1) if spec["heavy"] else draw.uniform(0.3, 1.7) for _ in range(count)]
     rates = [min(0.95, w * goal / sum(weights)) for w in weights]
     return [(max(1, int(rate * period)), period) for rate, period in zip(rates, periods)]
