@@ -122,6 +122,7 @@ struct fl_execution {
     uint32_t full;  /* a bit for each processor whose thread sleeps at the end of the window */
     uint64_t least; /* as many rows all have posted; it is written with the lock, and looked at without it */
     int looks;      /* FL_LOOKS, or 0 */
+    int yields;     /* whether threads without a priority share CPUs */
     uint64_t waits;
     int begun;
     int stopped; /* a thread could not be started, a row failed, or the next frame could not be opened */
@@ -202,14 +203,21 @@ static inline void fl_pause(void)
 #endif
 }
 
-/* Takes the lock. It is held for less time than a sleep takes, so where each processor has a CPU it is tried some times before that. */
+/* How often the lock is tried before a thread sleeps for it, and for how many moments between two tries where threads share CPUs. */
+enum { FL_TRIES = 100, FL_PAUSES = 20 };
+
+/* Takes the lock. It is held for less time than a sleep takes, so it is tried some times before that; where threads share CPUs the one that holds it
+ * may be waiting for a CPU, which it gets between two tries. */
 static inline void fl_lock(struct fl_execution *in)
 {
-    int tries;
-    for (tries = in->looks / 20; tries > 0; tries--) {
+    int tries, pauses;
+    for (tries = in->looks || in->yields ? FL_TRIES : 0; tries > 0; tries--) {
         if (pthread_mutex_trylock(in->lock) == 0)
             return;
-        fl_pause();
+        for (pauses = in->yields ? FL_PAUSES : 1; pauses > 0; pauses--)
+            fl_pause();
+        if (in->yields)
+            sched_yield();
     }
     pthread_mutex_lock(in->lock);
 }
@@ -499,7 +507,8 @@ static inline int fl_run_lanes(struct fl_execution *in, const struct fl_exec_abo
 static inline int fl_execute_open(struct fl_execution *in, struct fl_ended *ended)
 {
     in->processors = ended->about.processors;
-    in->looks = in->crew->priority == 0 && sysconf(_SC_NPROCESSORS_ONLN) >= (long)in->processors ? FL_LOOKS : 0;
+    in->yields = in->crew->priority == 0 && sysconf(_SC_NPROCESSORS_ONLN) < (long)in->processors;
+    in->looks = in->crew->priority == 0 && !in->yields ? FL_LOOKS : 0;
     ended->error = fl_run_lanes(in, &ended->about);
     ended->waits = in->waits;
     if (ended->error)
