@@ -1,5 +1,5 @@
 -- Ticks pass, and some members run dry.
-use Rattle.std.proofs.Common.{◌≡◌, ◌≢◌, ℕ, ◌+◌, ◌-◌, ◌*◌, ◌<◌, ◌≤◌, ◌⊎◌, ltb, Bool, true, false, List, [], length, get_or, Option, Some, None, refl, ap, arith, inl, inr, sym, subst, ◌∙◌, eq-eqb, get_or-set_same, get_or-set_other}
+use Rattle.std.proofs.Common.{◌≡◌, ◌≢◌, ℕ, ◌+◌, ◌-◌, ◌*◌, ◌<◌, ◌≤◌, ltb, Bool, true, false, List, [], length, get_or, Option, Some, None, refl, ap, arith, inl, inr, sym, subst, ◌∙◌, eq-eqb, get_or-set_same, get_or-set_other}
 use Rattle.std.proofs.lemmas.Bool.{cases_eq, cases_lt, cases_Bool, both_ways, lt-ltb}
 use Rattle.std.proofs.lemmas.List.{length-map, length-set, get_or-map}
 use Rattle.std.proofs.Math.ListN.{set}
@@ -7,17 +7,15 @@ use Rattle.sched_base.specs.Counting.{bit}
 use Rattle.sched_base.specs.declared.candidates.Candidate.{Candidate}
 use Rattle.sched_base.specs.Candidates.{candidate_at, is_at}
 use Rattle.sched_base.proofs.CountingLemmas.{bit_at, bit_off}
-use Rattle.run_tree.specs.Tree.{Tree, IsTree, IsPack, IsMember, members, member, level}
-use Rattle.run_tree.specs.Schedule.{packs_at}
+use Rattle.run_tree.specs.Tree.{Tree, IsTree, IsPack, IsMember, kind_at, is_pack, members, member}
 use Rattle.knockout.specs.Knockouts.{never}
 use Rattle.edf_pick.specs.Ready.{ready_end, AreReady}
 use Rattle.edf_pick.proofs.ReadyLemmas.{ready_none}
 use Rattle.server_budget.specs.Dues.{DueContents}
 use Rattle.tree_select.specs.Selected.{candidates}
 use Rattle.tree_select.specs.Marked.{AreFreshFrom}
-use Rattle.tree_select.proofs.LevelLemmas.{place_in_level}
 use Rattle.tree_select.proofs.ServedLemmas.{still_served}
-use Rattle.event_core.specs.Serving.{ServingContents, no_tick, dry_by, AreSoonestFrom, IsServing, AreReadyBut, IsDrying, IsDried}
+use Rattle.event_core.specs.Serving.{ServingContents, no_tick, dry_by, IsServing, AreReadyBut, IsDrying, IsDried}
 use Rattle.event_core.proofs.EndLemmas.{at_is, dry_known}
 
 same_place : (a b : ℕ) → Some a ≡ Some b → a ≡ b
@@ -119,6 +117,7 @@ module _ (t : Tree) (h : IsTree t) (d d' : DueContents) (ends : List ℕ) (s : S
     at = v.at;
     agree = λ x i. ap (λ (rs : List Bool). get_or rs x false) same ∙ v.agree x i;
     rest = λ x none. ap (λ (rs : List Bool). get_or rs x false) same ∙ v.rest x none;
+    ticks = v.ticks;
     known = known;
     led = v.led;
     served = λ p i wet off. still_served t h d.remains ends d'.remains ends s.runs p (λ j l. refl) (λ j l. left_same p j i l wet) (v.served p i off);
@@ -139,15 +138,17 @@ drying_wide t d ends s done done' less v = record {
   at = v.at;
   agree = v.agree;
   rest = v.rest;
+  ticks = v.ticks;
   known = v.known;
   led = v.led;
   served = λ p i wet off. v.served p i (λ e. less p i (wet e)) off;
 }
 
--- a level of which no pack runs dry at this tick is passed over
-pub drying_wet : (t : Tree) (d : DueContents) (ends : List ℕ) (s : ServingContents) (soonest : List ℕ) (l now : ℕ) → now ≡ d.tick → l < length soonest → now < get_or soonest l 0 → AreSoonestFrom t s.dry soonest 0 →
-    IsDrying t d ends s (λ q. l + 1 ≤ level t q) → IsDrying t d ends s (λ q. l ≤ level t q)
-drying_wet t d ends s soonest l now is_now room late noted v = record {
+-- packs at places where none runs dry at this tick are done as they are
+pub drying_skip : (t : Tree) (d : DueContents) (ends : List ℕ) (s : ServingContents) (number : List ℕ) (n m now : ℕ) → now ≡ d.tick →
+    ((q : ℕ) → q < length s.dry → n ≤ get_or number q 0 → get_or number q 0 < m → get_or s.dry q 0 ≢ now) →
+    IsDrying t d ends s (λ q. get_or number q 0 < n) → IsDrying t d ends s (λ q. get_or number q 0 < m)
+drying_skip t d ends s number n m now is_now wet v = record {
   early = v.early;
   but = v.but;
   picks = λ q i w. v.picks q i (λ e. less q i e (w e));
@@ -155,78 +156,45 @@ drying_wet t d ends s soonest l now is_now room late noted v = record {
   at = v.at;
   agree = v.agree;
   rest = v.rest;
+  ticks = v.ticks;
   known = v.known;
   led = v.led;
   served = λ q i w off. v.served q i (λ e. less q i e (w e)) off;
 }
   where
-    less : (q : ℕ) → IsPack t q → get_or s.dry q 0 ≡ d.tick → l ≤ level t q → l + 1 ≤ level t q
-    less q i e low = elim (cases_eq (level t q) l) [
-      | inl same ↦ absurd (let b = noted q i (omega arith) (omega (arith, same, room)) in let at = ap (λ (k : ℕ). get_or soonest k 0) same in omega (arith, b, at, late, is_now, e))
-      | inr ne ↦ omega (arith, low, ne)
-    ]
-
-pub drying_none : (t : Tree) (d : DueContents) (ends : List ℕ) (s : ServingContents) (l : ℕ) → IsDrying t d ends s (λ q. l + 1 ≤ level t q) → IsDrying t d ends s (λ q. (l + 1 ≤ level t q) ⊎ ((k : ℕ) × (k < 0) × (get_or (packs_at t l) k 0 ≡ q)))
-drying_none t d ends s l v = drying_wide t d ends s (λ q. l + 1 ≤ level t q) (λ q. (l + 1 ≤ level t q) ⊎ ((k : ℕ) × (k < 0) × (get_or (packs_at t l) k 0 ≡ q))) less v
-  where
-    none : (k : ℕ) → k < 0 → ⊥
-    none k m = omega (arith, m)
-
-    less : (q : ℕ) → IsPack t q → (l + 1 ≤ level t q) ⊎ ((k : ℕ) × (k < 0) × (get_or (packs_at t l) k 0 ≡ q)) → l + 1 ≤ level t q
-    less q i (inl above) = above
-    less q i (inr (k, m, e)) = absurd (none k m)
-
--- packs that don't run dry at this tick are done as they are
-pub drying_skip : (t : Tree) (d : DueContents) (ends : List ℕ) (s : ServingContents) (l n m now : ℕ) → now ≡ d.tick → ((k : ℕ) → n ≤ k → k < m → get_or s.dry (get_or (packs_at t l) k 0) 0 ≢ now) →
-    IsDrying t d ends s (λ q. (l + 1 ≤ level t q) ⊎ ((k : ℕ) × (k < n) × (get_or (packs_at t l) k 0 ≡ q))) → IsDrying t d ends s (λ q. (l + 1 ≤ level t q) ⊎ ((k : ℕ) × (k < m) × (get_or (packs_at t l) k 0 ≡ q)))
-drying_skip t d ends s l n m now is_now wet v = record {
-  early = v.early;
-  but = v.but;
-  picks = λ q i w. v.picks q i (λ e. less q e (w e));
-  within = v.within;
-  at = v.at;
-  agree = v.agree;
-  rest = v.rest;
-  known = v.known;
-  led = v.led;
-  served = λ q i w off. v.served q i (λ e. less q e (w e)) off;
-}
-  where
-    less : (q : ℕ) → get_or s.dry q 0 ≡ d.tick → (l + 1 ≤ level t q) ⊎ ((k : ℕ) × (k < m) × (get_or (packs_at t l) k 0 ≡ q)) → (l + 1 ≤ level t q) ⊎ ((k : ℕ) × (k < n) × (get_or (packs_at t l) k 0 ≡ q))
-    less q e (inl above) = inl above
-    less q e (inr (k, b, at)) = elim (cases_lt k n) [
-      | inl low ↦ inr (k, low, at)
-      | inr high ↦ absurd (wet k (omega (arith, high)) b (ap (λ x. get_or s.dry x 0) at ∙ e ∙ sym is_now))
-    ]
-
-pub drying_level : (t : Tree) → IsTree t → (d : DueContents) (ends : List ℕ) (s : ServingContents) (l n : ℕ) → n ≡ length (packs_at t l) → IsDrying t d ends s (λ q. (l + 1 ≤ level t q) ⊎ ((k : ℕ) × (k < n) × (get_or (packs_at t l) k 0 ≡ q))) → IsDrying t d ends s (λ q. l ≤ level t q)
-drying_level t h d ends s l n e v = drying_wide t d ends s (λ q. (l + 1 ≤ level t q) ⊎ ((k : ℕ) × (k < n) × (get_or (packs_at t l) k 0 ≡ q))) (λ q. l ≤ level t q) in_level v
-  where
-    in_level : (q : ℕ) → IsPack t q → l ≤ level t q → (l + 1 ≤ level t q) ⊎ ((k : ℕ) × (k < n) × (get_or (packs_at t l) k 0 ≡ q))
-    in_level q i low = elim (cases_lt l (level t q)) [
-      | inl above ↦ inl (omega (arith, above))
-      | inr most ↦
-          (let same : level t q ≡ l = omega (arith, low, most) in
-          let P : ℕ → Type 0 = λ x. (k : ℕ) × (k < length (packs_at t x)) × (get_or (packs_at t x) k 0 ≡ q) in
-          let at = subst P same (place_in_level t h q i) in
-          inr (at.0, (let b = at.1 in omega (arith, b, e)), at.2))
+    less : (q : ℕ) → IsPack t q → get_or s.dry q 0 ≡ d.tick → get_or number q 0 < m → get_or number q 0 < n
+    less q i e high = elim (cases_lt (get_or number q 0) n) [
+      | inl low ↦ low
+      | inr past ↦ absurd (wet q (let l = i.0 in let long = v.ticks.long in omega (arith, l, long)) (omega (arith, past)) high (e ∙ sym is_now))
     ]
 
 -- the place that a pack serves stands in its knockout
 pub dry_within : (t : Tree) (d : DueContents) (ends : List ℕ) (s : ServingContents) (done : ℕ → Type 0) → IsDrying t d ends s done → (p j : ℕ) → IsPack t p → get_or s.serves p None ≡ Some j → j < length (get_or s.ready p [])
 dry_within t d ends s done v p j i e = (let l = v.within p j i e in let m = (v.but p i).long in let n = candidates_long t d.remains ends p in omega (arith, l, m, n))
 
-pub all_dried : (t : Tree) (d : DueContents) (ends : List ℕ) (s : ServingContents) (done : ℕ → Type 0) → ((q : ℕ) → IsPack t q → done q) → IsDrying t d ends s done → IsServing t d ends s
+-- all are done where no other has a tick
+pub all_dried : (t : Tree) (d : DueContents) (ends : List ℕ) (s : ServingContents) (done : ℕ → Type 0) → ((q : ℕ) → IsPack t q → get_or s.dry q 0 ≡ d.tick → done q) → IsDrying t d ends s done → IsServing t d ends s
 all_dried t d ends s done all v = record {
-  picks = λ p i. v.picks p i (λ e. all p i);
+  picks = λ p i. v.picks p i (all p i);
   within = v.within;
   at = v.at;
   agree = v.agree;
   rest = v.rest;
+  ticks = v.ticks;
   told = λ p i off. v.known p i;
   led = v.led;
-  served = λ p i off. v.served p i (λ e. all p i) off;
+  served = λ p i off. v.served p i (all p i) off;
 }
+
+-- a node that has a tick is a pack
+pub dry_is_pack : (t : Tree) (d : DueContents) (ends : List ℕ) (s : ServingContents) (done : ℕ → Type 0) → IsDrying t d ends s done → (x : ℕ) → x < length s.dry → get_or s.dry x 0 ≡ d.tick → IsPack t x
+dry_is_pack t d ends s done v x l e =
+    let long = v.ticks.long in
+    let within : x < length t.nodes = omega (arith, l, long) in
+    elim (cases_Bool (is_pack (kind_at t x))) [
+      | inl pack ↦ (within, pack)
+      | inr member ↦ absurd (let far = v.ticks.members x (within, member) in let early = v.early in omega (arith, far, early, e))
+    ]
 
 -- what a pack's step does, by whether there is a member
 pub dried_is : (serves : List (Option ℕ)) (dry : List ℕ) (p now : ℕ) (ready ready' : List (List ℕ)) (stale stale' : List Bool) → get_or dry p 0 ≡ now →
@@ -238,19 +206,18 @@ dried_is serves dry p now ready ready' stale stale' at some none = record { out 
     go never_so (Some k) e = absurd (never_so k e at)
 
 -- one pack more is done
-module _ (t : Tree) (d : DueContents) (ends : List ℕ) (s : ServingContents) (ready' : List (List ℕ)) (stale' : List Bool) (l n p now : ℕ) (is_now : now ≡ d.tick) (b : p < length s.ready) (b' : p < length s.stale) (i : IsPack t p) (at : p ≡ get_or (packs_at t l) n 0)
+module _ (t : Tree) (d : DueContents) (ends : List ℕ) (s : ServingContents) (ready' : List (List ℕ)) (stale' : List Bool) (number : List ℕ) (n p now : ℕ) (is_now : now ≡ d.tick) (b : p < length s.ready) (b' : p < length s.stale) (i : IsPack t p) (once : (q : ℕ) → IsPack t q → get_or number q 0 ≡ n → q ≡ p)
     (step : IsDried s.serves s.dry p now s.ready ready' s.stale stale') where
   abbrev Done : ℕ → ℕ → Type 0
-  Done m q = (l + 1 ≤ level t q) ⊎ ((k : ℕ) × (k < m) × (get_or (packs_at t l) k 0 ≡ q))
+  Done m q = get_or number q 0 < m
 
   abbrev After : ServingContents
   After = record { ready = ready'; serves = s.serves; dry = s.dry; stale = stale'; runs = s.runs }
 
-  earlier : (q : ℕ) → q ≢ p → Done (n + 1) q → Done n q
-  earlier q ne (inl above) = inl above
-  earlier q ne (inr (k, m, e)) = elim (cases_eq k n) [
-    | inl same ↦ absurd (ne (sym e ∙ ap (λ x. get_or (packs_at t l) x 0) same ∙ sym at))
-    | inr other ↦ inr (k, omega (arith, m, other), e)
+  earlier : (q : ℕ) → IsPack t q → q ≢ p → Done (n + 1) q → Done n q
+  earlier q j ne low = elim (cases_eq (get_or number q 0) n) [
+    | inl same ↦ absurd (ne (once q j same))
+    | inr other ↦ omega (arith, low, other)
   ]
 
   -- nothing is changed
@@ -258,18 +225,19 @@ module _ (t : Tree) (d : DueContents) (ends : List ℕ) (s : ServingContents) (r
   as_before wet er es v = record {
     early = v.early;
     but = λ q j. subst (λ (ks : List (List ℕ)). AreReadyBut (candidates t d.remains ends q) (get_or ks q []) (get_or s.serves q None)) (sym er) (v.but q j);
-    picks = λ q j w. subst (λ (ks : List (List ℕ)). AreReady (candidates t d.remains ends q) (get_or ks q [])) (sym er) (v.picks q j (λ e. before q w e));
+    picks = λ q j w. subst (λ (ks : List (List ℕ)). AreReady (candidates t d.remains ends q) (get_or ks q [])) (sym er) (v.picks q j (λ e. before q j w e));
     within = v.within;
     at = v.at;
     agree = v.agree;
     rest = v.rest;
+    ticks = v.ticks;
     known = v.known;
     led = v.led;
-    served = λ q j w off. v.served q j (λ e. before q w e) (ap (λ (xs : List Bool). get_or xs q false) (sym es) ∙ off);
+    served = λ q j w off. v.served q j (λ e. before q j w e) (ap (λ (xs : List Bool). get_or xs q false) (sym es) ∙ off);
   }
     where
-      before : (q : ℕ) → (get_or s.dry q 0 ≡ d.tick → Done (n + 1) q) → get_or s.dry q 0 ≡ d.tick → Done n q
-      before q w e = earlier q (λ same. wet (ap (λ x. get_or s.dry x 0) (sym same) ∙ e)) (w e)
+      before : (q : ℕ) → IsPack t q → (get_or s.dry q 0 ≡ d.tick → Done (n + 1) q) → get_or s.dry q 0 ≡ d.tick → Done n q
+      before q j w e = earlier q j (λ same. wet (ap (λ x. get_or s.dry x 0) (sym same) ∙ e)) (w e)
 
   -- the one that ran dry is taken out
   taken_out : (k : ℕ) → get_or s.serves p None ≡ Some k → get_or s.dry p 0 ≡ d.tick → ready' ≡ set s.ready p (set (get_or s.ready p []) k never) → stale' ≡ set s.stale p true → IsDrying t d ends s (Done n) → IsDrying t d ends After (Done (n + 1))
@@ -281,17 +249,18 @@ module _ (t : Tree) (d : DueContents) (ends : List ℕ) (s : ServingContents) (r
     ];
     picks = λ q j w. elim (cases_eq q p) [
       | inl same ↦ (let P : ℕ → Type 0 = λ x. AreReady (candidates t d.remains ends x) (get_or ready' x []) in subst P (sym same) own)
-      | inr ne ↦ subst (λ (ks : List ℕ). AreReady (candidates t d.remains ends q) ks) (sym (there q ne)) (v.picks q j (λ e. earlier q ne (w e)))
+      | inr ne ↦ subst (λ (ks : List ℕ). AreReady (candidates t d.remains ends q) ks) (sym (there q ne)) (v.picks q j (λ e. earlier q j ne (w e)))
     ];
     within = v.within;
     at = v.at;
     agree = v.agree;
     rest = v.rest;
+    ticks = v.ticks;
     known = v.known;
     led = v.led;
     served = λ q j w off. elim (cases_eq q p) [
       | inl same ↦ absurd (both_ways (get_or stale' p false) (ap (λ x. get_or stale' x false) (sym same) ∙ off) marked)
-      | inr ne ↦ v.served q j (λ e. earlier q ne (w e)) (sym (unmarked q ne) ∙ off)
+      | inr ne ↦ v.served q j (λ e. earlier q j ne (w e)) (sym (unmarked q ne) ∙ off)
     ];
   }
     where

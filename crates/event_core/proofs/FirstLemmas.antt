@@ -16,7 +16,7 @@ use Rattle.server_budget.specs.Dues.{DueContents}
 use Rattle.tree_select.specs.Selected.{candidates}
 use Rattle.tree_select.proofs.MarkedLemmas.{dual_is}
 use Rattle.release_calendar.specs.Calendars.{CalendarContents, BelongsTo}
-use Rattle.event_core.specs.Serving.{ServingContents, due_of, IsServing, IsBlank, AreBegun}
+use Rattle.event_core.specs.Serving.{ServingContents, due_of, no_tick, IsServing, IsBlank, AreBegun}
 use Rattle.event_core.proofs.BegunLemmas.{begun_step, begun_skip, begun_places}
 use Rattle.event_core.proofs.DryLemmas.{candidate_is, candidates_long}
 use Rattle.event_core.proofs.TurnedLemmas.{turned_serving, end_near, due_some}
@@ -100,6 +100,10 @@ module _ (p : PlanContents) (h : IsPlan p) (s : ServingContents) (b : IsBlank p.
     at = λ q j i l. member_rests (member p.tree q j) (h.tree.tree.members_are q j i l).0 ∙ sym (ap (λ o. is_at o j) (none_served q i));
     agree = λ x i. no_run x ∙ sym (member_rests x i);
     rest = λ x none. no_run x;
+    ticks = record {
+      long = ap (λ (xs : List ℕ). length xs) b.dry ∙ length-replicate {A = ℕ} (length p.tree.nodes) no_tick;
+      members = λ x i. ap (λ (xs : List ℕ). get_or xs x 0) b.dry ∙ get_or-replicate (length p.tree.nodes) x no_tick 0 i.0;
+    };
     told = λ q i off. absurd (both_ways (get_or s.stale q false) off (ap (λ (xs : List Bool). get_or xs q false) b.stale ∙ get_or-replicate (length p.tree.nodes) q true false i.0));
     led = λ q i. b.runs q i.0 ∙ i.1 ∙ sym (by_dual q i (dual p.tree q) refl);
     served = λ q i off. absurd (both_ways (get_or s.stale q false) off (ap (λ (xs : List Bool). get_or xs q false) b.stale ∙ get_or-replicate (length p.tree.nodes) q true false i.0));

@@ -9,7 +9,7 @@ use Rattle.sched_base.specs.Counting.{bit}
 use Rattle.sched_base.specs.Candidates.{is_at}
 use Rattle.sched_base.specs.Places.{Placing, place as placed_by}
 use Rattle.run_tree.specs.Windows.{window_begin, window_end}
-use Rattle.run_tree.specs.Tree.{Tree, IsTree, IsMember, kind_at, is_pack, leaf, home, place, rate, level, member}
+use Rattle.run_tree.specs.Tree.{Tree, IsTree, IsMember, kind_at, is_pack, leaf, home, place, rate, member}
 use Rattle.run_tree.specs.Boundaries.{set_boundary}
 use Rattle.run_tree.specs.Plans.{PlanContents, IsPlan, boundary_of, stop_of}
 use Rattle.run_tree.proofs.RunLemmas.{left_is, on_time}
@@ -71,7 +71,7 @@ fitting p h c b x i =
 -- ---- the ticks of a round
 
 module _ (p : PlanContents) (h : IsPlan p) (c : CoreContents) (b : IsInRound p c) (fresh : AreFreshFrom p.tree c.serving.stale 0) (early : c.tick < stop_of p) (most end : ℕ) (is_most : most ≡ min (stop_of p) (c.calendar.next * p.tree.scale))
-    (soon : IsSoonest p.tree c.serving.dry (λ q. 0 ≤ level p.tree q) most end) where
+    (soon : IsSoonest p.tree c.serving.dry most end) where
   pub most_fits : most < no_tick
   most_fits = (let s = stop_fits p h in omega (arith, s, is_most))
 

@@ -21,3 +21,4 @@ pub mod RowsGone
 pub mod PlanRounds
 pub mod SeenLemmas
 pub mod ToldLemmas
+pub mod TickLemmas

@@ -17,7 +17,7 @@ use Rattle.server_budget.specs.Dues.{DueContents}
 use Rattle.tree_select.specs.Selected.{candidates}
 use Rattle.tree_select.proofs.ServedLemmas.{still_served}
 use Rattle.release_calendar.specs.Calendars.{CalendarContents, BelongsTo, AreListed}
-use Rattle.event_core.specs.Serving.{ServingContents, due_of, dry_by, IsServing, AreBegun}
+use Rattle.event_core.specs.Serving.{ServingContents, due_of, dry_by, AreOfPacks, IsServing, AreBegun}
 use Rattle.event_core.specs.Steps.{AreRefilled}
 use Rattle.event_core.proofs.DryLemmas.{candidate_is, candidates_long}
 use Rattle.event_core.proofs.WindowsOfCalendar.{member_boundaries, short_window}
@@ -74,6 +74,7 @@ module _ (t : Tree) (h : IsTree t) (d d' : DueContents) (ends ends' : List ℕ) 
       at = λ p j i l. ap (λ (rs : List Bool). get_or rs (member t p j) false) runs ∙ v.at p j i l ∙ ap (λ (os : List (Option ℕ)). is_at (get_or os p None) j) (sym serves);
       agree = λ x i. ap (λ (rs : List Bool). get_or rs x false) dues ∙ v.agree x i ∙ ap (λ (rs : List Bool). get_or rs x false) (sym runs);
       rest = λ x none. ap (λ (rs : List Bool). get_or rs x false) dues ∙ v.rest x none;
+      ticks = subst (λ (xs : List ℕ). AreOfPacks t xs) (sym dry) v.ticks;
       told = λ p i off. ap (λ (xs : List ℕ). get_or xs p 0) dry ∙ v.told p i (unmarked p off) ∙ same_dry p i off (get_or s.serves p None) refl ∙ ap (λ (os : List (Option ℕ)). dry_by t d' p (get_or os p None)) (sym serves);
       led = subst (λ (rs : List Bool). AreLed t rs) (sym runs) v.led;
       served = λ p i off. subst (λ (rs : List Bool). IsServed t d'.remains ends' rs p) (sym runs) (still_served t h d.remains ends d'.remains ends' s.runs p

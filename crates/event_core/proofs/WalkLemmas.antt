@@ -1,11 +1,11 @@
 -- The walk over packs that are to be looked at again.
 use Rattle.std.proofs.Common.{◌≡◌, ◌≢◌, ℕ, ◌+◌, ◌<◌, false, List, [], length, Option, Some, None, refl, ap, ap₂, arith, inl, inr, sym, subst, ◌∙◌, get_or, get_or-set_same, get_or-set_other}
-use Rattle.std.proofs.lemmas.Bool.{cases_eq}
-use Rattle.std.proofs.lemmas.List.{length-map}
+use Rattle.std.proofs.lemmas.Bool.{cases_eq, both_ways}
+use Rattle.std.proofs.lemmas.List.{length-map, length-set}
 use Rattle.std.proofs.Math.ListN.{set}
 use Rattle.sched_base.specs.declared.candidates.Candidate.{Candidate}
 use Rattle.sched_base.specs.Candidates.{is_at}
-use Rattle.run_tree.specs.Tree.{Tree, IsPack, IsMember, members, member}
+use Rattle.run_tree.specs.Tree.{Tree, IsPack, IsMember, kind_at, is_pack, members, member}
 use Rattle.edf_pick.specs.Ready.{AreReady}
 use Rattle.tree_select.specs.Selected.{candidates}
 use Rattle.tree_select.specs.Marked.{AreLed, AreServed}
@@ -17,7 +17,7 @@ pub ready_long : (t : Tree) (remains ends : List ℕ) (p : ℕ) (ready : List �
 ready_long t remains ends p ready h = h.long ∙ length-map (members t p) (λ (m : ℕ). let c : Candidate = record { end = get_or ends m 0; remain = get_or remains m 0 } in c)
 
 -- one pack more serves whom it picks
-pub serving_step : (t : Tree) (d d' : DueContents) (ends : List ℕ) (s s' : ServingContents) (p : ℕ) (next : Option ℕ) → IsPack t p → p < length s.serves → p < length s.dry → d'.tick ≡ d.tick → d'.remains ≡ d.remains →
+pub serving_step : (t : Tree) (d d' : DueContents) (ends : List ℕ) (s s' : ServingContents) (p : ℕ) (next : Option ℕ) → IsPack t p → p < length s.serves → d'.tick ≡ d.tick → d'.remains ≡ d.remains →
     s'.ready ≡ s.ready → s'.serves ≡ set s.serves p next → s'.dry ≡ set s.dry p (dry_by t d' p next) →
     ((j : ℕ) → next ≡ Some j → j < length (members t p)) →
     ((j : ℕ) → j < length (members t p) → get_or s'.runs (member t p j) false ≡ is_at next j) →
@@ -26,7 +26,7 @@ pub serving_step : (t : Tree) (d d' : DueContents) (ends : List ℕ) (s s' : Ser
     ((q : ℕ) → IsPack t q → q ≢ p → get_or s'.stale q false ≡ false → get_or s.stale q false ≡ false) →
     AreLed t s'.runs → AreServed t d.remains ends s'.stale s'.runs →
     IsServing t d ends s → IsServing t d' ends s'
-serving_step t d d' ends s s' p next i b b' tick remains ready serves dry within now others agree rest unmarked led served was = record {
+serving_step t d d' ends s s' p next i b tick remains ready serves dry within now others agree rest unmarked led served was = record {
   picks = λ q j. subst (λ (rs : List ℕ). AreReady (candidates t rs ends q) (get_or s'.ready q [])) (sym remains) (subst (λ (ks : List (List ℕ)). AreReady (candidates t d.remains ends q) (get_or ks q [])) (sym ready) (was.picks q j));
   within = λ q j k e. elim (cases_eq q p) [
     | inl same ↦ (let P : ℕ → Type 0 = λ x. get_or s'.serves x None ≡ Some j → j < length (members t x) in subst P (sym same) (λ f. within j (sym here ∙ f)) e)
@@ -38,6 +38,10 @@ serving_step t d d' ends s s' p next i b b' tick remains ready serves dry within
   ];
   agree = agree;
   rest = λ x none. rest x none ∙ was.rest x none;
+  ticks = record {
+    long = ap (λ (xs : List ℕ). length xs) dry ∙ length-set s.dry p (dry_by t d' p next) ∙ was.ticks.long;
+    members = λ x j. dry_there x (λ e. both_ways (is_pack (kind_at t x)) j.1 (ap (λ y. is_pack (kind_at t y)) e ∙ i.1)) ∙ was.ticks.members x j;
+  };
   told = λ q j off. elim (cases_eq q p) [
     | inl same ↦ (let P : ℕ → Type 0 = λ x. get_or s'.dry x 0 ≡ dry_by t d' x (get_or s'.serves x None) in subst P (sym same) (dry_here ∙ ap (dry_by t d' p) (sym here)))
     | inr ne ↦ dry_there q ne ∙ was.told q j (unmarked q j ne off) ∙ same_dry q (get_or s.serves q None) ∙ ap (dry_by t d' q) (sym (there q ne))
@@ -62,7 +66,7 @@ serving_step t d d' ends s s' p next i b b' tick remains ready serves dry within
     dry_here = ap (λ (xs : List ℕ). get_or xs p 0) dry ∙ own
       where
         own : get_or (set s.dry p (dry_by t d' p next)) p 0 ≡ dry_by t d' p next
-        own = rw get_or-set_same
+        own = get_or-set_same s.dry p (dry_by t d' p next) 0 (let l = i.0 in let long = was.ticks.long in omega (arith, l, long))
 
     dry_there : (q : ℕ) → q ≢ p → get_or s'.dry q 0 ≡ get_or s.dry q 0
     dry_there q ne = ap (λ (xs : List ℕ). get_or xs q 0) dry ∙ other

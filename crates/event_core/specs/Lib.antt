@@ -5,3 +5,4 @@ pub mod Steps
 pub mod States
 pub mod Counts
 pub mod Told
+pub mod Ticks

@@ -6,7 +6,7 @@ use Rattle.sched_base.specs.declared.candidates.Candidate.{Candidate}
 use Rattle.std.specs.List.{range_with_len}
 use Rattle.sched_base.specs.Candidates.{candidate_at, is_at}
 use Rattle.sched_base.specs.Places.{is_held}
-use Rattle.run_tree.specs.Tree.{Tree, IsPack, IsMember, kind_at, is_pack, home, level, place, rate, members, member}
+use Rattle.run_tree.specs.Tree.{Tree, IsPack, IsMember, kind_at, is_pack, home, place, rate, members, member}
 use Rattle.run_tree.specs.Schedule.{packs_at}
 use Rattle.cpu_assign.specs.Changed.{ChangeLists}
 use Rattle.knockout.specs.Knockouts.{never}
@@ -58,7 +58,6 @@ pub record AreLong (t : Tree) (d : DueContents) (s : ServingContents) : Type 0 w
   pub dues : length d.runs ≡ length t.nodes
   pub ready : length s.ready ≡ length t.nodes
   pub serves : length s.serves ≡ length t.nodes
-  pub dry : length s.dry ≡ length t.nodes
   pub stale : length s.stale ≡ length t.nodes
   pub runs : length s.runs ≡ length t.nodes
 
@@ -66,6 +65,11 @@ pub record AreLong (t : Tree) (d : DueContents) (s : ServingContents) : Type 0 w
 pub record AreAt (t : Tree) (s : ServingContents) : Type 0 where
   pub within : (p j : ℕ) → IsPack t p → slice_index_or s.serves p None ≡ Some j → j < length (members t p)
   pub at : (p j : ℕ) → IsPack t p → j < length (members t p) → slice_index_or s.runs (member t p j) false ≡ is_at (slice_index_or s.serves p None) j
+
+-- there is a tick for each node, and packs alone may run dry
+pub record AreOfPacks (t : Tree) (dry : List ℕ) : Type 0 where
+  pub long : length dry ≡ length t.nodes
+  pub members : (x : ℕ) → IsMember t x → slice_index dry x ≡ no_tick
 
 -- Of each pack, the knockout has the ends of its members that have something left, and the place is that of the one that runs;
 -- the dues say the same of members as the list of all nodes; and each pack that isn't marked serves the one that it picks, and
@@ -76,6 +80,7 @@ pub record IsServing (t : Tree) (d : DueContents) (ends : List ℕ) (s : Serving
   pub at : (p j : ℕ) → IsPack t p → j < length (members t p) → slice_index_or s.runs (member t p j) false ≡ is_at (slice_index_or s.serves p None) j
   pub agree : (x : ℕ) → IsMember t x → slice_index_or d.runs x false ≡ slice_index_or s.runs x false
   pub rest : (x : ℕ) → (IsMember t x → ⊥) → slice_index_or d.runs x false ≡ false
+  pub ticks : AreOfPacks t s.dry
   pub told : (p : ℕ) → IsPack t p → slice_index_or s.stale p false ≡ false → slice_index s.dry p ≡ dry_by t d p (slice_index_or s.serves p None)
   pub led : AreLed t s.runs
   pub served : AreServed t d.remains ends s.stale s.runs
@@ -85,7 +90,7 @@ pub record IsBlank (t : Tree) (s : ServingContents) : Type 0 where
   pub ready_long : length s.ready ≡ length t.nodes
   pub ready : (p : ℕ) → IsPack t p → slice_index_or s.ready p [] ≡ replicate (length (members t p)) never
   pub serves : s.serves ≡ replicate (length t.nodes) None
-  pub dry : length s.dry ≡ length t.nodes
+  pub dry : s.dry ≡ replicate (length t.nodes) no_tick
   pub stale : s.stale ≡ replicate (length t.nodes) true
   pub runs_long : length s.runs ≡ length t.nodes
   pub runs : (x : ℕ) → x < length t.nodes → slice_index_or s.runs x false ≡ is_pack (kind_at t x)
@@ -134,15 +139,11 @@ begins_below t onto runs n = filter (λ i. first_runs t runs i && not (is_held o
 
 -- ---- the end of a round
 
--- the least of `most` and of the ticks at which these packs run dry
-pub record IsSoonest (t : Tree) (dry : List ℕ) (among : ℕ → Type 0) (most least : ℕ) : Type 0 where
+-- the least of `most` and of the ticks at which packs run dry
+pub record IsSoonest (t : Tree) (dry : List ℕ) (most least : ℕ) : Type 0 where
   pub below : least ≤ most
-  pub all : (p : ℕ) → IsPack t p → among p → least ≤ slice_index dry p
+  pub all : (p : ℕ) → IsPack t p → least ≤ slice_index dry p
   pub one : (least ≡ most) ⊎ ((p : ℕ) × IsPack t p × (least ≡ slice_index dry p))
-
--- Of each level from this one on for which a tick is noted, no pack's member runs dry before that tick.
-abbrev pub AreSoonestFrom : Tree → List ℕ → List ℕ → ℕ → Type 0
-AreSoonestFrom t dry soonest l = (p : ℕ) → IsPack t p → l ≤ level t p → level t p < length soonest → slice_index soonest (level t p) ≤ slice_index dry p
 
 -- ---- what ran dry
 
@@ -163,6 +164,7 @@ pub record IsDrying (t : Tree) (d : DueContents) (ends : List ℕ) (s : ServingC
   pub at : (p j : ℕ) → IsPack t p → j < length (members t p) → slice_index_or s.runs (member t p j) false ≡ is_at (slice_index_or s.serves p None) j
   pub agree : (x : ℕ) → IsMember t x → slice_index_or d.runs x false ≡ slice_index_or s.runs x false
   pub rest : (x : ℕ) → (IsMember t x → ⊥) → slice_index_or d.runs x false ≡ false
+  pub ticks : AreOfPacks t s.dry
   pub known : (p : ℕ) → IsPack t p → slice_index s.dry p ≡ dry_by t d p (slice_index_or s.serves p None)
   pub led : AreLed t s.runs
   pub served : (p : ℕ) → IsPack t p → (slice_index s.dry p ≡ d.tick → done p) → slice_index_or s.stale p false ≡ false →

@@ -17,6 +17,7 @@ use crate::kept::Serving;
 use crate::rounds::node_count;
 use crate::rows::pack_count;
 use crate::states::State;
+use crate::ticks::Ticks;
 use cpu_assign::Places;
 use knockout::Knockout;
 use release_calendar::Calendar;
@@ -73,12 +74,6 @@ fn no_places(alloc: Global, count: usize) -> Result<Vec<Option<u32>>, NoMemory>
     Ok(vec![in alloc; None; count]?)
 }
 
-fn no_ticks(alloc: Global, count: usize) -> Result<Vec<u128>, NoMemory>
-    ensures { IfOk result (λ v. length v.items ≡ count) }
-{
-    Ok(vec![in alloc; 0u128; count]?)
-}
-
 fn all_marks(alloc: Global, count: usize) -> Result<Vec<bool>, NoMemory>
     ensures { IfOk result (λ v. v.items ≡ replicate count true) }
 {
@@ -112,7 +107,7 @@ fn blank_serving(alloc: Global, plan: &Plan) -> Result<Serving, NoMemory>
 {
     let count = node_count(plan) as usize;
     let serves = no_places(alloc, count)?;
-    let dry = no_ticks(alloc, count)?;
+    let dry = Ticks::new(alloc, plan.tree())?;
     let stale = all_marks(alloc, count)?;
     let runs = packs_run(alloc, plan)?;
     let ready = no_ends(alloc, plan)?;

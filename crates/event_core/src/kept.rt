@@ -1,19 +1,18 @@
 //! What a core keeps of packs and nodes from round to round.
 ghost use Rattle.std.specs.Prelude.{ℕ, [], ◌≡◌, ◌<◌, ◌≤◌, ◌^◌, length, replicate, false, None, slice_index, slice_index_or};
-ghost use Rattle.run_tree.specs.Tree.{IsMember, IsPack, home, level as level_of, place};
+ghost use Rattle.run_tree.specs.Tree.{IsMember, IsPack, home, place};
 ghost use Rattle.run_tree.specs.Plans.{IsPlan};
 ghost use Rattle.run_tree.specs.Runs.{runs_now};
 ghost use Rattle.run_tree.specs.Schedule.{packs_at};
 ghost use Rattle.cpu_assign.specs.Changed.{AreChanged};
 ghost use Rattle.release_calendar.specs.Calendars.{BelongsTo};
 ghost use Rattle.tree_select.specs.Marked.{AreFreshFrom};
-ghost use Rattle.event_core.specs.Serving.{due_of, no_tick, AreBegun, AreFitting, AreLong, AreSeen, AreSettledFrom, AreSoonestFrom, IsBlank, IsDrying, IsServing, IsSoonest};
+ghost use Rattle.event_core.specs.Serving.{due_of, no_tick, AreBegun, AreFitting, AreLong, AreOfPacks, AreSeen, AreSettledFrom, IsBlank, IsDrying, IsServing, IsSoonest};
 ghost use Rattle.event_core.specs.Steps.{packs_by};
 
 use crate::begun::begin_all;
-use crate::dried::run_dry;
-use crate::ends::first_dry;
 use crate::firsts::begin_first;
+use crate::ticks::Ticks;
 use crate::walks::serve_all;
 use cpu_assign::{Changes, Places};
 use knockout::Knockout;
@@ -31,7 +30,7 @@ pub(crate) struct Serving {
     // The place of the member that runs.
     pub(crate) serves: Vec<Option<u32>>,
     // The tick at which that one has nothing left.
-    pub(crate) dry: Vec<u128>,
+    pub(crate) dry: Ticks,
     // Whether the pack is to be looked at.
     pub(crate) stale: Vec<bool>,
     // Whether the node runs.
@@ -43,7 +42,7 @@ impl Model for Serving {
 
     ghost Value = { ServingContents };
 
-    ghost view = { λ s. lists s.ready.items s.serves.items s.dry.items s.stale.items s.runs.items };
+    ghost view = { λ s. lists s.ready.items s.serves.items s.dry s.stale.items s.runs.items };
 }
 
 impl Serving {
@@ -88,20 +87,19 @@ impl Serving {
         );
     }
 
-    /// The first of a tick and of those at which members that run have nothing left. Of each level for which there is room the
-    /// first of its own packs' ticks is noted, or some tick before that one and after the result.
-    pub(crate) fn first_dry(&self, plan: &Plan, most: u128, soonest: &mut [u128]) -> u128
-        requires dry { length self.now.dry ≡ length plan.now.tree.nodes }
+    /// The first of a tick and of those at which members that run have nothing left.
+    pub(crate) fn first_dry(&mut self, plan: &Plan, most: u128) -> u128
+        requires dry { AreOfPacks plan.now.tree self.old.dry }
         requires most { most < no_tick }
-        ensures first { IsSoonest plan.now.tree self.now.dry (λ q. 0 ≤ level_of plan.now.tree q) most result }
-        ensures soonest { AreSoonestFrom plan.now.tree self.now.dry soonest.new 0 }
+        ensures same { self.new ≡ self.old }
+        ensures first { IsSoonest plan.now.tree self.old.dry most result }
     {
-        first_dry(plan.tree(), &self.dry, most, soonest)
+        let _plan = plan;
+        self.dry.first(most)
     }
 
     /// Members that ran dry at the present tick are ready no more, and their packs are marked.
-    pub(crate) fn run_dry(&mut self, plan: &Plan, ends: &[u128], dues: &Dues, soonest: &[u128])
-        requires soonest { AreSoonestFrom plan.now.tree self.old.dry soonest.now 0 }
+    pub(crate) fn run_dry(&mut self, plan: &Plan, ends: &[u128], dues: &Dues)
         requires long { AreLong plan.now.tree dues.now self.old }
         requires drying { IsDrying plan.now.tree dues.now ends.now self.old (λ q. ⊥) }
         ensures long { AreLong plan.now.tree dues.now self.new }
@@ -109,14 +107,12 @@ impl Serving {
         ensures serves { self.new.serves ≡ self.old.serves }
         ensures runs { self.new.runs ≡ self.old.runs }
     {
-        run_dry(
+        self.dry.run_dry(
             plan.tree(),
             ends,
             dues,
             &self.serves,
-            &self.dry,
             &self.runs,
-            soonest,
             &mut self.ready,
             &mut self.stale,
         );

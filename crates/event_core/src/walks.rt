@@ -11,6 +11,7 @@ ghost use Rattle.event_core.specs.Serving.{dry_by, first_served, lists, AreFitti
 ghost use Rattle.event_core.specs.Steps.{packs_by};
 
 use crate::serving::{id_of, serve};
+use crate::ticks::Ticks;
 use cpu_assign::{Changes, Places};
 use knockout::Knockout;
 use run_tree::Tree;
@@ -47,7 +48,7 @@ fn serve_pack(
     ends: &[u128],
     ready: &[Knockout],
     serves: &mut [Option<u32>],
-    dry: &mut [u128],
+    dry: &mut Ticks,
     dues: &mut Dues,
     stale: &mut [bool],
     runs: &mut [bool],
@@ -71,7 +72,7 @@ fn serve_pack(
     let was = serves[p.0 as usize];
     let next = serve(tree, p, ready_at(ready, p), was, dues, stale, runs);
     serves[p.0 as usize] = next;
-    dry[p.0 as usize] = dry_of(tree, p, next, dues);
+    dry.set(p, dry_of(tree, p, next, dues));
 }
 
 /// Pack i of a level.
@@ -111,7 +112,7 @@ fn serve_level(
     ends: &[u128],
     ready: &[Knockout],
     serves: &mut [Option<u32>],
-    dry: &mut [u128],
+    dry: &mut Ticks,
     dues: &mut Dues,
     stale: &mut [bool],
     runs: &mut [bool],
@@ -148,7 +149,7 @@ fn serve_listed(
     ends: &[u128],
     ready: &[Knockout],
     serves: &mut [Option<u32>],
-    dry: &mut [u128],
+    dry: &mut Ticks,
     dues: &mut Dues,
     stale: &mut [bool],
     runs: &mut [bool],
@@ -188,7 +189,7 @@ fn serve_first_level(
     ends: &[u128],
     ready: &[Knockout],
     serves: &mut [Option<u32>],
-    dry: &mut [u128],
+    dry: &mut Ticks,
     dues: &mut Dues,
     stale: &mut [bool],
     runs: &mut [bool],
@@ -232,7 +233,7 @@ pub(crate) fn serve_all(
     ends: &[u128],
     ready: &[Knockout],
     serves: &mut [Option<u32>],
-    dry: &mut [u128],
+    dry: &mut Ticks,
     dues: &mut Dues,
     stale: &mut [bool],
     runs: &mut [bool],

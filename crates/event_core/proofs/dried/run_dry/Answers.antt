@@ -1,50 +1,61 @@
-use Rattle.std.proofs.Common.{arith, ◌-◌, ◌+◌, ◌≤◌, ◌≡◌, ◌∙◌}
-use Rattle.run_tree.specs.Tree.{level}
+use Rattle.std.proofs.Common.{arith, ap, get_or, sym, ◌∙◌, ◌+◌, ◌<◌, inl, inr}
+use Rattle.std.proofs.lemmas.Bool.{cases_lt}
+use Rattle.run_tree.specs.Tree.{IsPack}
 use Rattle.event_core.specs.Serving.{lists}
-use Rattle.event_core.proofs.DryLemmas.{drying_wide, all_dried}
+use Rattle.event_core.proofs.DryLemmas.{drying_wide, drying_skip, drying_step, dry_is_pack, dry_within, dried_is, all_dried}
 use Rattle.event_core.proofs.dried.run_dry.Goals as goal
 
-pub loop-level-init : goal.loop-level-init
-loop-level-init c = (
-  omega (arith, c.levels-level.ensures.value),
-  drying_wide c.args.tree.now c.args.dues.now c.args.ends.now (lists c.args.ready.now c.args.serves.now c.args.dry.now c.args.stale.now c.args.runs.now) (λ q. ⊥) (λ q. c.levels-level.result ≤ level c.args.tree.now q)
-      (λ q i above. let b = c.levels-level.ensures.lawful.tree.leveled q i in let e = c.levels-level.ensures.value in omega (arith, above, b, e)) c.requires.drying,
-)
+pub dried-init : goal.dried-init
+dried-init c =
+    let s = lists c.args.ready.now c.args.serves.now c.args.dry.now c.args.stale.now c.args.runs.now in (
+      drying_skip c.args.tree.now c.args.dues.now c.args.ends.now s c.args.number.now 0 c.next_of-k.result c.now-now.result c.now-now.ensures.value c.next_of-k.ensures.skipped
+          (drying_wide c.args.tree.now c.args.dues.now c.args.ends.now s (λ q. ⊥) (λ q. get_or c.args.number.now q 0 < 0) (λ q i m. omega (arith, m)) c.requires.drying),
+      c.next_of-k.ensures.within,
+      c.next_of-k.ensures.here,
+    )
 
-pub dry_level_if-requires-clause-drying : goal.dry_level_if-requires-clause-drying
-dry_level_if-requires-clause-drying c =
-    let on = c.loop-level-test.true in
-    drying_wide c.args.tree.now c.args.dues.now c.args.ends.now (lists c.loop-level.ready c.args.serves.now c.args.dry.now c.loop-level.stale c.args.runs.now) (λ q. c.loop-level.level ≤ level c.args.tree.now q) (λ q. c.loop-level.level - 1 + 1 ≤ level c.args.tree.now q)
-    (λ q i above. omega (arith, above, on)) c.loop-level.invariant.1
-
-pub loop-level-preserved : goal.loop-level-preserved
-loop-level-preserved c = ((let most = c.loop-level.invariant.0 in let on = c.loop-level-test.true in omega (arith, most, on)), c.dry_level_if.ensures)
+pub dried-preserved : goal.dried-preserved
+dried-preserved c =
+    let t = c.args.tree.now in
+    let s = lists c.dried.ready c.args.serves.now c.args.dry.now c.dried.stale c.args.runs.now in
+    let s' = lists c.take_out.new.ready c.args.serves.now c.args.dry.now c.take_out.new.stale c.args.runs.now in
+    let number = c.args.number.now in
+    let p = get_or c.args.nodes.now c.dried.k 0 in
+    let on = c.dried-test.true in
+    let few = c.requires.blocks.few in
+    let here = c.dried.invariant.2 on in
+    let pack : IsPack t p = dry_is_pack t c.args.dues.now c.args.ends.now s _ c.dried.invariant.0 p (c.requires.blocks.places.within c.dried.k (omega (arith, on, few))) (here ∙ c.now-now.ensures.value) in
+    let b = pack.0 in
+    let ready = c.requires.ready in
+    let ready' = c.dried.auto.ready in
+    let stale = c.requires.stale in
+    let stale' = c.dried.auto.stale in
+    let long = c.dried.invariant.0.ticks.long in (
+      drying_skip t c.args.dues.now c.args.ends.now s' number (c.dried.k + 1) c.next_of-k-in-dried.result c.now-now.result c.now-now.ensures.value c.next_of-k-in-dried.ensures.skipped
+          (drying_step t c.args.dues.now c.args.ends.now s c.take_out.new.ready c.take_out.new.stale number c.dried.k p c.now-now.result c.now-now.ensures.value (omega (arith, b, ready, ready')) (omega (arith, b, stale, stale')) pack
+          (λ q i e. sym (c.requires.blocks.places.back q (let l = i.0 in omega (arith, l, long))) ∙ ap (λ j. get_or c.args.nodes.now j 0) e)
+          (dried_is c.args.serves.now c.args.dry.now p c.now-now.result c.dried.ready c.take_out.new.ready c.dried.stale c.take_out.new.stale here c.take_out.ensures.some c.take_out.ensures.none) c.dried.invariant.0),
+      c.next_of-k-in-dried.ensures.within,
+      c.next_of-k-in-dried.ensures.here,
+    )
 
 pub returns : goal.returns
 returns c =
-    let none : c.loop-level.level ≡ 0 = omega arith in
-    all_dried c.args.tree.now c.args.dues.now c.args.ends.now (lists c.loop-level.ready c.args.serves.now c.args.dry.now c.loop-level.stale c.args.runs.now) (λ q. c.loop-level.level ≤ level c.args.tree.now q) (λ q i. omega (arith, none)) c.loop-level.invariant.1
+    let t = c.args.tree.now in
+    let off = c.dried-test.false in
+    let long = c.dried.invariant.0.ticks.long in
+    let early = c.dried.invariant.0.early in
+    all_dried t c.args.dues.now c.args.ends.now (lists c.dried.ready c.args.serves.now c.args.dry.now c.dried.stale c.args.runs.now) _
+    (λ q i e. elim (cases_lt (get_or c.args.number.now q 0) c.args.used) [
+      | inl low ↦ omega (arith, low, off)
+      | inr past ↦ absurd (let r = c.requires.blocks.rest q (let l = i.0 in omega (arith, l, long)) (omega (arith, past)) in omega (arith, r, e, early))
+    ]) c.dried.invariant.0
 
-pub dry_level_if-requires-clause-tree : goal.dry_level_if-requires-clause-tree
-dry_level_if-requires-clause-tree c = c.levels-level.ensures.lawful.tree
-
-pub dry_level_if-requires-clause-level : goal.dry_level_if-requires-clause-level
-dry_level_if-requires-clause-level c = let most = c.loop-level.invariant.0 in let on = c.loop-level-test.true in omega (arith, most, on)
-
-pub dry_level_if-requires-clause-ready : goal.dry_level_if-requires-clause-ready
-dry_level_if-requires-clause-ready c = c.loop-level.auto.ready ∙ c.requires.ready
-
-pub dry_level_if-requires-clause-serves : goal.dry_level_if-requires-clause-serves
-dry_level_if-requires-clause-serves c = c.requires.serves
-
-pub dry_level_if-requires-clause-dry : goal.dry_level_if-requires-clause-dry
-dry_level_if-requires-clause-dry c = c.requires.dry
-
-pub dry_level_if-requires-clause-stale : goal.dry_level_if-requires-clause-stale
-dry_level_if-requires-clause-stale c = c.loop-level.auto.stale ∙ c.requires.stale
-
-pub dry_level_if-requires-clause-soonest : goal.dry_level_if-requires-clause-soonest
-dry_level_if-requires-clause-soonest c = c.requires.soonest
-
-pub loop-level-smaller : goal.loop-level-smaller
-loop-level-smaller c = let on = c.loop-level-test.true in omega (arith, on)
+pub take_out-requires-clause-member : goal.take_out-requires-clause-member
+take_out-requires-clause-member c = λ j e.
+    let on = c.dried-test.true in
+    let few = c.requires.blocks.few in
+    let s = lists c.dried.ready c.args.serves.now c.args.dry.now c.dried.stale c.args.runs.now in
+    let p = get_or c.args.nodes.now c.dried.k 0 in
+    let pack = dry_is_pack c.args.tree.now c.args.dues.now c.args.ends.now s _ c.dried.invariant.0 p (c.requires.blocks.places.within c.dried.k (omega (arith, on, few))) (c.dried.invariant.2 on ∙ c.now-now.ensures.value) in
+    dry_within c.args.tree.now c.args.dues.now c.args.ends.now s _ c.dried.invariant.0 p j pack e

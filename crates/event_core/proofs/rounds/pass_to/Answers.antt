@@ -21,9 +21,6 @@ run_dry-requires-clause-drying c =
 pub returns-clause-serving : goal.returns-clause-serving
 returns-clause-serving c = subst (λ (ends : List ℕ). IsServing c.args.plan.now.tree c.pass.new.self ends c.run_dry.new.self) c.ends.ensures.values c.run_dry.ensures.serving
 
-pub run_dry-requires-clause-soonest : goal.run_dry-requires-clause-soonest
-run_dry-requires-clause-soonest c = c.requires.soonest
-
 pub returns-clause-long : goal.returns-clause-long
 returns-clause-long c = c.run_dry.ensures.long
 
@@ -51,7 +48,6 @@ run_dry-requires-clause-long c = record {
   dues = ap (λ (xs : List Bool). length xs) c.pass.ensures.runs ∙ c.requires.long.dues;
   ready = c.requires.long.ready;
   serves = c.requires.long.serves;
-  dry = c.requires.long.dry;
   stale = c.requires.long.stale;
   runs = c.requires.long.runs;
 }

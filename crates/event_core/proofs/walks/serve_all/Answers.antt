@@ -20,7 +20,6 @@ serve_level-requires-clause-long c = record {
   dues = c.loop-level.invariant.3 ∙ c.requires.long.dues;
   ready = c.requires.long.ready;
   serves = c.loop-level.auto.serves ∙ c.requires.long.serves;
-  dry = c.loop-level.auto.dry ∙ c.requires.long.dry;
   stale = c.loop-level.auto.stale ∙ c.requires.long.stale;
   runs = c.loop-level.auto.runs ∙ c.requires.long.runs;
 }
@@ -51,7 +50,6 @@ serve_first_level-requires-clause-long c = record {
   dues = c.loop-level.invariant.3 ∙ c.requires.long.dues;
   ready = c.requires.long.ready;
   serves = c.loop-level.auto.serves ∙ c.requires.long.serves;
-  dry = c.loop-level.auto.dry ∙ c.requires.long.dry;
   stale = c.loop-level.auto.stale ∙ c.requires.long.stale;
   runs = c.loop-level.auto.runs ∙ c.requires.long.runs;
 }

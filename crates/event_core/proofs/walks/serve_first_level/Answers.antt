@@ -40,7 +40,6 @@ serve_listed-requires-clause-long c = record {
   dues = c.marked.invariant.2 ∙ c.requires.long.dues;
   ready = c.requires.long.ready;
   serves = c.marked.auto.serves ∙ c.requires.long.serves;
-  dry = c.marked.auto.dry ∙ c.requires.long.dry;
   stale = c.marked.auto.stale ∙ c.requires.long.stale;
   runs = c.marked.auto.runs ∙ c.requires.long.runs;
 }

@@ -23,7 +23,6 @@ serve_pack-requires-clause-long c = record {
   dues = c.marked.invariant.2 ∙ c.requires.long.dues;
   ready = c.requires.long.ready;
   serves = c.marked.auto.serves ∙ c.requires.long.serves;
-  dry = c.marked.auto.dry ∙ c.requires.long.dry;
   stale = c.marked.auto.stale ∙ c.requires.long.stale;
   runs = c.marked.auto.runs ∙ c.requires.long.runs;
 }

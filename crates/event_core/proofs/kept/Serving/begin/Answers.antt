@@ -29,7 +29,6 @@ returns-clause-long c = record {
   dues = ap (λ (xs : List Bool). length xs) c.begin_all.ensures.runs ∙ c.requires.long.dues;
   ready = back_long c.self.inside.ready _ _ c.deref_mut.ensures.value c.begin_all.auto.ready ∙ ap (λ (s : ServingContents). length s.ready) c.self.view_is ∙ c.requires.long.ready;
   serves = ap (λ (s : ServingContents). length s.serves) c.self.view_is ∙ c.requires.long.serves;
-  dry = ap (λ (s : ServingContents). length s.dry) c.self.view_is ∙ c.requires.long.dry;
   stale = back_long c.self.inside.stale _ _ c.deref_mut-2.ensures.value c.begin_all.auto.stale ∙ ap (λ (s : ServingContents). length s.stale) c.self.view_is ∙ c.requires.long.stale;
   runs = ap (λ (s : ServingContents). length s.runs) c.self.view_is ∙ c.requires.long.runs;
 }

@@ -67,7 +67,6 @@ returns-clause-long c = record {
   dues = ap (λ (xs : List Bool). length xs) (c.begin_first.ensures.runs ∙ c.requires.dues) ∙ length-replicate (length c.args.plan.now.tree.nodes) false;
   ready = back_long c.self.inside.ready _ _ c.deref_mut.ensures.value c.begin_first.auto.ready ∙ ap (λ (s : ServingContents). length s.ready) c.self.view_is ∙ c.requires.blank.ready_long;
   serves = ap (λ (s : ServingContents). length s.serves) c.self.view_is ∙ ap (λ (xs : List (Option ℕ)). length xs) c.requires.blank.serves ∙ length-replicate (length c.args.plan.now.tree.nodes) None;
-  dry = ap (λ (s : ServingContents). length s.dry) c.self.view_is ∙ c.requires.blank.dry;
   stale = back_long c.self.inside.stale _ _ c.deref_mut-2.ensures.value c.begin_first.auto.stale ∙ ap (λ (s : ServingContents). length s.stale) c.self.view_is
       ∙ ap (λ (xs : List Bool). length xs) c.requires.blank.stale ∙ length-replicate (length c.args.plan.now.tree.nodes) true;
   runs = ap (λ (s : ServingContents). length s.runs) c.self.view_is ∙ c.requires.blank.runs_long;

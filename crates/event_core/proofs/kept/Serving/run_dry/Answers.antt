@@ -1,6 +1,6 @@
-use Rattle.std.proofs.Common.{List, Option, Bool, ap, length, subst₂, sym, ◌∙◌, ℕ}
+use Rattle.std.proofs.Common.{List, Option, Bool, ap, length, refl, subst₂, sym, ◌∙◌, ℕ}
 use Rattle.run_tree.specs.Tree.{Tree}
-use Rattle.event_core.specs.Serving.{ServingContents, AreSoonestFrom, IsServing, IsDrying}
+use Rattle.event_core.specs.Serving.{ServingContents, IsServing, IsDrying}
 use Rattle.event_core.proofs.KeptLemmas.{back, back_long, same_lists}
 use Rattle.event_core.proofs.kept.Serving.run_dry.Goals as goal
 
@@ -12,10 +12,6 @@ pub run_dry-requires-clause-serves : goal.run_dry-requires-clause-serves
 run_dry-requires-clause-serves c =
     ap (λ (xs : List (Option ℕ)). length xs) (c.deref.ensures.value ∙ ap (λ (s : ServingContents). s.serves) c.self.view_is) ∙ c.requires.long.serves ∙ ap (λ (t : Tree). length t.nodes) (sym c.tree.ensures.value)
 
-pub run_dry-requires-clause-dry : goal.run_dry-requires-clause-dry
-run_dry-requires-clause-dry c =
-    ap (λ (xs : List ℕ). length xs) (c.deref-2.ensures.value ∙ ap (λ (s : ServingContents). s.dry) c.self.view_is) ∙ c.requires.long.dry ∙ ap (λ (t : Tree). length t.nodes) (sym c.tree.ensures.value)
-
 pub run_dry-requires-clause-stale : goal.run_dry-requires-clause-stale
 run_dry-requires-clause-stale c =
     ap (λ (xs : List Bool). length xs) (c.deref_mut-2.ensures.value ∙ ap (λ (s : ServingContents). s.stale) c.self.view_is) ∙ c.requires.long.stale ∙ ap (λ (t : Tree). length t.nodes) (sym c.tree.ensures.value)
@@ -23,25 +19,19 @@ run_dry-requires-clause-stale c =
 pub run_dry-requires-clause-drying : goal.run_dry-requires-clause-drying
 run_dry-requires-clause-drying c =
     subst₂ (λ (t : Tree) (s : ServingContents). IsDrying t c.args.dues.now c.args.ends.now s (λ (q : ℕ). ⊥)) (sym c.tree.ensures.value)
-    (sym (same_lists _ _ _ _ _ _ _ _ _ _ c.deref_mut.ensures.value c.deref.ensures.value c.deref-2.ensures.value c.deref_mut-2.ensures.value c.deref-3.ensures.value ∙ c.self.view_is)) c.requires.drying
-
-pub run_dry-requires-clause-soonest : goal.run_dry-requires-clause-soonest
-run_dry-requires-clause-soonest c =
-    subst₂ (λ (t : Tree) (dry : List ℕ). AreSoonestFrom t dry c.args.soonest.now 0) (sym c.tree.ensures.value)
-    (sym (c.deref-2.ensures.value ∙ ap (λ (s : ServingContents). s.dry) c.self.view_is)) c.requires.soonest
+    (sym (same_lists _ _ _ _ _ _ _ _ _ _ c.deref_mut.ensures.value c.deref.ensures.value refl c.deref_mut-2.ensures.value c.deref-2.ensures.value ∙ c.self.view_is)) c.requires.drying
 
 pub returns-clause-serving : goal.returns-clause-serving
 returns-clause-serving c =
     subst₂ (λ (t : Tree) (s : ServingContents). IsServing t c.args.dues.now c.args.ends.now s) c.tree.ensures.value
-    (same_lists _ _ _ _ _ _ _ _ _ _ (sym (back c.self.inside.ready _ _ c.deref_mut.ensures.value c.run_dry.auto.ready)) c.deref.ensures.value c.deref-2.ensures.value
-    (sym (back c.self.inside.stale _ _ c.deref_mut-2.ensures.value c.run_dry.auto.stale)) c.deref-3.ensures.value) c.run_dry.ensures
+    (same_lists _ _ _ _ _ _ _ _ _ _ (sym (back c.self.inside.ready _ _ c.deref_mut.ensures.value c.run_dry.auto.ready)) c.deref.ensures.value refl
+    (sym (back c.self.inside.stale _ _ c.deref_mut-2.ensures.value c.run_dry.auto.stale)) c.deref-2.ensures.value) c.run_dry.ensures
 
 pub returns-clause-long : goal.returns-clause-long
 returns-clause-long c = record {
   dues = c.requires.long.dues;
   ready = back_long c.self.inside.ready _ _ c.deref_mut.ensures.value c.run_dry.auto.ready ∙ ap (λ (s : ServingContents). length s.ready) c.self.view_is ∙ c.requires.long.ready;
   serves = ap (λ (s : ServingContents). length s.serves) c.self.view_is ∙ c.requires.long.serves;
-  dry = ap (λ (s : ServingContents). length s.dry) c.self.view_is ∙ c.requires.long.dry;
   stale = back_long c.self.inside.stale _ _ c.deref_mut-2.ensures.value c.run_dry.auto.stale ∙ ap (λ (s : ServingContents). length s.stale) c.self.view_is ∙ c.requires.long.stale;
   runs = ap (λ (s : ServingContents). length s.runs) c.self.view_is ∙ c.requires.long.runs;
 }
