@@ -1,10 +1,10 @@
 -- Ticks in blocks, and the places of nodes.
-use Rattle.std.proofs.Common.{◌≡◌, ◌≢◌, ◌⊎◌, ℕ, ◌+◌, ◌*◌, ◌/◌, ◌%◌, ◌<◌, ◌≤◌, min, List, length, replicate, get_or, refl, ap, arith, inl, inr, sym, subst, le_refl, ◌∙◌, get_or-set_same, get_or-set_other}
+use Rattle.std.proofs.Common.{◌≡◌, ◌≢◌, ◌⊎◌, ℕ, ◌+◌, ◌*◌, ◌/◌, ◌%◌, ◌<◌, ◌≤◌, min, List, length, replicate, get_or, refl, ap, arith, inl, inr, sym, le_refl, ◌∙◌, get_or-set_same, get_or-set_other}
 use Rattle.std.proofs.lemmas.Bool.{cases_eq, cases_lt}
-use Rattle.std.proofs.lemmas.List.{length-set, length-replicate, get_or-replicate}
+use Rattle.std.proofs.lemmas.List.{ext_get_or, length-map, get_or-map, length-set, length-replicate, get_or-replicate}
 use Rattle.std.proofs.Math.ListN.{set}
 use Rattle.event_core.specs.Serving.{no_tick}
-use Rattle.event_core.specs.Ticks.{AreInBlocks, ArePlaces, IsFirstTick}
+use Rattle.event_core.specs.Ticks.{ticks_by, AreInBlocks, ArePlaces, IsFirstTick}
 
 -- ---- places
 
@@ -18,6 +18,8 @@ pub record AreNumbered (number nodes : List ℕ) (front back x count : ℕ) : Ty
   pub stands : (y : ℕ) → y < x → get_or number y 0 < count
   pub back_at : (y : ℕ) → y < x → get_or nodes (get_or number y 0) 0 ≡ y
   pub within : (k : ℕ) → k < count → get_or nodes k 0 < count
+  pub forth : (k : ℕ) → (k < front) ⊎ (back ≤ k) → k < count → get_or number (get_or nodes k 0) 0 ≡ k
+  pub given : (k : ℕ) → (k < front) ⊎ (back ≤ k) → k < count → get_or nodes k 0 < x
 
 pub none_numbered : (number nodes : List ℕ) (back count : ℕ) → back ≡ count → number ≡ replicate count 0 → nodes ≡ replicate count 0 → AreNumbered number nodes 0 back 0 count
 none_numbered number nodes back count all e f = record {
@@ -29,11 +31,13 @@ none_numbered number nodes back count all e f = record {
   stands = λ y l. absurd (omega (arith, l));
   back_at = λ y l. absurd (omega (arith, l));
   within = λ k l. (let z = ap (λ (xs : List ℕ). get_or xs k 0) f ∙ get_or-replicate count k 0 0 l in omega (arith, z, l));
+  forth = λ k taken l. elim taken [ inl low ↦ absurd (omega (arith, low)) | inr high ↦ absurd (omega (arith, high, l, all)) ];
+  given = λ k taken l. elim taken [ inl low ↦ absurd (omega (arith, low)) | inr high ↦ absurd (omega (arith, high, l, all)) ];
 }
 
 -- one node more has a place, among those that were free
 module _ (number nodes number' nodes' : List ℕ) (front back front' back' x place count : ℕ) (l : x < count) (en : number' ≡ set number x place) (em : nodes' ≡ set nodes place x) (low : front ≤ place) (high : place < back)
-    (front_up : front ≤ front') (back_down : back' ≤ back) (taken : (place < front') ⊎ (back' ≤ place)) (free : front' + count ≡ back' + (x + 1)) (was : AreNumbered number nodes front back x count) where
+    (front_up : front ≤ front') (back_down : back' ≤ back) (taken : (place < front') ⊎ (back' ≤ place)) (only : (k : ℕ) → (k < front') ⊎ (back' ≤ k) → k ≢ place → (k < front) ⊎ (back ≤ k)) (free : front' + count ≡ back' + (x + 1)) (was : AreNumbered number nodes front back x count) where
   own : get_or number' x 0 ≡ place
   own = ap (λ (xs : List ℕ). get_or xs x 0) en ∙ get_or-set_same number x place 0 (let e = was.number_long in omega (arith, e, l))
 
@@ -77,7 +81,30 @@ module _ (number nodes number' nodes' : List ℕ) (front back front' back' x pla
       | inl same ↦ (let e = ap (λ z. get_or nodes' z 0) same ∙ node_own in omega (arith, e, l))
       | inr ne ↦ (let e = node_other k ne in let w = was.within k m in omega (arith, e, w))
     ];
+    forth = λ k mine m. elim (cases_eq k place) [
+      | inl same ↦ ap (λ y. get_or number' y 0) (ap (λ z. get_or nodes' z 0) same ∙ node_own) ∙ own ∙ sym same
+      | inr ne ↦ (let g = was.given k (only k mine ne) m in
+          ap (λ y. get_or number' y 0) (node_other k ne) ∙ other (get_or nodes k 0) (λ e. omega (arith, e, g)) ∙ was.forth k (only k mine ne) m)
+    ];
+    given = λ k mine m. elim (cases_eq k place) [
+      | inl same ↦ (let e = ap (λ z. get_or nodes' z 0) same ∙ node_own in omega (arith, e))
+      | inr ne ↦ (let e = node_other k ne in let g = was.given k (only k mine ne) m in omega (arith, e, g))
+    ];
   }
+
+-- a pack has the first free place
+pub pack_numbered : (number nodes number' nodes' : List ℕ) (front back x count : ℕ) → x < count → number' ≡ set number x front → nodes' ≡ set nodes front x → AreNumbered number nodes front back x count → AreNumbered number' nodes' (front + 1) back (x + 1) count
+pack_numbered number nodes number' nodes' front back x count l en em was =
+    let free = was.free in
+    one_numbered number nodes number' nodes' front back (front + 1) back x front count l en em (le_refl front) (omega (arith, free, l)) (omega arith) (le_refl back) (inl (omega arith))
+    (λ k mine ne. elim mine [ inl low ↦ inl (omega (arith, low, ne)) | inr high ↦ inr high ]) (omega (arith, free)) was
+
+-- a member has the last one
+pub member_numbered : (number nodes number' nodes' : List ℕ) (front back back' x count : ℕ) → x < count → back' + 1 ≡ back → number' ≡ set number x back' → nodes' ≡ set nodes back' x → AreNumbered number nodes front back x count → AreNumbered number' nodes' front back' (x + 1) count
+member_numbered number nodes number' nodes' front back back' x count l next en em was =
+    let free = was.free in
+    one_numbered number nodes number' nodes' front back front back' x back' count l en em (omega (arith, free, l, next)) (omega (arith, next)) (le_refl front) (omega (arith, next)) (inr (le_refl back'))
+    (λ k mine ne. elim mine [ inl low ↦ inl low | inr high ↦ inr (omega (arith, high, ne, next)) ]) (omega (arith, free, next)) was
 
 pub all_numbered : (number nodes : List ℕ) (front back x count : ℕ) → x ≡ count → AreNumbered number nodes front back x count → ArePlaces number nodes count
 all_numbered number nodes front back x count e was = record {
@@ -86,85 +113,117 @@ all_numbered number nodes front back x count e was = record {
   stands = λ y l. was.stands y (omega (arith, l, e));
   back = λ y l. was.back_at y (omega (arith, l, e));
   within = was.within;
+  forth = λ k l. was.forth k (elim (cases_lt k front) [ inl low ↦ inl low | inr high ↦ inr (let free = was.free in omega (arith, free, high, e)) ]) l;
 }
 
 -- ---- blocks
 
--- no node has a tick
-pub blocks_first : (number nodes least ticks : List ℕ) (count blocks : ℕ) → ArePlaces number nodes count → least ≡ replicate blocks no_tick → ticks ≡ replicate count no_tick → count ≤ blocks * 8 → AreInBlocks number nodes least ticks 0
-blocks_first number nodes least ticks count blocks places el et far = record {
-  places = subst (λ n. ArePlaces number nodes n) (sym long) places;
-  long = (let a = long in let b = ap (λ (xs : List ℕ). length xs) el ∙ length-replicate {A = ℕ} blocks no_tick in omega (arith, a, b, far));
-  few = omega arith;
-  bound = λ x l. (let s = places.stands x (omega (arith, l, long)) in
-      let a = ap (λ (xs : List ℕ). get_or xs (get_or number x 0 / 8) 0) el ∙ get_or-replicate blocks (get_or number x 0 / 8) no_tick 0 (omega (arith, s, far)) in
-      let b = none x l in
-      omega (arith, a, b));
-  rest = λ x l past. none x l;
+-- the tick of a node is that at its place
+pub tick_of : (number ticks : List ℕ) (x : ℕ) → x < length number → get_or (ticks_by number ticks) x 0 ≡ get_or ticks (get_or number x 0) 0
+tick_of number ticks x l = get_or-map (λ (k : ℕ). get_or ticks k 0) number x 0 0 l
+
+pub ticks_long : (number ticks : List ℕ) → length (ticks_by number ticks) ≡ length number
+ticks_long number ticks = length-map number (λ (k : ℕ). get_or ticks k 0)
+
+-- one tick changes
+pub ticks_set : (number nodes ticks ticks' : List ℕ) (x place tick : ℕ) → ArePlaces number nodes (length ticks) → x < length number → place ≡ get_or number x 0 → ticks' ≡ set ticks place tick → ticks_by number ticks' ≡ set (ticks_by number ticks) x tick
+ticks_set number nodes ticks ticks' x place tick h l is e = ext_get_or 0 (ticks_by number ticks') (set (ticks_by number ticks) x tick) (ticks_long number ticks' ∙ sym (ticks_long number ticks) ∙ sym (length-set (ticks_by number ticks) x tick)) each
+  where
+    long : length number ≡ length ticks
+    long = h.number_long
+
+    each : (y : ℕ) → y < length (ticks_by number ticks') → get_or (ticks_by number ticks') y 0 ≡ get_or (set (ticks_by number ticks) x tick) y 0
+    each y m =
+        let low : y < length number = (let a = ticks_long number ticks' in omega (arith, a, m)) in
+        tick_of number ticks' y low
+        ∙ elim (cases_eq y x) [
+          | inl same ↦
+              ap (λ (ts : List ℕ). get_or ts (get_or number y 0) 0) e
+              ∙ ap (λ (k : ℕ). get_or (set ticks place tick) k 0) (ap (λ (z : ℕ). get_or number z 0) same ∙ sym is)
+              ∙ get_or-set_same ticks place tick 0 (let s = h.stands x (omega (arith, l, long)) in omega (arith, s, is))
+              ∙ sym (ap (λ (z : ℕ). get_or (set (ticks_by number ticks) x tick) z 0) same ∙ get_or-set_same (ticks_by number ticks) x tick 0 (let a = ticks_long number ticks in omega (arith, a, l)))
+          | inr ne ↦
+              ap (λ (ts : List ℕ). get_or ts (get_or number y 0) 0) e
+              ∙ get_or-set_other ticks place (get_or number y 0) tick 0 (λ same. ne (sym (h.back y (omega (arith, low, long))) ∙ ap (λ (k : ℕ). get_or nodes k 0) (same ∙ is) ∙ h.back x (omega (arith, l, long))))
+              ∙ sym (get_or-set_other (ticks_by number ticks) x y tick 0 ne ∙ tick_of number ticks y low)
+        ]
+
+-- the first of the ticks at places is that of nodes
+pub first_by : (number nodes ticks : List ℕ) (most first : ℕ) → ArePlaces number nodes (length ticks) → IsFirstTick ticks most first → IsFirstTick (ticks_by number ticks) most first
+first_by number nodes ticks most first h was = record {
+  below = was.below;
+  all = λ x l. (let low = in_number x l in let a = was.all (get_or number x 0) (h.stands x (let long = h.number_long in omega (arith, low, long))) in let e = tick_of number ticks x low in omega (arith, a, e));
+  one = elim was.one [
+    | inl most ↦ inl most
+    | inr found ↦
+        (let (k, l, e) = found in
+        let w = h.within k l in
+        let long = h.number_long in
+        let low : get_or nodes k 0 < length number = omega (arith, w, long) in
+        inr (get_or nodes k 0, (let a = ticks_long number ticks in omega (arith, a, low)), e ∙ ap (λ (j : ℕ). get_or ticks j 0) (sym (h.forth k l)) ∙ sym (tick_of number ticks (get_or nodes k 0) low)))
+  ];
 }
   where
-    long : length ticks ≡ count
-    long = ap (λ (xs : List ℕ). length xs) et ∙ length-replicate {A = ℕ} count no_tick
+    in_number : (x : ℕ) → x < length (ticks_by number ticks) → x < length number
+    in_number x l = (let a = ticks_long number ticks in omega (arith, a, l))
 
-    none : (x : ℕ) → x < length ticks → get_or ticks x 0 ≡ no_tick
-    none x l = ap (λ (xs : List ℕ). get_or xs x 0) et ∙ get_or-replicate count x no_tick 0 (omega (arith, l, long))
+-- no node has a tick
+pub none_by : (number nodes ticks : List ℕ) (count : ℕ) → ArePlaces number nodes count → ticks ≡ replicate count no_tick → ticks_by number ticks ≡ replicate count no_tick
+none_by number nodes ticks count h e = ext_get_or 0 (ticks_by number ticks) (replicate count no_tick) (ticks_long number ticks ∙ h.number_long ∙ sym (length-replicate {A = ℕ} count no_tick)) each
+  where
+    each : (x : ℕ) → x < length (ticks_by number ticks) → get_or (ticks_by number ticks) x 0 ≡ get_or (replicate count no_tick) x 0
+    each x l =
+        let a = ticks_long number ticks in
+        let long = h.number_long in
+        let low : x < length number = omega (arith, a, l) in
+        let in_count : x < count = omega (arith, low, long) in
+        tick_of number ticks x low ∙ ap (λ (ts : List ℕ). get_or ts (get_or number x 0) 0) e ∙ get_or-replicate count (get_or number x 0) no_tick 0 (h.stands x in_count) ∙ sym (get_or-replicate count x no_tick 0 in_count)
 
 -- one place more
-pub least_next : (nodes ticks : List ℕ) (from k first next : ℕ) → k < length nodes → next ≡ min first (get_or ticks (get_or nodes k 0) 0) →
-    ((j : ℕ) → from ≤ j → j < k → first ≤ get_or ticks (get_or nodes j 0) 0) × ((j : ℕ) × (j < length nodes) × (first ≡ get_or ticks (get_or nodes j 0) 0)) →
-    ((j : ℕ) → from ≤ j → j < k + 1 → next ≤ get_or ticks (get_or nodes j 0) 0) × ((j : ℕ) × (j < length nodes) × (next ≡ get_or ticks (get_or nodes j 0) 0))
-least_next nodes ticks from k first next l e was = (
+pub least_next : (ticks : List ℕ) (from k first next : ℕ) → k < length ticks → next ≡ min first (get_or ticks k 0) →
+    ((j : ℕ) → from ≤ j → j < k → first ≤ get_or ticks j 0) × ((j : ℕ) × (j < length ticks) × (first ≡ get_or ticks j 0)) →
+    ((j : ℕ) → from ≤ j → j < k + 1 → next ≤ get_or ticks j 0) × ((j : ℕ) × (j < length ticks) × (next ≡ get_or ticks j 0))
+least_next ticks from k first next l e was = (
   λ j low high. elim (cases_eq j k) [
-    | inl same ↦ (let a = ap (λ i. get_or ticks (get_or nodes i 0) 0) same in omega (arith, a, e))
+    | inl same ↦ (let a = ap (λ i. get_or ticks i 0) same in omega (arith, a, e))
     | inr ne ↦ (let a = was.0 j low (omega (arith, high, ne)) in omega (arith, a, e))
   ],
-  elim (cases_lt first (get_or ticks (get_or nodes k 0) 0)) [
+  elim (cases_lt first (get_or ticks k 0)) [
     | inl less ↦ (let same : next ≡ first = omega (arith, e, less) in (was.1.0, was.1.1, same ∙ was.1.2))
     | inr more ↦ (k, l, omega (arith, e, more))
   ],
 )
 
--- no tick of a block comes before the least of its places that are used
-pub least_in : (number nodes least ticks : List ℕ) (used block from to own : ℕ) → AreInBlocks number nodes least ticks used → own ≤ no_tick → from ≡ block * 8 → to ≡ min used (from + 8) →
-    ((k : ℕ) → from ≤ k → k < to → own ≤ get_or ticks (get_or nodes k 0) 0) → (x : ℕ) → x < length ticks → get_or number x 0 / 8 ≡ block → own ≤ get_or ticks x 0
-least_in number nodes least ticks used block from to own h fits ef et all x l e = elim (cases_lt (get_or number x 0) used) [
-  | inl low ↦ (let a = all (get_or number x 0) (omega (arith, e, ef)) (omega (arith, e, ef, et, low)) in let b = ap (λ y. get_or ticks y 0) (h.places.back x l) in omega (arith, a, b))
-  | inr past ↦ (let r = h.rest x l (omega (arith, past)) in omega (arith, r, fits))
-]
-
--- a block's least is kept
-pub block_known : (number nodes least least' ticks : List ℕ) (used block own : ℕ) → AreInBlocks number nodes least ticks used → block * 8 < used → least' ≡ set least block own →
-    ((x : ℕ) → x < length ticks → get_or number x 0 / 8 ≡ block → own ≤ get_or ticks x 0) → AreInBlocks number nodes least' ticks used
-block_known number nodes least least' ticks used block own h low e all = record {
-  places = h.places;
-  long = (let a = ap (λ (xs : List ℕ). length xs) e ∙ length-set least block own in let b = h.long in omega (arith, a, b));
-  few = h.few;
-  bound = λ x l. elim (cases_eq (get_or number x 0 / 8) block) [
-    | inl same ↦ (let a = ap (λ k. get_or least' k 0) same ∙ ap (λ (xs : List ℕ). get_or xs block 0) e ∙ get_or-set_same least block own 0 in_list in let b = all x l same in omega (arith, a, b))
-    | inr ne ↦ (let a = ap (λ (xs : List ℕ). get_or xs (get_or number x 0 / 8) 0) e ∙ get_or-set_other least block (get_or number x 0 / 8) own 0 ne in let b = h.bound x l in omega (arith, a, b))
-  ];
-  rest = h.rest;
+pub blocks_first : (least ticks : List ℕ) (count blocks : ℕ) → least ≡ replicate blocks no_tick → ticks ≡ replicate count no_tick → count ≤ blocks * 8 → AreInBlocks least ticks 0
+blocks_first least ticks count blocks el et far = record {
+  long = (let a = long in let b = ap (λ (xs : List ℕ). length xs) el ∙ length-replicate {A = ℕ} blocks no_tick in omega (arith, a, b, far));
+  few = omega arith;
+  bound = λ k l. (let a = ap (λ (xs : List ℕ). get_or xs (k / 8) 0) el ∙ get_or-replicate blocks (k / 8) no_tick 0 (omega (arith, l, long, far)) in let b = none k l in omega (arith, a, b));
+  rest = λ k l past. none k l;
 }
   where
-    in_list : block < length least
-    in_list = (let a = h.few in let b = h.long in omega (arith, a, b, low))
+    long : length ticks ≡ count
+    long = ap (λ (xs : List ℕ). length xs) et ∙ length-replicate {A = ℕ} count no_tick
+
+    none : (k : ℕ) → k < length ticks → get_or ticks k 0 ≡ no_tick
+    none k l = ap (λ (xs : List ℕ). get_or xs k 0) et ∙ get_or-replicate count k no_tick 0 (omega (arith, l, long))
 
 -- the first of a tick and of those in the blocks before one
-pub record IsFirstBelow (number ticks : List ℕ) (most block first : ℕ) : Type 0 where
+pub record IsFirstBelow (ticks : List ℕ) (most block first : ℕ) : Type 0 where
   pub below : first ≤ most
-  pub all : (x : ℕ) → x < length ticks → get_or number x 0 / 8 < block → first ≤ get_or ticks x 0
-  pub one : (first ≡ most) ⊎ ((x : ℕ) × (x < length ticks) × (first ≡ get_or ticks x 0))
+  pub all : (k : ℕ) → k < length ticks → k / 8 < block → first ≤ get_or ticks k 0
+  pub one : (first ≡ most) ⊎ ((k : ℕ) × (k < length ticks) × (first ≡ get_or ticks k 0))
 
-pub first_none : (number ticks : List ℕ) (most : ℕ) → IsFirstBelow number ticks most 0 most
-first_none number ticks most = record { below = le_refl most; all = λ x l m. absurd (omega (arith, m)); one = inl refl }
+pub first_none : (ticks : List ℕ) (most : ℕ) → IsFirstBelow ticks most 0 most
+first_none ticks most = record { below = le_refl most; all = λ k l m. absurd (omega (arith, m)); one = inl refl }
 
-pub first_next : (number ticks : List ℕ) (most block first next : ℕ) → next ≤ first → ((x : ℕ) → x < length ticks → get_or number x 0 / 8 ≡ block → next ≤ get_or ticks x 0) →
-    ((next ≡ first) ⊎ ((x : ℕ) × (x < length ticks) × (next ≡ get_or ticks x 0))) → IsFirstBelow number ticks most block first → IsFirstBelow number ticks most (block + 1) next
-first_next number ticks most block first next less own from was = record {
+pub first_next : (ticks : List ℕ) (most block first next : ℕ) → next ≤ first → ((k : ℕ) → k < length ticks → k / 8 ≡ block → next ≤ get_or ticks k 0) →
+    ((next ≡ first) ⊎ ((k : ℕ) × (k < length ticks) × (next ≡ get_or ticks k 0))) → IsFirstBelow ticks most block first → IsFirstBelow ticks most (block + 1) next
+first_next ticks most block first next less own from was = record {
   below = (let b = was.below in omega (arith, b, less));
-  all = λ x l m. elim (cases_eq (get_or number x 0 / 8) block) [
-    | inl same ↦ own x l same
-    | inr ne ↦ (let a = was.all x l (omega (arith, m, ne)) in omega (arith, a, less))
+  all = λ k l m. elim (cases_eq (k / 8) block) [
+    | inl same ↦ own k l same
+    | inr ne ↦ (let a = was.all k l (omega (arith, m, ne)) in omega (arith, a, less))
   ];
   one = elim from [
     | inr found ↦ inr found
@@ -172,36 +231,44 @@ first_next number ticks most block first next less own from was = record {
   ];
 }
 
-pub first_all : (number nodes least ticks : List ℕ) (used most block first : ℕ) → AreInBlocks number nodes least ticks used → most < no_tick → used ≤ block * 8 → IsFirstBelow number ticks most block first → IsFirstTick ticks most first
-first_all number nodes least ticks used most block first h early far was = record {
+pub first_all : (least ticks : List ℕ) (used most block first : ℕ) → AreInBlocks least ticks used → most < no_tick → used ≤ block * 8 → IsFirstBelow ticks most block first → IsFirstTick ticks most first
+first_all least ticks used most block first h early far was = record {
   below = was.below;
-  all = λ x l. elim (cases_lt (get_or number x 0) used) [
-    | inl low ↦ was.all x l (omega (arith, low, far))
-    | inr past ↦ (let r = h.rest x l (omega (arith, past)) in let b = was.below in omega (arith, r, b, early))
+  all = λ k l. elim (cases_lt k used) [
+    | inl low ↦ was.all k l (omega (arith, low, far))
+    | inr past ↦ (let r = h.rest k l (omega (arith, past)) in let b = was.below in omega (arith, r, b, early))
   ];
   one = was.one;
 }
 
 -- ---- the next one
 
--- no node at these places has the tick
-abbrev pub AreSkipped : List ℕ → List ℕ → ℕ → ℕ → ℕ → Type 0
-AreSkipped number ticks now from to = (x : ℕ) → x < length ticks → from ≤ get_or number x 0 → get_or number x 0 < to → get_or ticks x 0 ≢ now
+-- none at these places has the tick
+abbrev pub AreSkipped : List ℕ → ℕ → ℕ → ℕ → Type 0
+AreSkipped ticks now from to = (k : ℕ) → k < length ticks → from ≤ k → k < to → get_or ticks k 0 ≢ now
 
-pub none_skipped : (number ticks : List ℕ) (now from : ℕ) → AreSkipped number ticks now from from
-none_skipped number ticks now from = λ x l low high e. omega (arith, low, high)
+pub none_skipped : (ticks : List ℕ) (now from : ℕ) → AreSkipped ticks now from from
+none_skipped ticks now from = λ k l low high e. omega (arith, low, high)
 
-pub block_skipped : (number nodes least ticks : List ℕ) (used now from k : ℕ) → AreInBlocks number nodes least ticks used → k % 8 ≡ 0 → now < get_or least (k / 8) 0 → AreSkipped number ticks now from k → AreSkipped number ticks now from (k + 8)
-block_skipped number nodes least ticks used now from k h begins late was = λ x l low high e. elim (cases_lt (get_or number x 0) k) [
-  | inl before ↦ was x l low before e
-  | inr after ↦ (let same : get_or number x 0 / 8 ≡ k / 8 = omega (arith, high, after, begins) in let b = h.bound x l in let a = ap (λ j. get_or least j 0) same in omega (arith, a, b, e, late))
+pub block_skipped : (least ticks : List ℕ) (used now from at : ℕ) → AreInBlocks least ticks used → at % 8 ≡ 0 → now < get_or least (at / 8) 0 → AreSkipped ticks now from at → AreSkipped ticks now from (at + 8)
+block_skipped least ticks used now from at h begins late was = λ k l low high e. elim (cases_lt k at) [
+  | inl before ↦ was k l low before e
+  | inr after ↦ (let same : k / 8 ≡ at / 8 = omega (arith, high, after, begins) in let b = h.bound k l in let a = ap (λ j. get_or least j 0) same in omega (arith, a, b, e, late))
 ]
 
-pub one_skipped : (number nodes least ticks : List ℕ) (used now from k : ℕ) → AreInBlocks number nodes least ticks used → get_or ticks (get_or nodes k 0) 0 ≢ now → AreSkipped number ticks now from k → AreSkipped number ticks now from (k + 1)
-one_skipped number nodes least ticks used now from k h wet was = λ x l low high e. elim (cases_eq (get_or number x 0) k) [
-  | inl same ↦ wet (ap (λ y. get_or ticks y 0) (sym (ap (λ j. get_or nodes j 0) same) ∙ h.places.back x l) ∙ e)
-  | inr ne ↦ was x l low (omega (arith, high, ne)) e
-]
+-- by nodes
+pub skipped_by : (number nodes ticks : List ℕ) (now from to : ℕ) → ArePlaces number nodes (length ticks) → AreSkipped ticks now from to →
+    (x : ℕ) → x < length (ticks_by number ticks) → from ≤ get_or number x 0 → get_or number x 0 < to → get_or (ticks_by number ticks) x 0 ≢ now
+skipped_by number nodes ticks now from to h was x l low high e =
+    let a = ticks_long number ticks in
+    let long = h.number_long in
+    let in_number : x < length number = omega (arith, a, l) in
+    was (get_or number x 0) (h.stands x (omega (arith, in_number, long))) low high (sym (tick_of number ticks x in_number) ∙ e)
 
-pub fewer_skipped : (number ticks : List ℕ) (now from to less : ℕ) → less ≤ to → AreSkipped number ticks now from to → AreSkipped number ticks now from less
-fewer_skipped number ticks now from to less m was = λ x l low high e. was x l low (omega (arith, high, m)) e
+-- the node at a place has the tick there
+pub tick_at : (number nodes ticks : List ℕ) (k : ℕ) → ArePlaces number nodes (length ticks) → k < length ticks → (get_or nodes k 0 < length (ticks_by number ticks)) × (get_or (ticks_by number ticks) (get_or nodes k 0) 0 ≡ get_or ticks k 0)
+tick_at number nodes ticks k h l =
+    let w = h.within k l in
+    let a = ticks_long number ticks in
+    let long = h.number_long in
+    (omega (arith, w, a, long), tick_of number ticks (get_or nodes k 0) (omega (arith, w, long)) ∙ ap (λ (j : ℕ). get_or ticks j 0) (h.forth k l))

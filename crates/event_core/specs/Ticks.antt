@@ -1,5 +1,5 @@
 -- The ticks of nodes, in blocks of eight of which the least is known.
-use Rattle.std.specs.Prelude.{ℕ, ◌*◌, ◌/◌, ◌<◌, ◌≤◌, ◌≡◌, ◌⊎◌, List, length, slice_index}
+use Rattle.std.specs.Prelude.{ℕ, ◌*◌, ◌/◌, ◌<◌, ◌≤◌, ◌≡◌, ◌⊎◌, List, length, map, slice_index}
 use Rattle.event_core.specs.Serving.{no_tick}
 
 -- the least of `most` and of these ticks
@@ -8,6 +8,10 @@ pub record IsFirstTick (ticks : List ℕ) (most least : ℕ) : Type 0 where
   pub all : (x : ℕ) → x < length ticks → least ≤ slice_index ticks x
   pub one : (least ≡ most) ⊎ ((x : ℕ) × (x < length ticks) × (least ≡ slice_index ticks x))
 
+-- the tick of each node, by those at the places of the nodes
+abbrev pub ticks_by : List ℕ → List ℕ → List ℕ
+ticks_by number ticks = map (λ k. slice_index ticks k) number
+
 -- each node has a place of its own, and each place has a node
 pub record ArePlaces (number nodes : List ℕ) (count : ℕ) : Type 0 where
   pub number_long : length number ≡ count
@@ -15,11 +19,11 @@ pub record ArePlaces (number nodes : List ℕ) (count : ℕ) : Type 0 where
   pub stands : (x : ℕ) → x < count → slice_index number x < count
   pub back : (x : ℕ) → x < count → slice_index nodes (slice_index number x) ≡ x
   pub within : (k : ℕ) → k < count → slice_index nodes k < count
+  pub forth : (k : ℕ) → k < count → slice_index number (slice_index nodes k) ≡ k
 
 -- Eight places are a block. No tick of a block comes before the one that is kept of it, and none comes at all from place `used` on.
-pub record AreInBlocks (number nodes least ticks : List ℕ) (used : ℕ) : Type 0 where
-  pub places : ArePlaces number nodes (length ticks)
+pub record AreInBlocks (least ticks : List ℕ) (used : ℕ) : Type 0 where
   pub long : length ticks ≤ length least * 8
   pub few : used ≤ length ticks
-  pub bound : (x : ℕ) → x < length ticks → slice_index least (slice_index number x / 8) ≤ slice_index ticks x
-  pub rest : (x : ℕ) → x < length ticks → used ≤ slice_index number x → slice_index ticks x ≡ no_tick
+  pub bound : (k : ℕ) → k < length ticks → slice_index least (k / 8) ≤ slice_index ticks k
+  pub rest : (k : ℕ) → k < length ticks → used ≤ k → slice_index ticks k ≡ no_tick

@@ -2,7 +2,7 @@
 ghost use Rattle.std.specs.Prelude.{ℕ, [], ◌≡◌, ◌<◌, ◌≤◌, length, true, None, Some, slice_index_or, slice_set};
 ghost use Rattle.knockout.specs.Knockouts.{never};
 ghost use Rattle.event_core.specs.Serving.{lists, IsServing, IsDrying};
-ghost use Rattle.event_core.specs.Ticks.{AreInBlocks};
+ghost use Rattle.event_core.specs.Ticks.{ticks_by, AreInBlocks, ArePlaces};
 
 use crate::ticks::next_of;
 use knockout::{Knockout, NEVER};
@@ -52,21 +52,23 @@ pub(crate) fn run_dry(
     ready: &mut [Knockout],
     stale: &mut [bool],
 )
-    requires blocks { AreInBlocks number.now nodes.now least.now dry.now used }
+    requires places { ArePlaces number.now nodes.now (length dry.now) }
+    requires blocks { AreInBlocks least.now dry.now used }
     requires ready { length ready.old ≡ length tree.now.nodes }
     requires serves { length serves.now ≡ length tree.now.nodes }
     requires stale { length stale.old ≡ length tree.now.nodes }
-    requires drying { IsDrying tree.now dues.now ends.now (lists ready.old serves.now dry.now stale.old runs.now) (λ q. ⊥) }
-    ensures { IsServing tree.now dues.now ends.now (lists ready.new serves.now dry.now stale.new runs.now) }
+    requires drying { IsDrying tree.now dues.now ends.now (lists ready.old serves.now (ticks_by number.now dry.now) stale.old runs.now) (λ q. ⊥) }
+    ensures { IsServing tree.now dues.now ends.now (lists ready.new serves.now (ticks_by number.now dry.now) stale.new runs.now) }
 {
     let _tree = tree;
+    let _number = number.len();
     let _ends = ends.len();
     let _runs = runs.len();
     let now = dues.now();
-    let mut k = next_of(number, nodes, least, dry, used, now, 0);
+    let mut k = next_of(least, dry, used, now, 0);
     'dried: while k < used {
         let p = NodeId(nodes[k]);
         take_out(p, serves[p.0 as usize], ready, stale);
-        k = next_of(number, nodes, least, dry, used, now, k + 1);
+        k = next_of(least, dry, used, now, k + 1);
     }
 }

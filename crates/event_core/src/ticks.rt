@@ -1,7 +1,7 @@
 //! Ticks of nodes, of which the first is found without looking at all of them.
-ghost use Rattle.std.specs.Prelude.{◌≡◌, ◌≢◌, ◌⊎◌, ℕ, ◌*◌, ◌/◌, ◌<◌, ◌≤◌, length, replicate, slice_index, slice_set, IfOk};
+ghost use Rattle.std.specs.Prelude.{◌≡◌, ◌≢◌, ◌⊎◌, ℕ, List, ◌*◌, ◌/◌, ◌<◌, ◌≤◌, length, replicate, slice_index, slice_set, IfOk};
 ghost use Rattle.event_core.specs.Serving.{lists, no_tick, IsDrying, IsServing};
-ghost use Rattle.event_core.specs.Ticks.{AreInBlocks, ArePlaces, IsFirstTick};
+ghost use Rattle.event_core.specs.Ticks.{ticks_by, AreInBlocks, ArePlaces, IsFirstTick};
 
 use crate::dried::run_dry;
 use knockout::Knockout;
@@ -18,10 +18,10 @@ const BLOCK: usize = 8;
 /// ticks; so only as many blocks as they fill are looked at.
 #[derive(Drop)]
 pub(crate) struct Ticks {
-    by_node: Vec<u128>,
     // The place of each node, and the node at each place.
     number: Vec<u32>,
     nodes: Vec<u32>,
+    by_place: Vec<u128>,
     // Of each block a tick before which none of its own comes.
     least: Vec<u128>,
     // From this place on no node has a tick.
@@ -29,126 +29,119 @@ pub(crate) struct Ticks {
 }
 
 impl Model for Ticks {
-    ghost use Rattle.std.specs.Prelude.{List, ℕ};
-    ghost use Rattle.event_core.specs.Ticks.{AreInBlocks};
+    ghost use Rattle.std.specs.Prelude.{List, ℕ, length};
+    ghost use Rattle.event_core.specs.Ticks.{ticks_by, AreInBlocks, ArePlaces};
 
     ghost Value = { List ℕ };
 
-    ghost view = { λ t. t.by_node.items };
+    ghost view = { λ t. ticks_by t.number.items t.by_place.items };
 
-    ghost invariant = { λ t. AreInBlocks t.number.items t.nodes.items t.least.items t.by_node.items t.used };
+    ghost invariant = { λ t. ArePlaces t.number.items t.nodes.items (length t.by_place.items) × AreInBlocks t.least.items t.by_place.items t.used };
+}
+
+// The node at this place gets a tick.
+fn set_at(least: &mut [u128], ticks: &mut [u128], used: usize, place: usize, tick: u128) -> usize
+    requires blocks { AreInBlocks least.old ticks.old used }
+    requires place { place < length ticks.old }
+    ensures blocks { AreInBlocks least.new ticks.new result }
+    ensures ticks { ticks.new ≡ slice_set ticks.old place tick }
+{
+    ticks[place] = tick;
+    least[place / BLOCK] = least[place / BLOCK].min(tick);
+    used.max(place + 1)
+}
+
+// The place of node p.
+fn place_of(number: &[u32], p: NodeId) -> usize
+    requires { p.0 < length number.now }
+    ensures { result ≡ slice_index number.now p.0 }
+{
+    number[p.0 as usize] as usize
 }
 
 // Node p gets a tick.
-fn set_at(
+fn set_node(
     number: &[u32],
     nodes: &[u32],
     least: &mut [u128],
     ticks: &mut [u128],
     used: usize,
-    p: usize,
+    p: NodeId,
     tick: u128,
 ) -> usize
-    requires blocks { AreInBlocks number.now nodes.now least.old ticks.old used }
-    requires node { p < length ticks.old }
-    ensures blocks { AreInBlocks number.now nodes.now least.new ticks.new result }
-    ensures ticks { ticks.new ≡ slice_set ticks.old p tick }
+    requires places { ArePlaces number.now nodes.now (length ticks.old) }
+    requires blocks { AreInBlocks least.old ticks.old used }
+    requires node { p.0 < length (ticks_by number.now ticks.old) }
+    ensures places { ArePlaces number.now nodes.now (length ticks.new) }
+    ensures blocks { AreInBlocks least.new ticks.new result }
+    ensures ticks { ticks_by number.now ticks.new ≡ slice_set (ticks_by number.now ticks.old) p.0 tick }
 {
     let _nodes = nodes.len();
-    let place = number[p] as usize;
-    ticks[p] = tick;
-    least[place / BLOCK] = least[place / BLOCK].min(tick);
-    used.max(place + 1)
+    let place = place_of(number, p);
+    set_at(least, ticks, used, place, tick)
 }
 
 // The least tick of the places from one to another.
-fn least_of(nodes: &[u32], ticks: &[u128], from: usize, to: usize) -> u128
+fn least_of(ticks: &[u128], from: usize, to: usize) -> u128
     requires some { from < to }
-    requires within { to ≤ length nodes.now }
-    requires nodes { (k : ℕ) → k < length nodes.now → slice_index nodes.now k < length ticks.now }
-    ensures all { (k : ℕ) → from ≤ k → k < to → result ≤ slice_index ticks.now (slice_index nodes.now k) }
-    ensures one { (k : ℕ) × (k < length nodes.now) × (result ≡ slice_index ticks.now (slice_index nodes.now k)) }
+    requires within { to ≤ length ticks.now }
+    ensures all { (k : ℕ) → from ≤ k → k < to → result ≤ slice_index ticks.now k }
+    ensures one { (k : ℕ) × (k < length ticks.now) × (result ≡ slice_index ticks.now k) }
     ensures fits { result ≤ no_tick }
 {
-    let mut first = ticks[nodes[from] as usize];
+    let mut first = ticks[from];
     for k in from..to {
-        first = first.min(ticks[nodes[k] as usize]);
+        first = first.min(ticks[k]);
     }
     first
 }
 
 // The first of a tick and of all others, as far as a block has one; what is kept of the block is then its least.
-fn first_in(
-    number: &[u32],
-    nodes: &[u32],
-    least: &mut [u128],
-    ticks: &[u128],
-    used: usize,
-    block: usize,
-    first: u128,
-) -> u128
-    requires blocks { AreInBlocks number.now nodes.now least.old ticks.now used }
+fn first_in(least: &mut [u128], ticks: &[u128], used: usize, block: usize, first: u128) -> u128
+    requires blocks { AreInBlocks least.old ticks.now used }
     requires block { block * 8 < used }
-    ensures blocks { AreInBlocks number.now nodes.now least.new ticks.now used }
+    ensures blocks { AreInBlocks least.new ticks.now used }
     ensures below { result ≤ first }
-    ensures all { (x : ℕ) → x < length ticks.now → slice_index number.now x / 8 ≡ block → result ≤ slice_index ticks.now x }
-    ensures one { (result ≡ first) ⊎ ((x : ℕ) × (x < length ticks.now) × (result ≡ slice_index ticks.now x)) }
+    ensures all { (k : ℕ) → k < length ticks.now → k / 8 ≡ block → result ≤ slice_index ticks.now k }
+    ensures one { (result ≡ first) ⊎ ((k : ℕ) × (k < length ticks.now) × (result ≡ slice_index ticks.now k)) }
 {
-    let _number = number.len();
     if least[block] >= first {
         return first;
     }
     let from = block * BLOCK;
-    let own = least_of(nodes, ticks, from, used.min(from + BLOCK));
+    let own = least_of(ticks, from, used.min(from + BLOCK));
     least[block] = own;
     first.min(own)
 }
 
 // The first of a tick and of all others.
-fn first_of(
-    number: &[u32],
-    nodes: &[u32],
-    least: &mut [u128],
-    ticks: &[u128],
-    used: usize,
-    most: u128,
-) -> u128
-    requires blocks { AreInBlocks number.now nodes.now least.old ticks.now used }
+fn first_of(least: &mut [u128], ticks: &[u128], used: usize, most: u128) -> u128
+    requires blocks { AreInBlocks least.old ticks.now used }
     requires most { most < no_tick }
-    ensures blocks { AreInBlocks number.now nodes.now least.new ticks.now used }
+    ensures blocks { AreInBlocks least.new ticks.now used }
     ensures first { IsFirstTick ticks.now most result }
 {
     let mut first = most;
     for block in 0..used.div_ceil(BLOCK) {
-        first = first_in(number, nodes, least, ticks, used, block, first);
+        first = first_in(least, ticks, used, block, first);
     }
     first
 }
 
-/// The first place from number `from` on whose node has this tick, or the number of places that are used where there is none.
-pub(crate) fn next_of(
-    number: &[u32],
-    nodes: &[u32],
-    least: &[u128],
-    ticks: &[u128],
-    used: usize,
-    now: u128,
-    from: usize,
-) -> usize
-    requires blocks { AreInBlocks number.now nodes.now least.now ticks.now used }
+/// The first place from number `from` on that has this tick, or the number of places that are used where there is none.
+pub(crate) fn next_of(least: &[u128], ticks: &[u128], used: usize, now: u128, from: usize) -> usize
+    requires blocks { AreInBlocks least.now ticks.now used }
     requires from { from ≤ used }
     ensures after { from ≤ result }
     ensures within { result ≤ used }
-    ensures here { result < used → slice_index ticks.now (slice_index nodes.now result) ≡ now }
-    ensures skipped { (x : ℕ) → x < length ticks.now → from ≤ slice_index number.now x → slice_index number.now x < result →
-        slice_index ticks.now x ≢ now }
+    ensures here { result < used → slice_index ticks.now result ≡ now }
+    ensures skipped { (k : ℕ) → k < length ticks.now → from ≤ k → k < result → slice_index ticks.now k ≢ now }
 {
-    let _number = number.len();
     let mut k = from;
     while k < used {
         if k % BLOCK == 0 && now < least[k / BLOCK] {
             k += BLOCK;
-        } else if ticks[nodes[k] as usize] == now {
+        } else if ticks[k] == now {
             return k;
         } else {
             k += 1;
@@ -169,10 +162,12 @@ fn stand(number: &mut [u32], nodes: &mut [u32], x: u32, place: u32)
 }
 
 // Packs get the first places, and members the others.
+#[tactic(auto, using(crate::proofs::TickLemmas::none_by))]
 fn number_all(tree: &Tree, number: &mut [u32], nodes: &mut [u32])
     requires number { number.old ≡ replicate (length tree.now.nodes) 0 }
     requires nodes { nodes.old ≡ replicate (length tree.now.nodes) 0 }
-    ensures { ArePlaces number.new nodes.new (length tree.now.nodes) }
+    ensures places { ArePlaces number.new nodes.new (length tree.now.nodes) }
+    ensures none { (ticks : List ℕ) → ticks ≡ replicate (length tree.now.nodes) no_tick → ticks_by number.new ticks ≡ replicate (length tree.now.nodes) no_tick }
 {
     let mut front = 0;
     let mut back = tree.nodes();
@@ -209,7 +204,7 @@ impl Ticks {
         let mut nodes = all_free(alloc, count)?;
         number_all(tree, &mut number, &mut nodes);
         Ok(Ticks {
-            by_node: no_ticks(alloc, count)?,
+            by_place: no_ticks(alloc, count)?,
             number,
             nodes,
             least: no_ticks(alloc, count / BLOCK + 1)?,
@@ -222,13 +217,13 @@ impl Ticks {
         requires { p.0 < length self.old }
         ensures { self.new ≡ slice_set self.old p.0 tick }
     {
-        self.used = set_at(
+        self.used = set_node(
             &self.number,
             &self.nodes,
             &mut self.least,
-            &mut self.by_node,
+            &mut self.by_place,
             self.used,
-            p.0 as usize,
+            p,
             tick,
         );
     }
@@ -239,14 +234,7 @@ impl Ticks {
         ensures same { self.new ≡ self.old }
         ensures first { IsFirstTick self.old most result }
     {
-        first_of(
-            &self.number,
-            &self.nodes,
-            &mut self.least,
-            &self.by_node,
-            self.used,
-            most,
-        )
+        first_of(&mut self.least, &self.by_place, self.used, most)
     }
 
     /// Members that ran dry at the present tick are ready no more, and their packs are marked. The ends and who runs are only
@@ -272,7 +260,7 @@ impl Ticks {
             &self.number,
             &self.nodes,
             &self.least,
-            &self.by_node,
+            &self.by_place,
             self.used,
             ends,
             dues,
