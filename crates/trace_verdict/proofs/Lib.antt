@@ -14,6 +14,8 @@ mod AllEntries
 mod StandingLemmas
 mod SuppliedLemmas
 mod StackLemmas
+mod DealtLemmas
+mod ListedLemmas
 pub mod TallyLemmas
 mod ToldLemmas
 mod TimedLemmas

@@ -1,20 +1,20 @@
 -- Rows that stand in order: their entries are sorted as they are, and no two of one processor overlap.
-use Rattle.std.proofs.Common.{zero, suc, add-one, ℕ, ◌+◌, ◌<◌, ◌≤◌, ◌≡◌, inl, inr, true, false, List, [], ◌∷◌, ◌++◌, length, take, get_or, Some, None, ◌&&◌, eqb, ltb, leb, sym, refl, ap, ◌∙◌, subst, arith}
+use Rattle.std.proofs.Common.{zero, suc, add-one, append_assoc, append-nil, ℕ, ◌+◌, ◌<◌, ◌≤◌, ◌≡◌, inl, inr, true, false, List, [], ◌∷◌, ◌++◌, length, take, get_or, Option, Some, None, ◌&&◌, eqb, ltb, leb, sym, refl, ap, ◌∙◌, subst, arith}
 use Rattle.std.specs.List.{AllByRecursion}
 use Rattle.std.specs.List.Sorted.{IsSorted}
 use Rattle.std.specs.declared.cmp.Ordering.{Ordering}
 use Rattle.std.specs.declared.cmp.Ordering.TheVariants.{Equal, Greater}
 use Rattle.std.specs.Ordering.{nat_cmp, ordering_then, is_lt}
 use Rattle.std.proofs.lemmas.Bool.{and_parts, and_from, or_cases, or_left, or_right, eqb-true, eq-eqb, ne_eqb, leb-true, ltb-true, lt-ltb, le-ltb, cond-true, cond-false, not_from_false}
-use Rattle.std.proofs.lemmas.List.{map-append, take_more}
+use Rattle.std.proofs.lemmas.List.{map-append, take_more, length-take-le, get_or-take}
 use Rattle.std.proofs.lemmas.List.Sorted.{IsPermutation-refl}
 use Rattle.sched_base.specs.declared.rows.Row.{Row}
 use Rattle.sched_base.specs.Sets.{SetContents}
 use Rattle.trace_verdict.specs.declared.entries.Entry.{Entry}
-use Rattle.trace_verdict.specs.Faults.{IsTraceRow}
+use Rattle.trace_verdict.specs.Faults.{row_at, IsTraceRow}
 use Rattle.trace_verdict.specs.Orders.{processor_key, entry_cmp, entries_from, places, IsOrder}
 use Rattle.trace_verdict.specs.Overlaps.{is_apart_from, walk}
-use Rattle.trace_verdict.specs.Searches.{IsFirstHit}
+use Rattle.trace_verdict.specs.Searches.{overlaps, same_key, hits, IsFirstHit}
 use Rattle.trace_verdict.specs.Standing.{comes_after, stand}
 use Rattle.trace_verdict.proofs.EntryLemmas.{entry_for, entries_more}
 use Rattle.trace_verdict.proofs.OverlapLemmas.{Rising-from_sorted, walk_to}
@@ -100,3 +100,39 @@ pub places_more : (es : List Entry) (i : ℕ) (d : Entry) (old new : List ℕ) �
 places_more es i d old new h e f =
     f ∙ (ap (λ ps. ps ++ (get_or es i d).place ∷ []) e
     ∙ (sym (map-append (λ (e : Entry). e.place) (take i es) (get_or es i d ∷ [])) ∙ ap places (sym (take_more es i d h))))
+
+-- one row more that comes after the last one
+pub stand_more : (rows rest : List Row) (i : ℕ) (last : Option Row) (r d : Row) → i < length rows → r ≡ get_or rows i d → comes_after last r ≡ true
+    → ((rest : List Row) → stand None (take i rows ++ rest) ≡ stand last rest) → stand None (take (i + 1) rows ++ rest) ≡ stand (Some r) rest
+stand_more rows rest i last r d h is c inv =
+    let more : take (i + 1) rows ++ rest ≡ take i rows ++ r ∷ rest = ap (λ w. w ++ rest) (take_more rows i d h) ∙ (append_assoc (take i rows) (get_or rows i d ∷ []) rest ∙ ap (λ x. take i rows ++ x ∷ rest) (sym is)) in
+    ap (stand None) more ∙ (inv (r ∷ rest) ∙ ap (λ b. b && stand (Some r) rest) c)
+
+-- the rows at the front stand
+pub stands_front : (rows : List Row) (i : ℕ) (last : Option Row) → ((rest : List Row) → stand None (take i rows ++ rest) ≡ stand last rest) → stand None (take i rows) ≡ true
+stands_front rows i last inv = ap (stand None) (sym (append-nil (take i rows))) ∙ (inv [] ∙ none last)
+  where
+    none : (last : Option Row) → stand last [] ≡ true
+    none last = refl
+
+-- the rows at the front stand, and the next one overlaps one of them
+pub hit_after : (s : SetContents) (rows : List Row) (i k : ℕ) → AllByRecursion (IsTraceRow s) rows → i < length rows → stand None (take i rows) ≡ true → k < i → hits processor_key rows i k ≡ true
+    → IsFirstHit processor_key rows i
+hit_after s rows i k all h st less hit =
+    let front = hit_standing s (take i rows) (all_front s i rows all) st in
+    let size : length (take i rows) ≡ i = length-take-le i rows (omega (arith, h)) in
+    record {
+      within = omega (arith, h);
+      before = λ a b l m. (
+          let there = front.before a b l (omega (arith, m, size)) in
+          let one : row_at (take i rows) a ≡ row_at rows a = get_or-take i rows a _ (omega (arith, l, m)) in
+          let two : row_at (take i rows) b ≡ row_at rows b = get_or-take i rows b _ m in
+          subst (λ r. (same_key (processor_key (row_at rows a)) (processor_key r) && overlaps (row_at rows a) r) ≡ false) two
+          (subst (λ r. (same_key (processor_key r) (processor_key (row_at (take i rows) b)) && overlaps r (row_at (take i rows) b)) ≡ false) one there));
+      at = λ g. (k, less, hit);
+    }
+  where
+    all_front : (s : SetContents) (i : ℕ) (rows : List Row) → AllByRecursion (IsTraceRow s) rows → AllByRecursion (IsTraceRow s) (take i rows)
+    all_front s zero rows all = tt
+    all_front s (suc i) [] all = tt
+    all_front s (suc i) (r ∷ rows) all = (all.0, all_front s i rows all.1)

@@ -1,4 +1,5 @@
 pub mod Orders
+pub mod Dealt
 pub mod Overlaps
 pub mod Supply
 pub mod Faults

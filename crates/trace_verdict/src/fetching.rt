@@ -2,6 +2,7 @@
 ghost use Rattle.std.specs.Prelude.{ℕ, ◌≡◌, ◌<◌, ◌≤◌, ◌++◌, length, take, map, slice_index, IsTrue};
 ghost use Rattle.trace_verdict.specs.Faults.{row_at};
 
+use crate::row_list::RowList;
 use sched_base::{Leaf, Row};
 
 /// How many rows are brought together at once.
@@ -43,13 +44,13 @@ pub fn are_within(places: &[u32], count: usize) -> bool
 }
 
 /// Brings the rows at these places together, so that those who go through them don't wait for each row's memory by itself.
-pub(crate) fn fetch(part: &mut [Row], rows: &[Row], places: &[u32])
+pub(crate) fn fetch(part: &mut [Row], rows: &RowList, places: &[u32])
     requires room { length places.now ≤ length part.old }
     requires within { (i : ℕ) → i < length places.now → slice_index places.now i < length rows.now }
     ensures rows { take (length places.now) part.new ≡ map (row_at rows.now) places.now }
     ensures room { length part.new ≡ length part.old }
 {
     for (i, place) in places.iter().enumerate() {
-        part[i] = rows[*place as usize];
+        part[i] = rows.get(*place as usize);
     }
 }

@@ -5,6 +5,7 @@ ghost use Rattle.trace_verdict.specs.Faults.{row_at};
 ghost use Rattle.trace_verdict.specs.Findings.{IsRowIn, AreInPeriods, IsTold};
 
 use crate::fetching::{fetch, next_part, no_rows};
+use crate::row_list::RowList;
 use crate::supply::Periods;
 use crate::tally::Tally;
 use sched_base::Row;
@@ -34,7 +35,7 @@ impl Findings {
 }
 
 // What the rows at these places tell, of which the first is given.
-fn findings_from(periods: &Periods, rows: &[Row], first: &Row, places: &[u32]) -> Findings
+fn findings_from(periods: &Periods, rows: &RowList, first: &Row, places: &[u32]) -> Findings
     requires first { IsRowIn periods.now first.now }
     requires rows { AreInPeriods periods.now rows.now places.now }
     requires some { 0 < periods.now.period }
@@ -54,14 +55,14 @@ fn findings_from(periods: &Periods, rows: &[Row], first: &Row, places: &[u32]) -
 }
 
 /// What the rows at these places tell: those of one task, in the order of time, apart.
-pub fn findings_at(periods: &Periods, rows: &[Row], places: &[u32]) -> Findings
+pub fn findings_at(periods: &Periods, rows: &RowList, places: &[u32]) -> Findings
     requires rows { AreInPeriods periods.now rows.now places.now }
     requires some { 0 < periods.now.period }
     requires few { length places.now < 2 ^ 32 }
     ensures { IsTold periods.now (map (row_at rows.now) places.now) result }
 {
     match places.split_first() {
-        Some((first, later)) => findings_from(periods, rows, &rows[*first as usize], later),
+        Some((first, later)) => findings_from(periods, rows, &rows.get(*first as usize), later),
         None => Findings::none(),
     }
 }

@@ -6,8 +6,11 @@ use crate::row_list::RowList;
 /// The most processors of a set.
 const HANDS: usize = 32;
 
-/// A start past all starts.
-const NEVER: u128 = u128::MAX / 2;
+/// A turn past all turns.
+const NEVER: u64 = u64::MAX / 2;
+
+/// How many binary digits a moment has at most.
+const DIGITS: u32 = 58;
 
 /// The rows of one processor, from the place that comes next to where they end.
 #[derive(Clone, Copy)]
@@ -16,52 +19,35 @@ struct Hand {
     end: usize,
 }
 
-/// The start of a hand's next row.
-#[derive(Clone, Copy)]
-struct Next {
-    start: u128,
-    hand: usize,
+// When a hand is to move: the moment at which its next row starts, and behind that the hand.
+fn turn_of(moment: u64, hand: usize) -> u64 {
+    (moment % (1 << DIGITS)) * 32 + (hand % HANDS) as u64
 }
 
-// The one with the earlier start. The top bit of the difference tells which, without a branch that the processor would guess.
-fn earlier(left: Next, right: Next) -> Next {
-    let sign = (right.start.wrapping_sub(left.start) >> 127) % 2;
-    let start_mask = 0u128.wrapping_sub(sign);
-    let hand_mask = 0usize.wrapping_sub(sign as usize);
-    Next {
-        start: left.start ^ ((left.start ^ right.start) & start_mask),
-        hand: left.hand ^ ((left.hand ^ right.hand) & hand_mask),
-    }
+// The earlier of two turns. The top bit of the difference tells which, without a branch that the processor would guess.
+fn earlier(left: u64, right: u64) -> u64 {
+    let mask = 0u64.wrapping_sub(right.wrapping_sub(left) >> 63);
+    left ^ ((left ^ right) & mask)
 }
 
-// The start of the row at a place.
-fn start_at(rows: &RowList, place: usize) -> u128 {
-    if place < rows.len() {
-        rows.get(place).start
-    } else {
-        NEVER
-    }
-}
-
-/// The hands, and a tree over them: at its leaves the next start of each hand, and above each two the earlier one.
+/// The hands, and a tree over them: at its leaves the turn of each hand, and above each two the earlier one. Of ticks with too many
+/// digits the last ones are dropped.
 #[derive(Clone, Copy)]
 pub(crate) struct Hands {
     hands: [Hand; HANDS],
-    nexts: [Next; 2 * HANDS],
+    turns: [u64; 2 * HANDS],
     width: usize,
+    dropped: u32,
 }
 
 impl Hands {
     /// The hands on rows that stand by processor.
     pub(crate) fn new(rows: &RowList) -> Hands {
-        let none = Next {
-            start: NEVER,
-            hand: 0,
-        };
         let mut hands = Hands {
             hands: [Hand { place: 0, end: 0 }; HANDS],
-            nexts: [none; 2 * HANDS],
+            turns: [NEVER; 2 * HANDS],
             width: 1,
+            dropped: 0,
         };
         hands.lay(rows);
         hands
@@ -74,6 +60,7 @@ impl Hands {
             if place < rows.len() {
                 let end = end_of(rows, place, rows.get(place).processor);
                 self.hands[hand] = Hand { place, end };
+                self.dropped = self.dropped.max(dropped_at(rows, end));
                 place = end;
                 if self.width <= hand {
                     self.width = self.width.wrapping_mul(2);
@@ -89,7 +76,7 @@ impl Hands {
 
     /// The place of the row that comes next. Past the last row it is any number.
     pub(crate) fn next(&mut self, rows: &RowList) -> usize {
-        let chosen = self.nexts[1].hand % HANDS;
+        let chosen = (self.turns[1] % 32) as usize;
         let place = self.hands[chosen].place;
         self.hands[chosen].place = place.wrapping_add(1);
         self.choose(rows, chosen);
@@ -99,19 +86,28 @@ impl Hands {
     // Chooses anew, from the next row of a hand on.
     fn choose(&mut self, rows: &RowList, hand: usize) {
         let Hand { place, end } = self.hands[hand % HANDS];
-        let start = if place < end {
-            start_at(rows, place)
+        let mut best = if place < end && place < rows.len() {
+            turn_of(rows.moment(place, self.dropped), hand)
         } else {
             NEVER
         };
-        let mut best = Next { start, hand };
         let mut at = self.width.wrapping_add(hand) % (2 * HANDS);
-        self.nexts[at] = best;
+        self.turns[at] = best;
         'up: while at > 1 {
-            best = earlier(best, self.nexts[(at ^ 1) % (2 * HANDS)]);
+            best = earlier(best, self.turns[(at ^ 1) % (2 * HANDS)]);
             at /= 2;
-            self.nexts[at] = best;
+            self.turns[at] = best;
         }
+    }
+}
+
+// How many of the last digits of the ticks by the end of the row before this place are dropped.
+fn dropped_at(rows: &RowList, place: usize) -> u32 {
+    if 0 < place && place <= rows.len() {
+        let digits = 128 - rows.get(place - 1).end.leading_zeros();
+        digits.saturating_sub(DIGITS)
+    } else {
+        0
     }
 }
 

@@ -15,7 +15,7 @@ use crate::row_list::RowList;
 use crate::searches::{
     first_processor_hit, first_task_hit, first_unfit, first_unsupplied, is_fit, task_periods,
 };
-use crate::standing::{all_places, comes_after, stand};
+use crate::standing::{all_places, comes_after, hits_last, stand, standing_len};
 use crate::supplied::{TaskOrder, supplied_order};
 use crate::timed::timed_findings;
 use sched_base::{NoMemory, Row, TaskSet};
@@ -65,7 +65,7 @@ fn row_kind(set: &TaskSet, scale: u128, row: &Row, hit: bool, task_hit: bool) ->
 fn verdict_of(
     set: &TaskSet,
     scale: u128,
-    rows: &[Row],
+    rows: &RowList,
     unfit: u32,
     hit: u32,
     by_task: &[Entry],
@@ -83,7 +83,7 @@ fn verdict_of(
         let kind = row_kind(
             set,
             scale,
-            &rows[first as usize],
+            &rows.get(first as usize),
             hit == first,
             task_hit == first,
         );
@@ -108,7 +108,7 @@ fn processor_order(
     alloc: Global,
     set: &TaskSet,
     scale: u128,
-    rows: &[Row],
+    rows: &RowList,
 ) -> Result<(Vec<u32>, u32), NoMemory>
     requires trace { IsTrace set.now scale rows.now }
     ensures order { IfOk result (λ r. IsProcessorOrder rows.now r.0.items) }
@@ -130,7 +130,7 @@ fn judge_tasks(
     alloc: Global,
     set: &TaskSet,
     scale: u128,
-    rows: &[Row],
+    rows: &RowList,
     unfit: u32,
     hit: u32,
 ) -> Result<(TaskOrder, Verdict), NoMemory>
@@ -162,7 +162,7 @@ fn found_by(
     alloc: Global,
     set: &TaskSet,
     scale: u128,
-    rows: &[Row],
+    rows: &RowList,
     by_task: &[Entry],
     verdict: Verdict,
 ) -> Result<Vec<Findings>, NoMemory>
@@ -183,7 +183,7 @@ fn found_in(
     alloc: Global,
     set: &TaskSet,
     scale: u128,
-    rows: &[Row],
+    rows: &RowList,
     by_task: &[Entry],
 ) -> Result<Vec<Findings>, NoMemory>
     requires trace { IsTrace set.now scale rows.now }
@@ -205,7 +205,12 @@ fn found_in(
 }
 
 /// The orders of the rows of a trace and the verdict on them.
-pub fn judge(alloc: Global, set: &TaskSet, scale: u128, rows: &[Row]) -> Result<Judgment, NoMemory>
+pub fn judge(
+    alloc: Global,
+    set: &TaskSet,
+    scale: u128,
+    rows: &RowList,
+) -> Result<Judgment, NoMemory>
     requires trace { IsTrace set.now scale rows.now }
     ensures by_processor { IfOk result (λ j. IsProcessorOrder rows.now j.by_processor.items) }
     ensures by_task { IfOk result (λ j. IsTaskOrder (length set.now.tasks) rows.now j.by_task.items j.task_starts.items) }
@@ -245,12 +250,45 @@ pub fn judge_rows(
             verdict: Verdict::Valid,
         });
     }
-    let all = rows.to_vec(alloc)?;
-    let judgment = judge(alloc, set, scale, &all)?;
+    judge_unordered(alloc, set, scale, rows)
+}
+
+// The same where rows are at fault or stand in another order.
+fn judge_unordered(
+    alloc: Global,
+    set: &TaskSet,
+    scale: u128,
+    rows: &RowList,
+) -> Result<Judged, NoMemory>
+    requires trace { IsTrace set.now scale rows.now }
+    ensures found { IfOk result (λ j. AreTold set.now scale rows.now j.found.items) }
+    ensures all { IfOk result (λ j. j.verdict ≡ Verdict.Valid → length j.found.items ≡ length set.now.tasks) }
+    ensures verdict { IfOk result (λ j. IsVerdict set.now scale rows.now j.verdict) }
+{
+    let hit = processor_hit(alloc, set, scale, rows)?;
+    let unfit = first_unfit(set, scale, rows);
+    let (order, verdict) = judge_tasks(alloc, set, scale, rows, unfit, hit)?;
     Ok(Judged {
-        found: judgment.found,
-        verdict: judgment.verdict,
+        found: order.found,
+        verdict,
     })
+}
+
+// The first row that overlaps an earlier one of its processor, or the number of rows. Where the rows stand in order up to one that
+// overlaps the one before it, it is that one, and no entries are made.
+fn processor_hit(alloc: Global, set: &TaskSet, scale: u128, rows: &RowList) -> Result<u32, NoMemory>
+    requires trace { IsTrace set.now scale rows.now }
+    ensures hit { IfOk result (λ hit. IsFirstHit processor_key rows.now hit) }
+{
+    let front = standing_len(rows);
+    if front == rows.len() {
+        return Ok(front as u32);
+    }
+    if hits_last(rows, front) {
+        return Ok(front as u32);
+    }
+    let entries = order_by_processor(alloc, rows)?;
+    Ok(first_processor_hit(set, scale, rows, &entries))
 }
 
 // What the rows of each task tell, where they stand by processor, those of one in the order of time, and none is at fault. Where

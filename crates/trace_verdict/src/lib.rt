@@ -3,6 +3,7 @@
 
 mod clock;
 mod dealing;
+mod dealt_orders;
 mod entries;
 mod faults;
 mod fetching;

@@ -3,7 +3,9 @@ ghost use Rattle.std.specs.Prelude.{◌≡◌, ◌<◌, ◌^◌, ◌++◌, lengt
 ghost use Rattle.trace_verdict.specs.Orders.{entry_cmp, processor_key, task_key, entry_of, entries_from, places, IsOrder, AreStarts};
 ghost use Rattle.trace_verdict.specs.Searches.{IsFront};
 
+use crate::dealt_orders::dealt_order;
 use crate::entries::Entry;
+use crate::row_list::RowList;
 use sched_base::{Leaf, NoMemory, Row};
 use std::alloc::Global;
 
@@ -36,19 +38,20 @@ fn add_entry(
     Ok(())
 }
 
-fn processor_entries(alloc: Global, rows: &[Row]) -> Result<Vec<Entry>, NoMemory>
+fn processor_entries(alloc: Global, rows: &RowList) -> Result<Vec<Entry>, NoMemory>
     requires { length rows.now < 2 ^ 32 }
     ensures { IfOk result (λ v. v.items ≡ entries_from processor_key 0 rows.now) }
 {
     let mut entries = Vec::new(alloc);
-    for (i, row) in rows.iter().enumerate() {
-        add_entry(&mut entries, Some(row.processor), row, i as u32)?;
+    for i in 0..rows.len() {
+        let row = rows.get(i);
+        add_entry(&mut entries, Some(row.processor), &row, i as u32)?;
     }
     Ok(entries)
 }
 
 /// All rows, in the order of processor, start and place.
-pub fn order_by_processor(alloc: Global, rows: &[Row]) -> Result<Vec<Entry>, NoMemory>
+pub fn order_by_processor(alloc: Global, rows: &RowList) -> Result<Vec<Entry>, NoMemory>
     requires { length rows.now < 2 ^ 32 }
     ensures { IfOk result (λ v. IsOrder processor_key rows.now v.items) }
 {
@@ -57,22 +60,26 @@ pub fn order_by_processor(alloc: Global, rows: &[Row]) -> Result<Vec<Entry>, NoM
     Ok(entries)
 }
 
-fn task_entries(alloc: Global, rows: &[Row]) -> Result<Vec<Entry>, NoMemory>
+fn task_entries(alloc: Global, rows: &RowList) -> Result<Vec<Entry>, NoMemory>
     requires { length rows.now < 2 ^ 32 }
     ensures { IfOk result (λ v. v.items ≡ entries_from task_key 0 rows.now) }
 {
     let mut entries = Vec::new(alloc);
-    for (i, row) in rows.iter().enumerate() {
-        add_entry(&mut entries, task_key(row), row, i as u32)?;
+    for i in 0..rows.len() {
+        let row = rows.get(i);
+        add_entry(&mut entries, task_key(&row), &row, i as u32)?;
     }
     Ok(entries)
 }
 
 /// The rows of tasks, in the order of task, start and place.
-pub fn order_by_task(alloc: Global, rows: &[Row]) -> Result<Vec<Entry>, NoMemory>
+pub fn order_by_task(alloc: Global, rows: &RowList) -> Result<Vec<Entry>, NoMemory>
     requires { length rows.now < 2 ^ 32 }
     ensures { IfOk result (λ v. IsOrder task_key rows.now v.items) }
 {
+    if let Some(entries) = dealt_order(alloc, rows)? {
+        return Ok(entries);
+    }
     let mut entries = task_entries(alloc, rows)?;
     entries.sort()?;
     Ok(entries)

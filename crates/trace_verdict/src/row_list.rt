@@ -132,6 +132,17 @@ impl RowList {
         }
     }
 
+    /// Row i's start, without so many of its last digits. What it gives of a start that still has more than 64 is any number.
+    pub(crate) fn moment(&self, i: usize, dropped: u32) -> u64
+        requires { i < length self.now }
+    {
+        let count = self.short.len();
+        if i < count && dropped == 0 {
+            return self.short[i].start;
+        }
+        (self.get(i).start.wrapping_shr(dropped) % (1 << 64)) as u64
+    }
+
     /// Appends a row.
     pub fn push(&mut self, row: &Row) -> Result<(), AllocError>
         ensures { OnOk result (self.new ≡ self.old ++ row.now ∷ []) }

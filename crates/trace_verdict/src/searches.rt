@@ -10,6 +10,7 @@ ghost use Rattle.trace_verdict.specs.Searches.{is_early, is_fit, periods_of, IsA
 
 use crate::entries::{Entry, first_clash};
 use crate::orders::front_len;
+use crate::row_list::RowList;
 use crate::supply::{Periods, is_supplied};
 use sched_base::{Leaf, Row, Task, TaskSet};
 
@@ -45,12 +46,12 @@ pub(crate) fn is_fit(set: &TaskSet, scale: u128, row: &Row) -> bool
 }
 
 /// The first row that has a fault by itself, or the number of rows.
-pub fn first_unfit(set: &TaskSet, scale: u128, rows: &[Row]) -> u32
+pub fn first_unfit(set: &TaskSet, scale: u128, rows: &RowList) -> u32
     requires trace { IsTrace set.now scale rows.now }
     ensures { IsFirstUnfit set.now scale rows.now result }
 {
-    for (i, row) in rows.iter().enumerate() {
-        if !is_fit(set, scale, row) {
+    for i in 0..rows.len() {
+        if !is_fit(set, scale, &rows.get(i)) {
             return i as u32;
         }
     }
@@ -58,7 +59,12 @@ pub fn first_unfit(set: &TaskSet, scale: u128, rows: &[Row]) -> u32
 }
 
 /// The first row that overlaps an earlier one of its processor, or the number of rows.
-pub fn first_processor_hit(set: &TaskSet, scale: u128, rows: &[Row], by_processor: &[Entry]) -> u32
+pub fn first_processor_hit(
+    set: &TaskSet,
+    scale: u128,
+    rows: &RowList,
+    by_processor: &[Entry],
+) -> u32
     requires trace { IsTrace set.now scale rows.now }
     requires order { IsOrder processor_key rows.now by_processor.now }
     ensures { IsFirstHit processor_key rows.now result }
@@ -68,7 +74,7 @@ pub fn first_processor_hit(set: &TaskSet, scale: u128, rows: &[Row], by_processo
 }
 
 /// The first row that overlaps an earlier one of its task, or the number of rows.
-pub fn first_task_hit(set: &TaskSet, scale: u128, rows: &[Row], by_task: &[Entry]) -> u32
+pub fn first_task_hit(set: &TaskSet, scale: u128, rows: &RowList, by_task: &[Entry]) -> u32
     requires trace { IsTrace set.now scale rows.now }
     requires order { IsOrder task_key rows.now by_task.now }
     ensures { IsFirstHit task_key rows.now result }
@@ -105,7 +111,7 @@ pub fn task_periods(set: &TaskSet, scale: u128, task: u32) -> Periods
 }
 
 /// The first task with a period that has not what it is to have, or the number of tasks. The rows have no fault.
-pub fn first_unsupplied(set: &TaskSet, scale: u128, rows: &[Row], by_task: &[Entry]) -> u32
+pub fn first_unsupplied(set: &TaskSet, scale: u128, rows: &RowList, by_task: &[Entry]) -> u32
     requires trace { IsTrace set.now scale rows.now }
     requires order { IsOrder task_key rows.now by_task.now }
     requires within { IsAllWithin set.now scale (length rows.now) by_task.now }

@@ -14,6 +14,7 @@ use crate::clock::Clock;
 use crate::fetching::{are_within, fetch, next_part, no_rows};
 use crate::findings::Findings;
 use crate::orders::task_key;
+use crate::row_list::RowList;
 use crate::supply::{Periods, Stretch, gap_holds, row_holds};
 use crate::tally::Tally;
 use sched_base::Row;
@@ -101,7 +102,7 @@ impl Walk {
         &mut self,
         periods: &Periods,
         task: u32,
-        rows: &[Row],
+        rows: &RowList,
         part: &mut [Row],
         places: &[u32],
     ) -> bool
@@ -149,7 +150,7 @@ impl Walk {
 fn walk_on(
     periods: &Periods,
     task: u32,
-    rows: &[Row],
+    rows: &RowList,
     first: u32,
     places: &[u32],
 ) -> Option<Findings>
@@ -157,12 +158,15 @@ fn walk_on(
     requires begun { periods.now.base ≤ periods.now.stop }
     ensures { IfSome result (WentThrough periods.now rows.now task (first ∷ places.now)) }
 {
-    let row = rows.get(first as usize)?;
-    let mut walk = Walk::new(periods);
-    if !walk.step(periods, task, row) {
+    if first as usize >= rows.len() {
         return None;
     }
-    let mut tally = Tally::new(periods, row);
+    let row = rows.get(first as usize);
+    let mut walk = Walk::new(periods);
+    if !walk.step(periods, task, &row) {
+        return None;
+    }
+    let mut tally = Tally::new(periods, &row);
     let mut part = no_rows();
     let mut left = places;
     while !left.is_empty() {
@@ -194,7 +198,7 @@ fn walk_none(periods: &Periods) -> Option<Findings>
 }
 
 // What is found of a task whose rows stand at these places.
-fn walk_all(periods: &Periods, task: u32, rows: &[Row], places: &[u32]) -> Option<Findings>
+fn walk_all(periods: &Periods, task: u32, rows: &RowList, places: &[u32]) -> Option<Findings>
     requires lawful { AreLawful periods.now }
     requires begun { periods.now.base ≤ periods.now.stop }
     ensures { IfSome result (WentThrough periods.now rows.now task places.now) }
@@ -210,7 +214,7 @@ fn walk_all(periods: &Periods, task: u32, rows: &[Row], places: &[u32]) -> Optio
 pub(crate) fn go_supplied(
     periods: &Periods,
     task: u32,
-    rows: &[Row],
+    rows: &RowList,
     places: &[u32],
 ) -> Option<Findings>
     requires lawful { AreLawful periods.now }

@@ -10,35 +10,26 @@ pub mets_in_order-requires-clause-scale : goal.mets_in_order-requires-clause-sca
 mets_in_order-requires-clause-scale c = c.requires.scale
 
 pub returns-in-Ok-clause-same : goal.returns-in-Ok-clause-same
-returns-in-Ok-clause-same c = rw c.in-Two.is (rw (c.deref-in-Two.ensures.value, c.in_ok-all-in-Two.ensures) at c.in-Ok.ensures.same)
+returns-in-Ok-clause-same c = rw c.in-Two.is c.in-Ok.ensures.same
 
 pub returns-in-Ok-clause-count : goal.returns-in-Ok-clause-count
 returns-in-Ok-clause-count c = c.in-Ok.ensures.few
 
 pub returns-clause-fault : goal.returns-clause-fault
-returns-clause-fault c = (c.in-Err.other.place, refl, rw c.in-Two.is (rw (c.deref-in-Two.ensures.value, c.in_ok-all-in-Two.ensures) at c.in-Err.ensures.other))
-
-pub returns-in_err-all-in-Two-clause-same : goal.returns-in_err-all-in-Two-clause-same
-returns-in_err-all-in-Two-clause-same c = IfOk-from_err _ _ c.from_residual.ensures.0
-
-pub returns-in_err-all-in-Two-clause-count : goal.returns-in_err-all-in-Two-clause-count
-returns-in_err-all-in-Two-clause-count c = IfOk-from_err _ _ c.from_residual.ensures.0
-
-pub returns-in_err-all-in-Two-clause-fault : goal.returns-in_err-all-in-Two-clause-fault
-returns-in_err-all-in-Two-clause-fault c = let why = err_from_is_err_and c.from_residual.result c.from_residual.ensures.1 in rw (why.1, why.2) tt
+returns-clause-fault c = (c.in-Err.other.place, refl, rw c.in-Two.is c.in-Err.ensures.other)
 
 pub returns-in_err-entries-in-Two-clause-same : goal.returns-in_err-entries-in-Two-clause-same
-returns-in_err-entries-in-Two-clause-same c = IfOk-from_err _ _ c.from_residual-in_err-entries-in-Two.ensures.0
+returns-in_err-entries-in-Two-clause-same c = IfOk-from_err _ _ c.from_residual.ensures.0
 
 pub returns-in_err-entries-in-Two-clause-count : goal.returns-in_err-entries-in-Two-clause-count
-returns-in_err-entries-in-Two-clause-count c = IfOk-from_err _ _ c.from_residual-in_err-entries-in-Two.ensures.0
+returns-in_err-entries-in-Two-clause-count c = IfOk-from_err _ _ c.from_residual.ensures.0
 
 pub returns-in_err-entries-in-Two-clause-fault : goal.returns-in_err-entries-in-Two-clause-fault
 returns-in_err-entries-in-Two-clause-fault c =
-    let why = err_from_is_err_and c.from_residual-in_err-entries-in-Two.result c.from_residual-in_err-entries-in-Two.ensures.1 in rw (why.1, why.2) tt
+    let why = err_from_is_err_and c.from_residual.result c.from_residual.ensures.1 in rw (why.1, why.2) tt
 
 pub returns-in-One-clause-count : goal.returns-in-One-clause-count
 returns-in-One-clause-count _ = omega arith
 
 pub order_by_task-requires : goal.order_by_task-requires
-order_by_task-requires c = rw (c.deref.ensures.value, c.in_ok-all-in-Two.ensures) c.requires.few
+order_by_task-requires c = c.requires.few

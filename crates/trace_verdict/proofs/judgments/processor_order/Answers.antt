@@ -1,5 +1,6 @@
 use Rattle.std.proofs.lemmas.Result.{IfOk-from_err}
-use Rattle.std.proofs.Common.{sym, ◌∙◌}
+use Rattle.std.proofs.Common.{sym, ◌∙◌, subst}
+use Rattle.trace_verdict.specs.Searches.{IsFirstHit}
 use Rattle.trace_verdict.specs.Orders.{processor_key, entries_from}
 use Rattle.trace_verdict.proofs.StandingLemmas.{order_standing, hit_standing}
 use Rattle.trace_verdict.proofs.judgments.processor_order.Goals as goal
@@ -12,7 +13,8 @@ returns-then-stand-clause-order c = (
 )
 
 pub returns-then-stand-clause-hit : goal.returns-then-stand-clause-hit
-returns-then-stand-clause-hit c = hit_standing c.args.set.now c.args.rows.now c.requires.trace.each (sym c.stand.ensures ∙ c.if-stand.true)
+returns-then-stand-clause-hit c =
+    subst (IsFirstHit processor_key c.args.rows.now) (sym c.len.ensures) (hit_standing c.args.set.now c.args.rows.now c.requires.trace.each (sym c.stand.ensures ∙ c.if-stand.true))
 
 pub all_places-requires : goal.all_places-requires
 all_places-requires c = c.requires.trace.few

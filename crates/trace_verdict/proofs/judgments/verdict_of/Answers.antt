@@ -1,4 +1,6 @@
-use Rattle.std.proofs.Common.{◌≡◌, ◌+◌, ◌≤◌, ℕ, length, arith, inl, inr, ◌⊎◌}
+use Rattle.std.proofs.Common.{◌≡◌, ◌+◌, ◌*◌, ◌≤◌, ℕ, length, arith, inl, inr, ◌⊎◌, subst, not, ltb, leb, eqb}
+use Rattle.sched_base.specs.declared.rows.Row.{Row}
+use Rattle.trace_verdict.specs.Searches.{kind_of}
 use Rattle.std.proofs.lemmas.Bool.{cases_eq}
 use Rattle.trace_verdict.specs.Orders.{task_key}
 use Rattle.trace_verdict.specs.Faults.{row_at}
@@ -22,7 +24,9 @@ returns-then-first-count c =
     ] in
     row_verdict c.args.set.now c.args.scale c.args.rows.now c.args.unfit c.args.hit c.first_task_hit-task_hit.result i
     (6 + c.from.result + c.from-then-first-count.result) c.row_kind-kind.result
-    c.requires.unfit c.requires.hit c.first_task_hit-task_hit.ensures a b d (omega arith) (omega arith) which c.row_kind-kind.ensures
+    c.requires.unfit c.requires.hit c.first_task_hit-task_hit.ensures a b d (omega arith) (omega arith) which
+    (subst (λ (r : Row). c.row_kind-kind.result ≡ kind_of (not (ltb r.processor c.args.set.now.processors)) (not (leb r.end (c.args.set.now.horizon * c.args.scale))) (eqb c.args.hit i) (eqb c.first_task_hit-task_hit.result i))
+    c.get.ensures c.row_kind-kind.ensures)
 
 pub first_unsupplied-task-requires-clause-within : goal.first_unsupplied-task-requires-clause-within
 first_unsupplied-task-requires-clause-within c =

@@ -1,14 +1,14 @@
 use Rattle.std.proofs.lemmas.Result.{IfOk-from_err}
-use Rattle.std.proofs.Common.{refl, ap, ◌∙◌, arith}
+use Rattle.std.proofs.Common.{Some, refl, ap, ◌∙◌, arith}
 use Rattle.std.proofs.lemmas.List.{take_all}
 use Rattle.sched_base.specs.declared.rows.Leaf.TheVariants as leaves
 use Rattle.trace_verdict.specs.Orders.{processor_key, entries_from}
-use Rattle.trace_verdict.proofs.EntryLemmas.{entries_push}
+use Rattle.trace_verdict.proofs.ListedLemmas.{entries_push_row}
 use Rattle.trace_verdict.proofs.orders.processor_entries.Goals as goal
 
 pub loop-i-preserved : goal.loop-i-preserved
 loop-i-preserved c =
-    entries_push processor_key c.args.rows.now c.loop-i.i (record { processor = 0; start = 0; end = 0; leaf = leaves.Task (record { 0 = 0 }) }) c.loop-i.entries.items c.add_entry.new.entries.items _ c.loop-i-test.true c.loop-i.invariant c.in_ok-add_entry.ensures refl
+    entries_push_row processor_key c.args.rows.now c.loop-i.i c.get-row.result (record { processor = 0; start = 0; end = 0; leaf = leaves.Task (record { 0 = 0 }) }) c.loop-i.entries.items c.add_entry.new.entries.items (Some c.get-row.result.processor) (omega (arith, c.loop-i-test.true, c.len-i-end.ensures)) c.get-row.ensures c.loop-i.invariant c.in_ok-add_entry.ensures refl
 
 pub returns : goal.returns
 returns c = c.loop-i.invariant ∙ ap (entries_from processor_key 0) (take_all c.loop-i.i c.args.rows.now (omega arith))

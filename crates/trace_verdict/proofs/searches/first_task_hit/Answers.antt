@@ -1,4 +1,4 @@
-use Rattle.std.proofs.Common.{sym, refl, subst}
+use Rattle.std.proofs.Common.{sym, subst}
 use Rattle.trace_verdict.specs.Orders.{task_key}
 use Rattle.trace_verdict.specs.Searches.{IsFirstHit}
 use Rattle.trace_verdict.proofs.PartLemmas.{order_long, hit_from}
@@ -8,4 +8,4 @@ pub first_clash-requires-clause-long : goal.first_clash-requires-clause-long
 first_clash-requires-clause-long c = order_long c.args.set.now task_key c.args.rows.now c.args.by_task.now c.requires.order c.requires.trace.each
 
 pub returns : goal.returns
-returns c = subst (IsFirstHit task_key c.args.rows.now) (sym c.unwrap_or.ensures) (hit_from task_key c.args.rows.now c.args.by_task.now _ c.first_clash.result refl c.requires.order c.first_clash.ensures)
+returns c = subst (IsFirstHit task_key c.args.rows.now) (sym c.unwrap_or.ensures) (hit_from task_key c.args.rows.now c.args.by_task.now c.len-count.result c.first_clash.result c.len-count.ensures c.requires.order c.first_clash.ensures)

@@ -1,6 +1,5 @@
 use Rattle.std.proofs.Common.{◌≡◌, ◌∷◌, ◌<◌, ◌∙◌, [], Some, length, map, take, refl, sym, ap, subst, arith}
 use Rattle.std.specs.List.{AllByRecursion}
-use Rattle.std.proofs.lemmas.List.{get_or_default}
 use Rattle.sched_base.specs.declared.rows.Row.{Row}
 use Rattle.trace_verdict.specs.Faults.{row_at}
 use Rattle.trace_verdict.specs.Findings.{row_response, IsRowIn}
@@ -17,8 +16,8 @@ loop-left-init c =
     let j = c.args.task in
     let first = c.args.first in
     let places = c.args.places.now in
-    let within : first < length rows = c.in_ok-row.ensures.lookup.3.0 in
-    let row : c.in_ok-row.row.now ≡ row_at rows first = c.in_ok-row.ensures.lookup.1 ∙ get_or_default rows first c.in_ok-row.row.now _ within in
+    let within : first < length rows = omega (arith, c.if-first-len.false, c.len.ensures) in
+    let row : c.get-row.result ≡ row_at rows first = c.get-row.ensures in
     let key : task_key (row_at rows first) ≡ Some j = ap task_key (sym row) ∙ c.step.ensures.key c.if-not-step.false in
     let own : AllByRecursion (IsPlaceOf rows j) (first ∷ []) = (record { within = within; key = key }, tt) in
     let past : GoesPast p (entries_at rows j (first ∷ [])) c.new-walk.result c.step.new.self
@@ -106,6 +105,3 @@ ends-requires-clause-lawful c = c.requires.lawful
 
 pub ends-requires-clause-stands : goal.ends-requires-clause-stands
 ends-requires-clause-stands c = c.loop-left.invariant.0.stands
-
-pub returns-in_err-row : goal.returns-in_err-row
-returns-in_err-row c = rw c.from_residual.ensures tt

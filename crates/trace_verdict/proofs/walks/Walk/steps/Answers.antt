@@ -1,5 +1,5 @@
 use Rattle.std.proofs.lemmas.Bool.{false≢true}
-use Rattle.std.proofs.Common.{◌∷◌, [], get_or, map, subst, sym, ◌∙◌, ap, arith, refl}
+use Rattle.std.proofs.Common.{◌<◌, ◌∷◌, [], get_or, slice_index, map, subst, sym, ◌∙◌, ap, arith, refl}
 use Rattle.std.specs.List.{AllByRecursion}
 use Rattle.std.proofs.lemmas.List.{take_all}
 use Rattle.sched_base.specs.declared.rows.Row.{Row}
@@ -22,7 +22,7 @@ loop-i-preserved c =
     let row = fetched rows c.fetch.new.part places i _ c.fetch.ensures.rows c.loop-i-test.true in
     let past = subst (λ (r : Row). GoesPast c.args.periods.now (entry_for c.args.task r place ∷ []) c.loop-i.self c.step.new.self) row (c.step.ensures.past c.if-not-step.false place) in (
       own_more rows c.args.task places i 0 c.loop-i-test.true c.loop-i.invariant.0 (record {
-        within = c.are_within.ensures c.if-not-are_within.false i c.loop-i-test.true;
+        within = subst (λ n. place < n) c.len.ensures (c.are_within.ensures c.if-not-are_within.false i c.loop-i-test.true);
         key = ap task_key (sym row) ∙ c.step.ensures.key c.if-not-step.false;
       }),
       past_more c.args.periods.now rows c.args.task places i 0 c.args.self.now c.loop-i.self c.step.new.self c.loop-i-test.true c.loop-i.invariant.1 past,
@@ -68,7 +68,7 @@ pub fetch-requires-clause-room : goal.fetch-requires-clause-room
 fetch-requires-clause-room c = c.requires.room
 
 pub fetch-requires-clause-within : goal.fetch-requires-clause-within
-fetch-requires-clause-within c = c.are_within.ensures c.if-not-are_within.false
+fetch-requires-clause-within c = λ i h. subst (λ n. slice_index c.args.places.now i < n) c.len.ensures (c.are_within.ensures c.if-not-are_within.false i h)
 
 pub step-requires-clause-lawful : goal.step-requires-clause-lawful
 step-requires-clause-lawful c = c.requires.lawful
