@@ -19,4 +19,5 @@ mod ListedLemmas
 pub mod TallyLemmas
 mod ToldLemmas
 mod TimedLemmas
+mod NearLemmas
 mod FoundLemmas

@@ -1,5 +1,5 @@
 -- The rows of all tasks, as they go by in the order of time.
-use Rattle.std.proofs.Common.{ℕ, ◌+◌, ◌<◌, ◌≤◌, ◌≡◌, ◌≢◌, inl, inr, true, Bool, List, [], ◌∷◌, ◌++◌, length, map, get_or, refl, sym, ap, ◌∙◌, subst, arith, append_assoc, length-append}
+use Rattle.std.proofs.Common.{ℕ, max, ◌+◌, ◌<◌, ◌≤◌, ◌≡◌, ◌≢◌, inl, inr, true, Bool, List, [], ◌∷◌, ◌++◌, length, map, get_or, refl, sym, ap, ◌∙◌, subst, arith, append_assoc, length-append}
 use Rattle.std.specs.List.{AllByRecursion}
 use Rattle.std.proofs.lemmas.Bool.{cases_lt, cases_eq}
 use Rattle.std.proofs.lemmas.List.{map-append, append-nil, get_or_append_left, get_or-set_same, get_or-set_other, length-set}
@@ -17,10 +17,10 @@ use Rattle.trace_verdict.specs.Faults.{row_at}
 use Rattle.trace_verdict.specs.Findings.{pairs, pairs_from, is_preemption, is_migration, goes_on, row_response, greatest_of, IsTold}
 use Rattle.trace_verdict.specs.Orders.{task_key, entries_from}
 use Rattle.trace_verdict.specs.Searches.{periods_of}
-use Rattle.trace_verdict.specs.Supplied.{IsPlaceOf, entry_for, entries_at, GoesPast, Holds}
+use Rattle.trace_verdict.specs.Supplied.{IsPlaceOf, entry_for, entries_at, StandsAt, GoesPast, Holds}
 use Rattle.trace_verdict.specs.Supply.{Follows, holds_from}
 use Rattle.trace_verdict.specs.Tally.{KeepsPace, Goes}
-use Rattle.trace_verdict.specs.Timed.{Walked, Tallied, IsReady, HasGone, EndsAs, AreGoing, AreTimed}
+use Rattle.trace_verdict.specs.Timed.{walk_of, tally_of, Walked, Tallied, IsReady, IsPaced, HasGone, EndsAs, AreGoing, AreTimed}
 use Rattle.trace_verdict.proofs.EntryLemmas.{AllByRecursion-append}
 use Rattle.trace_verdict.proofs.PartLemmas.{length-entries_from}
 use Rattle.trace_verdict.proofs.StackLemmas.{Stacked, stacked_none, stacked_more, stacked_few, stacked_all}
@@ -85,46 +85,91 @@ tallied_all p rows t e =
 
 -- ---- both
 
-pub gone_none : (rows : List Row) (j : ℕ) (t : TaskWalk) → IsReady t → t.count ≡ 0 → t.walk.tick ≡ t.periods.base → t.walk.done ≡ 0 → ((p : Periods) → IsTold p [] t.tally.found) → HasGone rows j t
+pub gone_none : (rows : List Row) (j : ℕ) (t : TaskWalk) → IsReady t → t.count ≡ 0 → t.tick ≡ t.periods.base → t.done ≡ 0 → ((p : Periods) → IsTold p [] t.found) → HasGone rows j t
 gone_none rows j t ready count tick done told = record {
   ready = ready;
   places = [];
   count = count;
   room = omega (arith, count);
-  walked = λ begun. walked_none t.periods rows j t.walk tick done;
+  walked = λ begun. walked_none t.periods rows j (walk_of t) tick done;
   none = λ e. told t.periods;
   tallied = λ h. absurd (omega arith);
+  paced = λ h. absurd (omega arith);
 }
 
+-- a walk's end is that of its tick and of what is done by then
+walk_alike : (p : Periods) (es : List Entry) (a w v : Walk) → GoesPast p es a w → v.tick ≡ w.tick → v.done ≡ w.done → StandsAt p v → GoesPast p es a v
+walk_alike p es a w v g tick done s = record {
+  stands = s;
+  holds = λ rest h. g.holds rest (record {
+    apart = subst (λ x. Follows p.stop x rest) tick h.apart;
+    due = subst (λ x. holds_from p w.done x rest ≡ true) tick (subst (λ d. holds_from p d v.tick rest ≡ true) done h.due);
+  });
+}
+
+-- the task's walk once a row more is gone past
+abbrev pub walk_after : TaskWalk → Walk → Tally → ℕ → ℕ → ℕ → TaskWalk
+walk_after a w t begin next owed = record {
+  periods = a.periods;
+  tick = w.tick;
+  done = w.done;
+  begin = begin;
+  next = next;
+  owed = owed;
+  before = t.before;
+  found = t.found;
+  count = a.count + 1;
+  limit = a.limit;
+}
+
+-- the tally of what was found, at its pace
+tally_alike : (p : Periods) (rows : List Row) (t u : Tally) → Tallied p rows t → u.before ≡ t.before → u.found ≡ t.found → KeepsPace p u → Tallied p rows u
+tally_alike p rows t u e before found k =
+    record {
+      pace = k;
+      preempted = λ rest. ap (λ (f : Findings). f.preemptions + pairs_from (goes_on is_preemption p) u.before rest) found ∙ (ap (λ b. t.found.preemptions + pairs_from (goes_on is_preemption p) b rest) before ∙ e.preempted rest);
+      moved = λ rest. ap (λ (f : Findings). f.migrations + pairs_from (goes_on is_migration p) u.before rest) found ∙ (ap (λ b. t.found.migrations + pairs_from (goes_on is_migration p) b rest) before ∙ e.moved rest);
+      slowest = λ rest. ap (λ (f : Findings). max f.response (greatest_of (row_response p) rest)) found ∙ e.slowest rest;
+      few_preempted = subst (λ (f : Findings). f.preemptions ≤ length rows) (sym found) e.few_preempted;
+      few_moved = subst (λ (f : Findings). f.migrations ≤ length rows) (sym found) e.few_moved;
+    }
+
 -- a row more goes by
-pub gone_more : (rows : List Row) (j place n : ℕ) (a : TaskWalk) (w : Walk) (t : Tally) → HasGone rows j a → n ≡ a.count + 1 → a.count < a.limit → IsPlaceOf rows j place
-    → GoesPast a.periods (entry_for j (row_at rows place) place ∷ []) a.walk w → (a.count ≡ 0 → Tallied a.periods (row_at rows place ∷ []) t)
-    → (a.count ≢ 0 → Goes a.periods (row_at rows place ∷ []) a.tally t)
-    → HasGone rows j (record { periods = a.periods; walk = w; tally = t; count = n; limit = a.limit })
-gone_more rows j place n a w t g size room own past first later =
+pub gone_more : (rows : List Row) (j place begin next owed : ℕ) (a : TaskWalk) (w : Walk) (t : Tally) → HasGone rows j a → a.count < a.limit → IsPlaceOf rows j place
+    → GoesPast a.periods (entry_for j (row_at rows place) place ∷ []) (walk_of a) w → (a.count ≡ 0 → Tallied a.periods (row_at rows place ∷ []) t)
+    → (a.count ≢ 0 → Goes a.periods (row_at rows place ∷ []) (tally_of a) t) → IsPaced (walk_after a w t begin next owed)
+    → HasGone rows j (walk_after a w t begin next owed)
+gone_more rows j place begin next owed a w t g room own past first later paced =
     let p : Periods = a.periods in
+    let b : TaskWalk = walk_after a w t begin next owed in
     let more = length-append g.places (place ∷ []) in
     let had = g.count in
+    let s = past.stands in
+    let stands : StandsAt p (walk_of b) = record { base = refl; span = refl; number = refl; begun = s.begun; ends = s.ends; small = s.small } in
+    let gone = walk_alike p (entry_for j (row_at rows place) place ∷ []) (walk_of a) w (walk_of b) past refl refl stands in
+    let pace : KeepsPace p (tally_of b) = record { some = g.ready.lawful.some_period; base = refl; span = refl; last = refl; ended = refl } in
+    let tallied : Tallied p (map (row_at rows) (g.places ++ place ∷ [])) t = (elim (cases_eq a.count 0) [
+      | inl zero ↦ (
+          let none : g.places ≡ [] = no_places g.places (omega (arith, had, zero)) in
+          subst (λ ps. Tallied p (map (row_at rows) (ps ++ place ∷ [])) t) (sym none) (first zero))
+      | inr some ↦ (
+          let pos : 0 < length g.places = omega (arith, had, some) in
+          subst (λ rs. Tallied p rs t) (sym (map-append (row_at rows) g.places (place ∷ [])))
+          (tallied_more p (map (row_at rows) g.places) (row_at rows place) (tally_of a) t (g.tallied pos) (later some)))
+    ]) in
     record {
-      ready = record { lawful = g.ready.lawful; stands = λ begun. past.stands; late = g.ready.late };
+      ready = record { lawful = g.ready.lawful; stands = λ begun. stands; late = g.ready.late };
       places = g.places ++ place ∷ [];
-      count = omega (arith, size, more, had);
-      room = omega (arith, size, room);
-      walked = λ begun. walked_more p rows j g.places place a.walk w (g.walked begun) own past;
+      count = omega (arith, more, had);
+      room = omega (arith, room);
+      walked = λ begun. walked_more p rows j g.places place (walk_of a) (walk_of b) (g.walked begun) own gone;
       none = λ e. (let none = ap length e in absurd (omega (arith, none, more)));
-      tallied = λ h. (elim (cases_eq a.count 0) [
-        | inl zero ↦ (
-            let none : g.places ≡ [] = no_places g.places (omega (arith, had, zero)) in
-            subst (λ ps. Tallied p (map (row_at rows) (ps ++ place ∷ [])) t) (sym none) (first zero))
-        | inr some ↦ (
-            let pos : 0 < length g.places = omega (arith, had, some) in
-            subst (λ rs. Tallied p rs t) (sym (map-append (row_at rows) g.places (place ∷ [])))
-            (tallied_more p (map (row_at rows) g.places) (row_at rows place) a.tally t (g.tallied pos) (later some)))
-      ]);
+      tallied = λ h. tally_alike p (map (row_at rows) (g.places ++ place ∷ [])) t (tally_of b) tallied refl refl pace;
+      paced = λ h. paced;
     }
 
 -- no row of the task went by, since it begins after the end of the schedule
-pub ends_late : (rows : List Row) (j : ℕ) (t : TaskWalk) → t.periods.stop < t.periods.base → HasGone rows j t → EndsAs t.periods rows j t.count t.tally.found
+pub ends_late : (rows : List Row) (j : ℕ) (t : TaskWalk) → t.periods.stop < t.periods.base → HasGone rows j t → EndsAs t.periods rows j t.count t.found
 ends_late rows j t late g =
     let p : Periods = t.periods in
     let limit = g.ready.late late in
@@ -140,16 +185,16 @@ ends_late rows j t late g =
         none = λ h. none;
         supplied = supplied_none p (entries_at rows j g.places) late (ap (entries_at rows j) none);
       };
-      told = subst (λ ps. IsTold p (map (row_at rows) ps) t.tally.found) (sym none) (g.none none);
+      told = subst (λ ps. IsTold p (map (row_at rows) ps) t.found) (sym none) (g.none none);
     }
 
 -- the rows that went by give each period its due
-pub ends_in_time : (rows : List Row) (j : ℕ) (t : TaskWalk) (r : Bool) → t.periods.base ≤ t.periods.stop → r ≡ holds_from t.periods t.walk.done t.walk.tick [] → r ≡ true → HasGone rows j t
-    → EndsAs t.periods rows j t.count t.tally.found
+pub ends_in_time : (rows : List Row) (j : ℕ) (t : TaskWalk) (r : Bool) → t.periods.base ≤ t.periods.stop → r ≡ holds_from t.periods t.done t.tick [] → r ≡ true → HasGone rows j t
+    → EndsAs t.periods rows j t.count t.found
 ends_in_time rows j t r begun is on g =
     let p : Periods = t.periods in
-    let w : Walked p rows j g.places t.walk = g.walked begun in
-    let h : Holds p t.walk [] = holds_end p t.walk r (g.ready.stands begun) is on in
+    let w : Walked p rows j g.places (walk_of t) = g.walked begun in
+    let h : Holds p (walk_of t) [] = holds_end p (walk_of t) r (g.ready.stands begun) is on in
     let es : List Entry = entries_at rows j g.places in
     let apart : Follows p.stop p.base es = subst (Follows p.stop p.base) (append-nil es) (w.apart [] h) in
     let due : holds_from p 0 p.base es ≡ true = subst (λ xs. holds_from p 0 p.base xs ≡ true) (append-nil es) (w.due [] h) in
@@ -163,10 +208,10 @@ ends_in_time rows j t r begun is on g =
         supplied = supplied_to p es g.ready.lawful begun apart due;
       };
       told = (elim (cases_lt 0 (length g.places)) [
-        | inl some ↦ tallied_all p (map (row_at rows) g.places) t.tally (g.tallied some)
+        | inl some ↦ tallied_all p (map (row_at rows) g.places) (tally_of t) (g.tallied some)
         | inr few ↦ (
             let none : g.places ≡ [] = no_places g.places (omega (arith, few)) in
-            subst (λ ps. IsTold p (map (row_at rows) ps) t.tally.found) (sym none) (g.none none))
+            subst (λ ps. IsTold p (map (row_at rows) ps) t.found) (sym none) (g.none none))
       ]);
     }
 
@@ -209,21 +254,6 @@ going_on s l rows j walks old t within is g gone e =
       periods = λ i none h. (elim (cases_eq i j) [
         | inl here ↦ subst (λ k. (get_or (set walks j t) k none).periods ≡ periods_of s l (task_at s.tasks k)) (sym here)
             (ap (λ (w : TaskWalk). w.periods) (get_or-set_same walks j t none within) ∙ (e ∙ (ap (λ (w : TaskWalk). w.periods) is ∙ g.periods j old within)))
-        | inr other ↦ ap (λ (w : TaskWalk). w.periods) (get_or-set_other walks j i t none other) ∙ g.periods i none (omega (arith, h, size))
-      ]);
-    }
-
--- the walk of task j is at its end
-pub going_past : (s : SetContents) (l : ℕ) (rows : List Row) (j : ℕ) (walks : List TaskWalk) (t : TaskWalk) → AreGoing s l rows j walks → t.periods ≡ periods_of s l (task_at s.tasks j)
-    → j < length walks → AreGoing s l rows (j + 1) (set walks j t)
-going_past s l rows j walks t g e within =
-    let size : length (set walks j t) ≡ length walks = length-set walks j t in
-    record {
-      each = λ i none low h. (let other : i ≢ j = λ same. omega (arith, same, low) in
-          subst (HasGone rows i) (sym (get_or-set_other walks j i t none other)) (g.each i none (omega (arith, low)) (omega (arith, h, size))));
-      periods = λ i none h. (elim (cases_eq i j) [
-        | inl here ↦ subst (λ k. (get_or (set walks j t) k none).periods ≡ periods_of s l (task_at s.tasks k)) (sym here)
-            (ap (λ (w : TaskWalk). w.periods) (get_or-set_same walks j t none within) ∙ e)
         | inr other ↦ ap (λ (w : TaskWalk). w.periods) (get_or-set_other walks j i t none other) ∙ g.periods i none (omega (arith, h, size))
       ]);
     }

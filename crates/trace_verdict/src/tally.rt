@@ -1,17 +1,15 @@
 //! A tally of what the rows of a task tell of its jobs, in the order of time.
-ghost use Rattle.std.specs.Prelude.{◌≡◌, ◌+◌, ◌-◌, ◌<◌, ◌≤◌, ◌^◌, true, false, ◌&&◌, ◌==◌, [], ◌∷◌, length};
+ghost use Rattle.std.specs.Prelude.{◌≡◌, ◌+◌, ◌-◌, ◌<◌, ◌≤◌, ◌^◌, ◌&&◌, ◌==◌, [], ◌∷◌, length};
 ghost use Rattle.std.specs.List.{AllByRecursion};
 ghost use Rattle.sched_base.specs.Counting.{bit};
 ghost use Rattle.trace_verdict.specs.Supply.{bound_at, ended_by};
-ghost use Rattle.trace_verdict.specs.declared.supply.Periods.{Periods};
 ghost use Rattle.trace_verdict.specs.Findings.{is_preemption, is_migration, row_response, IsRowIn, IsTold};
 ghost use Rattle.trace_verdict.specs.Tally.{KeepsPace, Goes};
-ghost use Rattle.trace_verdict.specs.Timed.{Tallied};
 
 use crate::clock::Clock;
 use crate::findings::Findings;
 use crate::supply::Periods;
-use sched_base::{Leaf, Row};
+use sched_base::Row;
 
 /// What was found of the rows gone through, the last of them, the number of the period of its last tick, and how many periods
 /// end by the end of the schedule.
@@ -24,19 +22,19 @@ pub(crate) struct Tally {
     pub found: Findings,
 }
 
-fn one_if(test: bool) -> u64
+pub(crate) fn one_if(test: bool) -> u64
     ensures { result ≡ bit test }
 {
     if test { 1 } else { 0 }
 }
 
-fn is_preemption(before: &Row, row: &Row) -> bool
+pub(crate) fn is_preemption(before: &Row, row: &Row) -> bool
     ensures { result ≡ is_preemption before.now row.now }
 {
     before.end < row.start
 }
 
-fn is_migration(before: &Row, row: &Row) -> bool
+pub(crate) fn is_migration(before: &Row, row: &Row) -> bool
     ensures { result ≡ is_migration before.now row.now }
 {
     before.processor != row.processor
@@ -95,42 +93,6 @@ fn see(clock: &mut Clock, periods: &Periods, ended: u128, row: &Row) -> Seen
 }
 
 impl Tally {
-    /// A tally of no row yet.
-    pub(crate) fn none(periods: &Periods) -> Tally
-        requires { 0 < periods.now.period }
-        ensures { (p : Periods) → IsTold p [] result.found }
-    {
-        Tally {
-            clock: Clock::new(periods.base, periods.period),
-            before: Row {
-                processor: 0,
-                start: 0,
-                end: 0,
-                leaf: Leaf::Empty,
-            },
-            last: 0,
-            ended: 0,
-            found: Findings::none(),
-        }
-    }
-
-    /// Goes through a row, which may be the first.
-    pub(crate) fn go(&mut self, periods: &Periods, row: &Row, is_first: bool)
-        requires some { 0 < periods.now.period }
-        requires row { IsRowIn periods.now row.now }
-        requires pace { is_first ≡ false → KeepsPace periods.now self.old }
-        requires few_preempted { is_first ≡ false → self.old.found.preemptions < 2 ^ 63 }
-        requires few_moved { is_first ≡ false → self.old.found.migrations < 2 ^ 63 }
-        ensures first { is_first ≡ true → Tallied periods.now (row.now ∷ []) self.new }
-        ensures later { is_first ≡ false → Goes periods.now (row.now ∷ []) self.old self.new }
-    {
-        if is_first {
-            *self = Tally::new(periods, row);
-        } else {
-            self.step(periods, row);
-        }
-    }
-
     /// A tally that begins with this row.
     pub(crate) fn new(periods: &Periods, row: &Row) -> Tally
         requires some { 0 < periods.now.period }
@@ -157,12 +119,14 @@ impl Tally {
         }
     }
 
-    fn step(&mut self, periods: &Periods, row: &Row)
+    /// Goes through one row.
+    pub(crate) fn step(&mut self, periods: &Periods, row: &Row)
         requires pace { KeepsPace periods.now self.old }
         requires row { IsRowIn periods.now row.now }
         requires few_preempted { self.old.found.preemptions < 2 ^ 63 }
         requires few_moved { self.old.found.migrations < 2 ^ 63 }
-        ensures { Goes periods.now (row.now ∷ []) self.old self.new }
+        ensures goes { Goes periods.now (row.now ∷ []) self.old self.new }
+        ensures before { self.new.before ≡ row.now }
     {
         let seen = see(&mut self.clock, periods, self.ended, row);
         let goes_on = self.last == seen.first;

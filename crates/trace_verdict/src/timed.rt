@@ -55,12 +55,12 @@ fn found_of(
     scale: u128,
     rows: &RowList,
     total: u64,
-    walks: &mut [TaskWalk],
+    walks: &[TaskWalk],
 ) -> Result<Option<Vec<Findings>>, NoMemory>
     requires trace { IsTrace set.now scale rows.now }
     requires total { total ≡ length (entries_from task_key 0 rows.now) }
-    requires count { length walks.old ≡ length set.now.tasks }
-    requires going { AreGoing set.now scale rows.now 0 walks.old }
+    requires count { length walks.now ≡ length set.now.tasks }
+    requires going { AreGoing set.now scale rows.now 0 walks.now }
     ensures { IfOk result (λ o. IfSome o (λ v. AreTimed set.now scale rows.now v.items)) }
 {
     let mut found = Vec::new(alloc);
@@ -99,5 +99,5 @@ pub(crate) fn timed_findings(
             return Ok(None);
         }
     }
-    found_of(alloc, set, scale, rows, total, &mut walks)
+    found_of(alloc, set, scale, rows, total, &walks)
 }

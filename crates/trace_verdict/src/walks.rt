@@ -87,6 +87,7 @@ impl Walk {
         ensures key { IsTrue result → task_key row.now ≡ Some task }
         ensures row { IsTrue result → IsRowIn periods.now row.now }
         ensures past { IsTrue result → (place : ℕ) → GoesPast periods.now (entry_for task row.now place ∷ []) self.old self.new }
+        ensures tick { IsTrue result → self.new.tick ≡ row.now.end }
     {
         if task_key(row) != Some(task) {
             return false;

@@ -32,3 +32,12 @@ pass-requires-clause-lawful c = c.requires.lawful
 
 pub pass-requires-clause-stands : goal.pass-requires-clause-stands
 pass-requires-clause-stands c = c.requires.stands
+
+pub returns-then-ne-clause-tick : goal.returns-then-ne-clause-tick
+returns-then-ne-clause-tick c = λ t. absurd (false≢true t)
+
+pub returns-then-row-self-clause-tick : goal.returns-then-row-self-clause-tick
+returns-then-row-self-clause-tick c = λ t. absurd (false≢true t)
+
+pub returns-clause-tick : goal.returns-clause-tick
+returns-clause-tick c = λ t. c.pass.ensures.tick t
