@@ -196,6 +196,7 @@ impl MachineState {
     /// The lane for which lane p waits before it may take its next row, whatever is out and halted: where the window is the
     /// reason, the lowest lane with the least posted count; else the lowest lane with an unposted earlier row of that row's
     /// leaf. The table needs to hold the lane's next round only where the window isn't the reason.
+    #[inline(never)]
     pub fn waits_for(&self, table: &RowTable, window: u32, p: u32) -> Option<u32>
         requires lanes { length self.now.lanes ≡ length table.now.lanes }
         requires round { posted_at self.now p < least_count self.now + window → posted_at self.now p < rounds_in table.now.lanes }
@@ -232,6 +233,7 @@ impl MachineState {
 
     /// Whether lane p may take its next row, whatever is out and halted, where each posted row has its leaf's earlier rows posted: the
     /// link of a task's row tells. It searches only for a row of no task that is ahead of other lanes.
+    #[inline(always)]
     pub fn is_due(&self, linked: &LinkedTable, window: u32, p: u32) -> bool
         requires lanes { length self.now.lanes ≡ length linked.now.lanes }
         requires round { posted_at self.now p < least_count self.now + window → posted_at self.now p < rounds_in linked.now.lanes }

@@ -41,6 +41,7 @@ impl<Q: PostLedger, J: Job> Held<Q, J> {
     }
 
     /// Makes a take of lane p, and hands its row out with its job.
+    #[inline(always)]
     pub(crate) fn hand_out(
         &mut self,
         state: &mut MachineState,

@@ -263,16 +263,26 @@ pub fn wait<R: Wait>(rt: &R, waiters: Option<&Waiters>, lane: u32, waits: &mut u
 
 /// Takes the lock of a book. Whoever holds it holds it for a moment, and a sleep costs as much as many rows: so a worker tries for a
 /// while before it sleeps, and gives way to others in between.
+#[inline(always)]
 pub fn lock_soon<'a, T, R: Wait>(rt: &R, book: &'a Mutex<T>) -> MutexGuard<'a, T> {
+    match book.try_lock() {
+        Some(guard) => guard,
+        None => lock_contended(rt, book),
+    }
+}
+
+// Takes the lock of a book that was found held.
+#[inline(never)]
+fn lock_contended<'a, T, R: Wait>(rt: &R, book: &'a Mutex<T>) -> MutexGuard<'a, T> {
     let mut pause = 1u32;
     for _ in 0..TRIES {
-        if let Some(guard) = book.try_lock() {
-            return guard;
-        }
         for _ in 0..pause {
             spin_loop();
         }
         pause = pause.saturating_mul(2).min(PAUSE);
+        if let Some(guard) = book.try_lock() {
+            return guard;
+        }
     }
     for _ in 0..TURNS {
         thread::yield_now();
