@@ -4,6 +4,7 @@ ghost use Rattle.sched_edges.specs.Jobs.{JobAt};
 ghost use Rattle.plan_rounds.specs.PlanRows.{IsCompiled};
 ghost use Rattle.tests_executions.specs.Ready.{AreUnrun, IsReady};
 
+mod again;
 mod faults;
 mod gates;
 mod jobs;
