@@ -216,8 +216,8 @@ impl Sleeper {
     }
 }
 
-/// Notes how often the worker of a lane has been woken, before it looks into the book: if it is told to wait, it sleeps until it is woken
-/// once more.
+/// Notes how often the worker of a lane that is told to wait has been woken, while the book is held that told so: it sleeps until it is
+/// woken once more.
 pub fn note_calls(waiters: Option<&Waiters>, lane: u32) {
     if let Some(waiters) = waiters {
         if let Some(sleeper) = waiters.sleepers.get(lane as usize) {

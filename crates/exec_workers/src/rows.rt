@@ -162,6 +162,7 @@ pub(crate) fn agree<Q: PostLedger, J: Job, R: Wait>(rt: &R, book: &Mutex<Book<Q,
 /// looked at.
 ///
 /// It tries again until it finds a book that isn't dismissed, has no row out on the lane and stands at the seat's count.
+#[inline(never)]
 pub(crate) fn take_next<Q: PostLedger, J: Job, R: Wait>(
     rt: &R,
     waiters: Option<&Waiters>,
@@ -173,10 +174,20 @@ pub(crate) fn take_next<Q: PostLedger, J: Job, R: Wait>(
     requires set { plan.now.set ≡ Q.set }
     ensures { GivesRow J.id J.used J.made Q.made plan.now seat.now result }
 {
-    note_calls(waiters, seat.lane());
+    let lane = seat.lane();
     let mut guard = lock_free_at(rt, book, plan, seat);
     let held = &mut *guard;
-    held.take_next(seat.lane())
+    let next = held.take_next(lane);
+    note_wait(waiters, lane, &next);
+    next
+}
+
+// Notes for a lane that was just told to wait how often its worker has been woken. The book is still held, so whoever is to wake it
+// does so later.
+fn note_wait<J>(waiters: Option<&Waiters>, lane: u32, next: &Next<J>) {
+    if matches!(next, Next::Waits) {
+        note_calls(waiters, lane);
+    }
 }
 
 // Takes the lock of a book that isn't dismissed, and stands at the seat's count with no row out on the seat's lane.
@@ -204,6 +215,7 @@ fn lock_free_at<'a, Q: PostLedger, J: Job, R: Wait>(
 /// events while the lock is held once. Then it wakes the lanes that waited for the post.
 ///
 /// It tries again until it finds a book that isn't dismissed, has a row out on the lane and stands at the seat's count: that is the row.
+#[inline(always)]
 pub(crate) fn post_and_take<Q: PostLedger, J: Job, R: Wait>(
     rt: &R,
     waiters: Option<&Waiters>,
@@ -219,12 +231,12 @@ pub(crate) fn post_and_take<Q: PostLedger, J: Job, R: Wait>(
     ensures gives { GivesRow J.id J.used J.made Q.made plan.now seat.new result }
 {
     let lane = seat.lane();
-    note_calls(waiters, lane);
     let mut guard = lock_busy_at(rt, book, plan, seat);
     let held = &mut *guard;
     held.post(lane, seat, job);
     let woken = held.woken();
     let next = held.take_next(lane);
+    note_wait(waiters, lane, &next);
     drop(guard);
     wake(waiters, woken);
     next

@@ -15,19 +15,19 @@ lock_free_at-guard-requires-clause-compiled g c = c.requires.compiled
 pub lock_free_at-guard-requires-clause-set : goal.lock_free_at-guard-requires-clause-set
 lock_free_at-guard-requires-clause-set g c = c.requires.set
 
-pub take_next-requires-clause-lane : goal.take_next-requires-clause-lane
-take_next-requires-clause-lane g c = rw c.lane-2.ensures (found g (goal.at.take_next-requires-clause-lane g c).After-deref_mut-held).lane
+pub take_next-next-requires-clause-lane : goal.take_next-next-requires-clause-lane
+take_next-next-requires-clause-lane g c = rw c.lane-lane.ensures (found g (goal.at.take_next-next-requires-clause-lane g c).After-deref_mut-held).lane
 
-pub take_next-requires-clause-free : goal.take_next-requires-clause-free
-take_next-requires-clause-free g c = rw c.lane-2.ensures (found g (goal.at.take_next-requires-clause-free g c).After-deref_mut-held).free
+pub take_next-next-requires-clause-free : goal.take_next-next-requires-clause-free
+take_next-next-requires-clause-free g c = rw c.lane-lane.ensures (found g (goal.at.take_next-next-requires-clause-free g c).After-deref_mut-held).free
 
-pub take_next-requires-clause-open : goal.take_next-requires-clause-open
-take_next-requires-clause-open g c = (found g (goal.at.take_next-requires-clause-open g c).After-deref_mut-held).undismissed
+pub take_next-next-requires-clause-open : goal.take_next-next-requires-clause-open
+take_next-next-requires-clause-open g c = (found g (goal.at.take_next-next-requires-clause-open g c).After-deref_mut-held).undismissed
 
 pub returns : goal.returns
 returns g c =
     let old = c.deref_mut-held.result.now in
     let at = found g (goal.at.returns g c).After-deref_mut-held in
-    let says = subst (λ p. SaysNext g.J.Job.id g.J.Job.used g.J.Job.made g.Q.PostLedger.made old c.take_next.new.self p c.take_next.result) c.lane-2.ensures c.take_next.ensures.says in
-    subst (λ p. GivesRow g.J.Job.id g.J.Job.used g.J.Job.made g.Q.PostLedger.made p c.args.seat.now c.take_next.result) at.plan
-    (gives_row g.J.Job.id g.J.Job.used g.J.Job.made g.Q.PostLedger.made c.args.seat.now old c.take_next.new.self c.take_next.result at.count says)
+    let says = subst (λ p. SaysNext g.J.Job.id g.J.Job.used g.J.Job.made g.Q.PostLedger.made old c.take_next-next.new.self p c.take_next-next.result) c.lane-lane.ensures c.take_next-next.ensures.says in
+    subst (λ p. GivesRow g.J.Job.id g.J.Job.used g.J.Job.made g.Q.PostLedger.made p c.args.seat.now c.take_next-next.result) at.plan
+    (gives_row g.J.Job.id g.J.Job.used g.J.Job.made g.Q.PostLedger.made c.args.seat.now old c.take_next-next.new.self c.take_next-next.result at.count says)
