@@ -326,6 +326,13 @@ struct fl_exec_end {
     uint32_t halted; /* 0: there was none, and the rest says nothing */
 };
 
+/* What the next row of a processor wants: `before` ticks of its task are posted before it. FL_NO_TASK where it has no task, and where its round
+ * isn't computed yet, as behind the end of the window; `before` says nothing then. */
+struct fl_want {
+    struct fl_ticks before;
+    uint32_t task;
+};
+
 uint8_t furnacelime_exec_open(const uint8_t *set, size_t length, uint32_t window, struct fl_exec *exec, struct fl_exec_about *about);
 uint8_t furnacelime_take(struct fl_exec exec, struct fl_exec *kept, uint32_t processor, struct fl_row *row);
 uint8_t furnacelime_post(struct fl_exec exec, struct fl_exec *kept, uint32_t processor);
@@ -333,6 +340,7 @@ uint8_t furnacelime_post_and_take(struct fl_exec exec, struct fl_exec *kept, uin
 uint8_t furnacelime_halt(struct fl_exec exec, struct fl_exec *kept, uint32_t processor, uint32_t why);
 uint8_t furnacelime_exec_tell(struct fl_exec exec, struct fl_exec *kept, uint64_t *posted, size_t processors, struct fl_ticks *ticks,
                               size_t tasks, struct fl_exec_end *end);
+uint8_t furnacelime_exec_want(struct fl_exec exec, struct fl_exec *kept, uint32_t processor, struct fl_want *want);
 void furnacelime_exec_close(struct fl_exec exec);
 
 /* Opens the book of a task set, before its first row. Where it isn't opened, it stays FL_NO_EXEC. All memory is taken here. */
@@ -383,6 +391,14 @@ static inline int fl_exec_tell(struct fl_exec *exec, uint64_t *posted, size_t pr
     if (!exec || !exec->at || !posted || !ticks || !end || processors > PTRDIFF_MAX / sizeof *posted || tasks > PTRDIFF_MAX / sizeof *ticks)
         return FL_WRONG_CALL;
     return furnacelime_exec_tell(*exec, exec, posted, processors, ticks, tasks, end);
+}
+
+/* Tells what the next row of a processor wants. One that waits behind an earlier row of its task may go on once as many ticks are posted. */
+static inline int fl_exec_want(struct fl_exec *exec, uint32_t processor, struct fl_want *want)
+{
+    if (!exec || !exec->at || !want)
+        return FL_WRONG_CALL;
+    return furnacelime_exec_want(*exec, exec, processor, want);
 }
 
 /* Gives the memory of a book back. It may be opened again. */

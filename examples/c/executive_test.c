@@ -103,6 +103,7 @@ static void try_closed_calls(void)
     struct fl_exec exec = FL_NO_EXEC;
     struct fl_exec_end end;
     struct fl_row row;
+    struct fl_want want;
     uint64_t posted[2];
     struct fl_ticks ticks[3];
     WANT(fl_take(&exec, 0, &row) == FL_WRONG_CALL && fl_take(NULL, 0, &row) == FL_WRONG_CALL);
@@ -110,6 +111,7 @@ static void try_closed_calls(void)
     WANT(fl_post_and_take(&exec, 0, &row) == FL_WRONG_CALL && fl_post_and_take(NULL, 0, &row) == FL_WRONG_CALL);
     WANT(fl_halt(&exec, 0, 1) == FL_WRONG_CALL && fl_halt(NULL, 0, 1) == FL_WRONG_CALL);
     WANT(fl_exec_tell(&exec, posted, 2, ticks, 3, &end) == FL_WRONG_CALL && fl_exec_tell(NULL, posted, 2, ticks, 3, &end) == FL_WRONG_CALL);
+    WANT(fl_exec_want(&exec, 0, &want) == FL_WRONG_CALL && fl_exec_want(NULL, 0, &want) == FL_WRONG_CALL);
 }
 
 /* By hand: two processors and a window of one round. */
@@ -119,6 +121,7 @@ static void try_by_hand(void)
     struct fl_exec_about about;
     struct fl_exec_end end;
     struct fl_row row, other;
+    struct fl_want want;
     uint64_t posted[FL_PROCESSORS];
     struct fl_ticks ticks[FL_TASKS];
     WANT(fl_exec_open(&exec, three, THREE, 1, &about) == FL_DONE);
@@ -132,6 +135,9 @@ static void try_by_hand(void)
     WANT(fl_post_and_take(&exec, 1, &other) == FL_WAIT && other.waits_for == 0); /* posted, and past the window */
     WANT(fl_post_and_take(&exec, 1, &other) == FL_WRONG_CALL);                   /* nothing is out */
     WANT(fl_take(&exec, 1, &other) == FL_WAIT && other.waits_for == 0);
+    WANT(fl_exec_want(&exec, 1, &want) == FL_DONE && want.task == FL_NO_TASK); /* its round isn't computed */
+    WANT(fl_exec_want(&exec, 2, &want) == FL_WRONG_CALL && fl_exec_want(&exec, 0, NULL) == FL_WRONG_CALL);
+    WANT(fl_exec_want(&exec, 0, &want) == FL_DONE && want.task == 1 && want.before.low == 0 && want.before.high == 0);
     WANT(fl_post(&exec, 0) == FL_DONE && fl_post(&exec, 0) == FL_WRONG_CALL);
     WANT(fl_take(&exec, 1, &other) == FL_DONE);
     WANT(fl_exec_tell(&exec, posted, 1, ticks, 3, &end) == FL_WRONG_CALL);
@@ -210,6 +216,30 @@ static int status_of_take(const struct plain *book, uint32_t p)
     return FL_DONE;
 }
 
+/* Whether the other book tells of processor p what it wants: the ticks of its task's earlier rows, unless its round is behind all that were computed. */
+static void want_beside(const struct plain *book, struct fl_exec *exec, uint32_t p, int computed)
+{
+    struct fl_want want;
+    const int status = fl_exec_want(exec, p, &want);
+    uint64_t before = 0, k, j;
+    uint32_t q;
+    WANT(status == (p < book->processors ? FL_DONE : FL_WRONG_CALL));
+    if (p >= book->processors)
+        return;
+    k = book->posted[p];
+    if (k == book->count || (!computed && want.task == FL_NO_TASK)) {
+        WANT(want.task == FL_NO_TASK);
+        return;
+    }
+    WANT(want.task == book->tasks[k][p]);
+    for (j = 0; j < k && want.task != FL_NO_TASK; j++)
+        for (q = 0; q < book->processors; q++)
+            if (book->tasks[j][q] == want.task)
+                before += book->rounds[j].end.low - book->rounds[j].start.low;
+    if (want.task != FL_NO_TASK)
+        WANT(want.before.low == before && want.before.high == 0);
+}
+
 /* A take of the plain book, and whether the row that the other one gave is right. */
 static void take_beside(struct plain *book, uint32_t p, int status, const struct fl_row *row)
 {
@@ -279,6 +309,7 @@ static void try_any_order(const char *set, size_t length, uint32_t window, uint3
         } else if (seed >> 24 < 100) {
             status = fl_take(&exec, p, &row);
             take_beside(&book, p, status, &row);
+            want_beside(&book, &exec, p, status == FL_DONE);
         } else if (seed >> 24 < 180) {
             status = fl_post(&exec, p);
             WANT(status == (out ? FL_DONE : FL_WRONG_CALL));

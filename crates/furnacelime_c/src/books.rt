@@ -5,7 +5,7 @@ ghost use Rattle.book_steps.specs.Refusals.{IsNotBooked};
 ghost use Rattle.book_steps.specs.Turns.{Posts, Halts, Waits};
 ghost use Rattle.furnacelime_c.specs.Books.{TellsBook, IsBookOpened, IsBookNotOpened, Goes, IsRowTold, IsAllPosted, IsHalted, CantTake};
 ghost use Rattle.furnacelime_c.specs.Books.{CantPost, CantPostAndTake, PostsAndTakes, PostsAndWaits, PostsAndEnds, PostsAndHalts};
-ghost use Rattle.furnacelime_c.specs.Books.{TellsEnd, TellsFault, IsShortOf};
+ghost use Rattle.furnacelime_c.specs.Books.{TellsEnd, TellsFault, TellsWant, IsShortOf, IsNoProcessor};
 
 use crate::numbers::{HALTED, OVER, WAIT, WRONG_CALL};
 use book_steps::{BookFault, StepBook, Turn};
@@ -45,6 +45,15 @@ pub struct BookEnd {
     pub processor: u32,
     pub why: u32,
     pub halted: u32,
+}
+
+/// What the next row of a processor wants: so many ticks of this task are to be posted before. The number of the task is that of none where the row
+/// has no task, and where its round isn't computed.
+#[repr(C)]
+#[derive(Clone, Copy, Debug, PartialEq, Eq)]
+pub struct BookWant {
+    pub before: Halves,
+    pub task: u32,
 }
 
 /// Opens the book of a task set, before the first event; else the number is the status with which the program refuses to execute the set, or
@@ -188,6 +197,27 @@ pub extern "C" fn furnacelime_exec_tell(
     status
 }
 
+/// Tells what the next row of a processor wants. Where there is no such processor the number is 64. The book moves into `kept`, as it was.
+#[unsafe(no_mangle)]
+pub extern "C" fn furnacelime_exec_want(
+    alloc: Global,
+    book: BookHandle,
+    kept: &mut BookHandle,
+    processor: u32,
+    want: &mut BookWant,
+) -> u8
+    requires open { book.book ≢ None }
+    requires empty { kept.old.book ≡ None }
+    ensures told { result ≡ 0 → Goes book.book kept.new.book (λ old new. TellsWant old new processor want.new) }
+    ensures wrong { result ≢ 0 → (result ≡ 64) × Goes book.book kept.new.book (λ old new. IsNoProcessor old new processor) }
+{
+    let steps = book.into_box(alloc);
+    let status = tell_want(&steps, processor, want);
+    steps.know_sound();
+    *kept = BookHandle::of(steps);
+    status
+}
+
 /// Gives the memory of a book back.
 #[unsafe(no_mangle)]
 pub extern "C" fn furnacelime_exec_close(alloc: Global, book: BookHandle)
@@ -323,6 +353,24 @@ fn tell_end(book: &StepBook, posted: &mut [u64], totals: &mut [Halves], end: &mu
     book.write_posted(posted);
     book.write_totals(totals);
     *end = end_of(book);
+    0
+}
+
+// Tells what the next row of a processor wants.
+fn tell_want(book: &StepBook, processor: u32, want: &mut BookWant) -> u8
+    ensures told { result ≡ 0 → TellsWant book.now book.now processor want.new }
+    ensures wrong { result ≢ 0 → (result ≡ 64) × IsNoProcessor book.now book.now processor }
+{
+    if processor >= book.processors() {
+        return WRONG_CALL;
+    }
+    match book.wanted(processor) {
+        Some(next) => {
+            want.before = halves_of(next.before);
+            want.task = task_shown(next.row.leaf);
+        }
+        None => want.task = NO_TASK,
+    }
     0
 }
 
