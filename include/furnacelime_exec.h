@@ -98,15 +98,18 @@ struct fl_execution;
 struct fl_lane {
     struct fl_execution *in;
     pthread_t thread;
+    pthread_mutex_t bed; /* it sleeps until `called` is set, which is read and written with this */
     pthread_cond_t woken;
+    int called;
     uint32_t processor;
-    uint32_t sleepers; /* a bit for each processor whose thread sleeps until this one posts an earlier row of its task */
+    uint32_t sleepers; /* a bit for each processor whose thread sleeps until this one posts a row without a task */
     uint64_t posted;
     uint64_t woken_at; /* while it sleeps at the end of the window: as many rows all have posted when it is woken */
+    struct fl_want want; /* while it sleeps behind an earlier row of its task: when it is woken */
     uint32_t vain;     /* for how many waits in a row looking was in vain */
     uint32_t to_wake;  /* a bit for each processor whose thread is to be told, once the lock is free, that it sleeps no more */
     int asleep;
-    int status;        /* of the take that another thread did for this one while it slept behind an earlier row of its task; else FL_WAIT */
+    int status;        /* of the last take, which another thread did where this one slept */
     struct fl_row row; /* what it gave */
 };
 
@@ -120,11 +123,11 @@ struct fl_execution {
     uint32_t ready; /* how many threads are there */
     pthread_cond_t all_ready;
     uint32_t full;  /* a bit for each processor whose thread sleeps at the end of the window */
+    uint32_t behind[FL_TASKS];       /* a bit for each processor whose thread sleeps behind an earlier row of the task */
+    struct fl_ticks given[FL_TASKS]; /* of each task the ticks that are posted in the frame */
     uint64_t least; /* as many rows all have posted; it is written with the lock, and looked at without it */
     int looks;      /* FL_LOOKS, or 0 */
-    int yields;     /* whether threads without a priority share CPUs */
     uint64_t waits;
-    int begun;
     int stopped; /* a thread could not be started, a row failed, or the next frame could not be opened */
     int status;  /* that of the last opening */
     const void *set;
@@ -132,7 +135,6 @@ struct fl_execution {
     uint64_t frames;
     struct fl_ticks shift; /* the tick at which the frame begins; it is written where no row is out */
     uint32_t ended;        /* how many threads are at the end of the frame */
-    uint32_t at_end;       /* a bit for each of these that sleeps */
     struct fl_ended *told;
     uint64_t posted[FL_PROCESSORS];
     struct fl_ticks ticks[FL_TASKS];
@@ -147,41 +149,58 @@ static inline struct fl_ticks fl_later(struct fl_ticks at, struct fl_ticks by)
     return sum;
 }
 
-/* All processors. */
-static inline uint32_t fl_everybody(const struct fl_execution *in) { return UINT32_MAX >> (FL_PROCESSORS - in->processors); }
-
-/* Has the threads of these processors sleep no more. The lock is held. */
-static inline void fl_wake(struct fl_execution *in, struct fl_lane *lane, uint32_t sleepers)
+/* The ticks from one to another. */
+static inline struct fl_ticks fl_between(struct fl_ticks from, struct fl_ticks to)
 {
-    uint32_t p;
-    for (p = 0; sleepers; p++, sleepers >>= 1)
-        if ((sleepers & 1) && in->lanes[p].asleep) {
-            in->lanes[p].asleep = 0;
-            lane->to_wake |= (uint32_t)1 << p;
-        }
+    struct fl_ticks rest;
+    rest.low = to.low - from.low;
+    rest.high = to.high - from.high - (to.low < from.low);
+    return rest;
 }
 
-/* Tells it to those threads: best without the lock, for which they would only wait. */
+/* Has a thread that sleeps do so no more. The lock is held. */
+static inline void fl_wake(struct fl_lane *lane, struct fl_lane *sleeper)
+{
+    sleeper->asleep = 0;
+    lane->to_wake |= (uint32_t)1 << sleeper->processor;
+}
+
+/* Calls a thread that sleeps, or is about to. */
+static inline void fl_call(struct fl_lane *sleeper)
+{
+    pthread_mutex_lock(&sleeper->bed);
+    sleeper->called = 1;
+    pthread_mutex_unlock(&sleeper->bed);
+    pthread_cond_signal(&sleeper->woken);
+}
+
+/* Sleeps until it is called. */
+static inline void fl_await_call(struct fl_lane *lane)
+{
+    pthread_mutex_lock(&lane->bed);
+    while (!lane->called)
+        pthread_cond_wait(&lane->woken, &lane->bed);
+    lane->called = 0;
+    pthread_mutex_unlock(&lane->bed);
+}
+
+/* Calls the threads that sleep no more: best without the lock, which they then find free. */
 static inline void fl_signal(struct fl_execution *in, struct fl_lane *lane)
 {
     uint32_t p;
     for (p = 0; lane->to_wake; p++, lane->to_wake >>= 1)
         if (lane->to_wake & 1)
-            pthread_cond_signal(&in->lanes[p].woken);
+            fl_call(&in->lanes[p]);
 }
 
-/* Sleeps until it is woken, or a row has failed. The lock is held, but while it sleeps. */
-static inline void fl_sleep(struct fl_execution *in, uint32_t processor, uint32_t *sleepers)
+/* Sleeps until another thread has taken for it, or has stopped all. The lock is held when it is called, and not at its end. */
+static inline void fl_sleep(struct fl_execution *in, struct fl_lane *lane)
 {
-    struct fl_lane *lane = &in->lanes[processor];
-    if (in->stopped)
-        return;
-    fl_signal(in, lane);
     in->waits++;
-    *sleepers |= (uint32_t)1 << processor;
-    for (lane->asleep = 1; lane->asleep;)
-        pthread_cond_wait(&lane->woken, in->lock);
-    *sleepers &= ~((uint32_t)1 << processor);
+    lane->asleep = 1;
+    pthread_mutex_unlock(in->lock);
+    fl_signal(in, lane);
+    fl_await_call(lane);
 }
 
 /* How often a thread looks before it sleeps, where each processor has a CPU. */
@@ -203,21 +222,20 @@ static inline void fl_pause(void)
 #endif
 }
 
-/* How often the lock is tried before a thread sleeps for it, and for how many moments between two tries where threads share CPUs. */
-enum { FL_TRIES = 100, FL_PAUSES = 20 };
+/* How often the lock is tried before a thread sleeps for it, and for how many moments at most between two tries. */
+enum { FL_TRIES = 14, FL_PAUSES = 64 };
 
-/* Takes the lock. It is held for less time than a sleep takes, so it is tried some times before that; where threads share CPUs the one that holds it
- * may be waiting for a CPU, which it gets between two tries. */
+/* Takes the lock. It is held for less time than a sleep takes, so it is tried some times before that, with twice as many moments between two tries each
+ * time. A thread with a priority may keep the one that holds it from its CPU, and sleeps at once. */
 static inline void fl_lock(struct fl_execution *in)
 {
-    int tries, pauses;
-    for (tries = in->looks || in->yields ? FL_TRIES : 0; tries > 0; tries--) {
+    int tries, pauses, pause = 1;
+    for (tries = in->crew->priority ? 0 : FL_TRIES; tries > 0; tries--) {
         if (pthread_mutex_trylock(in->lock) == 0)
             return;
-        for (pauses = in->yields ? FL_PAUSES : 1; pauses > 0; pauses--)
+        for (pauses = pause; pauses > 0; pauses--)
             fl_pause();
-        if (in->yields)
-            sched_yield();
+        pause = pause < FL_PAUSES ? 2 * pause : pause;
     }
     pthread_mutex_lock(in->lock);
 }
@@ -237,53 +255,85 @@ static inline void fl_look(struct fl_execution *in, struct fl_lane *lane, uint64
     lane->vain = in->least >= posted ? 0 : lane->vain + 1;
 }
 
-/* Takes rows for those that sleep until a lane posts an earlier row of their task, and wakes those that get one. To wake each at each post, so
- * that it takes by itself, costs more than its row where it is far ahead. The lock is held. */
-static inline void fl_take_for_sleepers(struct fl_execution *in, struct fl_lane *lane)
+/* Notes that a processor's thread sleeps behind an earlier row: until the ticks of its task's earlier rows are posted, or, where its next row
+ * has no task, until the processor that it waits for posts such a row. No ring of sleepers closes: whoever is waited for has posted less, and
+ * who has posted least waits for nobody. The lock is held. */
+static inline void fl_mark_behind(struct fl_execution *in, struct fl_lane *lane)
 {
-    uint32_t sleepers = lane->sleepers, p;
-    for (p = 0; sleepers; p++, sleepers >>= 1) {
+    uint32_t *sleepers = &in->lanes[lane->row.waits_for].sleepers;
+    fl_exec_want(&in->exec, lane->processor, &lane->want);
+    if (lane->want.task != FL_NO_TASK)
+        sleepers = &in->behind[lane->want.task];
+    *sleepers |= (uint32_t)1 << lane->processor;
+}
+
+/* Takes for a thread that sleeps, and wakes it; if it must wait behind an earlier row, it sleeps on. So nobody is woken who would only sleep
+ * again, and who is woken has its row and doesn't want the lock. The lock is held. */
+static inline void fl_take_for(struct fl_execution *in, struct fl_lane *lane, struct fl_lane *sleeper)
+{
+    sleeper->status = fl_take(&in->exec, sleeper->processor, &sleeper->row);
+    if (sleeper->status == FL_WAIT)
+        fl_mark_behind(in, sleeper);
+    else
+        fl_wake(lane, sleeper);
+}
+
+/* Takes for those who slept behind the row that a processor posted. The lock is held. */
+static inline void fl_take_for_sleepers(struct fl_execution *in, struct fl_lane *lane, uint32_t task)
+{
+    uint32_t *sleepers = task == FL_NO_TASK ? &lane->sleepers : &in->behind[task];
+    uint32_t left = *sleepers, p;
+    for (p = 0; left; p++, left >>= 1) {
         struct fl_lane *sleeper = &in->lanes[p];
-        if (!(sleepers & 1) || !sleeper->asleep)
+        if (!(left & 1) || !sleeper->asleep)
             continue;
-        sleeper->status = fl_take(&in->exec, p, &sleeper->row);
-        lane->sleepers &= ~((uint32_t)1 << p);
-        if (sleeper->status == FL_WAIT)
-            in->lanes[sleeper->row.waits_for].sleepers |= (uint32_t)1 << p;
-        else
-            fl_wake(in, lane, (uint32_t)1 << p);
+        if (task != FL_NO_TASK && (in->given[task].low != sleeper->want.before.low || in->given[task].high != sleeper->want.before.high))
+            continue;
+        *sleepers &= ~((uint32_t)1 << p);
+        fl_take_for(in, lane, sleeper);
     }
 }
 
-/* Waits until the processor may go on, and takes again. Behind an earlier row of its task it sleeps until that is posted, and whoever posts it
- * takes for it; at the end of the window it sleeps until half of that is free, since to sleep for each row costs more than the row. The lock is
- * held, but while it waits. No ring of sleepers closes: whoever is waited for has posted less, and who has posted least waits for nobody. */
-static inline int fl_wait_and_take(struct fl_execution *in, uint32_t processor, struct fl_row *row)
+/* Takes for those who slept at the end of the window until all have posted as many rows. The lock is held. */
+static inline void fl_take_for_full(struct fl_execution *in, struct fl_lane *lane)
 {
-    struct fl_lane *lane = &in->lanes[processor], *other = &in->lanes[row->waits_for];
-    if (lane->posted < other->posted + in->window) {
-        lane->status = FL_WAIT;
-        fl_sleep(in, processor, &other->sleepers);
-        *row = lane->row;
-        if (lane->status != FL_WAIT)
-            return lane->status;
-    } else {
-        lane->woken_at = lane->posted - in->window / 2;
-        fl_look(in, lane, lane->woken_at);
-        if (in->least < lane->woken_at)
-            fl_sleep(in, processor, &in->full);
+    uint32_t left = in->full, p;
+    for (p = 0; left; p++, left >>= 1) {
+        struct fl_lane *sleeper = &in->lanes[p];
+        if (!(left & 1) || !sleeper->asleep || sleeper->woken_at > in->least)
+            continue;
+        in->full &= ~((uint32_t)1 << p);
+        fl_take_for(in, lane, sleeper);
     }
-    return fl_take(&in->exec, processor, row);
 }
 
-/* Notes that a processor has posted a row, and wakes those that waited for it. The lock is held. */
-static inline void fl_note_post(struct fl_execution *in, uint32_t processor)
+/* Waits until a processor that was told to wait may go on. Behind an earlier row it sleeps until that is posted; at the end of the window until
+ * half of that is free, since to sleep for each row costs more than the row. Whether it is to sleep: if not, it took again. The lock is held,
+ * but while it looks. */
+static inline int fl_is_to_sleep(struct fl_execution *in, struct fl_lane *lane)
 {
-    struct fl_lane *lane = &in->lanes[processor];
+    if (lane->posted < in->lanes[lane->row.waits_for].posted + in->window) {
+        fl_mark_behind(in, lane);
+        return 1;
+    }
+    lane->woken_at = lane->posted - in->window / 2;
+    fl_look(in, lane, lane->woken_at);
+    if (in->least < lane->woken_at && !in->stopped) {
+        in->full |= (uint32_t)1 << lane->processor;
+        return 1;
+    }
+    lane->status = fl_take(&in->exec, lane->processor, &lane->row);
+    return 0;
+}
+
+/* Notes that a processor has posted this row, and wakes those that waited for it. The lock is held. */
+static inline void fl_note_post(struct fl_execution *in, struct fl_lane *lane, const struct fl_row *ran)
+{
     uint64_t least = ++lane->posted;
-    uint32_t free_again = 0, p;
-    if (lane->sleepers)
-        fl_take_for_sleepers(in, lane);
+    uint32_t p;
+    if (ran->task != FL_NO_TASK)
+        in->given[ran->task] = fl_later(in->given[ran->task], fl_between(ran->start, ran->end));
+    fl_take_for_sleepers(in, lane, ran->task);
     if (least > in->least + 1)
         return;
     for (p = 0; p < in->processors; p++)
@@ -291,42 +341,43 @@ static inline void fl_note_post(struct fl_execution *in, uint32_t processor)
     if (least == in->least)
         return;
     fl_set_least(in, least);
-    for (p = 0; p < in->processors; p++)
-        if (in->lanes[p].woken_at <= least)
-            free_again |= in->full & (uint32_t)1 << p;
-    fl_wake(in, lane, free_again);
+    fl_take_for_full(in, lane);
 }
 
-/* Ends all: the row of this processor failed. The lock is held. */
-static inline void fl_stop(struct fl_execution *in, uint32_t processor, uint32_t why)
+/* Ends all: the row of this processor failed, or the next frame could not be opened. The lock is held. */
+static inline void fl_stop(struct fl_execution *in, struct fl_lane *lane)
 {
-    fl_halt(&in->exec, processor, why);
+    uint32_t p;
     in->stopped = 1;
-    fl_wake(in, &in->lanes[processor], fl_everybody(in));
+    lane->status = FL_HALTED;
+    for (p = 0; p < in->processors; p++)
+        if (in->lanes[p].asleep) {
+            in->lanes[p].status = FL_HALTED;
+            fl_wake(lane, &in->lanes[p]);
+        }
 }
 
-/* Runs a row without the lock, and posts it and takes the next one, or halts the book. The lock is held when it is called, and at its end. */
-static inline int fl_run_and_take(struct fl_execution *in, uint32_t processor, struct fl_row *row)
+/* Runs a row that was taken, and posts it and takes the next one, or halts the book. The lock is held at its end, and not when it is called. */
+static inline void fl_run_and_take(struct fl_execution *in, struct fl_lane *lane)
 {
     const struct fl_crew *crew = in->crew;
-    struct fl_row shown = *row;
-    int status, why = 0;
-    shown.start = fl_later(row->start, in->shift);
-    shown.end = fl_later(row->end, in->shift);
-    pthread_mutex_unlock(in->lock);
-    fl_signal(in, &in->lanes[processor]);
+    struct fl_row shown = lane->row;
+    int why = 0;
+    shown.start = fl_later(shown.start, in->shift);
+    shown.end = fl_later(shown.end, in->shift);
     if (crew->gate)
-        why = crew->gate(processor, &shown, crew->user);
+        why = crew->gate(lane->processor, &shown, crew->user);
     if (why == 0 && crew->job && shown.task != FL_NO_TASK)
         why = crew->job(shown.task, &shown, crew->user);
     fl_lock(in);
     if (why != 0) {
-        fl_stop(in, processor, (uint32_t)why);
-        return FL_HALTED;
+        fl_halt(&in->exec, lane->processor, (uint32_t)why);
+        fl_stop(in, lane);
+        return;
     }
-    status = fl_post_and_take(&in->exec, processor, row);
-    fl_note_post(in, processor);
-    return status;
+    shown = lane->row;
+    lane->status = fl_post_and_take(&in->exec, lane->processor, &lane->row);
+    fl_note_post(in, lane, &shown);
 }
 
 /* Counts what the book's frame ran. The lock is held. */
@@ -346,30 +397,53 @@ static inline void fl_count_frame(struct fl_execution *in)
     }
 }
 
-/* Opens the book of the next frame in place of the one that ended. The lock is held, and no row is out. */
-static inline void fl_open_frame(struct fl_execution *in, uint32_t processor)
+/* Opens the book of the next frame in place of the one that ended, and takes for all that sleep at its end. The lock is held, and no row is
+ * out. */
+static inline void fl_open_frame(struct fl_execution *in, struct fl_lane *lane)
 {
     uint32_t p;
     fl_count_frame(in);
     fl_exec_close(&in->exec);
     in->status = fl_exec_open(&in->exec, in->set, in->length, in->window, &in->told->about);
-    in->stopped = in->status != FL_DONE;
+    if (in->status != FL_DONE) {
+        fl_stop(in, lane);
+        return;
+    }
     in->shift = fl_later(in->shift, in->told->about.end);
     in->ended = 0;
     fl_set_least(in, 0);
+    memset(in->given, 0, sizeof in->given);
     for (p = 0; p < in->processors; p++)
         in->lanes[p].posted = 0;
-    fl_wake(in, &in->lanes[processor], fl_everybody(in));
+    for (p = 0; p < in->processors; p++)
+        if (in->lanes[p].asleep)
+            fl_take_for(in, lane, &in->lanes[p]);
+    lane->status = fl_take(&in->exec, lane->processor, &lane->row);
 }
 
-/* At the end of a frame: waits until all are there, and takes the first row of the next one. The lock is held, but while it waits. */
-static inline int fl_next_frame(struct fl_execution *in, uint32_t processor, struct fl_row *row)
+/* At the end of a frame: waits until all are there. Whether it is to sleep: if not, it is the last one, and took from the next book. The lock is
+ * held. */
+static inline int fl_ends_frame(struct fl_execution *in, struct fl_lane *lane)
 {
-    if (++in->ended == in->processors)
-        fl_open_frame(in, processor);
-    else
-        fl_sleep(in, processor, &in->at_end);
-    return in->stopped ? FL_HALTED : fl_take(&in->exec, processor, row);
+    if (++in->ended < in->processors)
+        return 1;
+    fl_open_frame(in, lane);
+    return 0;
+}
+
+/* Whether a processor gets a further row: it waits for it if need be. The lock is held when it is called, and not at its end. */
+static inline int fl_get_row(struct fl_execution *in, struct fl_lane *lane)
+{
+    int sleeps = 0;
+    while (!sleeps && (lane->status == FL_WAIT || (lane->status == FL_OVER && in->told->frames + 1 < in->frames)))
+        sleeps = lane->status == FL_WAIT ? fl_is_to_sleep(in, lane) : fl_ends_frame(in, lane);
+    if (sleeps) {
+        fl_sleep(in, lane);
+    } else {
+        pthread_mutex_unlock(in->lock);
+        fl_signal(in, lane);
+    }
+    return lane->status == FL_DONE;
 }
 
 /* Serves one processor: all its rows, or those up to a failure. */
@@ -377,28 +451,15 @@ static inline void *fl_serve(void *argument)
 {
     struct fl_lane *lane = (struct fl_lane *)argument;
     struct fl_execution *in = lane->in;
-    struct fl_row row;
-    int status = FL_HALTED;
-    memset(&row, 0, sizeof row);
     pthread_mutex_lock(in->lock);
     if (++in->ready == in->processors)
         pthread_cond_signal(&in->all_ready);
-    while (!in->begun && !in->stopped)
-        pthread_cond_wait(&lane->woken, in->lock);
-    if (!in->stopped)
-        status = fl_take(&in->exec, lane->processor, &row);
-    for (;;) {
-        if (status == FL_DONE)
-            status = fl_run_and_take(in, lane->processor, &row);
-        else if (status == FL_WAIT)
-            status = fl_wait_and_take(in, lane->processor, &row);
-        else if (status == FL_OVER && in->told->frames + 1 < in->frames)
-            status = fl_next_frame(in, lane->processor, &row);
-        else
-            break;
-    }
     pthread_mutex_unlock(in->lock);
-    fl_signal(in, lane);
+    fl_await_call(lane);
+    pthread_mutex_lock(in->lock);
+    lane->status = in->stopped ? FL_HALTED : fl_take(&in->exec, lane->processor, &lane->row);
+    while (fl_get_row(in, lane))
+        fl_run_and_take(in, lane);
     return NULL;
 }
 
@@ -433,6 +494,24 @@ static inline int fl_set_attributes(pthread_attr_t *attributes, const struct fl_
     return error;
 }
 
+/* Makes what the thread of a processor sleeps on; an errno. */
+static inline int fl_make_bed(struct fl_lane *lane)
+{
+    int error = pthread_mutex_init(&lane->bed, NULL);
+    if (error)
+        return error;
+    error = pthread_cond_init(&lane->woken, NULL);
+    if (error)
+        pthread_mutex_destroy(&lane->bed);
+    return error;
+}
+
+static inline void fl_drop_bed(struct fl_lane *lane)
+{
+    pthread_cond_destroy(&lane->woken);
+    pthread_mutex_destroy(&lane->bed);
+}
+
 /* Starts the thread of a processor; an errno. */
 static inline int fl_start(struct fl_execution *in, uint32_t processor)
 {
@@ -441,7 +520,7 @@ static inline int fl_start(struct fl_execution *in, uint32_t processor)
     int error;
     lane->in = in;
     lane->processor = processor;
-    error = pthread_cond_init(&lane->woken, NULL);
+    error = fl_make_bed(lane);
     if (error)
         return error;
     error = pthread_attr_init(&attributes);
@@ -452,7 +531,7 @@ static inline int fl_start(struct fl_execution *in, uint32_t processor)
         pthread_attr_destroy(&attributes);
     }
     if (error)
-        pthread_cond_destroy(&lane->woken);
+        fl_drop_bed(lane);
     return error;
 }
 
@@ -490,15 +569,12 @@ static inline int fl_run_lanes(struct fl_execution *in, const struct fl_exec_abo
     pthread_mutex_unlock(in->lock);
     if (!error && in->crew->begin)
         in->crew->begin(about, in->crew->user);
-    pthread_mutex_lock(in->lock);
-    in->begun = 1;
     for (p = 0; p < started; p++)
-        pthread_cond_signal(&in->lanes[p].woken);
-    pthread_mutex_unlock(in->lock);
+        fl_call(&in->lanes[p]);
     for (p = 0; p < started; p++)
         pthread_join(in->lanes[p].thread, NULL);
     for (p = 0; p < started; p++)
-        pthread_cond_destroy(&in->lanes[p].woken);
+        fl_drop_bed(&in->lanes[p]);
     pthread_cond_destroy(&in->all_ready);
     return error;
 }
@@ -507,8 +583,7 @@ static inline int fl_run_lanes(struct fl_execution *in, const struct fl_exec_abo
 static inline int fl_execute_open(struct fl_execution *in, struct fl_ended *ended)
 {
     in->processors = ended->about.processors;
-    in->yields = in->crew->priority == 0 && sysconf(_SC_NPROCESSORS_ONLN) < (long)in->processors;
-    in->looks = in->crew->priority == 0 && !in->yields ? FL_LOOKS : 0;
+    in->looks = in->crew->priority == 0 && sysconf(_SC_NPROCESSORS_ONLN) >= (long)in->processors ? FL_LOOKS : 0;
     ended->error = fl_run_lanes(in, &ended->about);
     ended->waits = in->waits;
     if (ended->error)
