@@ -7,6 +7,7 @@ pub mod Numbered
 pub mod Batch
 pub mod Follow
 pub mod SetTexts
+pub mod SetTold
 pub mod Commands
 pub mod Followed
 pub mod Input

@@ -15,6 +15,7 @@ mod rate_text;
 mod refusal;
 mod refusal_line;
 mod repeat;
+mod set_told;
 mod sound;
 mod table;
 mod top;

@@ -8,12 +8,9 @@ ghost use Rattle.sched_edges.specs.Streams.{Wrote};
 ghost use Rattle.merged_rounds.specs.Passes.{AreMergedOf};
 ghost use Rattle.merged_rows.specs.Lawful.{AreLawful};
 ghost use Rattle.repeat_laws.specs.Repeats.{repeat_unit};
-ghost use Rattle.pure_commands.specs.Commands.{c_table, set_limit, plan_table, WritesSet, RefusesText};
-ghost use Rattle.pure_commands.specs.Ends.{streams_of, IsTold, StopsAs};
+ghost use Rattle.pure_commands.specs.Commands.{c_table, plan_table};
 ghost use Rattle.pure_commands.specs.Input.{IsSchedulable, WroteSet, StopsAtSet};
-ghost use Rattle.exit_status.specs.declared.Status.TheVariants.{Done};
 
-use crate::input::read_input;
 use crate::plan::plan_of;
 use crate::refusal::Refusal;
 use crate::unwritten::written;
@@ -21,24 +18,9 @@ use merged_rounds::merged_of;
 use merged_rows::MergedRows;
 use run_tree::Plan;
 use sched_base::TaskSet;
-use sched_edges::{Failed, Sink, Source};
+use sched_edges::{Failed, Sink};
 use std::alloc::Global;
 use table_text::{repeat_unit, write_table};
-
-/// Reads a task set, and writes its schedule as C source.
-pub(crate) fn table<R: Source, W: Sink>(
-    alloc: Global,
-    source: &mut R,
-    out: &mut W,
-) -> Result<(), Refusal>
-    ensures done { OnOk result (IsTold set_limit (WritesSet c_table) Done
-        (streams_of R.Source W.Sink source.old out.old) (streams_of R.Source W.Sink source.new out.new)) }
-    ensures stops { IfErr result (StopsAs set_limit (WritesSet c_table) (RefusesText c_table)
-        (streams_of R.Source W.Sink source.old out.old) (streams_of R.Source W.Sink source.new out.new)) }
-{
-    let set = read_input(alloc, source)?;
-    write_set(alloc, set, out)
-}
 
 /// Writes the schedule of a set as C source, where the set fits and a type of C holds its ticks.
 pub(crate) fn write_set<W: Sink>(alloc: Global, set: TaskSet, out: &mut W) -> Result<(), Refusal>

@@ -10,15 +10,10 @@ ghost use Rattle.exit_status.specs.declared.Status.TheVariants.{Done, Invalid};
 use crate::check::check;
 use crate::draw::draw;
 use crate::follow::follow;
-use crate::rate::rate;
 use crate::refusal::Refusal;
 use crate::refusal_line::refuse;
-use crate::repeat::{table_repeat, trace_repeat};
+use crate::set_told::{SetTold, tell_set};
 use crate::sound::{follow_law, sound_law};
-use crate::table::table;
-use crate::trace::trace;
-use crate::tree::tree;
-use crate::wrap::trace_by_wrapping;
 use command_words::{Reading, reading_of};
 use exit_status::Status;
 use sched_edges::{Sink, Source};
@@ -119,14 +114,14 @@ fn read<R: Source, W: Sink>(
 {
     let told = match reading {
         Reading::Check => return check(alloc, source, out),
-        Reading::Rate => rate(alloc, source, out),
-        Reading::Tree => tree(alloc, source, out),
-        Reading::Trace => trace(alloc, source, false, out),
-        Reading::TraceMet => trace(alloc, source, true, out),
-        Reading::TraceWrap => trace_by_wrapping(alloc, source, out),
-        Reading::TraceRepeat => trace_repeat(alloc, source, out),
-        Reading::Table => table(alloc, source, out),
-        Reading::TableRepeat => table_repeat(alloc, source, out),
+        Reading::Rate => tell_set(alloc, SetTold::Rates, source, out),
+        Reading::Tree => tell_set(alloc, SetTold::Tree, source, out),
+        Reading::Trace => tell_set(alloc, SetTold::Trace { met: false }, source, out),
+        Reading::TraceMet => tell_set(alloc, SetTold::Trace { met: true }, source, out),
+        Reading::TraceWrap => tell_set(alloc, SetTold::TraceWrap, source, out),
+        Reading::TraceRepeat => tell_set(alloc, SetTold::TraceRepeat, source, out),
+        Reading::Table => tell_set(alloc, SetTold::Table, source, out),
+        Reading::TableRepeat => tell_set(alloc, SetTold::TableRepeat, source, out),
         Reading::Follow => follow(alloc, source, out),
         Reading::Draw(asked) => draw(alloc, asked, source, out),
     };

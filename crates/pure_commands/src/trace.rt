@@ -14,12 +14,9 @@ ghost use Rattle.merged_rows.specs.Merging.{merged_lanes};
 ghost use Rattle.trace_format.specs.Text.{trace_text};
 ghost use Rattle.trace_writer.specs.Finishes.{HaveRoomIf};
 ghost use Rattle.row_totals.specs.Sums.{totals_of};
-ghost use Rattle.pure_commands.specs.Commands.{schedule_rows, set_limit, schedule_text, some_late, version_of, WritesSet, RefusesText};
-ghost use Rattle.pure_commands.specs.Ends.{streams_of, IsTold, StopsAs};
+ghost use Rattle.pure_commands.specs.Commands.{schedule_rows, schedule_text, some_late, version_of};
 ghost use Rattle.pure_commands.specs.Input.{IsSchedulable, WroteSet, StopsAtSet};
-ghost use Rattle.exit_status.specs.declared.Status.TheVariants.{Done};
 
-use crate::input::read_input;
 use crate::plan::plan_of;
 use crate::refusal::Refusal;
 use crate::unwritten::written;
@@ -29,27 +26,11 @@ use merged_rows::{MergedRows, totals_of_merged};
 use round_table::table_law;
 use run_tree::Plan;
 use sched_base::{NoMemory, RowTable, Task, TaskSet};
-use sched_edges::{Failed, Sink, Source};
+use sched_edges::{Failed, Sink};
 use std::alloc::Global;
 use trace_writer::{Finishes, write_merged, write_merged_met, write_met, write_trace};
 
-/// Reads a task set, and writes its schedule; in version 2 where `met` is asked for or some task is released late.
-pub(crate) fn trace<R: Source, W: Sink>(
-    alloc: Global,
-    source: &mut R,
-    met: bool,
-    out: &mut W,
-) -> Result<(), Refusal>
-    ensures done { OnOk result (IsTold set_limit (WritesSet (schedule_rows met)) Done
-        (streams_of R.Source W.Sink source.old out.old) (streams_of R.Source W.Sink source.new out.new)) }
-    ensures stops { IfErr result (StopsAs set_limit (WritesSet (schedule_rows met)) (RefusesText (schedule_rows met))
-        (streams_of R.Source W.Sink source.old out.old) (streams_of R.Source W.Sink source.new out.new)) }
-{
-    let set = read_input(alloc, source)?;
-    write_set(alloc, set, met, out)
-}
-
-/// Writes the schedule of a set, where it fits.
+/// Writes the schedule of a set, where it fits; in version 2 where `met` is asked for or some task is released late.
 pub(crate) fn write_set<W: Sink>(
     alloc: Global,
     set: TaskSet,

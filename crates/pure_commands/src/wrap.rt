@@ -8,40 +8,22 @@ ghost use Rattle.merged_rows.specs.Lawful.{AreLawful};
 ghost use Rattle.trace_writer.specs.Finishes.{HaveRoomIf};
 ghost use Rattle.wrap_sched.specs.Merged.{AreMergedOf};
 ghost use Rattle.wrap_sched.specs.Wrapped.{wrapped_rounds};
-ghost use Rattle.pure_commands.specs.Commands.{some_late, wrapped_rows, wrapped_text, set_limit, WritesSet, RefusesText};
-ghost use Rattle.pure_commands.specs.Ends.{streams_of, IsTold, StopsAs};
+ghost use Rattle.pure_commands.specs.Commands.{some_late, wrapped_rows, wrapped_text};
 ghost use Rattle.pure_commands.specs.Input.{IsSchedulable, IsRefusedSet, WroteSet, StopsAtSet};
-ghost use Rattle.exit_status.specs.declared.Status.TheVariants.{Done};
 
-use crate::input::read_input;
 use crate::refusal::Refusal;
 use crate::trace::{finishes_for, write_merged_rows};
 use crate::unwritten::written;
 use merged_rows::{MergedRows, totals_of_merged};
 use rate_scale::{scale_of, total};
 use sched_base::{NoMemory, TaskSet};
-use sched_edges::{Failed, Sink, Source};
+use sched_edges::{Failed, Sink};
 use std::alloc::Global;
 use trace_writer::Finishes;
 use wrap_sched::{merged_wrap, wrap_rounds};
 
-/// Reads a task set, and writes its wrapped schedule; in version 2 where some task is released late.
-pub(crate) fn trace_by_wrapping<R: Source, W: Sink>(
-    alloc: Global,
-    source: &mut R,
-    out: &mut W,
-) -> Result<(), Refusal>
-    ensures done { OnOk result (IsTold set_limit (WritesSet wrapped_rows) Done
-        (streams_of R.Source W.Sink source.old out.old) (streams_of R.Source W.Sink source.new out.new)) }
-    ensures stops { IfErr result (StopsAs set_limit (WritesSet wrapped_rows) (RefusesText wrapped_rows)
-        (streams_of R.Source W.Sink source.old out.old) (streams_of R.Source W.Sink source.new out.new)) }
-{
-    let set = read_input(alloc, source)?;
-    write_set(alloc, &set, out)
-}
-
-// Writes the wrapped schedule of a set, where it fits.
-fn write_set<W: Sink>(alloc: Global, set: &TaskSet, out: &mut W) -> Result<(), Refusal>
+/// Writes the wrapped schedule of a set, where it fits; in version 2 where some task is released late.
+pub(crate) fn write_set<W: Sink>(alloc: Global, set: &TaskSet, out: &mut W) -> Result<(), Refusal>
     ensures done { OnOk result (WroteSet wrapped_rows (W.taken out.old) (W.taken out.new) set.now) }
     ensures stops { IfErr result (StopsAtSet wrapped_rows (W.taken out.old) (W.taken out.new)
         (W.faults out.old) (W.faults out.new) set.now) }

@@ -36,14 +36,14 @@ returns g c =
     let old = streams_of g.R.Source g.W.Sink c.args.source.now c.args.out.now in
     let new = streams_of g.R.Source g.W.Sink c.match-reading.source c.match-reading.out in
     let told : OnOk c.match-reading.told (IsDone what Done old new) × IfErr c.match-reading.told (Stops what old new) = elim c.match-reading.branch [
-      | in-Rate w ↦ rw (w.in-Rate.is, w.told-is, w.source-is, w.out-is) (w.rate-told.ensures.done, w.rate-told.ensures.stops)
-      | in-Tree w ↦ rw (w.in-Tree.is, w.told-is, w.source-is, w.out-is) (w.tree-told.ensures.done, w.tree-told.ensures.stops)
-      | in-Trace w ↦ rw (w.in-Trace.is, w.told-is, w.source-is, w.out-is) (w.trace-told.ensures.done, w.trace-told.ensures.stops)
-      | in-TraceMet w ↦ rw (w.in-TraceMet.is, w.told-is, w.source-is, w.out-is) (w.trace-told-in-TraceMet.ensures.done, w.trace-told-in-TraceMet.ensures.stops)
-      | in-TraceWrap w ↦ rw (w.in-TraceWrap.is, w.told-is, w.source-is, w.out-is) (w.trace_by_wrapping-told.ensures.done, w.trace_by_wrapping-told.ensures.stops)
-      | in-TraceRepeat w ↦ rw (w.in-TraceRepeat.is, w.told-is, w.source-is, w.out-is) (w.trace_repeat-told.ensures.done, w.trace_repeat-told.ensures.stops)
-      | in-Table w ↦ rw (w.in-Table.is, w.told-is, w.source-is, w.out-is) (w.table-told.ensures.done, w.table-told.ensures.stops)
-      | in-TableRepeat w ↦ rw (w.in-TableRepeat.is, w.told-is, w.source-is, w.out-is) (w.table_repeat-told.ensures.done, w.table_repeat-told.ensures.stops)
+      | in-Rate w ↦ rw (w.in-Rate.is, w.told-is, w.source-is, w.out-is) (w.tell_set-told.ensures.done, w.tell_set-told.ensures.stops)
+      | in-Tree w ↦ rw (w.in-Tree.is, w.told-is, w.source-is, w.out-is) (w.tell_set-told-in-Tree.ensures.done, w.tell_set-told-in-Tree.ensures.stops)
+      | in-Trace w ↦ rw (w.in-Trace.is, w.told-is, w.source-is, w.out-is) (w.tell_set-told-in-Trace.ensures.done, w.tell_set-told-in-Trace.ensures.stops)
+      | in-TraceMet w ↦ rw (w.in-TraceMet.is, w.told-is, w.source-is, w.out-is) (w.tell_set-told-in-TraceMet.ensures.done, w.tell_set-told-in-TraceMet.ensures.stops)
+      | in-TraceWrap w ↦ rw (w.in-TraceWrap.is, w.told-is, w.source-is, w.out-is) (w.tell_set-told-in-TraceWrap.ensures.done, w.tell_set-told-in-TraceWrap.ensures.stops)
+      | in-TraceRepeat w ↦ rw (w.in-TraceRepeat.is, w.told-is, w.source-is, w.out-is) (w.tell_set-told-in-TraceRepeat.ensures.done, w.tell_set-told-in-TraceRepeat.ensures.stops)
+      | in-Table w ↦ rw (w.in-Table.is, w.told-is, w.source-is, w.out-is) (w.tell_set-told-in-Table.ensures.done, w.tell_set-told-in-Table.ensures.stops)
+      | in-TableRepeat w ↦ rw (w.in-TableRepeat.is, w.told-is, w.source-is, w.out-is) (w.tell_set-told-in-TableRepeat.ensures.done, w.tell_set-told-in-TableRepeat.ensures.stops)
       | in-Follow w ↦ rw (w.in-Follow.is, w.told-is, w.source-is, w.out-is) (w.follow-told.ensures.done, w.follow-told.ensures.stops)
       | in-Draw w ↦ rw (w.in-Draw.is, w.told-is, w.source-is, w.out-is) (w.draw-told.ensures.done, w.draw-told.ensures.stops)
     ] in
