@@ -4,12 +4,17 @@ use Rattle.std.specs.Prelude.{OnOk, IfErr}
 use Rattle.std.specs.Io.KnownBytes.{Keeps}
 use Rattle.std.proofs.lemmas.Result.{IfErr-weaker, on_ok_weaker}
 use Rattle.sched_base.specs.Sets.{SetContents}
+use Rattle.rate_scale.specs.declared.loads.Load.{Load}
+use Rattle.rate_scale.specs.declared.loads.LoadFault.{LoadFault}
+use Rattle.rate_scale.specs.declared.loads.LoadFault.TheVariants as load
+use Rattle.rate_scale.specs.Loads.{IsLoadOf, IsUnfit}
+use Rattle.pure_commands.specs.Faults.{of_load}
 use Rattle.pure_commands.specs.declared.refusal.Refusal.{Refusal}
 use Rattle.pure_commands.specs.declared.refusal.Refusal.TheVariants as why
 use Rattle.exit_status.specs.declared.Status.TheVariants.{Done}
 use Rattle.pure_commands.specs.Commands.{SetText, set_limit, text_of, ReadsSet, WritesSet, RefusesText}
 use Rattle.pure_commands.specs.Ends.{Streams, IsTold, StopsAs}
-use Rattle.pure_commands.specs.Input.{GaveSet, GaveNoSet, IsRefusedSet, StopsAtSet, WroteSet}
+use Rattle.pure_commands.specs.Input.{GaveSet, GaveNoSet, IsRefusedSet, IsSchedulable, StopsAtSet, WroteSet}
 use Rattle.pure_commands.proofs.EndLemmas.{keeps_same}
 
 told_is : (what : SetText) (old new : Streams) (s : SetContents) → GaveSet old.left new.left set_limit s → WroteSet what old.out new.out s
@@ -63,3 +68,13 @@ refused_stops what s out faults (why.TooWide ticks) is = absurd is
 refused_stops what s out faults (why.NoRepeat task) is = absurd is
 refused_stops what s out faults (why.WideRepeat units) is = absurd is
 refused_stops what s out faults _ is = (is, keeps_same out)
+
+-- a set that doesn't fit isn't told of at all
+pub unfit_refused : (s : SetContents) (fault : LoadFault) → IsUnfit s fault → IsRefusedSet s (of_load fault)
+unfit_refused s (load.ScaleTooLarge at) is = is
+unfit_refused s (load.Overload total room) is =
+    let (scale, has, sum, all) = is.some_scale in (scale, has.is, has.within, is.over, sum, all)
+
+-- the load of a set that fits says that it can be scheduled
+pub load_runs : (s : SetContents) (l : Load) → IsLoadOf s l → IsSchedulable s l.scale
+load_runs s l is = record { is_scale = is.scale.is; within = is.scale.within; fits = is.fits }

@@ -11,6 +11,8 @@ use Rattle.tree_reader.specs.declared.faults.TreeFault.{TreeFault}
 use Rattle.tree_reader.specs.declared.faults.TreeFault.TheVariants as tree
 use Rattle.tree_check.specs.declared.faults.TreeRefused.{TreeRefused}
 use Rattle.tree_check.specs.declared.faults.TreeRefused.TheVariants as refused
+use Rattle.rate_scale.specs.declared.loads.LoadFault.{LoadFault}
+use Rattle.rate_scale.specs.declared.loads.LoadFault.TheVariants as load
 use Rattle.run_compile.specs.declared.faults.CompileFault.{CompileFault}
 use Rattle.run_compile.specs.declared.faults.CompileFault.TheVariants as compile
 use Rattle.event_core.specs.declared.counts.CountFault.{CountFault}
@@ -60,6 +62,11 @@ of_check_tree refused.NoMemory = why.NoMemory
 abbrev pub of_read_jobs : JobTextFault → Refusal
 of_read_jobs (job_text.BadProgram line) = why.BadProgram line
 of_read_jobs job_text.NoMemory = why.NoMemory
+
+-- of the load of a set
+abbrev pub of_load : LoadFault → Refusal
+of_load (load.ScaleTooLarge at) = why.ScaleTooLarge at
+of_load (load.Overload total room) = why.Overload total room
 
 -- of compiling a set
 abbrev pub of_compile : CompileFault → Refusal

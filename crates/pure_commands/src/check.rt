@@ -5,13 +5,13 @@ ghost use Rattle.pure_commands.specs.Commands.{trace_limit};
 ghost use Rattle.pure_commands.specs.Checks.{invalid_line, TellsTrace, WritesVerdict, RefusesTrace, StopsAtTrace};
 ghost use Rattle.pure_commands.specs.Ends.{streams_of, IsTold, StopsAs};
 
-use crate::input::read_checked_input;
+use crate::input::TRACE_LIMIT;
 use crate::refusal::Refusal;
 use exit_status::Status;
 use sched_edges::{Line, Sink, Source, write_all};
 use stat_report::write_report;
 use std::alloc::Global;
-use trace_check::{CheckedTrace, FaultKind, Verdict};
+use trace_check::{CheckedTrace, FaultKind, Verdict, read_checked_source};
 use trace_draw::kind_text;
 
 /// Reads a trace text, and tells whether its rows are a valid schedule of its set: the report of a valid one, with the status
@@ -26,7 +26,7 @@ pub(crate) fn check<R: Source, W: Sink>(
     ensures stops { IfErr result (StopsAs trace_limit WritesVerdict RefusesTrace
         (streams_of R.Source W.Sink source.old out.old) (streams_of R.Source W.Sink source.new out.new)) }
 {
-    let trace = read_checked_input(alloc, source)?;
+    let trace = read_checked_source(alloc, source, TRACE_LIMIT)?;
     write_verdict(&trace, out)
 }
 

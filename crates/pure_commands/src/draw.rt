@@ -6,11 +6,12 @@ ghost use Rattle.pure_commands.specs.Draws.{WritesPicture};
 ghost use Rattle.pure_commands.specs.Ends.{streams_of, IsTold, StopsAs};
 ghost use Rattle.exit_status.specs.declared.Status.TheVariants.{Done};
 
-use crate::input::read_trace_input;
+use crate::input::TRACE_LIMIT;
 use crate::refusal::Refusal;
 use command_words::Asked;
 use sched_edges::{Sink, Source};
 use std::alloc::Global;
+use trace_check::read_trace_source;
 use trace_draw::draw_trace;
 
 /// Reads a trace text, and draws the units of it that are asked for, whether its rows are a valid schedule or not.
@@ -26,6 +27,6 @@ pub(crate) fn draw<R: Source, W: Sink>(
     ensures stops { IfErr result (StopsAs trace_limit (WritesPicture asked) RefusesTrace
         (streams_of R.Source W.Sink source.old out.old) (streams_of R.Source W.Sink source.new out.new)) }
 {
-    let trace = read_trace_input(alloc, source)?;
+    let trace = read_trace_source(alloc, source, TRACE_LIMIT)?;
     Ok(draw_trace(out, &trace, &asked)?)
 }

@@ -1,7 +1,7 @@
 //! Which refusal a fault of a call below is.
 ghost use Rattle.std.specs.Prelude.{◌≡◌};
 ghost use Rattle.pure_commands.specs.Faults.{of_take, of_read_set, of_read_trace, of_read_source, of_read_tree, of_check_tree, of_read_jobs, of_compile};
-ghost use Rattle.pure_commands.specs.Faults.{of_count, of_join, of_wrap};
+ghost use Rattle.pure_commands.specs.Faults.{of_count, of_join, of_load, of_wrap};
 ghost use Rattle.pure_commands.specs.declared.refusal.Refusal.TheVariants as why;
 
 use crate::mode_refusal::ModeRefusal;
@@ -9,7 +9,7 @@ use crate::refusal::Refusal;
 use event_core::CountFault;
 use job_vm::JobTextFault;
 use mode_join::ModeFault;
-use rate_scale::ScaleTooLarge;
+use rate_scale::LoadFault;
 use run_compile::CompileFault;
 use sched_base::NoMemory;
 use sched_edges::{Failed, TakeFault};
@@ -123,11 +123,14 @@ impl From<JobTextFault> for Refusal {
     }
 }
 
-impl From<ScaleTooLarge> for Refusal {
-    ghost from_gives = { λ fault refusal. refusal ≡ why.ScaleTooLarge fault.at };
+impl From<LoadFault> for Refusal {
+    ghost from_gives = { λ fault refusal. refusal ≡ of_load fault };
 
-    fn from(fault: ScaleTooLarge) -> Self {
-        Refusal::ScaleTooLarge { task: fault.at }
+    fn from(fault: LoadFault) -> Self {
+        match fault {
+            LoadFault::ScaleTooLarge { at } => Refusal::ScaleTooLarge { task: at },
+            LoadFault::Overload { total, room } => Refusal::Overload { total, room },
+        }
     }
 }
 

@@ -6,7 +6,7 @@ ghost use Rattle.pure_commands.specs.Commands.{rates};
 use crate::rate_text::write_rate;
 use crate::refusal::Refusal;
 use crate::unwritten::written;
-use rate_scale::{scale_of, total};
+use rate_scale::load_of;
 use sched_base::TaskSet;
 use sched_edges::Sink;
 
@@ -16,11 +16,6 @@ pub(crate) fn write_set<W: Sink>(set: &TaskSet, out: &mut W) -> Result<(), Refus
     ensures stops { IfErr result (StopsAtSet rates (W.taken out.old) (W.taken out.new)
         (W.faults out.old) (W.faults out.new) set.now) }
 {
-    let scale = scale_of(set)?;
-    let total = total(set, scale);
-    let room = u128::from(set.processors()) * scale;
-    if total > room {
-        return Err(Refusal::Overload { total, room });
-    }
-    written(write_rate(set, scale, total, room, out))
+    let load = load_of(set)?;
+    written(write_rate(set, load.scale, load.total, load.room, out))
 }

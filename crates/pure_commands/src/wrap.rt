@@ -15,7 +15,7 @@ use crate::refusal::Refusal;
 use crate::trace::{finishes_for, write_merged_rows};
 use crate::unwritten::written;
 use merged_rows::{MergedRows, totals_of_merged};
-use rate_scale::{scale_of, total};
+use rate_scale::load_of;
 use sched_base::{NoMemory, TaskSet};
 use sched_edges::{Failed, Sink};
 use std::alloc::Global;
@@ -56,13 +56,8 @@ pub(crate) fn scale_to_run(set: &TaskSet) -> Result<u128, Refusal>
     ensures run { IfOk result (IsSchedulable set.now) }
     ensures refused { IfErr result (IsRefusedSet set.now) }
 {
-    let scale = scale_of(set)?;
-    let total = total(set, scale);
-    let room = u128::from(set.processors()) * scale;
-    if total > room {
-        return Err(Refusal::Overload { total, room });
-    }
-    Ok(scale)
+    let load = load_of(set)?;
+    Ok(load.scale)
 }
 
 // The merged rows of the wrapped schedule, in one pass over its rounds, and the ticks of each task in them.
