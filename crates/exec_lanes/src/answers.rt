@@ -8,7 +8,6 @@ ghost use Rattle.exec_lanes.specs.Rooms.{IsAnswerOf};
 use crate::stage::push_totals;
 use sched_base::{NoMemory, Row, RowTable, Totals};
 use sched_edges::{Job, JobList};
-use std::alloc::{AllocError, AllocFailed};
 use thiserror::Error;
 use unit_ledger::Posts;
 
@@ -115,22 +114,6 @@ impl From<NoMemory> for ExecFault {
     ghost from_gives = { λ _ e. e ≡ NoMemory };
 
     fn from(_: NoMemory) -> ExecFault {
-        ExecFault::NoMemory
-    }
-}
-
-impl From<AllocError> for ExecFault {
-    ghost from_gives = { λ _ e. e ≡ NoMemory };
-
-    fn from(_: AllocError) -> ExecFault {
-        ExecFault::NoMemory
-    }
-}
-
-impl<T: Drop> From<AllocFailed<T>> for ExecFault {
-    ghost from_gives = { λ _ e. e ≡ NoMemory };
-
-    fn from(_: AllocFailed<T>) -> ExecFault {
         ExecFault::NoMemory
     }
 }

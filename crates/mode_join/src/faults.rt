@@ -2,8 +2,7 @@
 ghost use Rattle.std.specs.Prelude.{◌≡◌};
 ghost use Rattle.mode_join.specs.declared.faults.ModeFault.TheVariants.{NoMemory};
 
-use sched_base::NoMemory;
-use std::alloc::{AllocError, AllocFailed};
+use std::alloc::AllocFailed;
 use thiserror::Error;
 
 /// What is wrong with a set as a mode. Of several the first of this list is told. That a scale is past its limit can't come:
@@ -32,22 +31,6 @@ pub enum ModeFault {
     /// Memory was refused. No clause says when.
     #[error("there is no memory for the modes")]
     NoMemory,
-}
-
-impl From<NoMemory> for ModeFault {
-    ghost from_gives = { λ _ e. e ≡ NoMemory };
-
-    fn from(_: NoMemory) -> ModeFault {
-        ModeFault::NoMemory
-    }
-}
-
-impl From<AllocError> for ModeFault {
-    ghost from_gives = { λ _ e. e ≡ NoMemory };
-
-    fn from(_: AllocError) -> ModeFault {
-        ModeFault::NoMemory
-    }
 }
 
 impl<T: Drop> From<AllocFailed<T>> for ModeFault {

@@ -3,7 +3,6 @@ ghost use Rattle.std.specs.Prelude.{◌≡◌};
 ghost use Rattle.tree_check.specs.declared.faults.TreeRefused.TheVariants.{NoMemory};
 
 use sched_base::NoMemory;
-use std::alloc::AllocError;
 
 /// What is wrong at a line of a tree text. Of several at one line the first of this list is told.
 #[derive(Clone, Copy, PartialEq, Eq)]
@@ -35,14 +34,6 @@ impl From<NoMemory> for TreeRefused {
     ghost from_gives = { λ _ e. e ≡ NoMemory };
 
     fn from(_: NoMemory) -> TreeRefused {
-        TreeRefused::NoMemory
-    }
-}
-
-impl From<AllocError> for TreeRefused {
-    ghost from_gives = { λ _ e. e ≡ NoMemory };
-
-    fn from(_: AllocError) -> TreeRefused {
         TreeRefused::NoMemory
     }
 }
