@@ -1,5 +1,6 @@
 -- Why a set isn't opened.
 use Rattle.std.specs.Prelude.{◌≡◌, ℕ, ◌<◌, List, length, Ok, Err}
+use Rattle.sched_base.specs.Limits.{set_limit}
 use Rattle.sched_base.specs.Sets.{SetContents}
 use Rattle.exit_status.specs.declared.Status.{Status}
 use Rattle.exit_status.specs.declared.Status.TheVariants as status
@@ -26,4 +27,4 @@ IsRefusedFor bytes fault.NoMemory = Unit {0}
 IsRefusedFor bytes (fault.BadSet set.NoMemory) = Unit {0}
 IsRefusedFor bytes (fault.BadSet refusal) = set_read_from bytes ≡ Err refusal
 IsRefusedFor bytes (fault.NotRun refusal) = (s : SetContents) × (set_read_from bytes ≡ Ok s) × IsRefused s refusal
-IsRefusedFor bytes fault.InputTooLong = 1048576 < length bytes
+IsRefusedFor bytes fault.InputTooLong = set_limit < length bytes

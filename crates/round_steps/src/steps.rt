@@ -11,13 +11,10 @@ use crate::faults::OpenFault;
 use event_core::Core;
 use run_compile::compile;
 use run_tree::Plan;
-use sched_base::{Leaf, NoMemory, Row, blank_rows};
+use sched_base::{Leaf, NoMemory, Row, SET_LIMIT, blank_rows};
 use std::alloc::Global;
 use std::marker::Model;
 use task_reader::read_set;
-
-/// The most bytes of a task set.
-const SET_LIMIT: usize = 1_048_576;
 
 /// What stands for the number of a task where a processor runs none.
 pub const NO_TASK: u32 = 4_294_967_295;
