@@ -11,7 +11,7 @@ fn member_number(word: &[u8]) -> Option<Member>
     ensures { result ≡ member_number word.now }
 {
     let number = read_number(word)?;
-    if number > 4_294_967_295 {
+    if number > u128::from(u32::MAX) {
         return None;
     }
     Some(Member::Number(number as u32))
@@ -21,16 +21,9 @@ fn leaf_member(word: &[u8]) -> Option<Member>
     ensures { result ≡ leaf_member word.now }
 {
     match word.split_first() {
-        None => None,
-        Some((first, number)) => {
-            if *first == b'-' {
-                member_number(number)
-            } else if lawful_name(word) {
-                Some(Member::Name(Name::new(word)))
-            } else {
-                None
-            }
-        }
+        Some((first, number)) if *first == b'-' => member_number(number),
+        Some(_) if lawful_name(word) => Some(Member::Name(Name::new(word))),
+        _ => None,
     }
 }
 
@@ -38,14 +31,8 @@ fn dual_member(word: &[u8]) -> Option<Member>
     ensures { result ≡ dual_member word.now }
 {
     match word.split_first() {
-        None => None,
-        Some((first, number)) => {
-            if *first == b'~' {
-                member_number(number)
-            } else {
-                None
-            }
-        }
+        Some((first, number)) if *first == b'~' => member_number(number),
+        _ => None,
     }
 }
 
