@@ -14,6 +14,7 @@ use Rattle.command_words.specs.declared.command.Reading.{Reading}
 use Rattle.command_words.specs.declared.command.Reading.TheVariants.{Rate, Tree, Trace, TraceMet, TraceWrap, TraceRepeat, Table, TableRepeat, Check, Follow, Draw}
 use Rattle.command_words.specs.declared.command.Execution.{Execution}
 use Rattle.command_words.specs.declared.command.Execution.TheVariants.{Exec, ExecMet, Drill, Jobs, Modes}
+use Rattle.sched_base.specs.Limits.{window_limit}
 use Rattle.command_words.specs.Words.{window_of, exec_with, drill_of, drill_with}
 use Rattle.command_words.specs.Words.{drawn, reading_named}
 use Rattle.command_words.specs.CommandLine.{parser, Spells, SpellsWrap, SpellsExec}
@@ -21,9 +22,9 @@ use Rattle.command_words.proofs.ValueLemmas.{IsBare, in_range_is_bare}
 use Rattle.command_words.proofs.DrawLineLemmas.{reads_draw}
 use Rattle.std.specs.Prelude.{nat_lt, ◌^◌, if◌then◌else◌, nat_le, ◌&&◌}
 
--- a window is from 1 to 1,024
+-- a window is from 1 to the largest one
 abbrev as_window : ℕ → Option ℕ
-as_window n = if nat_le 1 n && nat_le n 1024 then Some n else None
+as_window n = if nat_le 1 n && nat_le n window_limit then Some n else None
 
 -- the number of a drill is below 2 ^ 64
 abbrev as_drill : ℕ → Option ℕ

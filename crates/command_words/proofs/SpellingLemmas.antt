@@ -10,6 +10,7 @@ use Rattle.command_words.specs.declared.command.Reading.{Reading}
 use Rattle.command_words.specs.declared.command.Reading.TheVariants.{Rate, Tree, Trace, TraceMet, TraceWrap, TraceRepeat, Table, TableRepeat, Check, Follow, Draw}
 use Rattle.command_words.specs.declared.command.Execution.{Execution}
 use Rattle.command_words.specs.declared.command.Execution.TheVariants.{Exec, ExecMet, Drill, Jobs, Modes}
+use Rattle.sched_base.specs.Limits.{window_limit}
 use Rattle.command_words.specs.Words.{window_of, exec_with, exec_by, drill_of, drill_with, after_text, HasWindow}
 use Rattle.command_words.specs.Words.{reading_of, reading_by, reading_named, reading_with, reading_with_value, batch_of, execution_of, execution_named, execution_with, execution_with_value}
 use Rattle.command_words.specs.Words.{value_in, met_at, front, units_of, asked_units, drawn, draw_at_end, draw_of, DrawsSomeUnit}
@@ -347,11 +348,11 @@ only_executing words c asks e =
     let (y, is, same) = mapped Execute (execution_of words) c (sym (executes words asks) ∙ e) in
     (y, same)
 
--- a window that was written is from 1 to 1,024
-window_bounds : (v : Text) (n : ℕ) → window_of v ≡ Some n → (1 ≤ n) × (n ≤ 1024)
+-- a window that was written is from 1 to the largest one
+window_bounds : (v : Text) (n : ℕ) → window_of v ≡ Some n → (1 ≤ n) × (n ≤ window_limit)
 window_bounds v n e = search (rules, tests)
 
-exec_window : (window : ℕ) (words : List Text) → SpellsExec window words → (1 ≤ window) × (window ≤ 1024)
+exec_window : (window : ℕ) (words : List Text) → SpellsExec window words → (1 ≤ window) × (window ≤ window_limit)
 exec_window window words spells = elim spells [
   | inl usual ↦ let is = usual.0 in (omega (arith, is), omega (arith, is))
   | inr asked ↦ window_bounds asked.0 window asked.1

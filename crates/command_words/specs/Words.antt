@@ -3,6 +3,7 @@ use Rattle.std.specs.Prelude.{ℕ, ◌≤◌, ◌^◌, ◌&&◌, ◌||◌, nat_l
 use Rattle.std.specs.Prelude.{length, take, drop, Option}
 use Rattle.std.specs.Prelude.{Some, None, IfSome, option_map, option_and_then, codes}
 use Rattle.std.specs.Str.{bytes_eq}
+use Rattle.sched_base.specs.Limits.{window_limit}
 use Rattle.text_words.specs.Words.{number_of}
 use Rattle.command_words.specs.declared.command.Command.{Command}
 use Rattle.command_words.specs.declared.command.Command.TheVariants.{Read, Batch, Execute}
@@ -118,7 +119,7 @@ reading_of (word ∷ options) = if bytes_eq word (codes "draw") then draw_of opt
 
 -- the window that a word writes: a number in decimal digits, without a leading zero
 abbrev pub window_of : List ℕ → Option ℕ
-window_of word = option_and_then (λ n. if nat_le 1 n && nat_le n 1024 then Some n else None) (number_of word)
+window_of word = option_and_then (λ n. if nat_le 1 n && nat_le n window_limit then Some n else None) (number_of word)
 
 -- `exec` with the window that a word writes
 abbrev pub exec_with : List ℕ → Option Execution
@@ -164,9 +165,9 @@ execution_of (word ∷ option ∷ []) = execution_with word option
 execution_of (word ∷ option ∷ value ∷ []) = execution_with_value word option value
 execution_of _ = None
 
--- the window of an execution is from 1 to 1,024
+-- the window of an execution is from 1 to the largest one
 abbrev pub HasWindow : Execution → Type 0
-HasWindow (Exec window) = (1 ≤ window) × (window ≤ 1024)
+HasWindow (Exec window) = (1 ≤ window) × (window ≤ window_limit)
 HasWindow _ = Unit {0}
 
 -- ---- all commands

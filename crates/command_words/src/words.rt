@@ -11,21 +11,15 @@ ghost use Rattle.command_words.specs.Words.{asks_to_execute, asks_for_batch, ask
 use crate::asking::Asked;
 use crate::command::{Command, Execution, Reading};
 use crate::command_line::read_line;
-use sched_base::NoMemory;
+use sched_base::{NoMemory, UNIT_LIMIT, WINDOW_LIMIT};
 use std::alloc::Global;
 use text_words::read_number;
 
 /// Where no window is asked for, a lane may run up to that many rounds ahead.
 pub const USUAL_WINDOW: u32 = 32;
 
-/// The largest window.
-const WINDOW_LIMIT: u128 = 1024;
-
 /// The largest number of a drill.
 const DRILL_LIMIT: u128 = 18_446_744_073_709_551_615;
-
-/// The largest number of a unit, and of units: horizons are no larger.
-const UNIT_LIMIT: u128 = 4_294_967_295;
 
 /// The command that reads that these words are, the words after the program's name; none where they are no command line. The words
 /// don't ask for what takes threads. The only error is want of memory.
@@ -231,7 +225,7 @@ fn unit_of(word: &[u8]) -> Option<u64>
     ensures { result ≡ unit_of word.now }
 {
     match read_number(word) {
-        Some(number) if number <= UNIT_LIMIT => Some(number as u64),
+        Some(number) if number <= u128::from(UNIT_LIMIT) => Some(number as u64),
         _ => None,
     }
 }
@@ -241,7 +235,7 @@ fn units_of(word: &[u8]) -> Option<u64>
     ensures { result ≡ units_of word.now }
 {
     match read_number(word) {
-        Some(number) if 1 <= number && number <= UNIT_LIMIT => Some(number as u64),
+        Some(number) if 1 <= number && number <= u128::from(UNIT_LIMIT) => Some(number as u64),
         _ => None,
     }
 }
@@ -327,7 +321,7 @@ fn window_of(word: &[u8]) -> Option<u32>
     ensures { result ≡ window_of word.now }
 {
     match read_number(word) {
-        Some(number) if 1 <= number && number <= WINDOW_LIMIT => Some(number as u32),
+        Some(number) if 1 <= number && number <= u128::from(WINDOW_LIMIT) => Some(number as u32),
         _ => None,
     }
 }
