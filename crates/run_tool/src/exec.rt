@@ -1,7 +1,7 @@
 //! The command `exec`.
 ghost use Rattle.std.specs.Prelude.{◌≡◌, ◌≤◌, ◌*◌, false, length, OnOk, IfErr, IfOk};
-ghost use Rattle.sched_base.specs.Tables.{rounds_in};
-ghost use Rattle.sched_base.specs.Tables.{row_limit};
+ghost use Rattle.sched_base.specs.Limits.{window_limit};
+ghost use Rattle.sched_base.specs.Tables.{rounds_in, row_limit};
 ghost use Rattle.sched_base.specs.Lanes.{NamesOneOf};
 ghost use Rattle.row_totals.specs.Sums.{totals_of};
 ghost use Rattle.plan_rounds.specs.PlanRows.{plan_rows};
@@ -40,7 +40,7 @@ pub(crate) fn exec<R: Source, W: Sink, G: Gate + Send, X: Threads + Wait + Sync>
 ) -> Result<(), Refusal>
     requires ready { IsFreshCrew (crew_of G.Gate ⟦<BoxedJob as Job>⟧ kits.old jobs.old) }
     requires some_window { 1 ≤ window }
-    requires small_window { window ≤ 1024 }
+    requires small_window { window ≤ window_limit }
     ensures { let old = streams_of R.Source W.Sink source.old out.old in
         let new = streams_of R.Source W.Sink source.new out.new in
         let before = crew_of G.Gate ⟦<BoxedJob as Job>⟧ kits.old jobs.old in
@@ -69,7 +69,7 @@ fn run_and_write<W: Sink, G: Gate + Send, X: Threads + Wait + Sync>(
     requires tree { plan.now.tree ≡ tree_of plan.now.tree.scale plan.now.set }
     requires ready { IsFreshCrew (crew_of G.Gate ⟦<BoxedJob as Job>⟧ kits.old jobs.old) }
     requires some_window { 1 ≤ window }
-    requires small_window { window ≤ 1024 }
+    requires small_window { window ≤ window_limit }
     ensures { let before = crew_of G.Gate ⟦<BoxedJob as Job>⟧ kits.old jobs.old in
         let now = crew_of G.Gate ⟦<BoxedJob as Job>⟧ kits.new jobs.new in
         EndsPart (RanSet met (W.taken out.old) (W.taken out.new) before now plan.now.set)
@@ -111,24 +111,11 @@ pub(crate) fn run_plan<G: Gate + Send, X: Threads + Wait + Sync>(
     plan.know_lawful();
     match execute(rt, alloc, plan, rounds, window, kits, jobs) {
         Ok(executed) => Ok(executed),
-        Err(
-            ExecFault::Gate {
-                processor: _,
-                row,
-                posts: _,
-            },
-        ) => Err(Refusal::GateFault {
+        Err(ExecFault::Gate { row, .. }) => Err(Refusal::GateFault {
             row,
             name: name_at(plan.set(), row.leaf),
         }),
-        Err(
-            ExecFault::Job {
-                task: _,
-                processor: _,
-                row,
-                posts: _,
-            },
-        ) => Err(Refusal::JobFault {
+        Err(ExecFault::Job { row, .. }) => Err(Refusal::JobFault {
             row,
             name: name_at(plan.set(), row.leaf),
         }),

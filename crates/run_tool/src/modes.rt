@@ -144,27 +144,14 @@ fn run_all<G: Gate + Send, X: Threads + Wait + Sync>(
     let _are_modes = modes.count();
     match run_modes(rt, alloc, modes, USUAL_WINDOW, kits, jobs) {
         Ok(run) => Ok(run),
-        Err(
-            ModesFault::Gate {
-                mode,
-                processor: _,
-                row,
-            },
-        ) => Err(Refusal::OfMode {
+        Err(ModesFault::Gate { mode, row, .. }) => Err(Refusal::OfMode {
             mode,
             refusal: ModeRefusal::GateFault {
                 row,
                 name: name_at(modes.plan(mode).set(), row.leaf),
             },
         }),
-        Err(
-            ModesFault::Job {
-                mode,
-                task: _,
-                processor: _,
-                row,
-            },
-        ) => Err(Refusal::OfMode {
+        Err(ModesFault::Job { mode, row, .. }) => Err(Refusal::OfMode {
             mode,
             refusal: ModeRefusal::JobFault {
                 row,
