@@ -76,8 +76,8 @@ impl Pending {
         ensures belongs { IsCoreOf plan.now self.new.core }
         ensures round { IsRoundUpTo plan.now self.old.core.tick self.new.core.tick }
         ensures width { self.new.width ≡ self.old.width }
-        ensures held { self.new.held ≡ buffer (self.old.held.items ++ map (pending self.old.given) (rows_of_round plan.now self.old.core.tick self.new.core.tick))
-            self.old.held.capacity }
+        ensures held { self.new.held ≡ buffer (self.old.held.items
+            ++ map (pending self.old.given) (rows_of_round plan.now self.old.core.tick self.new.core.tick)) self.old.held.capacity }
         ensures computed { self.new.computed ≡ self.old.computed + 1 }
         ensures given { AreCounted self.old.given (rows_of_round plan.now self.old.core.tick self.new.core.tick) self.new.given }
     {

@@ -7,7 +7,8 @@ ghost use Rattle.run_tree.specs.Schedule.{packs_at};
 ghost use Rattle.cpu_assign.specs.Changed.{AreChanged};
 ghost use Rattle.release_calendar.specs.Calendars.{BelongsTo};
 ghost use Rattle.tree_select.specs.Marked.{AreFreshFrom};
-ghost use Rattle.event_core.specs.Serving.{due_of, no_tick, AreBegun, AreFitting, AreLong, AreOfPacks, AreSeen, AreSettledFrom, IsBlank, IsDrying, IsServing, IsSoonest};
+ghost use Rattle.event_core.specs.Serving.{due_of, no_tick, AreBegun, AreFitting, AreLong, AreOfPacks, AreSeen, AreSettledFrom};
+ghost use Rattle.event_core.specs.Serving.{IsBlank, IsDrying, IsServing, IsSoonest};
 ghost use Rattle.event_core.specs.Steps.{packs_by};
 
 use crate::begun::begin_all;

@@ -25,9 +25,8 @@ pub fn trace_law()
     ensures { (t : Trace) → IsValidTrace t → CanRepeat t.set → (n : ℕ) → IsValidTrace (times n t) }
 {}
 
-/// The law of merged plans, whatever reduction tree of its set a plan has: the rows of each processor in RUN's schedule are a table's, and merged they are a
-/// valid schedule too: those
-/// that a table in C tells.
+/// The law of merged plans, whatever reduction tree of its set a plan has: the rows of each processor in RUN's schedule are a table's, and merged
+/// they are a valid schedule too: those that a table in C tells.
 pub fn merged_plan_law()
     ensures table { (p : PlanContents) → HasTree p → IsTable (lanes_of p.tree.processors (schedule_of p)) }
     ensures valid { (p : PlanContents) → HasTree p → IsValid p.set p.tree.scale (stop_of p) (stop_of p)

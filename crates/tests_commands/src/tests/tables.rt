@@ -177,7 +177,8 @@ const OPEN: &str =
     "processors = 2\nhorizon = 7\ntask = [{name = \"a\", work = 2, period = 3}, {name = \"b\", work = 2, period = 3}, {name = \"c\", work = 2, period = 3}]\n";
 
 const LONG: &str =
-    "processors = 2\nhorizon = 4294967295\ntask = [{name = \"a\", work = 2, period = 3}, {name = \"b\", work = 2, period = 3}, {name = \"c\", work = 2, period = 3}]\n";
+    "processors = 2\nhorizon = 4294967295\ntask = [{name = \"a\", work = 2, period = 3}, {name = \"b\", work = 2, period = 3}, \
+        {name = \"c\", work = 2, period = 3}]\n";
 
 /// The least horizon at which a schedule repeats, whatever the set's is.
 const AGAIN: &[DoneCase] = &[
