@@ -7,9 +7,8 @@ use Rattle.std.proofs.Math.Nat.{le-div_iff_mul-le, le-mul_of_pos_right}
 use Rattle.std.proofs.lemmas.Bool.{cases_Bool, cases_lt, ne_eqb, lt-ltb}
 use Rattle.sched_base.specs.declared.sets.Task.{Task}
 use Rattle.trace_draw.specs.declared.shown_units.ShownUnits.{ShownUnits}
-use Rattle.trace_draw.specs.ShownUnits.{first_tick, has_tick, place, plot_width}
-use Rattle.trace_draw.specs.Shapes.{box_line, arrow_line, ring_line}
-use Rattle.trace_draw.specs.Rows.{line_if}
+use Rattle.trace_draw.specs.ShownUnits.{first_tick, end_tick, place, plot_width}
+use Rattle.trace_draw.specs.Shapes.{box_line, shape_line}
 use Rattle.trace_draw.specs.Periods.{begun_before, first_shown, count_shown, is_wrong, period_lines}
 use Rattle.std.specs.Prelude.{Bool, nat_le}
 
@@ -61,8 +60,9 @@ wrong_capped horizon end due given small =
 pub lines_capped : (w : ShownUnits) (horizon y a b due given done : ℕ) → due < 2 ^ 128 - 1
     → period_lines w horizon y a b due (min given (2 ^ 128 - 1)) done ≡ period_lines w horizon y a b due given done
 lines_capped w horizon y a b due given done small =
-    ap (λ t. line_if (leb (first_tick w) a) (arrow_line (place w a) y)
-    ∷ cond t (box_line (codes " class='w'") (place w a) (y - 20) (place w b - place w a) 40) (line_if (leb b horizon && (has_tick w done && ltb (first_tick w) done)) (ring_line (place w done) y)) ∷ [])
+    ap (λ t. cond (leb (first_tick w) a) (shape_line (codes "<path class='r' d='M") (place w a) (codes " ") y (codes "v-290m-45 70l45-70l45 70'/>")) []
+    ∷ cond t (box_line (codes " class='w'") (place w a) (y - 20) (place w b - place w a) 40)
+    (cond (leb b horizon && (ltb (first_tick w) done && leb done (end_tick w))) (shape_line (codes "<circle class='o' cx='") (place w done) (codes "' cy='") y (codes "' r='40'/>")) []) ∷ [])
     (wrong_capped horizon b due given small)
 
 -- ---- ticks of a lawful task and of the schedule

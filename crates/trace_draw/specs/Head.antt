@@ -11,7 +11,7 @@ use Rattle.trace_verdict.specs.declared.faults.Verdict.{Verdict}
 use Rattle.trace_verdict.specs.declared.faults.Verdict.TheVariants.{Valid, Fault}
 use Rattle.trace_draw.specs.declared.shown_units.ShownUnits.{ShownUnits}
 use Rattle.trace_draw.specs.ShownUnits.{plot_left, plot_width, place}
-use Rattle.trace_draw.specs.Shapes.{box_line, label_line, grown, roomy_line, grid_line, lane_top, task_top}
+use Rattle.trace_draw.specs.Shapes.{box_line, label_line, grown, roomy_line, shape_line, lane_top, task_top}
 
 -- how far from the top the plot ends
 abbrev pub bottom : SetContents → ℕ
@@ -54,19 +54,6 @@ abbrev pub verdict_look : Verdict → List ℕ
 verdict_look Valid = codes "ok"
 verdict_look (Fault line kind) = codes "bad"
 
--- the picture's size, its title, and a description
-unfoldable pub size_line : SetContents → List ℕ
-size_line s = codes " viewBox='0 0 12000 " ++ (decimal (bottom s + 600) ++ (codes "'>" ++ line_feed ∷ []))
-
-unfoldable pub title_line : SetContents → List ℕ
-title_line s = codes "<title id='t'>Schedule of " ++ (size_text s ++ (codes "</title>" ++ line_feed ∷ []))
-
-unfoldable pub description_line : SetContents → ShownUnits → Verdict → List ℕ
-description_line s w v = units_text s w ++ (codes "; " ++ (verdict_text v ++ (codes "</desc>" ++ line_feed ∷ [])))
-
-unfoldable pub paper_line : SetContents → List ℕ
-paper_line s = codes "<rect width='12000' height='" ++ (decimal (bottom s + 600) ++ (codes "' fill='#fff'/>" ++ line_feed ∷ []))
-
 -- how the shapes look: the colours are told apart by colour-blind people, and each text by its contrast; on a narrow page the words above the plot
 -- are larger, and others where they have room
 abbrev pub style_lines : List (List ℕ)
@@ -84,20 +71,24 @@ style_lines =
     ∷ word_line (codes "@media(max-width:900px){.h{font-size:300px}.ok,.bad{font-size:260px}.l,.e{transform:translateY(-30px)}")
     ∷ word_line (codes ".s{transform:translateY(15px)}.x{font-size:230px}.y,.s.y{font-size:160px}.s.x{font-size:220px}}</style>") ∷ []
 
--- what comes before the lanes
+-- what comes before the lanes: the picture's size, its title, and a description
 abbrev pub opening_lines : SetContents → ShownUnits → Verdict → List (List ℕ)
 opening_lines s w v =
-    word_line (codes "<svg xmlns='http://www.w3.org/2000/svg' role='img' aria-labelledby='t d'") ∷ size_line s ∷ title_line s
-    ∷ word_line (codes "<desc id='d'>A lane for each processor, and below them one for each task;") ∷ description_line s w v ∷ []
+    word_line (codes "<svg xmlns='http://www.w3.org/2000/svg' role='img' aria-labelledby='t d'")
+    ∷ shape_line (codes " viewBox='0 0 ") 12_000 (codes " ") (bottom s + 600) (codes "'>")
+    ∷ (codes "<title id='t'>Schedule of " ++ (size_text s ++ (codes "</title>" ++ line_feed ∷ [])))
+    ∷ word_line (codes "<desc id='d'>A lane for each processor, and below them one for each task;")
+    ∷ (units_text s w ++ (codes "; " ++ (verdict_text v ++ (codes "</desc>" ++ line_feed ∷ [])))) ∷ []
 
 -- how large the second line of words may be on a narrow page: what is shown, with this behind it, and the scale share its room
 abbrev pub second_size : SetContents → ShownUnits → List ℕ → List ℕ
 second_size s w hint = grown (length (units_text s w) + length hint + length (scale_text w.scale)) 11300
 
--- the words above the plot, with what is said of what isn't shown
+-- the paper, and the words above the plot, with what is said of what isn't shown
 abbrev pub caption_lines : SetContents → ShownUnits → Verdict → List ℕ → List (List ℕ)
 caption_lines s w v hint =
-    paper_line s ∷ label_line (codes "h") 250 330 (size_text s)
+    shape_line (codes "<rect width='") 12_000 (codes "' height='") (bottom s + 600) (codes "' fill='#fff'/>")
+    ∷ label_line (codes "h") 250 330 (size_text s)
     ∷ label_line (codes "n" ++ second_size s w hint) 250 560 (units_text s w ++ hint)
     ∷ label_line (codes "u" ++ second_size s w hint) 11600 560 (scale_text w.scale) ∷ label_line (verdict_look v) 11600 330 (verdict_text v) ∷ []
 
@@ -105,14 +96,11 @@ caption_lines s w v hint =
 abbrev pub head_text : SetContents → ShownUnits → Verdict → List ℕ → List ℕ
 head_text s w v hint = concat (opening_lines s w v) ++ (concat style_lines ++ concat (caption_lines s w v hint))
 
--- the lane of processor p, with nothing on it
-abbrev pub lane_lines : ℕ → List (List ℕ)
-lane_lines p =
-    roomy_line (codes "l") 1760 1780 (lane_top p + 215) (codes "cpu " ++ decimal p) ∷ box_line (codes " class='p'") plot_left (lane_top p) plot_width 340 ∷ []
-
--- the lanes of all processors
+-- the lanes of all processors, with nothing on them
 abbrev pub lanes_text : SetContents → List ℕ
-lanes_text s = flat_map (λ p. concat (lane_lines p)) (range_with_len 0 s.processors)
+lanes_text s =
+    flat_map (λ p. concat (roomy_line (codes "l") 1760 1780 (lane_top p + 215) (codes "cpu " ++ decimal p)
+    ∷ box_line (codes " class='p'") plot_left (lane_top p) plot_width 340 ∷ [])) (range_with_len 0 s.processors)
 
 -- the first of these tens, twice it or five times it of which twelve cover so many units
 abbrev pub step_among : List ℕ → ℕ → ℕ
@@ -129,18 +117,14 @@ axis_step units = step_among (1 ∷ 10 ∷ 100 ∷ 1000 ∷ 10_000 ∷ 100_000 �
 abbrev pub first_mark : ShownUnits → ℕ → ℕ
 first_mark w step = (w.from + step - 1) / step
 
--- how many marks it has
-abbrev pub mark_count : ShownUnits → ℕ → ℕ
-mark_count w step = (w.from + w.units) / step + 1 - first_mark w step
+-- the mark of a unit: an upright line from the axis down, and its number
+abbrev pub mark_text : SetContents → ShownUnits → ℕ → List ℕ
+mark_text s w unit =
+    concat (shape_line (codes "<path class='g' d='M") (place w (unit * w.scale)) (codes " 880V") (bottom s) (codes "'/>")
+    ∷ roomy_line (codes "a") 760 (place w (unit * w.scale)) 840 (decimal unit) ∷ [])
 
--- the line and the number of a unit at this place
-abbrev pub mark_lines : ℕ → ℕ → ℕ → List (List ℕ)
-mark_lines at end unit = grid_line at end ∷ roomy_line (codes "a") 760 at 840 (decimal unit) ∷ []
-
--- the i-th mark of the axis
-abbrev pub mark_text : SetContents → ShownUnits → ℕ → ℕ → List ℕ
-mark_text s w step i = concat (mark_lines (place w ((first_mark w step + i) * step * w.scale)) (bottom s) ((first_mark w step + i) * step))
-
--- the axis
+-- the axis, with the marks of these units
 abbrev pub axis_text : SetContents → ShownUnits → List ℕ
-axis_text s w = flat_map (mark_text s w (axis_step w.units)) (range_with_len 0 (mark_count w (axis_step w.units)))
+axis_text s w =
+    flat_map (λ i. mark_text s w ((first_mark w (axis_step w.units) + i) * axis_step w.units))
+    (range_with_len 0 ((w.from + w.units) / axis_step w.units + 1 - first_mark w (axis_step w.units)))

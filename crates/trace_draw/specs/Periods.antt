@@ -11,9 +11,8 @@ use Rattle.trace_verdict.specs.declared.faults.Verdict.{Verdict}
 use Rattle.trace_verdict.specs.declared.faults.Verdict.TheVariants.{Valid, Fault}
 use Rattle.trace_check.specs.Traces.{Trace}
 use Rattle.trace_draw.specs.declared.shown_units.ShownUnits.{ShownUnits}
-use Rattle.trace_draw.specs.ShownUnits.{plot_width, first_tick, has_tick, place}
-use Rattle.trace_draw.specs.Shapes.{box_line, roomy_line, base_line, arrow_line, ring_line, task_top}
-use Rattle.trace_draw.specs.Rows.{line_if}
+use Rattle.trace_draw.specs.ShownUnits.{plot_width, first_tick, end_tick, place}
+use Rattle.trace_draw.specs.Shapes.{box_line, roomy_line, shape_line, task_top}
 
 -- how many periods of the task begin before this unit
 abbrev pub begun_before : Task → ℕ → ℕ
@@ -35,9 +34,10 @@ is_wrong horizon end due given = if nat_le end horizon then not (given == due) e
 -- a ring where its work was done
 abbrev pub period_lines : ShownUnits → ℕ → ℕ → ℕ → ℕ → ℕ → ℕ → ℕ → List (List ℕ)
 period_lines w horizon y a b due given done =
-    line_if (nat_le (first_tick w) a) (arrow_line (place w a) y)
+    (if nat_le (first_tick w) a then shape_line (codes "<path class='r' d='M") (place w a) (codes " ") y (codes "v-290m-45 70l45-70l45 70'/>") else [])
     ∷ (if is_wrong horizon b due given then box_line (codes " class='w'") (place w a) (y - 20) (place w b - place w a) 40
-    else line_if (nat_le b horizon && (has_tick w done && nat_lt (first_tick w) done)) (ring_line (place w done) y)) ∷ []
+    else if nat_le b horizon && (nat_lt (first_tick w) done && nat_le done (end_tick w))
+    then shape_line (codes "<circle class='o' cx='") (place w done) (codes "' cy='") y (codes "' r='40'/>") else []) ∷ []
 
 -- what is drawn of period k of task j
 abbrev pub period_text : Trace → ShownUnits → ℕ → ℕ → List ℕ
@@ -59,21 +59,15 @@ is_at_fault t (Fault line kind) j = line == first_task_line + length t.set.tasks
 abbrev pub title_look : Bool → ℕ → List ℕ
 title_look fault letters = (if fault then codes "e" else codes "l") ++ (if nat_le letters 24 then [] else (if nat_le letters 34 then codes " q" else codes " j"))
 
--- the words and the line of the lane of task j
+-- the words of the lane of task j, and the line under it
 abbrev pub title_lines : Trace → Verdict → ℕ → ℕ → List (List ℕ)
 title_lines t v j top =
     roomy_line (title_look (is_at_fault t v j) (length (task_at t.set.tasks j).name)) 1760 1780 (top + 170) (task_at t.set.tasks j).name
-    ∷ roomy_line (codes "s") 1960 1780 (top + 350) (numbers_text (task_at t.set.tasks j)) ∷ base_line (top + 300) ∷ []
+    ∷ roomy_line (codes "s") 1960 1780 (top + 350) (numbers_text (task_at t.set.tasks j))
+    ∷ shape_line (codes "<path class='b' d='M") 1900 (codes " ") (top + 300) (codes "H11600'/>") ∷ []
 
--- the marks of the periods of task j that are shown
-abbrev pub marks_text : Trace → ShownUnits → ℕ → List ℕ
-marks_text t w j =
-    flat_map (λ i. period_text t w j (first_shown w (task_at t.set.tasks j) + i)) (range_with_len 0 (count_shown w (task_at t.set.tasks j)))
-
--- the lane of task j
+-- the lane of task j, with the marks of its periods that are shown
 abbrev pub task_text : Trace → ShownUnits → Verdict → ℕ → List ℕ
-task_text t w v j = concat (title_lines t v j (task_top t.set.processors j)) ++ marks_text t w j
-
--- the lanes of all tasks
-abbrev pub tasks_text : Trace → ShownUnits → Verdict → List ℕ
-tasks_text t w v = flat_map (task_text t w v) (range_with_len 0 (length t.set.tasks))
+task_text t w v j =
+    concat (title_lines t v j (task_top t.set.processors j))
+    ++ flat_map (λ i. period_text t w j (first_shown w (task_at t.set.tasks j) + i)) (range_with_len 0 (count_shown w (task_at t.set.tasks j)))

@@ -1,6 +1,6 @@
 -- The picture of a trace. Names are lawful ones, in which nothing needs escaping.
 use Rattle.std.specs.Prelude.{ℕ, ◌+◌, ◌-◌, nat_le, nat_lt, ◌&&◌, if◌then◌else◌, List, [], ◌∷◌, ◌++◌, length, codes, decimal}
-use Rattle.std.specs.List.{concat}
+use Rattle.std.specs.List.{flat_map, concat, range_with_len}
 use Rattle.sched_edges.specs.Lines.{word_line}
 use Rattle.sched_base.specs.Sets.{SetContents}
 use Rattle.trace_verdict.specs.declared.faults.Verdict.{Verdict}
@@ -13,7 +13,7 @@ use Rattle.trace_draw.specs.ShownUnits.{most_drawn, count_reaching, reaches, pla
 use Rattle.trace_draw.specs.Shapes.{roomy_line}
 use Rattle.trace_draw.specs.Head.{bottom, head_text, lanes_text, axis_text}
 use Rattle.trace_draw.specs.Rows.{rows_text, frame_lines}
-use Rattle.trace_draw.specs.Periods.{tasks_text}
+use Rattle.trace_draw.specs.Periods.{task_text}
 
 -- the frames of row i, where there is such a row and it reaches into the window
 abbrev pub framed_row : Trace → ShownUnits → ℕ → List ℕ
@@ -41,14 +41,9 @@ hint_text t w =
     else (if nat_le (length t.rows) most_drawn then codes "; all: draw --units " ++ decimal t.set.horizon
     else (if nat_lt (w.from + w.units) t.set.horizon then codes "; more: draw --from " ++ decimal (w.from + w.units) else [])))
 
--- what lies below the rows: the head, the empty lanes and the axis
-abbrev pub base_text : Trace → ShownUnits → Verdict → List ℕ
-base_text t w v = head_text t.set w v (hint_text t w) ++ (lanes_text t.set ++ axis_text t.set w)
-
--- what comes last: the words of rows lie above all else
-abbrev pub end_text : Trace → ShownUnits → Verdict → List ℕ
-end_text t w v = fault_text t w v ++ (rows_text Words t.set w t.rows ++ concat (closing_lines t.set))
-
--- the picture of a trace with this verdict
+-- the picture of a trace with this verdict: the head, the empty lanes and the axis lie below the rows, and the words of rows above all else
 unfoldable pub picture : Trace → ShownUnits → Verdict → List ℕ
-picture t w v = base_text t w v ++ (rows_text Boxes t.set w t.rows ++ (tasks_text t w v ++ end_text t w v))
+picture t w v =
+    (head_text t.set w v (hint_text t w) ++ (lanes_text t.set ++ axis_text t.set w))
+    ++ (rows_text Boxes t.set w t.rows ++ (flat_map (task_text t w v) (range_with_len 0 (length t.set.tasks))
+    ++ (fault_text t w v ++ (rows_text Words t.set w t.rows ++ concat (closing_lines t.set)))))

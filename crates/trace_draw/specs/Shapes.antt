@@ -8,10 +8,6 @@ box_line look x y width height =
     codes "<rect" ++ (look ++ (codes " x='" ++ (decimal x ++ (codes "' y='" ++ (decimal y
     ++ (codes "' width='" ++ (decimal width ++ (codes "' height='" ++ (decimal height ++ (codes "'/>" ++ line_feed ∷ []))))))))))
 
--- the begin of a group of shapes that look so, with a text that is shown where the mouse rests on them
-unfoldable pub group_line : List ℕ → List ℕ → List ℕ
-group_line look tip = codes "<g class='" ++ (look ++ (codes "'><title>" ++ (tip ++ (codes "</title>" ++ line_feed ∷ []))))
-
 -- a text
 unfoldable pub label_line : List ℕ → ℕ → ℕ → List ℕ → List ℕ
 label_line look x y text =
@@ -27,21 +23,9 @@ grown letters room =
 abbrev pub roomy_line : List ℕ → ℕ → ℕ → ℕ → List ℕ → List ℕ
 roomy_line look room x y text = label_line (look ++ grown (length text) room) x y text
 
--- an upright line from the axis down to y
-unfoldable pub grid_line : ℕ → ℕ → List ℕ
-grid_line x y = codes "<path class='g' d='M" ++ (decimal x ++ (codes " 880V" ++ (decimal y ++ (codes "'/>" ++ line_feed ∷ []))))
-
--- a line under the lane of a task
-unfoldable pub base_line : ℕ → List ℕ
-base_line y = codes "<path class='b' d='M1900 " ++ (decimal y ++ (codes "H11600'/>" ++ line_feed ∷ []))
-
--- an arrow that stands on y
-unfoldable pub arrow_line : ℕ → ℕ → List ℕ
-arrow_line x y = codes "<path class='r' d='M" ++ (decimal x ++ (space ∷ (decimal y ++ (codes "v-290m-45 70l45-70l45 70'/>" ++ line_feed ∷ []))))
-
--- a ring
-unfoldable pub ring_line : ℕ → ℕ → List ℕ
-ring_line x y = codes "<circle class='o' cx='" ++ (decimal x ++ (codes "' cy='" ++ (decimal y ++ (codes "' r='40'/>" ++ line_feed ∷ []))))
+-- a shape that is told by two numbers, with what stands before, between and behind them
+unfoldable pub shape_line : List ℕ → ℕ → List ℕ → ℕ → List ℕ → List ℕ
+shape_line before x between y behind = before ++ (decimal x ++ (between ++ (decimal y ++ (behind ++ line_feed ∷ []))))
 
 -- the look of a box of task j that is so wide: one of eight colours, and its border
 abbrev pub task_look : ℕ → ℕ → List ℕ

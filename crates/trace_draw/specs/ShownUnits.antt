@@ -27,10 +27,6 @@ end_tick w = (w.from + w.units) * w.scale
 abbrev pub reaches : ShownUnits → Row → Bool
 reaches w r = nat_lt r.start (end_tick w) && nat_lt (first_tick w) r.end
 
--- whether the tick is one at which it begins or ends, or between
-abbrev pub has_tick : ShownUnits → ℕ → Bool
-has_tick w tick = nat_le (first_tick w) tick && nat_le tick (end_tick w)
-
 -- how far from the left a tick lies; one outside of the window lies at its nearer edge
 abbrev pub place : ShownUnits → ℕ → ℕ
 place w tick = plot_left + (min (max tick (first_tick w)) (end_tick w) - first_tick w) * plot_width / (w.units * w.scale)

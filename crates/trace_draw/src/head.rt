@@ -1,16 +1,18 @@
 //! The head of a picture: what a screen reader reads, the style, the words above the plot, the lanes and the axis.
-ghost use Rattle.std.specs.Prelude.{◌≡◌, ◌+◌, ◌*◌, ◌≤◌, ◌<◌, ◌^◌, ◌++◌, length, decimal};
+ghost use Rattle.std.specs.Prelude.{◌≡◌, ◌+◌, ◌*◌, ◌≤◌, ◌<◌, ◌^◌, ◌++◌, ◌-◌, ◌/◌, ◌∷◌, [], length, codes, decimal};
 ghost use Rattle.std.specs.List.{concat};
 ghost use Rattle.sched_edges.specs.Causes.{HasCause};
 ghost use Rattle.sched_edges.specs.Streams.{Wrote};
-ghost use Rattle.trace_draw.specs.ShownUnits.{AreShownUnits};
-ghost use Rattle.trace_draw.specs.Shapes.{label_line};
-ghost use Rattle.trace_draw.specs.Head.{bottom, plural, size_text, units_text, scale_text, second_size, kind_text, verdict_text, verdict_look, size_line};
-ghost use Rattle.trace_draw.specs.Head.{title_line, description_line, paper_line, style_lines, opening_lines, caption_lines, head_text};
-ghost use Rattle.trace_draw.specs.Head.{lane_lines, lanes_text, axis_step, first_mark, mark_count, mark_lines, axis_text};
+ghost use Rattle.sched_base.specs.Bytes.{line_feed};
+ghost use Rattle.trace_draw.specs.ShownUnits.{AreShownUnits, plot_left, plot_width};
+ghost use Rattle.trace_draw.specs.Shapes.{box_line, label_line, roomy_line, shape_line, lane_top};
+ghost use Rattle.trace_draw.specs.Head.{bottom, plural, size_text, units_text, scale_text, second_size, kind_text, verdict_text, verdict_look};
+ghost use Rattle.trace_draw.specs.Head.{style_lines, opening_lines, caption_lines, head_text};
+ghost use Rattle.trace_draw.specs.Head.{lanes_text, axis_step, first_mark, axis_text};
 
 use crate::shapes::{
-    add_number, box_line, grid_line, grown, label_line, lane_top, number_text, roomy_line, task_top,
+    add_number, box_line, grown, label_line, lane_top, number_text, shape_line, roomy_line,
+    task_top,
 };
 use crate::shown_units::{LEFT, ShownUnits, WIDTH};
 use sched_base::TaskSet;
@@ -151,20 +153,8 @@ fn verdict_look(verdict: Verdict) -> &'static [u8]
     }
 }
 
-#[tactic(auto, unfolding(crate::specs::Head::size_line))]
-fn size_line(set: &TaskSet) -> Line
-    ensures { result ≡ size_line set.now }
-{
-    let mut line = Line::new();
-    add_number(&mut line, b" viewBox='0 0 12000 ", bottom(set) + 600);
-    line.text(b"'>");
-    line.end();
-    line
-}
-
-#[tactic(auto, unfolding(crate::specs::Head::title_line))]
 fn title_line(set: &TaskSet) -> Line
-    ensures { result ≡ title_line set.now }
+    ensures { result ≡ codes "<title id='t'>Schedule of " ++ (size_text set.now ++ (codes "</title>" ++ line_feed ∷ [])) }
 {
     let mut line = Line::new();
     line.text(b"<title id='t'>Schedule of ");
@@ -174,10 +164,9 @@ fn title_line(set: &TaskSet) -> Line
     line
 }
 
-#[tactic(auto, unfolding(crate::specs::Head::description_line))]
 fn description_line(set: &TaskSet, window: &ShownUnits, verdict: Verdict) -> Line
     requires { AreShownUnits window.now }
-    ensures { result ≡ description_line set.now window.now verdict }
+    ensures { result ≡ units_text set.now window.now ++ (codes "; " ++ (verdict_text verdict ++ (codes "</desc>" ++ line_feed ∷ []))) }
 {
     let mut line = Line::new();
     line.text(units_text(set, window).as_slice());
@@ -188,19 +177,17 @@ fn description_line(set: &TaskSet, window: &ShownUnits, verdict: Verdict) -> Lin
     line
 }
 
-#[tactic(auto, unfolding(crate::specs::Head::paper_line))]
+// The paper.
 fn paper_line(set: &TaskSet) -> Line
-    ensures { result ≡ paper_line set.now }
+    ensures { result ≡ shape_line (codes "<rect width='") 12_000 (codes "' height='") (bottom set.now + 600) (codes "' fill='#fff'/>") }
 {
-    let mut line = Line::new();
-    add_number(
-        &mut line,
-        b"<rect width='12000' height='",
+    shape_line(
+        b"<rect width='",
+        12_000,
+        b"' height='",
         bottom(set) + 600,
-    );
-    line.text(b"' fill='#fff'/>");
-    line.end();
-    line
+        b"' fill='#fff'/>",
+    )
 }
 
 /// Writes what comes before the lanes.
@@ -233,7 +220,7 @@ fn write_opening<W: Sink>(
 {
     let lines = [
         word_line(b"<svg xmlns='http://www.w3.org/2000/svg' role='img' aria-labelledby='t d'"),
-        size_line(set),
+        shape_line(b" viewBox='0 0 ", 12_000, b" ", bottom(set) + 600, b"'>"),
         title_line(set),
         word_line(b"<desc id='d'>A lane for each processor, and below them one for each task;"),
         description_line(set, window, verdict),
@@ -323,7 +310,7 @@ fn write_caption<W: Sink>(
 
 // The lane of a processor, with nothing on it.
 fn lane_lines(processor: u32) -> [Line; 2]
-    ensures { result ≡ lane_lines processor }
+    ensures { result ≡ roomy_line (codes "l") 1760 1780 (lane_top processor + 215) (codes "cpu " ++ decimal processor) ∷ box_line (codes " class='p'") plot_left (lane_top processor) plot_width 340 ∷ [] }
 {
     let top = lane_top(processor);
     let mut name = Line::new();
@@ -381,10 +368,10 @@ fn axis_step(units: u64) -> u64
 
 // The line and the number of a unit at a place.
 fn mark_lines(at: u64, end: u64, unit: u64) -> [Line; 2]
-    ensures { result ≡ mark_lines at end unit }
+    ensures { result ≡ shape_line (codes "<path class='g' d='M") at (codes " 880V") end (codes "'/>") ∷ roomy_line (codes "a") 760 at 840 (decimal unit) ∷ [] }
 {
     [
-        grid_line(at, end),
+        shape_line(b"<path class='g' d='M", at, b" 880V", end, b"'/>"),
         roomy_line(b"a", 760, at, 840, number_text(unit).as_slice()),
     ]
 }
@@ -423,7 +410,7 @@ fn mark_count(window: &ShownUnits, step: u64) -> u64
     requires window { AreShownUnits window.now }
     requires some { 0 < step }
     requires fits { step < 2 ^ 35 }
-    ensures { result ≡ mark_count window.now step }
+    ensures { result ≡ (window.now.from + window.now.units) / step + 1 - first_mark window.now step }
 {
     ((window.from + window.units) / step + 1).saturating_sub(first_mark(window, step))
 }

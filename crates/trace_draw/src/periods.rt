@@ -1,16 +1,18 @@
 //! The lanes of the tasks: names, releases, and how each period was served.
-ghost use Rattle.std.specs.Prelude.{◌≡◌, ◌+◌, ◌-◌, ◌*◌, ◌≤◌, ◌<◌, ◌^◌, length, false};
+ghost use Rattle.std.specs.Prelude.{◌≡◌, ◌+◌, ◌-◌, ◌*◌, ◌≤◌, ◌<◌, ◌^◌, length, codes, false};
+ghost use Rattle.std.specs.List.{flat_map, range_with_len};
 ghost use Rattle.sched_base.specs.Sets.{task_at, IsLawfulTask};
 ghost use Rattle.sched_edges.specs.Causes.{HasCause};
 ghost use Rattle.sched_edges.specs.Streams.{Wrote};
 ghost use Rattle.trace_draw.specs.ShownUnits.{AreShownUnits};
+ghost use Rattle.trace_draw.specs.Shapes.{shape_line};
 ghost use Rattle.trace_draw.specs.Periods.{begun_before, first_shown, count_shown, is_wrong, period_lines, period_text, numbers_text, is_at_fault};
-ghost use Rattle.trace_draw.specs.Periods.{title_look, title_lines, marks_text, task_text, tasks_text};
+ghost use Rattle.trace_draw.specs.Periods.{title_look, title_lines, task_text};
 
 use crate::rows::task_of;
 use crate::served::{Served, served_between};
 use crate::shapes::{
-    add_number, arrow_line, base_line, box_line, line_if, ring_line, roomy_line, task_top,
+    add_number, box_line, line_if, shape_line, roomy_line, task_top,
 };
 use crate::shown_units::{ShownUnits, WIDTH};
 use sched_base::Task;
@@ -72,6 +74,26 @@ fn is_wrong(period: &Period, given: u128) -> bool
     }
 }
 
+// An arrow that stands on y.
+fn arrow_line(x: u64, y: u64) -> Line
+    ensures { result ≡ shape_line (codes "<path class='r' d='M") x (codes " ") y (codes "v-290m-45 70l45-70l45 70'/>") }
+{
+    shape_line(
+        b"<path class='r' d='M",
+        x,
+        b" ",
+        y,
+        b"v-290m-45 70l45-70l45 70'/>",
+    )
+}
+
+// A ring.
+fn ring_line(x: u64, y: u64) -> Line
+    ensures { result ≡ shape_line (codes "<circle class='o' cx='") x (codes "' cy='") y (codes "' r='40'/>") }
+{
+    shape_line(b"<circle class='o' cx='", x, b"' cy='", y, b"' r='40'/>")
+}
+
 // What is drawn above y of a period that was served so.
 fn period_lines(window: &ShownUnits, y: u64, period: &Period, served: &Served) -> [Line; 2]
     requires window { AreShownUnits window.now }
@@ -84,9 +106,7 @@ fn period_lines(window: &ShownUnits, y: u64, period: &Period, served: &Served) -
         let width = window.place(period.end).saturating_sub(left);
         box_line(b" class='w'", left, y - 20, width, 40)
     } else {
-        let shown = period.end <= period.horizon
-            && window.has_tick(served.done)
-            && first < served.done;
+        let shown = period.end <= period.horizon && window.has_past(served.done);
         line_if(shown, ring_line(window.place(served.done), y))
     };
     [line_if(first <= period.begin, arrow_line(left, y)), mark]
@@ -131,7 +151,7 @@ fn write_marks<W: Sink>(
 ) -> Result<(), Failed>
     requires window { AreShownUnits window.now }
     requires task { task < length trace.now.set.tasks }
-    ensures wrote { Wrote (W.taken sink.old) (W.taken sink.new) (marks_text trace.now window.now task) result }
+    ensures wrote { Wrote (W.taken sink.old) (W.taken sink.new) (flat_map (λ i. period_text trace.now window.now task (first_shown window.now (task_at trace.now.set.tasks task) + i)) (range_with_len 0 (count_shown window.now (task_at trace.now.set.tasks task)))) result }
     ensures cause { HasCause (W.faults sink.old) (W.faults sink.new) result }
 {
     let of_set = task_of(trace.set(), task);
@@ -195,7 +215,7 @@ fn title_lines(trace: &ReadTrace, verdict: Verdict, task: u32, top: u64) -> [Lin
     [
         roomy_line(look, 1760, 1780, top + 170, name),
         roomy_line(b"s", 1960, 1780, top + 350, numbers_text(of_set).as_slice()),
-        base_line(top + 300),
+        shape_line(b"<path class='b' d='M", 1900, b" ", top + 300, b"H11600'/>"),
     ]
 }
 
@@ -225,7 +245,7 @@ pub(crate) fn write_tasks<W: Sink>(
     verdict: Verdict,
 ) -> Result<(), Failed>
     requires window { AreShownUnits window.now }
-    ensures wrote { Wrote (W.taken sink.old) (W.taken sink.new) (tasks_text trace.now window.now verdict) result }
+    ensures wrote { Wrote (W.taken sink.old) (W.taken sink.new) (flat_map (task_text trace.now window.now verdict) (range_with_len 0 (length trace.now.set.tasks))) result }
     ensures cause { HasCause (W.faults sink.old) (W.faults sink.new) result }
 {
     for task in 0..trace.set().count() {

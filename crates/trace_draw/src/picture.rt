@@ -1,10 +1,13 @@
 //! The picture of a trace.
-ghost use Rattle.std.specs.Prelude.{◌≡◌, ◌+◌, ◌<◌, ◌≤◌, length};
+ghost use Rattle.std.specs.Prelude.{◌≡◌, ◌+◌, ◌<◌, ◌≤◌, ◌++◌, length};
 ghost use Rattle.std.specs.List.{concat};
 ghost use Rattle.sched_edges.specs.Causes.{HasCause};
 ghost use Rattle.sched_edges.specs.Streams.{Wrote};
 ghost use Rattle.trace_draw.specs.ShownUnits.{AreShownUnits};
-ghost use Rattle.trace_draw.specs.Picture.{framed_row, fault_text, closing_lines, hint_text, base_text, end_text, picture};
+ghost use Rattle.trace_draw.specs.Head.{head_text, lanes_text, axis_text};
+ghost use Rattle.trace_draw.specs.Rows.{rows_text};
+ghost use Rattle.trace_draw.specs.declared.rows.Part.TheVariants.{Words};
+ghost use Rattle.trace_draw.specs.Picture.{framed_row, fault_text, closing_lines, hint_text, picture};
 
 use crate::head::{bottom, write_axis, write_head, write_lanes};
 use crate::periods::write_tasks;
@@ -70,7 +73,7 @@ fn write_base<W: Sink>(
     verdict: Verdict,
 ) -> Result<(), Failed>
     requires { AreShownUnits window.now }
-    ensures wrote { Wrote (W.taken sink.old) (W.taken sink.new) (base_text trace.now window.now verdict) result }
+    ensures wrote { Wrote (W.taken sink.old) (W.taken sink.new) (head_text trace.now.set window.now verdict (hint_text trace.now window.now) ++ (lanes_text trace.now.set ++ axis_text trace.now.set window.now)) result }
     ensures cause { HasCause (W.faults sink.old) (W.faults sink.new) result }
 {
     let set = trace.set();
@@ -158,7 +161,7 @@ fn write_end<W: Sink>(
     verdict: Verdict,
 ) -> Result<(), Failed>
     requires { AreShownUnits window.now }
-    ensures wrote { Wrote (W.taken sink.old) (W.taken sink.new) (end_text trace.now window.now verdict) result }
+    ensures wrote { Wrote (W.taken sink.old) (W.taken sink.new) (fault_text trace.now window.now verdict ++ (rows_text Words trace.now.set window.now trace.now.rows ++ concat (closing_lines trace.now.set))) result }
     ensures cause { HasCause (W.faults sink.old) (W.faults sink.new) result }
 {
     write_fault(sink, trace, window, verdict)?;

@@ -1,12 +1,13 @@
 //! The rows of a picture, in the lanes of their processors and in those of their tasks.
-ghost use Rattle.std.specs.Prelude.{◌≡◌, ◌+◌, ◌*◌, ◌≤◌, ◌<◌, length, nat_le};
+ghost use Rattle.std.specs.Prelude.{◌≡◌, ◌+◌, ◌*◌, ◌≤◌, ◌<◌, ◌∷◌, [], length, nat_le, codes};
 ghost use Rattle.std.specs.List.{AllByRecursion};
 ghost use Rattle.sched_base.specs.Sets.{task_at, IsLawfulTask};
 ghost use Rattle.sched_edges.specs.Causes.{HasCause};
 ghost use Rattle.sched_edges.specs.Streams.{Wrote};
 ghost use Rattle.trace_verdict.specs.Faults.{IsTraceRow};
 ghost use Rattle.trace_draw.specs.ShownUnits.{AreShownUnits};
-ghost use Rattle.trace_draw.specs.Rows.{words_line, boxes_lines, words_lines, task_row_text, row_text, rows_text, task_frame, frame_lines};
+ghost use Rattle.trace_draw.specs.Shapes.{box_line, task_top};
+ghost use Rattle.trace_draw.specs.Rows.{words_line, boxes_lines, words_lines, task_row_text, text_of_leaf, rows_text, frame_lines};
 
 use crate::shapes::{
     box_line, group_line, lane_top, line_if, number_text, roomy_line, task_look, task_top,
@@ -122,7 +123,7 @@ fn write_row<W: Sink>(
 ) -> Result<(), Failed>
     requires window { AreShownUnits window.now }
     requires row { IsTraceRow set.now row.now }
-    ensures wrote { Wrote (W.taken sink.old) (W.taken sink.new) (row_text part set.now window.now row.now) result }
+    ensures wrote { Wrote (W.taken sink.old) (W.taken sink.new) (text_of_leaf (λ j. task_row_text part set.now window.now j row.now) row.now.leaf) result }
     ensures cause { HasCause (W.faults sink.old) (W.faults sink.new) result }
 {
     match row.leaf {
@@ -156,7 +157,7 @@ pub(crate) fn write_rows<W: Sink>(
 
 // The frame of a row in the lane of its task.
 fn task_frame(set: &TaskSet, leaf: Leaf, x: u64, width: u64) -> Line
-    ensures { result ≡ task_frame set.now leaf x width }
+    ensures { result ≡ text_of_leaf (λ j. box_line (codes " class='f'") x (task_top set.now.processors j + 70) width 230) leaf }
 {
     match leaf {
         Leaf::Task(id) => box_line(

@@ -1,9 +1,8 @@
 //! The shapes of a picture, each a line of text. Lengths are tenths of a pixel.
-ghost use Rattle.sched_base.specs.Bytes.{space};
-ghost use Rattle.std.specs.Prelude.{◌≡◌, ◌+◌, ◌≤◌, ◌<◌, ◌^◌, ◌++◌, length, decimal, nat_lt, ◌/◌, ◌%◌, if◌then◌else◌, ◌∷◌, []};
-ghost use Rattle.trace_draw.specs.Shapes.{box_line, group_line, label_line, grown, roomy_line, grid_line, base_line, arrow_line, ring_line};
+ghost use Rattle.sched_base.specs.Bytes.{line_feed, space};
+ghost use Rattle.std.specs.Prelude.{◌≡◌, ◌+◌, ◌≤◌, ◌<◌, ◌^◌, ◌++◌, length, codes, decimal, nat_lt, ◌/◌, ◌%◌, if◌then◌else◌, ◌∷◌, []};
+ghost use Rattle.trace_draw.specs.Shapes.{box_line, label_line, grown, roomy_line, shape_line};
 ghost use Rattle.trace_draw.specs.Shapes.{task_look, lane_top, task_top};
-ghost use Rattle.trace_draw.specs.Rows.{line_if};
 
 use sched_edges::Line;
 
@@ -29,7 +28,7 @@ pub(crate) fn add_number(line: &mut Line, text: &[u8], number: u64)
 
 /// The line, where it is to be shown.
 pub(crate) fn line_if(shown: bool, line: Line) -> Line
-    ensures { result ≡ line_if shown line }
+    ensures { result ≡ (if shown then line else []) }
 {
     if shown { line } else { Line::new() }
 }
@@ -53,11 +52,10 @@ pub(crate) fn box_line(look: &[u8], x: u64, y: u64, width: u64, height: u64) -> 
 }
 
 /// The begin of a group of shapes that look so, with a text that is shown where the mouse rests on them.
-#[tactic(auto, unfolding(crate::specs::Shapes::group_line))]
 pub(crate) fn group_line(look: &[u8], tip: &[u8]) -> Line
     requires look { length look.now ≤ 8 }
     requires tip { length tip.now ≤ 64 }
-    ensures { result ≡ group_line look.now tip.now }
+    ensures { result ≡ codes "<g class='" ++ (look.now ++ (codes "'><title>" ++ (tip.now ++ (codes "</title>" ++ line_feed ∷ [])))) }
 {
     let mut line = Line::new();
     line.text(b"<g class='");
@@ -116,53 +114,18 @@ pub(crate) fn roomy_line(look: &[u8], room: u64, x: u64, y: u64, text: &[u8]) ->
     label_line(whole.as_slice(), x, y, text)
 }
 
-/// An upright line from the axis down to y.
-#[tactic(auto, unfolding(crate::specs::Shapes::grid_line))]
-pub(crate) fn grid_line(x: u64, y: u64) -> Line
-    ensures { result ≡ grid_line x y }
+/// A shape that is told by two numbers, with what stands before, between and behind them.
+#[tactic(auto, unfolding(crate::specs::Shapes::shape_line))]
+pub(crate) fn shape_line(before: &[u8], x: u64, between: &[u8], y: u64, behind: &[u8]) -> Line
+    requires before { length before.now ≤ 32 }
+    requires between { length between.now ≤ 16 }
+    requires behind { length behind.now ≤ 32 }
+    ensures { result ≡ shape_line before.now x between.now y behind.now }
 {
     let mut line = Line::new();
-    add_number(&mut line, b"<path class='g' d='M", x);
-    add_number(&mut line, b" 880V", y);
-    line.text(b"'/>");
-    line.end();
-    line
-}
-
-/// A line under the lane of a task.
-#[tactic(auto, unfolding(crate::specs::Shapes::base_line))]
-pub(crate) fn base_line(y: u64) -> Line
-    ensures { result ≡ base_line y }
-{
-    let mut line = Line::new();
-    add_number(&mut line, b"<path class='b' d='M1900 ", y);
-    line.text(b"H11600'/>");
-    line.end();
-    line
-}
-
-/// An arrow that stands on y.
-#[tactic(auto, unfolding(crate::specs::Shapes::arrow_line))]
-pub(crate) fn arrow_line(x: u64, y: u64) -> Line
-    ensures { result ≡ arrow_line x y }
-{
-    let mut line = Line::new();
-    add_number(&mut line, b"<path class='r' d='M", x);
-    add_number(&mut line, b" ", y);
-    line.text(b"v-290m-45 70l45-70l45 70'/>");
-    line.end();
-    line
-}
-
-/// A ring.
-#[tactic(auto, unfolding(crate::specs::Shapes::ring_line))]
-pub(crate) fn ring_line(x: u64, y: u64) -> Line
-    ensures { result ≡ ring_line x y }
-{
-    let mut line = Line::new();
-    add_number(&mut line, b"<circle class='o' cx='", x);
-    add_number(&mut line, b"' cy='", y);
-    line.text(b"' r='40'/>");
+    add_number(&mut line, before, x);
+    add_number(&mut line, between, y);
+    line.text(behind);
     line.end();
     line
 }

@@ -1,6 +1,6 @@
 //! The stretch of time that a picture shows.
-ghost use Rattle.std.specs.Prelude.{◌≡◌, ◌+◌, ◌*◌, ◌≤◌, ◌<◌, ◌^◌};
-ghost use Rattle.trace_draw.specs.ShownUnits.{first_tick, end_tick, count_reaching, reaches, has_tick, place, span, AreShownUnits};
+ghost use Rattle.std.specs.Prelude.{◌≡◌, ◌+◌, ◌*◌, ◌≤◌, ◌<◌, ◌^◌, ◌&&◌, nat_le, nat_lt};
+ghost use Rattle.trace_draw.specs.ShownUnits.{first_tick, end_tick, count_reaching, reaches, place, span, AreShownUnits};
 
 use sched_base::Row;
 
@@ -68,12 +68,12 @@ impl ShownUnits {
         count
     }
 
-    /// Whether it begins or ends at the tick, or has it between.
-    pub(crate) fn has_tick(&self, tick: u128) -> bool
+    /// Whether the tick lies past its first one, and not past its end.
+    pub(crate) fn has_past(&self, tick: u128) -> bool
         requires { AreShownUnits self.now }
-        ensures { result ≡ has_tick self.now tick }
+        ensures { result ≡ (nat_lt (first_tick self.now) tick && nat_le tick (end_tick self.now)) }
     {
-        self.first_tick() <= tick && tick <= self.end_tick()
+        self.first_tick() < tick && tick <= self.end_tick()
     }
 
     /// How far from the left a tick lies. Whole units and the rest go apart, so that no product passes 128 bits.

@@ -1,7 +1,7 @@
 use Rattle.std.proofs.Common.{ℕ, ◌≡◌, ◌<◌, arith, le_refl, le_trans}
 use Rattle.std.specs.List.{concat}
 use Rattle.sched_edges.proofs.Wrote.{number_written, wrote_number}
-use Rattle.trace_draw.specs.Head.{lane_lines}
+use Rattle.trace_draw.proofs.Parts.{lane_lines}
 use Rattle.sched_edges.proofs.CauseLemmas.{cause_cut, took_none}
 use Rattle.trace_draw.proofs.head.write_lanes.Goals as goal
 

@@ -1,7 +1,7 @@
 use Rattle.std.proofs.Common.{◌≤◌}
 use Rattle.std.specs.List.{flat_map, concat, range_with_len}
 use Rattle.std.specs.Io.KnownBytes.{Appends}
-use Rattle.trace_draw.specs.Head.{lane_lines}
+use Rattle.trace_draw.proofs.Parts.{lane_lines}
 use Rattle.trace_draw.proofs.head.write_lanes.Given as goal
 
 abbrev pub invariant-loop-processor : goal.invariant-loop-processor

@@ -9,9 +9,6 @@ first_tick-first-requires c = c.requires.window
 pub place-requires : goal.place-requires
 place-requires c = c.requires.window
 
-pub has_tick-requires : goal.has_tick-requires
-has_tick-requires c = c.requires.window
-
 pub place-requires-else-is_wrong : goal.place-requires-else-is_wrong
 place-requires-else-is_wrong c = c.requires.window
 

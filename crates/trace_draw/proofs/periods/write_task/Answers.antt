@@ -2,7 +2,8 @@ use Rattle.std.proofs.Common.{le_refl}
 use Rattle.std.specs.List.{concat}
 use Rattle.sched_edges.proofs.Wrote.{wrote_then, wrote_cut}
 use Rattle.trace_draw.specs.Shapes.{task_top}
-use Rattle.trace_draw.specs.Periods.{title_lines, marks_text}
+use Rattle.trace_draw.specs.Periods.{title_lines}
+use Rattle.trace_draw.proofs.Parts.{marks_text}
 use Rattle.sched_edges.proofs.CauseLemmas.{cause_cut, cause_then}
 use Rattle.trace_draw.proofs.periods.write_task.Goals as goal
 

@@ -1,8 +1,8 @@
 use Rattle.sched_edges.proofs.Wrote.{wrote_then, wrote_cut}
 use Rattle.trace_draw.specs.declared.rows.Part.TheVariants.{Boxes}
 use Rattle.trace_draw.specs.Rows.{rows_text}
-use Rattle.trace_draw.specs.Periods.{tasks_text}
-use Rattle.trace_draw.specs.Picture.{base_text, end_text, picture}
+use Rattle.trace_draw.specs.Picture.{picture}
+use Rattle.trace_draw.proofs.Parts.{base_text, tasks_text, end_text}
 use Rattle.std.proofs.Common.{◌++◌, le_refl, le_trans}
 use Rattle.sched_edges.proofs.CauseLemmas.{cause_cut, cause_then}
 use Rattle.trace_draw.proofs.picture.write_picture.Goals as goal

@@ -3,13 +3,12 @@ use Rattle.std.proofs.lemmas.List.{get_or_default}
 use Rattle.sched_base.specs.declared.rows.Leaf.TheVariants as leaves
 use Rattle.sched_edges.proofs.Wrote.{item_written, wrote_item}
 use Rattle.trace_verdict.specs.Faults.{row_at}
-use Rattle.trace_draw.specs.Rows.{row_text}
 use Rattle.sched_edges.proofs.CauseLemmas.{cause_cut, took_none}
 use Rattle.trace_draw.proofs.RowLemmas.{next_drawn, count_next, count_past, count_full, all_drawn}
 use Rattle.trace_draw.proofs.rows.write_rows.Goals.{then-drawn-lt-MOST_DRAWN+then-reaches+in_ok-write_row, else-drawn-lt-MOST_DRAWN}
 use Rattle.trace_draw.proofs.rows.write_rows.Goals.{else-drawn-lt-MOST_DRAWN-via-then-drawn-lt-MOST_DRAWN+else-reaches, else-drawn-lt-MOST_DRAWN-via-else-drawn-lt-MOST_DRAWN}
 use Rattle.trace_draw.proofs.rows.write_rows.Goals as goal
-use Rattle.trace_draw.proofs.Parts.{drawn_rows}
+use Rattle.trace_draw.proofs.Parts.{drawn_rows, row_text}
 
 pub loop-row-init : goal.loop-row-init
 loop-row-init g c = (took_none _, refl, le_refl _)

@@ -2,9 +2,8 @@ use Rattle.std.proofs.Common.{◌≤◌, ◌≡◌, min, take, filter, length}
 use Rattle.std.specs.List.{flat_map}
 use Rattle.std.specs.Io.KnownBytes.{Appends}
 use Rattle.trace_draw.specs.ShownUnits.{most_drawn, reaches}
-use Rattle.trace_draw.specs.Rows.{row_text}
 use Rattle.trace_draw.proofs.rows.write_rows.Given as goal
-use Rattle.trace_draw.proofs.Parts.{drawn_rows}
+use Rattle.trace_draw.proofs.Parts.{drawn_rows, row_text}
 
 abbrev pub invariant-loop-row : goal.invariant-loop-row
 invariant-loop-row g l =
