@@ -1,2 +1,3 @@
+mod Parts
 pub mod StepLemmas
 pub mod GivenLemmas

@@ -7,7 +7,7 @@ use Rattle.std.proofs.Math.Nat.{div-mul_cancel, one-dvd, pos_of_dvd_of_pos}
 use Rattle.std.proofs.lemmas.Bool.{and_from, and_parts, cases_Bool, cases_lt, cond-true, cond-false, eqb-true}
 use Rattle.std.proofs.lemmas.Nat.Gcd.{dvd_of_mod-eq-zero, dvd_refl, dvd_trans, le_of_dvd, mod-eq-zero_of_dvd}
 use Rattle.sched_base.specs.declared.rows.Row.{Row}
-use Rattle.table_text.specs.Steps.{AreWhole, DividesRows, IsStep, divides_each, greatest, step_of}
+use Rattle.table_text.specs.Steps.{AreWhole, DividesRows, IsStep, greatest, step_of}
 
 -- ---- the greatest number that passes a test
 
@@ -57,6 +57,10 @@ rows_pass d (r ∷ rows) all =
     and_from (row_test d r) (list_all (row_test d) rows)
     (and_from (eqb (r.start % d) 0) (eqb (r.end % d) 0) (eq-eqb (r.start % d) 0 (mod-eq-zero_of_dvd d all.0.0)) (eq-eqb (r.end % d) 0 (mod-eq-zero_of_dvd d all.0.1)))
     (rows_pass d rows all.1)
+
+-- the test by which a step is found
+abbrev divides_each : ℕ → List Row → ℕ → Bool
+divides_each ticks rows d = eqb (ticks % d) 0 && list_all (row_test d) rows
 
 divided : (ticks : ℕ) (rows : List Row) (d : ℕ) → divides_each ticks rows d ≡ true → (d ∣ ticks) × DividesRows d rows
 divided ticks rows d told =

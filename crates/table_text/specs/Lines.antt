@@ -9,10 +9,6 @@ use Rattle.sched_base.specs.declared.sets.Task.{Task}
 abbrev pub width_of : ℕ → ℕ
 width_of n = if nat_lt n (2 ^ 8) then 8 else (if nat_lt n (2 ^ 16) then 16 else (if nat_lt n (2 ^ 32) then 32 else 64))
 
--- the start and the end of a row, numbers of so many bits each
-unfoldable pub ticks_line : ℕ → List ℕ
-ticks_line width = codes "  uint" ++ (decimal width ++ codes "_t start, end;\n")
-
 -- a task: its name, work, period and offset
 unfoldable pub task_line : Task → List ℕ
 task_line t =
@@ -30,10 +26,6 @@ task_number leaves.Empty = codes "-1"
 unfoldable pub row_line : ℕ → Row → List ℕ
 row_line step r =
     codes "  {" ++ (decimal (r.start / step) ++ (codes "u, " ++ (decimal (r.end / step) ++ (codes "u, " ++ (task_number r.leaf ++ codes "},\n")))))
-
--- the line before the rows of processor p
-unfoldable pub lane_line : ℕ → List ℕ
-lane_line p = codes "static const struct furnacelime_row furnacelime_rows_" ++ (decimal p ++ codes "[] = {\n")
 
 -- processor p: how many rows it has, and where they are
 unfoldable pub processor_line : ℕ → ℕ → List ℕ

@@ -4,18 +4,15 @@ use Rattle.std.specs.Int.{◌∣◌}
 use Rattle.std.specs.List.{AllByRecursion, list_all}
 use Rattle.sched_base.specs.declared.rows.Row.{Row}
 
--- whether so many ticks divide all ticks up to the horizon, and each start and end of the rows
-abbrev pub divides_each : ℕ → List Row → ℕ → Bool
-divides_each ticks rows step = ticks % step == 0 && list_all (λ r. r.start % step == 0 && r.end % step == 0) rows
-
 -- the greatest number up to n that passes the test, or 0 where none does
 abbrev pub greatest : (ℕ → Bool) → ℕ → ℕ
 greatest test zero = 0
 greatest test (suc n) = if test (suc n) then suc n else greatest test n
 
--- the ticks of a step: the greatest number of ticks that divides them all
+-- the ticks of a step: the greatest number that divides all ticks up to the horizon, and each start and end of the rows
 unfoldable pub step_of : ℕ → List Row → ℕ
-step_of ticks rows = greatest (divides_each ticks rows) ticks
+step_of ticks rows =
+    greatest (λ step. ticks % step == 0 && list_all (λ r. r.start % step == 0 && r.end % step == 0) rows) ticks
 
 -- times the step the whole numbers that are told of the rows are their ticks
 abbrev pub AreWhole : ℕ → List Row → Type 0

@@ -1,12 +1,12 @@
 -- The schedule of a set as a file of C99 that includes nothing but stdint.h, and that a compiler of C or C++ takes without a warning.
-use Rattle.std.specs.Prelude.{ℕ, ◌*◌, ◌/◌, List, [], ◌∷◌, ◌++◌, length, codes}
+use Rattle.std.specs.Prelude.{ℕ, ◌*◌, ◌/◌, List, [], ◌∷◌, ◌++◌, length, codes, decimal}
 use Rattle.std.specs.List.{flat_map, concat, range_with_len}
 use Rattle.sched_base.specs.Bytes.{line_feed}
 use Rattle.sched_base.specs.declared.rows.Row.{Row}
 use Rattle.sched_base.specs.Sets.{SetContents}
 use Rattle.sched_base.specs.Tables.{all_rows, lane_of}
 use Rattle.table_text.specs.Steps.{step_of}
-use Rattle.table_text.specs.Lines.{width_of, ticks_line, task_line, row_line, lane_line, processor_line, field_line}
+use Rattle.table_text.specs.Lines.{width_of, task_line, row_line, processor_line, field_line}
 
 -- these lines, each with its line feed
 abbrev pub lines_text : List (List ℕ) → List ℕ
@@ -55,70 +55,37 @@ shapes_text =
     ∷ []
     ∷ codes "static const struct furnacelime_task furnacelime_tasks[] = {" ∷ [])
 
--- the task that isn't counted
-unfoldable pub tasks_end : List ℕ
-tasks_end = lines_text (codes "  {\"\", 0u, 0u, 0u}" ∷ codes "};" ∷ [] ∷ [])
-
--- the row that isn't counted
-unfoldable pub rows_end : List ℕ
-rows_end = lines_text (codes "  {0u, 0u, -1}" ∷ codes "};" ∷ [] ∷ [])
-
--- the line before the processors
-unfoldable pub processors_line : List ℕ
-processors_line = lines_text (codes "static const struct furnacelime_processor furnacelime_processors[] = {" ∷ [])
-
--- the end of the processors, and the line before the table itself
-unfoldable pub processors_end : List ℕ
-processors_end =
-    lines_text (codes "};"
-    ∷ []
-    ∷ codes "extern const struct furnacelime_table furnacelime_table;"
-    ∷ codes "const struct furnacelime_table furnacelime_table = {" ∷ [])
-
--- the numbers of the table, with so many ticks in a step, and the tick from which its rows come again
-abbrev pub field_lines : SetContents → ℕ → ℕ → ℕ → List (List ℕ)
-field_lines s scale step repeat_from =
-    field_line (codes "scale") scale ∷ field_line (codes "step") step ∷ field_line (codes "ticks") (s.horizon * scale)
-    ∷ field_line (codes "repeat_from") repeat_from ∷ field_line (codes "horizon") s.horizon
-    ∷ field_line (codes "processor_count") s.processors ∷ field_line (codes "task_count") (length s.tasks) ∷ []
-
--- where its arrays are
-unfoldable pub closing_text : List ℕ
-closing_text = lines_text (codes "  furnacelime_processors," ∷ codes "  furnacelime_tasks" ∷ codes "};" ∷ [])
-
 -- the shapes of what the table has, whose starts and ends are of so many bits
 abbrev pub head_text : ℕ → List ℕ
-head_text width = opening_text ++ (ticks_line width ++ shapes_text)
+head_text width = opening_text ++ ((codes "  uint" ++ (decimal width ++ codes "_t start, end;\n")) ++ shapes_text)
 
--- the tasks
-abbrev pub tasks_text : SetContents → List ℕ
-tasks_text s = flat_map task_line s.tasks ++ tasks_end
-
--- the rows of processor p
+-- the rows of processor p, and one that isn't counted
 abbrev pub lane_text : ℕ → ℕ → List Row → List ℕ
-lane_text step p rows = lane_line p ++ (flat_map (row_line step) rows ++ rows_end)
+lane_text step p rows =
+    (codes "static const struct furnacelime_row furnacelime_rows_" ++ (decimal p ++ codes "[] = {\n"))
+    ++ (flat_map (row_line step) rows ++ codes "  {0u, 0u, -1}\n};\n\n")
 
--- the rows of all processors
-abbrev pub lanes_text : ℕ → List (List Row) → List ℕ
-lanes_text step lanes = flat_map (λ p. lane_text step p (lane_of lanes p)) (range_with_len 0 (length lanes))
-
--- the lines of the processors, each with the number of its rows
-abbrev pub processor_lines : List (List Row) → List ℕ
-processor_lines lanes = flat_map (λ p. processor_line p (length (lane_of lanes p))) (range_with_len 0 (length lanes))
-
--- the processors
+-- the processors, each with the number of its rows, and the begin of the table itself
 abbrev pub processors_text : List (List Row) → List ℕ
-processors_text lanes = processors_line ++ (processor_lines lanes ++ processors_end)
+processors_text lanes =
+    codes "static const struct furnacelime_processor furnacelime_processors[] = {\n"
+    ++ (flat_map (λ p. processor_line p (length (lane_of lanes p))) (range_with_len 0 (length lanes))
+    ++ codes "};\n\nextern const struct furnacelime_table furnacelime_table;\nconst struct furnacelime_table furnacelime_table = {\n")
 
--- the numbers of the table, and where its arrays are
+-- the numbers of the table, with so many ticks in a step and the tick from which its rows come again, and where its arrays are
 abbrev pub fields_text : SetContents → ℕ → ℕ → ℕ → List ℕ
-fields_text s scale step repeat_from = concat (field_lines s scale step repeat_from) ++ closing_text
+fields_text s scale step repeat_from =
+    concat (field_line (codes "scale") scale ∷ field_line (codes "step") step ∷ field_line (codes "ticks") (s.horizon * scale)
+    ∷ field_line (codes "repeat_from") repeat_from ∷ field_line (codes "horizon") s.horizon
+    ∷ field_line (codes "processor_count") s.processors ∷ field_line (codes "task_count") (length s.tasks)
+    ∷ codes "  furnacelime_processors,\n  furnacelime_tasks\n};\n" ∷ [])
 
--- the table of a set and of the rows of its processors, which are told in steps of so many ticks and come again from this tick on
+-- the table of a set and of the rows of its processors, which are told in steps of so many ticks and come again from this tick on. One task isn't counted
 unfoldable pub table_with : SetContents → ℕ → List (List Row) → ℕ → ℕ → List ℕ
 table_with s scale lanes step repeat_from =
     head_text (width_of (s.horizon * scale / step))
-    ++ (tasks_text s ++ (lanes_text step lanes ++ (processors_text lanes ++ fields_text s scale step repeat_from)))
+    ++ ((flat_map task_line s.tasks ++ codes "  {\"\", 0u, 0u, 0u}\n};\n\n")
+    ++ (flat_map (λ p. lane_text step p (lane_of lanes p)) (range_with_len 0 (length lanes)) ++ (processors_text lanes ++ fields_text s scale step repeat_from)))
 
 -- the table of a set and of the rows of its processors, which come again from this unit on
 unfoldable pub table_text : SetContents → ℕ → List (List Row) → ℕ → List ℕ

@@ -1,7 +1,7 @@
 //! The parts of a table that are the same for each set.
 ghost use Rattle.sched_edges.specs.Causes.{HasCause};
 ghost use Rattle.sched_edges.specs.Streams.{Wrote};
-ghost use Rattle.table_text.specs.Table.{opening_text, shapes_text, head_text, tasks_end, rows_end, processors_line, processors_end, closing_text};
+ghost use Rattle.table_text.specs.Table.{opening_text, shapes_text, head_text};
 
 use crate::lines::ticks_line;
 use sched_edges::{Failed, Sink, write_all};
@@ -67,58 +67,4 @@ struct furnacelime_table {
 static const struct furnacelime_task furnacelime_tasks[] = {
 ";
     write_all(sink, text)
-}
-
-/// Writes the end of the tasks.
-#[tactic(auto, unfolding(crate::specs::Table::tasks_end))]
-pub(crate) fn write_tasks_end<W: Sink>(sink: &mut W) -> Result<(), Failed>
-    ensures wrote { Wrote (W.taken sink.old) (W.taken sink.new) tasks_end result }
-    ensures cause { HasCause (W.faults sink.old) (W.faults sink.new) result }
-{
-    write_all(sink, b"  {\"\", 0u, 0u, 0u}\n};\n\n")
-}
-
-/// Writes the end of a processor's rows.
-#[tactic(auto, unfolding(crate::specs::Table::rows_end))]
-pub(crate) fn write_rows_end<W: Sink>(sink: &mut W) -> Result<(), Failed>
-    ensures wrote { Wrote (W.taken sink.old) (W.taken sink.new) rows_end result }
-    ensures cause { HasCause (W.faults sink.old) (W.faults sink.new) result }
-{
-    write_all(sink, b"  {0u, 0u, -1}\n};\n\n")
-}
-
-/// Writes the line before the processors.
-#[tactic(auto, unfolding(crate::specs::Table::processors_line))]
-pub(crate) fn write_processors_line<W: Sink>(sink: &mut W) -> Result<(), Failed>
-    ensures wrote { Wrote (W.taken sink.old) (W.taken sink.new) processors_line result }
-    ensures cause { HasCause (W.faults sink.old) (W.faults sink.new) result }
-{
-    write_all(
-        sink,
-        b"static const struct furnacelime_processor furnacelime_processors[] = {\n",
-    )
-}
-
-/// Writes the end of the processors.
-#[tactic(auto, unfolding(crate::specs::Table::processors_end))]
-pub(crate) fn write_processors_end<W: Sink>(sink: &mut W) -> Result<(), Failed>
-    ensures wrote { Wrote (W.taken sink.old) (W.taken sink.new) processors_end result }
-    ensures cause { HasCause (W.faults sink.old) (W.faults sink.new) result }
-{
-    write_all(
-        sink,
-        b"};\n\nextern const struct furnacelime_table furnacelime_table;\nconst struct furnacelime_table furnacelime_table = {\n",
-    )
-}
-
-/// Writes the last lines.
-#[tactic(auto, unfolding(crate::specs::Table::closing_text))]
-pub(crate) fn write_closing<W: Sink>(sink: &mut W) -> Result<(), Failed>
-    ensures wrote { Wrote (W.taken sink.old) (W.taken sink.new) closing_text result }
-    ensures cause { HasCause (W.faults sink.old) (W.faults sink.new) result }
-{
-    write_all(
-        sink,
-        b"  furnacelime_processors,\n  furnacelime_tasks\n};\n",
-    )
 }

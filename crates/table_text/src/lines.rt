@@ -1,6 +1,6 @@
 //! The lines of a table in C.
-ghost use Rattle.std.specs.Prelude.{◌≡◌, ◌+◌, ◌≤◌, ◌<◌, ◌^◌, ◌/◌, ◌⊎◌, ◌++◌, length, decimal};
-ghost use Rattle.table_text.specs.Lines.{width_of, ticks_line, task_line, task_number, row_line, lane_line, processor_line, field_line};
+ghost use Rattle.std.specs.Prelude.{◌≡◌, ◌+◌, ◌≤◌, ◌<◌, ◌^◌, ◌/◌, ◌⊎◌, ◌++◌, length, codes, decimal};
+ghost use Rattle.table_text.specs.Lines.{width_of, task_line, task_number, row_line, processor_line, field_line};
 
 use sched_base::{Leaf, Row, Task};
 use sched_edges::Line;
@@ -34,9 +34,8 @@ fn add_number(line: &mut Line, text: &[u8], number: u128)
 }
 
 /// The start and the end of a row, numbers of so many bits each.
-#[tactic(auto, unfolding(crate::specs::Lines::ticks_line))]
 pub(crate) fn ticks_line(width: u128) -> Line
-    ensures { result ≡ ticks_line width }
+    ensures { result ≡ codes "  uint" ++ (decimal width ++ codes "_t start, end;\n") }
 {
     let mut line = Line::new();
     add_number(&mut line, b"  uint", width);
@@ -88,9 +87,8 @@ pub(crate) fn row_line(row: &Row, step: u128) -> Line
 }
 
 /// The line before the rows of processor p.
-#[tactic(auto, unfolding(crate::specs::Lines::lane_line))]
 pub(crate) fn lane_line(p: u32) -> Line
-    ensures { result ≡ lane_line p }
+    ensures { result ≡ codes "static const struct furnacelime_row furnacelime_rows_" ++ (decimal p ++ codes "[] = {\n") }
 {
     let mut line = Line::new();
     add_number(

@@ -1,18 +1,18 @@
 //! The whole table.
-ghost use Rattle.std.specs.Prelude.{◌≡◌, ◌*◌, ◌/◌, ◌<◌, ◌≤◌, ◌^◌, length};
-ghost use Rattle.std.specs.List.{concat, flat_map};
+ghost use Rattle.std.specs.Prelude.{◌≡◌, ◌*◌, ◌/◌, ◌<◌, ◌≤◌, ◌^◌, ◌++◌, length, codes};
+ghost use Rattle.std.specs.List.{flat_map};
 ghost use Rattle.sched_edges.specs.Causes.{HasCause};
 ghost use Rattle.sched_edges.specs.Streams.{Wrote};
 ghost use Rattle.table_text.specs.Lines.{task_line};
-ghost use Rattle.table_text.specs.Table.{tasks_text, field_lines, fields_text, table_text, table_with};
+ghost use Rattle.table_text.specs.Table.{fields_text, table_text, table_with};
 
-use crate::head::{write_closing, write_head, write_tasks_end};
+use crate::head::write_head;
 use crate::lanes::{write_lanes, write_processors};
 use crate::lines::{field_line, task_line, width_of};
 use crate::steps::step_of;
 use merged_rows::MergedRows;
 use sched_base::TaskSet;
-use sched_edges::{Failed, Sink, write_all, write_lines};
+use sched_edges::{Failed, Line, Sink, write_all, write_lines};
 
 /// Writes the merged rows of a set as a file of C99. `scale` is in ticks per unit; from unit `from` on the rows
 /// are said to come again, at the horizon not at all. Starts and
@@ -92,11 +92,11 @@ fn steps_of(set: &TaskSet, scale: u128, step: u128) -> u128
 
 // Writes the tasks.
 fn write_tasks<W: Sink>(sink: &mut W, set: &TaskSet) -> Result<(), Failed>
-    ensures wrote { Wrote (W.taken sink.old) (W.taken sink.new) (tasks_text set.now) result }
+    ensures wrote { Wrote (W.taken sink.old) (W.taken sink.new) (flat_map task_line set.now.tasks ++ codes "  {\"\", 0u, 0u, 0u}\n};\n\n") result }
     ensures cause { HasCause (W.faults sink.old) (W.faults sink.new) result }
 {
     write_task_lines(sink, set)?;
-    write_tasks_end(sink)
+    write_all(sink, b"  {\"\", 0u, 0u, 0u}\n};\n\n")
 }
 
 fn write_task_lines<W: Sink>(sink: &mut W, set: &TaskSet) -> Result<(), Failed>
@@ -122,9 +122,19 @@ fn write_fields<W: Sink>(
     ensures wrote { Wrote (W.taken sink.old) (W.taken sink.new) (fields_text set.now scale step (from * scale)) result }
     ensures cause { HasCause (W.faults sink.old) (W.faults sink.new) result }
 {
-    let repeat_from = tick_of(set, from, scale);
-    write_field_lines(sink, set, scale, step, repeat_from)?;
-    write_closing(sink)
+    let mut closing = Line::new();
+    closing.text(b"  furnacelime_processors,\n  furnacelime_tasks\n};\n");
+    let lines = [
+        field_line(b"scale", scale),
+        field_line(b"step", step),
+        field_line(b"ticks", ticks_of(set, scale)),
+        field_line(b"repeat_from", tick_of(set, from, scale)),
+        field_line(b"horizon", u128::from(set.horizon())),
+        field_line(b"processor_count", u128::from(set.processors())),
+        field_line(b"task_count", u128::from(set.count())),
+        closing,
+    ];
+    write_lines(sink, &lines)
 }
 
 // The tick at which a unit begins that isn't behind the horizon. The set is only spoken of.
@@ -135,27 +145,4 @@ fn tick_of(set: &TaskSet, unit: u64, scale: u128) -> u128
 {
     let _set = set;
     u128::from(unit) * scale
-}
-
-fn write_field_lines<W: Sink>(
-    sink: &mut W,
-    set: &TaskSet,
-    scale: u128,
-    step: u128,
-    repeat_from: u128,
-) -> Result<(), Failed>
-    requires { set.now.horizon * scale < 2 ^ 64 }
-    ensures wrote { Wrote (W.taken sink.old) (W.taken sink.new) (concat (field_lines set.now scale step repeat_from)) result }
-    ensures cause { HasCause (W.faults sink.old) (W.faults sink.new) result }
-{
-    let lines = [
-        field_line(b"scale", scale),
-        field_line(b"step", step),
-        field_line(b"ticks", ticks_of(set, scale)),
-        field_line(b"repeat_from", repeat_from),
-        field_line(b"horizon", u128::from(set.horizon())),
-        field_line(b"processor_count", u128::from(set.processors())),
-        field_line(b"task_count", u128::from(set.count())),
-    ];
-    write_lines(sink, &lines)
 }

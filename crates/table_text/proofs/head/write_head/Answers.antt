@@ -1,9 +1,12 @@
-use Rattle.std.proofs.Common.{le_refl, le_trans}
+use Rattle.std.proofs.Common.{ℕ, List, ◌++◌, codes, decimal, le_refl, le_trans}
 use Rattle.sched_edges.proofs.Wrote.{wrote_then, wrote_cut}
-use Rattle.table_text.specs.Lines.{ticks_line}
 use Rattle.table_text.specs.Table.{opening_text, shapes_text}
 use Rattle.sched_edges.proofs.CauseLemmas.{cause_cut, cause_then}
 use Rattle.table_text.proofs.head.write_head.Goals as goal
+
+-- the line of the numbers of a row
+abbrev ticks_line : ℕ → List ℕ
+ticks_line width = codes "  uint" ++ (decimal width ++ codes "_t start, end;\n")
 
 pub returns-in_err-write_opening-clause-wrote : goal.returns-in_err-write_opening-clause-wrote
 returns-in_err-write_opening-clause-wrote g c =

@@ -1,8 +1,6 @@
 use Rattle.std.proofs.Common.{refl, append_assoc}
-use Rattle.table_text.specs.Lines.{lane_line}
 use Rattle.table_text.proofs.lines.lane_line.Goals as goal
 
 pub returns : goal.returns
-unfolding lane_line
 returns c =
     simp (c.text.ensures, c.add_number.ensures.text, c.from.ensures, c.new-line.ensures, append_assoc) refl

@@ -1,20 +1,10 @@
-use Rattle.std.proofs.Common.{◌*◌, le_refl}
-use Rattle.std.specs.List.{concat}
-use Rattle.sched_edges.proofs.Wrote.{wrote_then, wrote_cut}
-use Rattle.table_text.specs.Table.{field_lines, closing_text}
-use Rattle.sched_edges.proofs.CauseLemmas.{cause_cut, cause_then}
 use Rattle.table_text.proofs.table.write_fields.Goals as goal
-
-pub returns-in_err-write_field_lines-clause-wrote : goal.returns-in_err-write_field_lines-clause-wrote
-returns-in_err-write_field_lines-clause-wrote g c =
-    wrote_cut _ _ (concat (field_lines c.args.set.now c.args.scale c.args.step (c.args.from * c.args.scale))) closing_text _ _ (rw c.tick_of-repeat_from.ensures at c.in_err-write_field_lines.ensures.wrote) c.from_residual.ensures.0
 
 pub returns-clause-wrote : goal.returns-clause-wrote
 returns-clause-wrote g c =
-    wrote_then _ _ _ (concat (field_lines c.args.set.now c.args.scale c.args.step (c.args.from * c.args.scale))) closing_text _ _ (rw c.tick_of-repeat_from.ensures at c.in_ok-write_field_lines.ensures.wrote) c.write_closing.ensures.wrote
-
-pub returns-in_err-write_field_lines-clause-cause : goal.returns-in_err-write_field_lines-clause-cause
-returns-in_err-write_field_lines-clause-cause g c = cause_cut _ _ _ _ _ (le_refl _) c.in_err-write_field_lines.ensures.cause
+    rw (c.field_line.ensures, c.field_line-2.ensures, c.field_line-3.ensures, c.ticks_of.ensures, c.field_line-4.ensures, c.tick_of.ensures,
+    c.field_line-5.ensures, c.from.ensures, c.horizon.ensures.value, c.field_line-6.ensures, c.from-2.ensures, c.processors.ensures.value,
+    c.field_line-7.ensures, c.from-3.ensures, c.count.ensures.value, c.text.ensures, c.new-closing.ensures) at c.write_lines.ensures.wrote
 
 pub returns-clause-cause : goal.returns-clause-cause
-returns-clause-cause g c = cause_then _ _ _ _ c.write_field_lines.ensures.cause.later c.write_closing.ensures.cause
+returns-clause-cause g c = c.write_lines.ensures.cause

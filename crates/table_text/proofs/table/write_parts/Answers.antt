@@ -1,7 +1,8 @@
 use Rattle.std.proofs.Common.{◌++◌, ◌*◌, ◌/◌, le_refl, le_trans}
 use Rattle.sched_edges.proofs.Wrote.{wrote_then, wrote_cut}
 use Rattle.table_text.specs.Lines.{width_of}
-use Rattle.table_text.specs.Table.{head_text, tasks_text, lanes_text, processors_text, fields_text, table_with}
+use Rattle.table_text.specs.Table.{head_text, processors_text, fields_text, table_with}
+use Rattle.table_text.proofs.Parts.{tasks_text, lanes_text}
 use Rattle.sched_edges.proofs.CauseLemmas.{cause_cut, cause_then}
 use Rattle.table_text.proofs.table.write_parts.Goals as goal
 
