@@ -3,8 +3,8 @@
 
     try-edits.py TOP EDITS [--alone] [--apply] [CRATE..]
 
-TOP is a checkout or a clone whose libraries are built (sh build.sh, and sh build.sh furnacelime_c for the crates of the library for C);
-EDITS has a folder for each crate with its edits, EDITS/CRATE/NAME.edit, in the form of crates/CRATE/must-fail. Nothing in TOP is changed:
+TOP is a checkout or a clone whose libraries are built: by `sh build.sh` (and `sh build.sh furnacelime_c` for the crates of the library for C),
+or by the kit's `rt`, which keeps that of a crate in its out/ when a crate above it is checked. EDITS has a folder for each crate with its edits, EDITS/CRATE/NAME.edit, in the form of crates/CRATE/must-fail. Nothing in TOP is changed:
 each crate is tried on a copy, and what its check kept is thrown away at the end. It is no gate.
 
 How: edits of different functions don't touch one another's proofs, since no contract changes. So all edits of a crate go into one
@@ -28,6 +28,10 @@ import tempfile
 import time
 
 
+class Unbuilt(Exception):
+    """These libraries aren't there."""
+
+
 class Top:
     def __init__(self, top):
         self.top = os.path.abspath(top)
@@ -42,19 +46,32 @@ class Top:
                     self.below[found[1]] = found[3].split()
                     if "staticlib" in (found[2] or ""):
                         self.static.add(found[1])
-        self.libraries = f"{self.top}/.git/build"
 
     def folder(self, crate):
         return f"{self.top}/crates/{crate}"
 
+    def library_in(self, name):
+        """The folder of a crate's library, by whatever it was built; None where it isn't."""
+        own = [f"{self.folder(name)}/out/rlib", f"{self.top}/.git/build"] if os.path.isdir(self.folder(name)) else [f"{self.kit}/rlibs"]
+        return next((it for it in own if os.path.isdir(f"{it}/{name}.rlib")), None)
+
+    def all_below(self, crate):
+        found, left = [], list(self.below[crate])
+        while left:
+            if (name := left.pop()) not in found:
+                found.append(name)
+                left += self.below.get(name, [])
+        return found
+
     def words(self, crate):
         words = ["--crate-name", crate, "--extern", f"std={self.kit}/rlibs/std.rlib"]
+        if missing := [it for it in self.all_below(crate) if not self.library_in(it)]:
+            raise Unbuilt(" ".join(missing))
         for name in self.below[crate]:
-            at = self.libraries if os.path.isdir(self.folder(name)) else f"{self.kit}/rlibs"
-            if not os.path.isdir(f"{at}/{name}.rlib"):
-                sys.exit(f"the library {name} isn't built: sh build.sh {crate}")
-            words += ["--extern", f"{name}={at}/{name}.rlib"]
-        words += ["-L", f"dependency={self.kit}/rlibs", "-L", f"dependency={self.libraries}", "--links", f"{crate}="]
+            words += ["--extern", f"{name}={self.library_in(name)}/{name}.rlib"]
+        for at in dict.fromkeys([f"{self.kit}/rlibs", *(self.library_in(it) for it in self.all_below(crate))]):
+            words += ["-L", f"dependency={at}"]
+        words += ["--links", f"{crate}="]
         words += ["--antt-project", f"{self.kit}/rattle/logic/antt-project.json", "--logic-built", f"{self.kit}/logic_built"]
         return words + (["--crate-type", "staticlib"] if crate in self.static else [])
 
@@ -165,7 +182,10 @@ def main():
     well = True
     for crate in crates:
         todo = sorted(it for it in os.listdir(f"{edits}/{crate}") if it.endswith(".edit"))
-        with tempfile.TemporaryDirectory(prefix="kept-") as kept:
+        with tempfile.TemporaryDirectory(prefix="kept-") as room:
+            # what a check of the kit's `rt` kept serves as a beginning
+            kept, start = f"{room}/kept", f"{top.folder(crate)}/out/incremental"
+            shutil.copytree(start, kept) if os.path.isdir(start) else os.mkdir(kept)
             while todo:
                 texts, now, later, used = {}, [], [], set()
                 for edit in todo:
@@ -189,7 +209,12 @@ def main():
                 if not now:
                     break
                 begun = time.time()
-                status, told = top.check(crate, texts, kept)
+                try:
+                    status, told = top.check(crate, texts, kept)
+                except Unbuilt as missing:
+                    print(f"{crate}: not tried, since these aren't built: {missing} (sh build.sh {crate})", flush=True)
+                    well = False
+                    break
                 took = time.time() - begun
                 if re.search(r"\berror\[[\w-]+\]", told):
                     if len(now) > 1:
