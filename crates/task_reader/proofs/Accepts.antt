@@ -13,12 +13,13 @@ use Rattle.task_reader.specs.declared.refusals.Key.TheVariants as key
 use Rattle.task_reader.specs.declared.refusals.Place.TheVariants as place
 use Rattle.task_reader.specs.Tree.{Placed, number_at, tasks_of, task_place, placed_from}
 use Rattle.task_reader.specs.Written.{natural, written_in, written_tasks, task_of}
-use Rattle.task_reader.specs.Members.{first_refusal, unknown_at, missing_key, missing_at, wrong_key, wrong_at, unknown, missing, wrong}
-use Rattle.task_reader.specs.Limits.{bad_processors, bad_horizon, too_many, bad_name, same_name, bad_period, bad_work, bad_offset}
+use Rattle.task_reader.specs.Members.{first_refusal, unknown_at, missing_key, missing_at, wrong_key, wrong_at}
+use Rattle.task_reader.specs.Limits.{bad_processors, bad_horizon, too_many, same_name}
 use Rattle.task_reader.specs.Reading.{refusal_of, set_of, answer_of, document_read_from, set_read_from}
 use Rattle.task_reader.specs.Writes.{WritesOffset, WritesTask, WritesTasks, WritesArray, Writes}
 use Rattle.task_reader.proofs.MembersLemmas.{known_from_none}
 use Rattle.task_reader.proofs.LimitsLemmas.{none-option_map, IsGood, good_tasks, good_processors, good_horizon, lawful_set}
+use Rattle.task_reader.proofs.Parts.{unknown, missing, wrong, bad_name, bad_period, bad_work, bad_offset}
 
 or_none : {A : Type 0} (a b : Option A) → option_or a b ≡ None → (a ≡ None) × (b ≡ None)
 or_none None b h = (refl, h)

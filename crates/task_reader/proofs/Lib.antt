@@ -1,3 +1,4 @@
+pub mod Parts
 pub mod WrittenLemmas
 pub mod MembersLemmas
 pub mod LimitsLemmas

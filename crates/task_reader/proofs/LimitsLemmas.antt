@@ -11,7 +11,8 @@ use Rattle.sched_base.specs.declared.sets.Task.{Task}
 use Rattle.sched_base.specs.Sets.{IsFree, NamesDiffer, IsLawfulTask, IsLawful}
 use Rattle.task_reader.specs.declared.refusals.ReadSet.TheVariants.{BadProcessors, BadHorizon, TooManyTasks, BadName, SameName, BadPeriod, BadWork, BadOffset}
 use Rattle.task_reader.specs.Written.{WrittenTask, natural, task_of}
-use Rattle.task_reader.specs.Limits.{is_within, is_repeated, first_repeated, has_bad_name, has_bad_period, has_bad_work, has_bad_offset, bad_processors, bad_horizon, too_many, bad_name, same_name, bad_period, bad_work, bad_offset}
+use Rattle.task_reader.specs.Limits.{is_within, is_repeated, first_repeated, bad_processors, bad_horizon, too_many, same_name}
+use Rattle.task_reader.proofs.Parts.{has_bad_name, has_bad_period, has_bad_work, has_bad_offset, bad_name, bad_period, bad_work, bad_offset}
 
 pub none-option_map : {A B : Type 0} (f : A → B) (o : Option A) → option_map f o ≡ None → o ≡ None
 none-option_map f None h = refl

@@ -8,10 +8,11 @@ use Rattle.task_reader.specs.declared.refusals.Key.TheVariants as key
 use Rattle.task_reader.specs.declared.refusals.ReadSet.{ReadSet}
 use Rattle.task_reader.specs.Tree.{number_at, tasks_of}
 use Rattle.task_reader.specs.Written.{written_tasks}
-use Rattle.task_reader.specs.Members.{first_refusal, unknown}
+use Rattle.task_reader.specs.Members.{first_refusal}
 use Rattle.task_reader.specs.Limits.{too_many}
 use Rattle.task_reader.specs.Reading.{top_refusals, task_refusals, refusal_of, set_of}
 use Rattle.task_reader.proofs.LimitsLemmas.{lawful_set}
+use Rattle.task_reader.proofs.Parts.{unknown}
 
 -- the first of some refusals
 abbrev pub first : List (Option ReadSet) → Option ReadSet

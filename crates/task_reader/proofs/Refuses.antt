@@ -16,13 +16,14 @@ use Rattle.task_reader.specs.declared.refusals.Key.TheVariants as key
 use Rattle.task_reader.specs.declared.refusals.Place.TheVariants as place
 use Rattle.task_reader.specs.Tree.{number_at, tasks_of, task_place}
 use Rattle.task_reader.specs.Written.{WrittenTask, written_in, written_tasks, task_of}
-use Rattle.task_reader.specs.Members.{unknown_at, missing_at, wrong_at, unknown, missing, wrong}
-use Rattle.task_reader.specs.Limits.{is_within, is_repeated, first_repeated, has_bad_name, has_bad_period, has_bad_work, has_bad_offset, bad_processors, bad_horizon, too_many, bad_name, same_name, bad_period, bad_work, bad_offset}
+use Rattle.task_reader.specs.Members.{unknown_at, missing_at, wrong_at}
+use Rattle.task_reader.specs.Limits.{is_within, is_repeated, first_repeated, bad_processors, bad_horizon, too_many, same_name}
 use Rattle.task_reader.specs.Reading.{refusal_of, set_of, set_read_from}
 use Rattle.task_reader.specs.Writes.{WritesOffset, WritesTask, WritesTasks, WritesArray, Writes}
 use Rattle.task_reader.proofs.MembersLemmas.{none_from_known}
 use Rattle.task_reader.proofs.LimitsLemmas.{none-position}
 use Rattle.task_reader.proofs.Accepts.{KeysFit}
+use Rattle.task_reader.proofs.Parts.{unknown, missing, wrong, has_bad_name, has_bad_period, has_bad_work, has_bad_offset, bad_name, bad_period, bad_work, bad_offset}
 
 -- a task as it is written
 abbrev pub written : Task → WrittenTask

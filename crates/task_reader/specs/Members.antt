@@ -7,10 +7,11 @@ use Rattle.toml.specs.Data.{Data, table, Members, no_members, member, get_member
 use Rattle.task_reader.specs.declared.refusals.Key.{Key}
 use Rattle.task_reader.specs.declared.refusals.Key.TheVariants as key
 use Rattle.task_reader.specs.declared.refusals.Place.{Place}
+use Rattle.task_reader.specs.declared.refusals.Place.TheVariants as place
 use Rattle.task_reader.specs.declared.refusals.ReadSet.{ReadSet}
 use Rattle.task_reader.specs.declared.refusals.ReadSet.TheVariants.{UnknownKey, Missing, WrongKind}
 use Rattle.task_reader.specs.Keys.{key_text, keys_of, needed_keys_of, is_known, has_kind}
-use Rattle.task_reader.specs.Tree.{Placed, placed_in}
+use Rattle.task_reader.specs.Tree.{Placed, placed_from, tasks_of}
 
 -- the first refusal that any of these has
 abbrev pub first_refusal : {A : Type 0} → (A → Option ReadSet) → List A → Option ReadSet
@@ -50,14 +51,7 @@ abbrev pub wrong_at : Place → Data → Option ReadSet
 wrong_at p (table ms) = first_refusal (wrong_key p ms) (keys_of p)
 wrong_at p _ = Some (WrongKind p key.Task)
 
--- the first unknown key of a document
-abbrev pub unknown : Members → Option ReadSet
-unknown top = first_refusal (λ (v : Placed). unknown_at v.place v.value) (placed_in top)
-
--- the first key that is missing
-abbrev pub missing : Members → Option ReadSet
-missing top = first_refusal (λ (v : Placed). missing_at v.place v.value) (placed_in top)
-
--- the first value of a wrong kind
-abbrev pub wrong : Members → Option ReadSet
-wrong top = first_refusal (λ (v : Placed). wrong_at v.place v.value) (placed_in top)
+-- the first such refusal of what should be a table of the document: of the top table first, then of the tasks in order
+abbrev pub in_tables : (Place → Data → Option ReadSet) → Members → Option ReadSet
+in_tables refusal top =
+    first_refusal (λ (v : Placed). refusal v.place v.value) (record { place = place.Top; value = table top } ∷ placed_from 0 (tasks_of top))

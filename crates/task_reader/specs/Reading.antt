@@ -4,37 +4,40 @@ use Rattle.std.specs.Str.{is_utf8}
 use Rattle.toml.specs.Data.{Members}
 use Rattle.toml.specs.Parse.{parse_document}
 use Rattle.sched_base.specs.Sets.{SetContents}
+use Rattle.task_reader.specs.declared.limits.Flaw.TheVariants as flaws
 use Rattle.task_reader.specs.declared.refusals.Key.TheVariants as key
 use Rattle.task_reader.specs.declared.refusals.ReadSet.{ReadSet}
 use Rattle.task_reader.specs.declared.refusals.ReadSet.TheVariants.{NotToml}
 use Rattle.task_reader.specs.Tree.{number_at, tasks_of}
 use Rattle.task_reader.specs.Written.{WrittenTask, natural, written_tasks, task_of}
-use Rattle.task_reader.specs.Members.{first_refusal, unknown, missing, wrong}
-use Rattle.task_reader.specs.Limits.{bad_processors, bad_horizon, too_many, bad_name, same_name, bad_period, bad_work, bad_offset}
+use Rattle.task_reader.specs.Members.{first_refusal, unknown_at, missing_at, wrong_at, in_tables}
+use Rattle.task_reader.specs.Limits.{bad_processors, bad_horizon, too_many, same_name}
+use Rattle.task_reader.specs.Flaws.{first_flaw}
 
 -- those of them for missing keys, for kinds, and for the numbers of the top table
 abbrev pub top_refusals : Members → List (Option ReadSet)
 top_refusals top =
-    missing top ∷ wrong top ∷ bad_processors (number_at key.Processors top) ∷ bad_horizon (number_at key.Horizon top) ∷ []
+    in_tables missing_at top ∷ in_tables wrong_at top ∷ bad_processors (number_at key.Processors top) ∷ bad_horizon (number_at key.Horizon top) ∷ []
 
 -- those of them for what the tasks write, but for their count
 abbrev pub task_refusals : List WrittenTask → List (Option ReadSet)
-task_refusals tasks = bad_name tasks ∷ same_name tasks ∷ bad_period tasks ∷ bad_work tasks ∷ bad_offset tasks ∷ []
+task_refusals tasks =
+    first_flaw flaws.Name tasks ∷ same_name tasks ∷ first_flaw flaws.Period tasks ∷ first_flaw flaws.Work tasks ∷ first_flaw flaws.Offset tasks ∷ []
 
 -- the refusal of the lowest number over the whole document
 abbrev pub refusal_of : Members → Option ReadSet
 refusal_of top =
-    first_refusal (λ refusal. refusal) (unknown top
-    ∷ missing top
-    ∷ wrong top
+    first_refusal (λ refusal. refusal) (in_tables unknown_at top
+    ∷ in_tables missing_at top
+    ∷ in_tables wrong_at top
     ∷ bad_processors (number_at key.Processors top)
     ∷ bad_horizon (number_at key.Horizon top)
     ∷ too_many (written_tasks (tasks_of top))
-    ∷ bad_name (written_tasks (tasks_of top))
+    ∷ first_flaw flaws.Name (written_tasks (tasks_of top))
     ∷ same_name (written_tasks (tasks_of top))
-    ∷ bad_period (written_tasks (tasks_of top))
-    ∷ bad_work (written_tasks (tasks_of top))
-    ∷ bad_offset (written_tasks (tasks_of top)) ∷ [])
+    ∷ first_flaw flaws.Period (written_tasks (tasks_of top))
+    ∷ first_flaw flaws.Work (written_tasks (tasks_of top))
+    ∷ first_flaw flaws.Offset (written_tasks (tasks_of top)) ∷ [])
 
 -- the set of a document that isn't refused
 abbrev pub set_of : Members → SetContents

@@ -1,6 +1,6 @@
 -- What the tree of a document has where a set is written.
 use Rattle.std.specs.Prelude.{ℕ, suc, ◌-◌, ◌^◌, min, ℤ, pos, List, [], ◌∷◌, unwrap_or, option_and_then}
-use Rattle.toml.specs.Data.{Data, table, Items, no_items, item, Members, get_member, as_str, as_integer, as_array}
+use Rattle.toml.specs.Data.{Data, Items, no_items, item, Members, get_member, as_str, as_integer, as_array}
 use Rattle.task_reader.specs.declared.refusals.Key.{Key}
 use Rattle.task_reader.specs.declared.refusals.Key.TheVariants as key
 use Rattle.task_reader.specs.declared.refusals.Place.{Place}
@@ -32,7 +32,3 @@ pub record Placed : Type 0 where
 abbrev pub placed_from : ℕ → Items → List Placed
 placed_from i no_items = []
 placed_from i (item d ds) = record { place = task_place i; value = d } ∷ placed_from (suc i) ds
-
--- the values that should be tables: the top table first, then the tasks in order
-abbrev pub placed_in : Members → List Placed
-placed_in top = record { place = place.Top; value = table top } ∷ placed_from 0 (tasks_of top)

@@ -3,7 +3,7 @@ ghost use Rattle.std.specs.Prelude.{◌≡◌, option_map, IfOk};
 ghost use Rattle.toml.specs.Data.{table as as_table};
 ghost use Rattle.toml.specs.View.{view, table_view, items_view};
 ghost use Rattle.task_reader.specs.Tree.{Placed, placed_from};
-ghost use Rattle.task_reader.specs.Members.{first_refusal, least_unknown, unknown_at, missing_key, missing_at, wrong_key, wrong_at, unknown, missing, wrong};
+ghost use Rattle.task_reader.specs.Members.{first_refusal, least_unknown, unknown_at, missing_key, missing_at, wrong_key, wrong_at, in_tables};
 
 use crate::keys::{has_kind, is_known, keys_of, needed_keys_of};
 use crate::refusals::{Key, KeyText, Place, ReadSet};
@@ -58,7 +58,7 @@ fn unknown_in_tasks(alloc: Global, tasks: &[Value]) -> Result<Option<ReadSet>, A
 
 /// The first unknown key of a document.
 pub(crate) fn unknown(alloc: Global, top: &Table) -> Result<Option<ReadSet>, AllocError>
-    ensures { IfOk result (λ o. o ≡ unknown (table_view top.now)) }
+    ensures { IfOk result (λ o. o ≡ in_tables unknown_at (table_view top.now)) }
 {
     match unknown_in(alloc, Place::Top, top)? {
         Some(refusal) => Ok(Some(refusal)),
@@ -108,7 +108,7 @@ fn missing_in_tasks(tasks: &[Value]) -> Option<ReadSet>
 
 /// The first key that is missing.
 pub(crate) fn missing(top: &Table) -> Option<ReadSet>
-    ensures { result ≡ missing (table_view top.now) }
+    ensures { result ≡ in_tables missing_at (table_view top.now) }
 {
     match missing_in(Place::Top, top) {
         Some(refusal) => Some(refusal),
@@ -167,7 +167,7 @@ fn wrong_in_tasks(tasks: &[Value]) -> Option<ReadSet>
 
 /// The first value of a wrong kind.
 pub(crate) fn wrong(top: &Table) -> Option<ReadSet>
-    ensures { result ≡ wrong (table_view top.now) }
+    ensures { result ≡ in_tables wrong_at (table_view top.now) }
 {
     match wrong_in(Place::Top, top) {
         Some(refusal) => Some(refusal),

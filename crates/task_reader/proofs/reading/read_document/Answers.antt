@@ -2,11 +2,11 @@ use Rattle.std.proofs.Common.{◌≡◌, Some, None, refl, ap, sym, ◌∙◌, r
 use Rattle.toml.specs.View.{table_view}
 use Rattle.task_reader.specs.Tree.{tasks_of}
 use Rattle.task_reader.specs.Written.{written_tasks}
-use Rattle.task_reader.specs.Members.{unknown}
 use Rattle.task_reader.specs.Limits.{too_many}
 use Rattle.task_reader.specs.Reading.{top_refusals, task_refusals, refusal_of, answer_of}
 use Rattle.task_reader.proofs.RefusalLemmas.{first, refusal_of-known, lawful_without}
 use Rattle.task_reader.proofs.reading.read_document.Goals as goal
+use Rattle.task_reader.proofs.Parts.{unknown}
 
 pub returns-in-Some-top_refusal : goal.returns-in-Some-top_refusal
 returns-in-Some-top_refusal c = λ wanted.
