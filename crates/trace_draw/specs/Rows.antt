@@ -19,7 +19,8 @@ abbrev pub words_line : ℕ → ℕ → ℕ → ℕ → List ℕ → List ℕ
 words_line j x width y text =
     if nat_le (76 * length text + 60) width then roomy_line (109 ∷ space ∷ 99 ∷ (48 + j % 8) ∷ []) width (x + width / 2) y text else []
 
--- the boxes of a row of task j, x from the left and so wide, in a group with the task's name, which is shown where the mouse rests on them. A processor that the set hasn't has no lane.
+-- the boxes of a row of task j, x from the left and so wide, in a group with the task's name, which is shown where the mouse rests on them. A processor
+-- that the set hasn't has no lane.
 abbrev pub boxes_lines : SetContents → ℕ → Row → ℕ → ℕ → List (List ℕ)
 boxes_lines s j r x width =
     (codes "<g class='" ++ (task_look j width ++ (codes "'><title>" ++ ((task_at s.tasks j).name ++ (codes "</title>" ++ line_feed ∷ [])))))

@@ -11,7 +11,7 @@ ghost use Rattle.trace_draw.specs.Head.{style_lines, opening_lines, caption_line
 ghost use Rattle.trace_draw.specs.Head.{lanes_text, axis_step, first_mark, axis_text};
 
 use crate::shapes::{
-    add_number, box_line, grown, label_line, lane_top, number_text, shape_line, roomy_line,
+    add_number, box_line, grown, label_line, lane_top, number_text, roomy_line, shape_line,
     task_top,
 };
 use crate::shown_units::{LEFT, ShownUnits, WIDTH};
@@ -310,7 +310,8 @@ fn write_caption<W: Sink>(
 
 // The lane of a processor, with nothing on it.
 fn lane_lines(processor: u32) -> [Line; 2]
-    ensures { result ≡ roomy_line (codes "l") 1760 1780 (lane_top processor + 215) (codes "cpu " ++ decimal processor) ∷ box_line (codes " class='p'") plot_left (lane_top processor) plot_width 340 ∷ [] }
+    ensures { result ≡ roomy_line (codes "l") 1760 1780 (lane_top processor + 215) (codes "cpu " ++ decimal processor)
+        ∷ box_line (codes " class='p'") plot_left (lane_top processor) plot_width 340 ∷ [] }
 {
     let top = lane_top(processor);
     let mut name = Line::new();

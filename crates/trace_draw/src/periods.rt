@@ -11,9 +11,7 @@ ghost use Rattle.trace_draw.specs.Periods.{title_look, title_lines, task_text};
 
 use crate::rows::task_of;
 use crate::served::{Served, served_between};
-use crate::shapes::{
-    add_number, box_line, line_if, shape_line, roomy_line, task_top,
-};
+use crate::shapes::{add_number, box_line, line_if, roomy_line, shape_line, task_top};
 use crate::shown_units::{ShownUnits, WIDTH};
 use sched_base::Task;
 use sched_edges::{Failed, Line, Sink, write_lines};
@@ -151,7 +149,9 @@ fn write_marks<W: Sink>(
 ) -> Result<(), Failed>
     requires window { AreShownUnits window.now }
     requires task { task < length trace.now.set.tasks }
-    ensures wrote { Wrote (W.taken sink.old) (W.taken sink.new) (flat_map (λ i. period_text trace.now window.now task (first_shown window.now (task_at trace.now.set.tasks task) + i)) (range_with_len 0 (count_shown window.now (task_at trace.now.set.tasks task)))) result }
+    ensures wrote { Wrote (W.taken sink.old) (W.taken sink.new)
+        (flat_map (λ i. period_text trace.now window.now task (first_shown window.now (task_at trace.now.set.tasks task) + i))
+        (range_with_len 0 (count_shown window.now (task_at trace.now.set.tasks task)))) result }
     ensures cause { HasCause (W.faults sink.old) (W.faults sink.new) result }
 {
     let of_set = task_of(trace.set(), task);
@@ -245,7 +245,8 @@ pub(crate) fn write_tasks<W: Sink>(
     verdict: Verdict,
 ) -> Result<(), Failed>
     requires window { AreShownUnits window.now }
-    ensures wrote { Wrote (W.taken sink.old) (W.taken sink.new) (flat_map (task_text trace.now window.now verdict) (range_with_len 0 (length trace.now.set.tasks))) result }
+    ensures wrote { Wrote (W.taken sink.old) (W.taken sink.new)
+        (flat_map (task_text trace.now window.now verdict) (range_with_len 0 (length trace.now.set.tasks))) result }
     ensures cause { HasCause (W.faults sink.old) (W.faults sink.new) result }
 {
     for task in 0..trace.set().count() {

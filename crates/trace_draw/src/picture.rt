@@ -73,7 +73,9 @@ fn write_base<W: Sink>(
     verdict: Verdict,
 ) -> Result<(), Failed>
     requires { AreShownUnits window.now }
-    ensures wrote { Wrote (W.taken sink.old) (W.taken sink.new) (head_text trace.now.set window.now verdict (hint_text trace.now window.now) ++ (lanes_text trace.now.set ++ axis_text trace.now.set window.now)) result }
+    ensures wrote { Wrote (W.taken sink.old) (W.taken sink.new)
+        (head_text trace.now.set window.now verdict (hint_text trace.now window.now)
+        ++ (lanes_text trace.now.set ++ axis_text trace.now.set window.now)) result }
     ensures cause { HasCause (W.faults sink.old) (W.faults sink.new) result }
 {
     let set = trace.set();
@@ -161,7 +163,8 @@ fn write_end<W: Sink>(
     verdict: Verdict,
 ) -> Result<(), Failed>
     requires { AreShownUnits window.now }
-    ensures wrote { Wrote (W.taken sink.old) (W.taken sink.new) (fault_text trace.now window.now verdict ++ (rows_text Words trace.now.set window.now trace.now.rows ++ concat (closing_lines trace.now.set))) result }
+    ensures wrote { Wrote (W.taken sink.old) (W.taken sink.new)
+        (fault_text trace.now window.now verdict ++ (rows_text Words trace.now.set window.now trace.now.rows ++ concat (closing_lines trace.now.set))) result }
     ensures cause { HasCause (W.faults sink.old) (W.faults sink.new) result }
 {
     write_fault(sink, trace, window, verdict)?;
