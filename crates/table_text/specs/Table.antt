@@ -85,7 +85,8 @@ unfoldable pub table_with : SetContents → ℕ → List (List Row) → ℕ → 
 table_with s scale lanes step repeat_from =
     head_text (width_of (s.horizon * scale / step))
     ++ ((flat_map task_line s.tasks ++ codes "  {\"\", 0u, 0u, 0u}\n};\n\n")
-    ++ (flat_map (λ p. lane_text step p (lane_of lanes p)) (range_with_len 0 (length lanes)) ++ (processors_text lanes ++ fields_text s scale step repeat_from)))
+    ++ (flat_map (λ p. lane_text step p (lane_of lanes p)) (range_with_len 0 (length lanes))
+    ++ (processors_text lanes ++ fields_text s scale step repeat_from)))
 
 -- the table of a set and of the rows of its processors, which come again from this unit on
 unfoldable pub table_text : SetContents → ℕ → List (List Row) → ℕ → List ℕ

@@ -18,7 +18,8 @@ pub(crate) fn write_lanes<W: Sink>(
     step: u128,
 ) -> Result<(), Failed>
     requires { 1 ≤ step }
-    ensures wrote { Wrote (W.taken sink.old) (W.taken sink.new) (flat_map (λ p. lane_text step p (lane_of rows.now.lanes p)) (range_with_len 0 (length rows.now.lanes))) result }
+    ensures wrote { Wrote (W.taken sink.old) (W.taken sink.new)
+        (flat_map (λ p. lane_text step p (lane_of rows.now.lanes p)) (range_with_len 0 (length rows.now.lanes))) result }
     ensures cause { HasCause (W.faults sink.old) (W.faults sink.new) result }
 {
     for p in 0..rows.processors() {
@@ -71,7 +72,8 @@ pub(crate) fn write_processors<W: Sink>(sink: &mut W, rows: &MergedRows) -> Resu
 
 // Writes the lines of the processors, each with the number of its rows.
 fn write_processor_lines<W: Sink>(sink: &mut W, rows: &MergedRows) -> Result<(), Failed>
-    ensures wrote { Wrote (W.taken sink.old) (W.taken sink.new) (flat_map (λ p. processor_line p (length (lane_of rows.now.lanes p))) (range_with_len 0 (length rows.now.lanes))) result }
+    ensures wrote { Wrote (W.taken sink.old) (W.taken sink.new)
+        (flat_map (λ p. processor_line p (length (lane_of rows.now.lanes p))) (range_with_len 0 (length rows.now.lanes))) result }
     ensures cause { HasCause (W.faults sink.old) (W.faults sink.new) result }
 {
     for p in 0..rows.processors() {
