@@ -8,7 +8,8 @@ use Rattle.sched_base.specs.declared.rows.Row.{Row}
 use Rattle.sched_base.specs.Tables.{lane_of}
 use Rattle.run_tree.specs.Plans.{PlanContents}
 use Rattle.sched_laws.proofs.WholeRounds.{length-round}
-use Rattle.event_core.specs.Cores.{CoreContents, IsCoreOf}
+use Rattle.merged_rounds.specs.declared.sources.Source.{Source}
+use Rattle.merged_rounds.specs.Replays.{IsSourceOf}
 use Rattle.event_core.specs.Rounds.{IsRoundUpTo, rows_of_round}
 use Rattle.merged_rows.specs.Columns.{AreTold, ends_showing}
 use Rattle.merged_rounds.specs.declared.sums.RoundSum.{RoundSum}
@@ -17,10 +18,10 @@ use Rattle.merged_rounds.specs.Laps.{IsSumUpTo}
 use Rattle.merged_rounds.specs.Passes.{leaf_at}
 use Rattle.merged_rounds.proofs.LapLemmas.{row_shows}
 
-set_same : {X : Type 0} (xs : List X) (p : ℕ) (x none : X) → p < length xs → get_or (set xs p x) p none ≡ x
+pub set_same : {X : Type 0} (xs : List X) (p : ℕ) (x none : X) → p < length xs → get_or (set xs p x) p none ≡ x
 set_same xs p x none l = rw get_or-set_same
 
-set_other : {X : Type 0} (xs : List X) (p q : ℕ) (x none : X) → q ≢ p → get_or (set xs p x) q none ≡ get_or xs q none
+pub set_other : {X : Type 0} (xs : List X) (p q : ℕ) (x none : X) → q ≢ p → get_or (set xs p x) q none ≡ get_or xs q none
 set_other xs p q x none ne = rw get_or-set_other refl
 
 -- one processor more is none of them
@@ -114,15 +115,15 @@ left_none changed q o (inr (k, low, high, e)) = absurd (omega (arith, low, high)
 
 -- ---- from a round to the next
 
-pub showing_on : (p : PlanContents) (core : CoreContents) (sum : RoundSum) (start : ℕ) → IsCoreOf p core → IsRoundUpTo p start core.tick → IsSumUpTo p core.tick sum →
-    ((q : ℕ) (r : Row) → slice_get (rows_of_round p start core.tick) q ≡ Some r → ends_showing (lane_of sum.rows.lanes q) r.leaf ≡ true) → IsShowing p core sum
-showing_on p core sum start belongs round is ends = record {
+pub showing_on : (p : PlanContents) (source : Source) (sum : RoundSum) (start : ℕ) → IsSourceOf p source → IsRoundUpTo p start source.tick → IsSumUpTo p source.tick sum →
+    ((q : ℕ) (r : Row) → slice_get (rows_of_round p start source.tick) q ≡ Some r → ends_showing (lane_of sum.rows.lanes q) r.leaf ≡ true) → IsShowing p source sum
+showing_on p source sum start belongs round is ends = record {
   belongs = belongs;
   sum = is;
   start = start;
   round = round;
   last = λ q none l.
-      let rows = rows_of_round p start core.tick in
-      let long = length-round p.set.tasks p.tree start core.tick in
+      let rows = rows_of_round p start source.tick in
+      let long = length-round p.set.tasks p.tree start source.tick in
       ends q (get_or rows q none) (slice_get-get_or rows q none (omega (arith, l, long)));
 }

@@ -1,5 +1,5 @@
 -- Rounds that come again show the same.
-use Rattle.std.proofs.Common.{◌≡◌, ℕ, suc, ◌+◌, ◌-◌, ◌*◌, ◌%◌, ◌/◌, ◌<◌, ◌≤◌, ◌^◌, inl, inr, min, List, [], ◌∷◌, ◌++◌, length, length-append, get_or, slice_get, Option, None, Some, false, sym, ap, subst, ◌∙◌, arith, mul-le-mul_right, le_of_lt, div-add-mod'}
+use Rattle.std.proofs.Common.{◌≡◌, ℕ, suc, ◌+◌, ◌-◌, ◌*◌, ◌%◌, ◌/◌, ◌<◌, ◌≤◌, ◌^◌, inl, inr, min, List, [], ◌∷◌, ◌++◌, length, length-append, get_or, slice_get, Option, None, Some, true, false, sym, ap, subst, ◌∙◌, arith, mul-le-mul_right, le_of_lt, div-add-mod'}
 use Rattle.std.proofs.Math.ListN.{get_or-append}
 use Rattle.std.proofs.Math.Nat.{dvd-add}
 use Rattle.std.proofs.Math.Seq.{get_or-append_seam}
@@ -54,7 +54,7 @@ told_all p start end told lanes all = record {
 
 -- ---- what a round shows doesn't hang on its end
 
-leaf_is : (p : PlanContents) (start end q : ℕ) (none : Row) → q < p.tree.processors →
+pub leaf_is : (p : PlanContents) (start end q : ℕ) (none : Row) → q < p.tree.processors →
     leaf_at p start end q none ≡ shown p.set.tasks p.tree.scale start (leaf_on (set_boundary p.set.tasks) p.tree start (get_or (onto_at (set_boundary p.set.tasks) p.tree start) q None))
 leaf_is p start end q none l =
     let rows = rows_of_round p start end in
@@ -69,7 +69,7 @@ both_whole [] m n h k = tt
 both_whole (t ∷ tasks) m n h k = (dvd-add t.period h.0 k.0, both_whole tasks m n h.1 k.1)
 
 module _ (p : PlanContents) (h : IsPlan p) (can : CanComeRound p) (ticks : ℕ) (turns : AreTurns p ticks) where
-  recurs : Recurs p.set.tasks p.tree turns.units
+  pub recurs : Recurs p.set.tasks p.tree turns.units
   recurs = record {
     each = h.lawful.each;
     tree = h.tree.tree;
@@ -80,7 +80,7 @@ module _ (p : PlanContents) (h : IsPlan p) (can : CanComeRound p) (ticks : ℕ) 
     apart = can.apart;
   }
 
-  early : (n : ℕ) → n + ticks < stop_of p → n + 2 * (turns.units * p.tree.scale) < 2 ^ 33 * p.tree.scale
+  pub early : (n : ℕ) → n + ticks < stop_of p → n + 2 * (turns.units * p.tree.scale) < 2 ^ 33 * p.tree.scale
   early n l =
       let most : p.set.horizon * p.tree.scale ≤ 2 ^ 32 * p.tree.scale = mul-le-mul_right p.tree.scale (le_of_lt h.lawful.horizon_fits) in
       let e = turns.are in
@@ -89,6 +89,29 @@ module _ (p : PlanContents) (h : IsPlan p) (can : CanComeRound p) (ticks : ℕ) 
   -- ticks after 0 are events again
   pub event_later : (n : ℕ) → 0 < n → n + ticks < stop_of p → event_at p (n + ticks) ≡ event_at p n
   event_later n some l = subst (λ (d : ℕ). event_at p (n + d) ≡ event_at p n) (sym turns.are) (event_again p.set.tasks p.tree turns.units recurs n some (early n l))
+
+  -- rounds begin and end at the same ticks, up to the end of all
+  pub next_round_at : (start end : ℕ) → event_at p (start + ticks) ≡ true → start + ticks < stop_of p → IsRoundUpTo p start end → IsRoundUpTo p (start + ticks) (min (end + ticks) (stop_of p))
+  next_round_at start end begins l r =
+      let up = r.above in
+      record {
+        event = begins;
+        above = omega (arith, up, l);
+        below = omega arith;
+        quiet = λ n low high.
+            let e : n - ticks + ticks ≡ n = omega (arith, low) in
+            subst (λ (m : ℕ). event_at p m ≡ false) e
+            (event_later (n - ticks) (omega (arith, low)) (omega (arith, e, low, high)) ∙ r.quiet (n - ticks) (omega (arith, low)) (omega (arith, low, high)));
+        last = elim (cases_lt (end + ticks) (stop_of p)) [
+          | inl low ↦
+              (let e : end + ticks ≡ min (end + ticks) (stop_of p) = omega (arith, low) in
+              subst (λ (m : ℕ). IsRoundStart p m) e (inr (event_later end (omega (arith, up)) low ∙ (elim r.last [
+                | inl all ↦ absurd (omega (arith, all, low))
+                | inr on ↦ on
+              ]))))
+          | inr high ↦ inl (omega (arith, high))
+        ];
+      }
 
 module _ (p : PlanContents) (h : IsPlan p) (can : CanComeRound p) (from ticks : ℕ) (again : ComesAgain p from ticks) where
   -- a processor shows the same
@@ -129,6 +152,19 @@ module _ (p : PlanContents) (h : IsPlan p) (can : CanComeRound p) (from ticks : 
         ];
       }
 
+-- some of them, and some more
+pub turns_more : (p : PlanContents) (a b : ℕ) → AreTurns p a → AreTurns p b → AreTurns p (a + b)
+turns_more p a b x y =
+    let e = x.are in
+    let f = y.are in
+    let some = x.some in
+    record {
+      units = x.units + y.units;
+      are = omega (arith, e, f);
+      some = omega (arith, some);
+      whole = both_whole p.set.tasks x.units y.units x.whole y.whole;
+    }
+
 -- multiples of a hyperperiod
 pub turns_of : (p : PlanContents) → IsPlan p → (turn ticks : ℕ) → turn ≡ p.tree.scale * p.tree.scale → 0 < ticks → ticks % turn ≡ 0 → AreTurns p ticks
 turns_of p h turn ticks is some none =
@@ -160,21 +196,14 @@ next_lap p h can from ticks shift lap again l =
     let same = subst (λ (d : ℕ). places_of p (from + d) ≡ places_of p from) e again.places in
     let there = places_again p.set.tasks p.tree again.turns.units (recurs p h can shift again.turns) from ticks (omega (arith, most)) same in
     let at : from + (shift + ticks) ≡ from + ticks + d = omega (arith, e) in
-    let f = lap.turns.are in
-    let some = again.turns.some in
     record {
-      turns = record {
-        units = again.turns.units + lap.turns.units;
-        are = omega (arith, e, f);
-        some = omega (arith, some);
-        whole = both_whole p.set.tasks again.turns.units lap.turns.units again.turns.whole lap.turns.whole;
-      };
+      turns = turns_more p shift ticks again.turns lap.turns;
       places = ap (places_of p) at ∙ there ∙ lap.places;
     }
 
 -- ---- one round more of a lap
 
-start_kept : (from end i : ℕ) (ends : List ℕ) → i ≤ length ends → round_start from (ends ++ end ∷ []) i ≡ round_start from ends i
+pub start_kept : (from end i : ℕ) (ends : List ℕ) → i ≤ length ends → round_start from (ends ++ end ∷ []) i ≡ round_start from ends i
 start_kept from end i ends l = get_or-append (from ∷ ends) (end ∷ []) 0 i (omega (arith, l))
 
 pub start_next : (from end : ℕ) (ends : List ℕ) → round_start from (ends ++ end ∷ []) (length ends + 1) ≡ end
@@ -268,16 +297,16 @@ last_start from end ends = ap (λ i. round_start from (ends ++ end ∷ []) i) (l
 -- ---- a round of a lap, later
 
 module _ (p : PlanContents) (h : IsPlan p) (can : CanComeRound p) (from ticks : ℕ) (later : 0 < from) (again : ComesAgain p from ticks)
-    (ends : List ℕ) (all : List (Option Leaf)) (lap : IsLap p from ends all) (i : ℕ) (in_lap : i < length ends) (early : round_start from ends i + ticks < stop_of p) where
+    (ends : List ℕ) (all : List (Option Leaf)) (lap : IsLap p from ends all) (i : ℕ) (in_lap : i < length ends) (soon : round_start from ends i + ticks < stop_of p) where
   pub lap_round : IsRoundUpTo p (round_start from ends i + ticks) (min (get_or ends i 0 + ticks) (stop_of p))
-  lap_round = let low = lap.later i (omega (arith, in_lap)) in next_round p h can from ticks again (round_start from ends i) (get_or ends i 0) (omega (arith, low, later)) early (lap.round i in_lap)
+  lap_round = let low = lap.later i (omega (arith, in_lap)) in next_round p h can from ticks again (round_start from ends i) (get_or ends i 0) (omega (arith, low, later)) soon (lap.round i in_lap)
 
   pub lap_told : (to : ℕ) (told : List (Option Leaf)) → length told ≡ p.tree.processors →
       ((q : ℕ) → q < p.tree.processors → get_or told q None ≡ get_or all (i * p.tree.processors + q) None) → IsAllTold p (round_start from ends i + ticks) to told
   lap_told to told long is = record {
     long = long;
     each = λ q none l. is q l ∙ lap.told i q none in_lap l
-        ∙ ap Some (sym (leaf_later p h can from ticks again (round_start from ends i) (get_or ends i 0) to q none (lap.later i (omega (arith, in_lap))) early l));
+        ∙ ap Some (sym (leaf_later p h can from ticks again (round_start from ends i) (get_or ends i 0) to q none (lap.later i (omega (arith, in_lap))) soon l));
   }
 
 -- behind the end of all rounds there are no more

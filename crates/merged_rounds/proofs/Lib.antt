@@ -5,3 +5,7 @@ pub mod LapLemmas
 mod ApartLemmas
 mod ChangeLemmas
 pub mod CountLemmas
+mod ReplayLemmas
+mod ReplaySteps
+mod TurnLemmas
+mod RowLemmas

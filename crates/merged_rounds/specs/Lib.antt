@@ -1,4 +1,5 @@
 pub mod Passes
 pub mod Laps
+pub mod Replays
 pub mod Changes
 pub mod Recurrences

@@ -3,20 +3,21 @@ ghost use Rattle.std.specs.Prelude.{ℕ, ◌≡◌, ◌<◌, ◌≤◌, ◌⊎�
 ghost use Rattle.std.specs.List.{AllByRecursion};
 ghost use Rattle.run_tree.specs.Plans.{stop_of};
 ghost use Rattle.run_tree.specs.Schedule.{packs_at};
-ghost use Rattle.event_core.specs.Cores.{IsCoreOf};
 ghost use Rattle.event_core.specs.Counts.{IsCountFault};
 ghost use Rattle.event_core.specs.Rounds.{IsRoundUpTo};
 ghost use Rattle.merged_rounds.specs.Changes.{IsChange, IsShowing};
 ghost use Rattle.merged_rounds.specs.Laps.{IsSumUpTo};
+ghost use Rattle.merged_rounds.specs.Replays.{IsSourceOf};
 
 use crate::looks::{forget, look_all};
+use crate::sources::Source;
 use crate::sums::{RoundSum, with_changed, with_round};
-use event_core::{Core, CountFault};
+use event_core::CountFault;
 use run_tree::Plan;
 use sched_base::{Leaf, NoMemory};
 use std::alloc::Global;
 
-// Room for the processors that a core tells: one for each pack of level 0.
+// Room for the processors that are told: one for each pack of level 0.
 fn room_for_told(alloc: Global, plan: &Plan) -> Result<Vec<u32>, NoMemory>
     ensures { IfOk result (λ v. vec_len v ≡ length (packs_at plan.now.tree 0)) }
 {
@@ -34,17 +35,23 @@ fn first_of(changed: &[u32], count: usize) -> &[u32]
 }
 
 // Tells of these processors what they show in the round just gone, which began at tick `start`.
-fn look_changed(plan: &Plan, core: &Core, start: u128, changed: &[u32], told: &mut [Option<Leaf>])
-    requires belongs { IsCoreOf plan.now core.now }
-    requires round { IsRoundUpTo plan.now start core.now.tick }
+fn look_changed(
+    plan: &Plan,
+    source: &Source,
+    start: u128,
+    changed: &[u32],
+    told: &mut [Option<Leaf>],
+)
+    requires belongs { IsSourceOf plan.now source.now }
+    requires round { IsRoundUpTo plan.now start source.now.tick }
     requires within { (k : ℕ) → k < length changed.now → slice_index changed.now k < plan.now.tree.processors }
     requires told { length told.old ≡ plan.now.tree.processors }
     requires none { (q : ℕ) → slice_index_or told.old q None ≡ None }
-    ensures { (q : ℕ) → IsChange plan.now start core.now.tick changed.now (length changed.now) q (slice_index_or told.new q None) }
+    ensures { (q : ℕ) → IsChange plan.now start source.now.tick changed.now (length changed.now) q (slice_index_or told.new q None) }
 {
     for k in 0..changed.len() {
         let q = changed[k];
-        told[q as usize] = Some(core.leaf_on(plan, start, q));
+        told[q as usize] = Some(source.leaf_on(plan, start, q));
     }
 }
 
@@ -62,49 +69,49 @@ fn forget_changed(changed: &[u32], told: &mut [Option<Leaf>])
 // Goes on with one round, of which each processor is looked at.
 fn merge_whole(
     plan: &Plan,
-    core: &mut Core,
+    source: &mut Source,
     told: &mut [Option<Leaf>],
     first: RoundSum,
 ) -> Result<RoundSum, CountFault>
-    requires belongs { IsCoreOf plan.now core.old }
-    requires early { core.old.tick < stop_of plan.now }
-    requires sum { IsSumUpTo plan.now core.old.tick first }
+    requires belongs { IsSourceOf plan.now source.old }
+    requires early { source.old.tick < stop_of plan.now }
+    requires sum { IsSumUpTo plan.now source.old.tick first }
     requires told { length told.old ≡ plan.now.tree.processors }
-    ensures showing { IfOk result (λ sum. IsShowing plan.now core.new sum) }
+    ensures showing { IfOk result (λ sum. IsShowing plan.now source.new sum) }
     ensures fault { IfErr result (λ fault. IsCountFault plan.now fault) }
 {
-    let start = core.now();
-    core.go(plan);
-    look_all(plan, core, start, told);
-    let end = core.now();
+    let start = source.now();
+    source.go(plan);
+    look_all(plan, source, start, told);
+    let end = source.now();
     let sum = with_round(plan, first, start, end, told)?;
     Ok(sum)
 }
 
-// Goes on with one round, of which the processors are looked at that the core tells.
+// Goes on with one round, of which the processors are looked at that are told.
 fn merge_next(
     plan: &Plan,
-    core: &mut Core,
+    source: &mut Source,
     told: &mut [Option<Leaf>],
     changed: &mut [u32],
     first: RoundSum,
 ) -> Result<RoundSum, CountFault>
     requires on_time { AllByRecursion (λ t. t.offset ≡ 0) plan.now.set.tasks }
-    requires showing { IsShowing plan.now core.old first }
-    requires early { core.old.tick < stop_of plan.now }
+    requires showing { IsShowing plan.now source.old first }
+    requires early { source.old.tick < stop_of plan.now }
     requires told { length told.old ≡ plan.now.tree.processors }
     requires none { (q : ℕ) → slice_index_or told.old q None ≡ None }
     requires room { length changed.old ≡ length (packs_at plan.now.tree 0) }
-    ensures showing { IfOk result (λ sum. IsShowing plan.now core.new sum) }
+    ensures showing { IfOk result (λ sum. IsShowing plan.now source.new sum) }
     ensures none { IfOk result (λ _. (q : ℕ) → slice_index_or told.new q None ≡ None) }
-    ensures later { core.old.tick < core.new.tick }
+    ensures later { source.old.tick < source.new.tick }
     ensures fault { IfErr result (λ fault. IsCountFault plan.now fault) }
 {
-    let start = core.now();
-    let count = core.go_telling(plan, changed);
+    let start = source.now();
+    let count = source.go_telling(plan, changed);
     let seen = first_of(changed, count);
-    look_changed(plan, core, start, seen, told);
-    let end = core.now();
+    look_changed(plan, source, start, seen, told);
+    let end = source.now();
     let sum = with_changed(plan, first, start, end, seen, told)?;
     forget_changed(seen, told);
     Ok(sum)
@@ -113,54 +120,54 @@ fn merge_next(
 // Goes on with rounds up to the first that begins at tick `until` or later, or to the end of all.
 fn merge_changed(
     plan: &Plan,
-    core: &mut Core,
+    source: &mut Source,
     told: &mut [Option<Leaf>],
     changed: &mut [u32],
     first: RoundSum,
     until: u128,
 ) -> Result<RoundSum, CountFault>
     requires on_time { AllByRecursion (λ t. t.offset ≡ 0) plan.now.set.tasks }
-    requires showing { IsShowing plan.now core.old first }
+    requires showing { IsShowing plan.now source.old first }
     requires until { until ≤ stop_of plan.now }
     requires told { length told.old ≡ plan.now.tree.processors }
     requires none { (q : ℕ) → slice_index_or told.old q None ≡ None }
     requires room { length changed.old ≡ length (packs_at plan.now.tree 0) }
-    ensures showing { IfOk result (λ sum. IsShowing plan.now core.new sum) }
-    ensures reached { IfOk result (λ _. until ≤ core.new.tick) }
+    ensures showing { IfOk result (λ sum. IsShowing plan.now source.new sum) }
+    ensures reached { IfOk result (λ _. until ≤ source.new.tick) }
     ensures fault { IfErr result (λ fault. IsCountFault plan.now fault) }
 {
     let mut sum = first;
-    'rounds: while core.now() < until {
-        sum = merge_next(plan, core, told, changed, sum)?;
+    'rounds: while source.now() < until {
+        sum = merge_next(plan, source, told, changed, sum)?;
     }
     Ok(sum)
 }
 
 /// Goes on with rounds up to the first that begins at tick `until` or later, or to the end of all, where no task is released late; `told`
-/// is overwritten. Each processor is looked at in the first round, and then only those that the core tells.
+/// is overwritten. Each processor is looked at in the first round, and then only those that are told.
 pub(crate) fn merge_on_time(
     alloc: Global,
     plan: &Plan,
-    core: &mut Core,
+    source: &mut Source,
     told: &mut [Option<Leaf>],
     first: RoundSum,
     until: u128,
 ) -> Result<RoundSum, CountFault>
     requires on_time { AllByRecursion (λ t. t.offset ≡ 0) plan.now.set.tasks }
-    requires belongs { IsCoreOf plan.now core.old }
-    requires sum { IsSumUpTo plan.now core.old.tick first }
+    requires belongs { IsSourceOf plan.now source.old }
+    requires sum { IsSumUpTo plan.now source.old.tick first }
     requires told { length told.old ≡ plan.now.tree.processors }
     requires until { until ≤ stop_of plan.now }
-    ensures belongs { IfOk result (λ _. IsCoreOf plan.now core.new) }
-    ensures sum { IfOk result (λ sum. IsSumUpTo plan.now core.new.tick sum) }
-    ensures reached { IfOk result (λ _. until ≤ core.new.tick) }
+    ensures belongs { IfOk result (λ _. IsSourceOf plan.now source.new) }
+    ensures sum { IfOk result (λ sum. IsSumUpTo plan.now source.new.tick sum) }
+    ensures reached { IfOk result (λ _. until ≤ source.new.tick) }
     ensures fault { IfErr result (λ fault. IsCountFault plan.now fault) }
 {
-    if core.now() >= until {
+    if source.now() >= until {
         return Ok(first);
     }
     let mut changed = room_for_told(alloc, plan)?;
-    let sum = merge_whole(plan, core, told, first)?;
+    let sum = merge_whole(plan, source, told, first)?;
     forget(told);
-    merge_changed(plan, core, told, &mut changed, sum, until)
+    merge_changed(plan, source, told, &mut changed, sum, until)
 }

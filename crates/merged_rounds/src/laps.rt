@@ -1,13 +1,14 @@
 //! Rounds that come again, lap after lap.
 ghost use Rattle.std.specs.Prelude.{ℕ, ◌≡◌, ◌<◌, ◌≤◌, ◌+◌, ◌*◌, ◌^◌, ◌++◌, ◌∷◌, [], length, min, IfErr, IfOk, None, slice_index, slice_index_or};
 ghost use Rattle.run_tree.specs.Plans.{IsPlan, stop_of};
-ghost use Rattle.event_core.specs.Cores.{IsCoreOf};
 ghost use Rattle.event_core.specs.Counts.{IsCountFault};
 ghost use Rattle.merged_rounds.specs.Laps.{CanComeRound, ComesAgain, IsLapFrom, IsSumUpTo, lap_end, round_start};
+ghost use Rattle.merged_rounds.specs.Replays.{IsSourceOf};
 
 use crate::looks::look_all;
+use crate::sources::Source;
 use crate::sums::{RoundSum, with_round};
-use event_core::{Core, CountFault};
+use event_core::CountFault;
 use run_tree::Plan;
 use sched_base::{Leaf, NoMemory};
 use std::alloc::Global;
@@ -15,12 +16,33 @@ use std::alloc::Global;
 /// Rounds that follow one another: where each ends, and what each processor shows in each.
 #[derive(Drop)]
 pub(crate) struct Lap {
-    ends: Vec<u128>,
-    told: Vec<Option<Leaf>>,
+    pub(crate) ends: Vec<u128>,
+    pub(crate) told: Vec<Option<Leaf>>,
 }
 
-// No round yet.
-fn no_lap(alloc: Global) -> Lap
+impl Lap {
+    /// How many rounds there are.
+    pub(crate) fn rounds(&self) -> usize
+        ensures { result ≡ length self.now.ends.items }
+    {
+        self.ends.len()
+    }
+
+    /// How much is kept of them.
+    pub(crate) fn kept(&self) -> usize {
+        self.told.len()
+    }
+
+    /// Where the last one ends, where the first begins at tick 0.
+    pub(crate) fn end(&self) -> u128
+        ensures { result ≡ lap_end 0 self.now }
+    {
+        start_of(&self.ends, 0, self.ends.len())
+    }
+}
+
+/// No round yet.
+pub(crate) fn no_lap(alloc: Global) -> Lap
     ensures ends { result.ends.items ≡ [] }
     ensures told { result.told.items ≡ [] }
 {
@@ -30,8 +52,8 @@ fn no_lap(alloc: Global) -> Lap
     }
 }
 
-// One round more, up to tick `end`.
-fn keep_round(lap: Lap, end: u128, told: &[Option<Leaf>]) -> Result<Lap, NoMemory>
+/// One round more, up to tick `end`.
+pub(crate) fn keep_round(lap: Lap, end: u128, told: &[Option<Leaf>]) -> Result<Lap, NoMemory>
     ensures ends { IfOk result (λ next. next.ends.items ≡ lap.ends.items ++ end ∷ []) }
     ensures told { IfOk result (λ next. next.told.items ≡ lap.told.items ++ told.now) }
 {
@@ -48,36 +70,36 @@ fn keep_round(lap: Lap, end: u128, told: &[Option<Leaf>]) -> Result<Lap, NoMemor
 pub(crate) fn merge_lap(
     alloc: Global,
     plan: &Plan,
-    core: &mut Core,
+    source: &mut Source,
     told: &mut [Option<Leaf>],
     first: RoundSum,
     until: u128,
 ) -> Result<(RoundSum, Lap), CountFault>
-    requires belongs { IsCoreOf plan.now core.old }
-    requires sum { IsSumUpTo plan.now core.old.tick first }
+    requires belongs { IsSourceOf plan.now source.old }
+    requires sum { IsSumUpTo plan.now source.old.tick first }
     requires told { length told.old ≡ plan.now.tree.processors }
     requires until { until ≤ stop_of plan.now }
-    ensures belongs { IfOk result (λ _. IsCoreOf plan.now core.new) }
-    ensures sum { IfOk result (λ pair. IsSumUpTo plan.now core.new.tick pair.0) }
-    ensures lap { IfOk result (λ pair. IsLapFrom plan.now core.old.tick pair.1) }
-    ensures end { IfOk result (λ pair. lap_end core.old.tick pair.1 ≡ core.new.tick) }
+    ensures belongs { IfOk result (λ _. IsSourceOf plan.now source.new) }
+    ensures sum { IfOk result (λ pair. IsSumUpTo plan.now source.new.tick pair.0) }
+    ensures lap { IfOk result (λ pair. IsLapFrom plan.now source.old.tick pair.1) }
+    ensures end { IfOk result (λ pair. lap_end source.old.tick pair.1 ≡ source.new.tick) }
     ensures fault { IfErr result (λ fault. IsCountFault plan.now fault) }
 {
     let mut sum = first;
     let mut lap = no_lap(alloc);
-    'rounds: while core.now() < until {
-        let start = core.now();
-        core.go(plan);
-        look_all(plan, core, start, told);
-        let end = core.now();
+    'rounds: while source.now() < until {
+        let start = source.now();
+        source.go(plan);
+        look_all(plan, source, start, told);
+        let end = source.now();
         sum = with_round(plan, sum, start, end, told)?;
         lap = keep_round(lap, end, told)?;
     }
     Ok((sum, lap))
 }
 
-// What each of so many processors shows in round i of a lap.
-fn told_in(told: &[Option<Leaf>], processors: usize, i: usize) -> &[Option<Leaf>]
+/// What each of so many processors shows in round i of a lap.
+pub(crate) fn told_in(told: &[Option<Leaf>], processors: usize, i: usize) -> &[Option<Leaf>]
     requires { (i + 1) * processors ≤ length told.now }
     ensures long { length result.now ≡ processors }
     ensures each { (q : ℕ) → q < processors → slice_index_or result.now q None ≡ slice_index_or told.now (i * processors + q) None }
@@ -94,8 +116,8 @@ fn start_of(ends: &[u128], from: u128, i: usize) -> u128
     if i == 0 { from } else { ends[i - 1] }
 }
 
-// The tick at which round i of a lap ends, so many ticks later; or the end of all rounds where that is sooner.
-fn end_of(ends: &[u128], i: usize, shift: u128, stop: u128) -> u128
+/// The tick at which round i of a lap ends, so many ticks later; or the end of all rounds where that is sooner.
+pub(crate) fn end_of(ends: &[u128], i: usize, shift: u128, stop: u128) -> u128
     requires round { i < length ends.now }
     requires fits { slice_index ends.now i + shift < 2 ^ 128 }
     ensures { result ≡ min (slice_index ends.now i + shift) stop }

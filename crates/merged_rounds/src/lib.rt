@@ -8,8 +8,11 @@ mod laps;
 mod looks;
 mod passes;
 mod recurrences;
+mod replays;
 mod searches;
+mod sources;
 mod sums;
+mod turns;
 
 pub use counts::round_count;
 pub use passes::merged_of;

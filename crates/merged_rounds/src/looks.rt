@@ -7,7 +7,9 @@ ghost use Rattle.event_core.specs.Rounds.{IsRoundUpTo};
 ghost use Rattle.event_core.specs.Cores.{IsCoreOf};
 ghost use Rattle.merged_rounds.specs.Laps.{IsAllTold};
 ghost use Rattle.merged_rounds.specs.Passes.{shown_for, IsLooked, IsNodeOn};
+ghost use Rattle.merged_rounds.specs.Replays.{IsSourceOf};
 
+use crate::sources::Source;
 use event_core::{Core, leaf_shown_for};
 use run_tree::Plan;
 use sched_base::{Leaf, NodeId};
@@ -151,14 +153,14 @@ pub(crate) fn look_each(
 }
 
 /// Tells of each processor what it shows in the round just gone, which began at tick `start`.
-pub(crate) fn look_all(plan: &Plan, core: &Core, start: u128, told: &mut [Option<Leaf>])
-    requires belongs { IsCoreOf plan.now core.now }
-    requires round { IsRoundUpTo plan.now start core.now.tick }
+pub(crate) fn look_all(plan: &Plan, source: &Source, start: u128, told: &mut [Option<Leaf>])
+    requires belongs { IsSourceOf plan.now source.now }
+    requires round { IsRoundUpTo plan.now start source.now.tick }
     requires told { length told.old ≡ plan.now.tree.processors }
-    ensures { IsAllTold plan.now start core.now.tick told.new }
+    ensures { IsAllTold plan.now start source.now.tick told.new }
 {
     let count = plan.tree().processors();
     for q in 0..count {
-        told[q as usize] = Some(core.leaf_on(plan, start, q));
+        told[q as usize] = Some(source.leaf_on(plan, start, q));
     }
 }

@@ -1,5 +1,5 @@
 //! One pass over the rounds of a plan.
-ghost use Rattle.std.specs.Prelude.{ℕ, ◌≡◌, ◌<◌, ◌≤◌, ◌+◌, ◌*◌, true, length, replicate, slice_index_or, IfOk, IfErr, None, vec_len};
+ghost use Rattle.std.specs.Prelude.{ℕ, ◌≡◌, ◌<◌, ◌≤◌, ◌+◌, ◌*◌, true, false, length, replicate, slice_index_or, IfOk, IfErr, None, vec_len};
 ghost use Rattle.std.specs.List.{AllByRecursion};
 ghost use Rattle.sched_base.specs.Tables.{row_limit};
 ghost use Rattle.run_tree.specs.Plans.{rounds_of, stop_of};
@@ -8,13 +8,16 @@ ghost use Rattle.event_core.specs.Counts.{IsCountFault};
 ghost use Rattle.merged_rows.specs.Lawful.{AreLawful};
 ghost use Rattle.merged_rounds.specs.Laps.{AreTurns, CanComeRound, IsMerging, IsSumUpTo};
 ghost use Rattle.merged_rounds.specs.Passes.{AreMergedOf};
+ghost use Rattle.merged_rounds.specs.Replays.{IsComputed, IsMergingFrom, IsSourceOf};
 
 use crate::apart::comes_round;
 use crate::changed::merge_on_time;
-use crate::laps::{merge_lap, with_laps};
+use crate::laps::{merge_lap, no_lap, with_laps};
 use crate::looks::look_each;
 use crate::searches::{merge_until_again, turn_of};
+use crate::sources::{Source, source_of};
 use crate::sums::{RoundSum, all_rounds, no_rounds, with_round};
+use crate::turns::merge_turn;
 use event_core::{Core, CountFault};
 use merged_rows::MergedRows;
 use repeat_laws::first_late;
@@ -34,8 +37,8 @@ pub fn merged_of(alloc: Global, plan: &Plan) -> Result<MergedRows, CountFault>
 {
     let mut kept = no_nodes(alloc, plan)?;
     let mut told = no_leaves(alloc, plan)?;
-    let mut core = Core::new(alloc, plan)?;
-    let sum = merge_rounds(alloc, plan, &mut core, &mut kept, &mut told)?;
+    let core = Core::new(alloc, plan)?;
+    let sum = merge_rounds(alloc, plan, core, &mut kept, &mut told)?;
     Ok(all_rounds(plan, sum))
 }
 
@@ -73,30 +76,64 @@ fn is_told(plan: &Plan) -> bool
     plan.tree().processors() > FEW && first_late(plan.set().tasks()).is_none()
 }
 
+// Whether it is told on which processors a round may show something else.
+fn goes_by_changes(plan: &Plan, source: &Source) -> bool
+    requires { IsSourceOf plan.now source.now }
+    ensures on_time { result ≡ true → AllByRecursion (λ t. t.offset ≡ 0) plan.now.set.tasks }
+    ensures computed { result ≡ false → IsComputed plan.now source.now }
+    ensures off { result ≡ false → source.now.replays ≡ false }
+{
+    source.replays(plan) || is_told(plan)
+}
+
 /// Goes on with rounds up to the first that begins at tick `until` or later, or to the end of all. Of each processor a node is kept
 /// that shows what it did last; `told` is overwritten.
 pub(crate) fn merge_up_to(
     alloc: Global,
     plan: &Plan,
-    core: &mut Core,
+    source: &mut Source,
     kept: &mut [Option<NodeId>],
     told: &mut [Option<Leaf>],
     first: RoundSum,
     until: u128,
 ) -> Result<RoundSum, CountFault>
-    requires merging { IsMerging plan.now core.old first kept.old }
+    requires merging { IsMergingFrom plan.now source.old first kept.old }
     requires kept { length kept.old ≡ plan.now.tree.processors }
     requires told { length told.old ≡ plan.now.tree.processors }
     requires until { until ≤ stop_of plan.now }
-    ensures merging { IfOk result (λ sum. IsMerging plan.now core.new sum kept.new) }
-    ensures reached { IfOk result (λ _. until ≤ core.new.tick) }
+    ensures merging { IfOk result (λ sum. IsMergingFrom plan.now source.new sum kept.new) }
+    ensures reached { IfOk result (λ _. until ≤ source.new.tick) }
     ensures fault { IfErr result (λ fault. IsCountFault plan.now fault) }
 {
-    if !is_told(plan) {
-        return merge_looking(plan, core, kept, told, first, until);
+    if !goes_by_changes(plan, source) {
+        return merge_computed(plan, source, kept, told, first, until);
     }
     forget_nodes(kept);
-    merge_on_time(alloc, plan, core, told, first, until)
+    merge_on_time(alloc, plan, source, told, first, until)
+}
+
+// So with rounds that a core computes, and a look at each processor in each of them.
+fn merge_computed(
+    plan: &Plan,
+    source: &mut Source,
+    kept: &mut [Option<NodeId>],
+    told: &mut [Option<Leaf>],
+    first: RoundSum,
+    until: u128,
+) -> Result<RoundSum, CountFault>
+    requires computed { IsComputed plan.now source.old }
+    requires off { source.old.replays ≡ false }
+    requires merging { IsMergingFrom plan.now source.old first kept.old }
+    requires kept { length kept.old ≡ plan.now.tree.processors }
+    requires told { length told.old ≡ plan.now.tree.processors }
+    requires until { until ≤ stop_of plan.now }
+    ensures merging { IfOk result (λ sum. IsMergingFrom plan.now source.new sum kept.new) }
+    ensures reached { IfOk result (λ _. until ≤ source.new.tick) }
+    ensures fault { IfErr result (λ fault. IsCountFault plan.now fault) }
+{
+    let sum = merge_looking(plan, &mut source.core, kept, told, first, until)?;
+    source.tick = source.core.now();
+    Ok(sum)
 }
 
 // So with a look at each processor in each round.
@@ -131,30 +168,30 @@ fn merge_looking(
 fn merge_to_end(
     alloc: Global,
     plan: &Plan,
-    core: &mut Core,
+    source: &mut Source,
     kept: &mut [Option<NodeId>],
     told: &mut [Option<Leaf>],
     first: RoundSum,
 ) -> Result<RoundSum, CountFault>
-    requires merging { IsMerging plan.now core.old first kept.old }
+    requires merging { IsMergingFrom plan.now source.old first kept.old }
     requires kept { length kept.old ≡ plan.now.tree.processors }
     requires told { length told.old ≡ plan.now.tree.processors }
     ensures sum { IfOk result (λ sum. IsSumUpTo plan.now (stop_of plan.now) sum) }
     ensures fault { IfErr result (λ fault. IsCountFault plan.now fault) }
 {
-    merge_up_to(alloc, plan, core, kept, told, first, plan.rounds_end())
+    merge_up_to(alloc, plan, source, kept, told, first, plan.rounds_end())
 }
 
 // Merges all rounds of the plan.
 fn merge_rounds(
     alloc: Global,
     plan: &Plan,
-    core: &mut Core,
+    core: Core,
     kept: &mut [Option<NodeId>],
     told: &mut [Option<Leaf>],
 ) -> Result<RoundSum, CountFault>
-    requires belongs { IsCoreOf plan.now core.old }
-    requires first { core.old.tick ≡ 0 }
+    requires belongs { IsCoreOf plan.now core }
+    requires first { core.tick ≡ 0 }
     requires kept { kept.old ≡ replicate plan.now.tree.processors None }
     requires told { length told.old ≡ plan.now.tree.processors }
     ensures sum { IfOk result (λ sum. IsSumUpTo plan.now (stop_of plan.now) sum) }
@@ -163,34 +200,67 @@ fn merge_rounds(
     let first = no_rounds(alloc, plan)?;
     if let Some(turn) = turn_of(plan) {
         if comes_round(plan) {
-            return merge_with_laps(alloc, plan, core, kept, told, first, turn);
+            let (sum, mut source) = merge_first(alloc, plan, core, told, first, turn)?;
+            return merge_with_laps(alloc, plan, &mut source, kept, told, sum, turn);
         }
     }
-    merge_to_end(alloc, plan, core, kept, told, first)
+    let mut source = source_of(alloc, plan, core, no_lap(alloc), false)?;
+    merge_to_end(alloc, plan, &mut source, kept, told, first)
+}
+
+// Goes on for a hyperperiod of so many ticks, where there are more than a few processors, and tells where further rounds come from: by
+// that one's where it is kept.
+fn merge_first(
+    alloc: Global,
+    plan: &Plan,
+    core: Core,
+    told: &mut [Option<Leaf>],
+    first: RoundSum,
+    turn: u128,
+) -> Result<(RoundSum, Source), CountFault>
+    requires can { CanComeRound plan.now }
+    requires belongs { IsCoreOf plan.now core }
+    requires first { core.tick ≡ 0 }
+    requires sum { IsSumUpTo plan.now 0 first }
+    requires told { length told.old ≡ plan.now.tree.processors }
+    requires turn { turn ≡ plan.now.tree.scale * plan.now.tree.scale }
+    requires within { turn < stop_of plan.now }
+    ensures belongs { IfOk result (λ pair. IsSourceOf plan.now pair.1) }
+    ensures sum { IfOk result (λ pair. IsSumUpTo plan.now pair.1.tick pair.0) }
+    ensures fault { IfErr result (λ fault. IsCountFault plan.now fault) }
+{
+    if plan.tree().processors() <= FEW {
+        return Ok((first, source_of(alloc, plan, core, no_lap(alloc), false)?));
+    }
+    let mut core = core;
+    let (sum, lap) = merge_turn(alloc, plan, &mut core, told, first, turn)?;
+    let replays = core.now() == turn && are_turns(plan, turn, turn);
+    Ok((sum, source_of(alloc, plan, core, lap, replays)?))
 }
 
 // Goes on up to the end of all rounds, of a plan whose schedule can come round.
 fn merge_with_laps(
     alloc: Global,
     plan: &Plan,
-    core: &mut Core,
+    source: &mut Source,
     kept: &mut [Option<NodeId>],
     told: &mut [Option<Leaf>],
     first: RoundSum,
     turn: u128,
 ) -> Result<RoundSum, CountFault>
     requires can { CanComeRound plan.now }
-    requires merging { IsMerging plan.now core.old first kept.old }
-    requires kept { length kept.old ≡ plan.now.tree.processors }
+    requires belongs { IsSourceOf plan.now source.old }
+    requires sum { IsSumUpTo plan.now source.old.tick first }
+    requires kept { kept.old ≡ replicate plan.now.tree.processors None }
     requires told { length told.old ≡ plan.now.tree.processors }
     requires turn { turn ≡ plan.now.tree.scale * plan.now.tree.scale }
     ensures sum { IfOk result (λ sum. IsSumUpTo plan.now (stop_of plan.now) sum) }
     ensures fault { IfErr result (λ fault. IsCountFault plan.now fault) }
 {
-    let (sum, again) = merge_until_again(alloc, plan, core, kept, told, first, turn)?;
+    let (sum, again) = merge_until_again(alloc, plan, source, kept, told, first, turn)?;
     match again {
-        Some(ticks) => merge_again(alloc, plan, core, kept, told, sum, turn, ticks),
-        None => merge_to_end(alloc, plan, core, kept, told, sum),
+        Some(ticks) => merge_again(alloc, plan, source, kept, told, sum, turn, ticks),
+        None => merge_to_end(alloc, plan, source, kept, told, sum),
     }
 }
 
@@ -223,7 +293,7 @@ fn is_lap(plan: &Plan, from: u128, turn: u128, ticks: u128) -> bool
 fn merge_again(
     alloc: Global,
     plan: &Plan,
-    core: &mut Core,
+    source: &mut Source,
     kept: &mut [Option<NodeId>],
     told: &mut [Option<Leaf>],
     first: RoundSum,
@@ -231,7 +301,7 @@ fn merge_again(
     ticks: u128,
 ) -> Result<RoundSum, CountFault>
     requires can { CanComeRound plan.now }
-    requires merging { IsMerging plan.now core.old first kept.old }
+    requires merging { IsMergingFrom plan.now source.old first kept.old }
     requires kept { length kept.old ≡ plan.now.tree.processors }
     requires told { length told.old ≡ plan.now.tree.processors }
     requires turn { turn ≡ plan.now.tree.scale * plan.now.tree.scale }
@@ -239,16 +309,16 @@ fn merge_again(
     ensures fault { IfErr result (λ fault. IsCountFault plan.now fault) }
 {
     plan.know_lawful();
-    let from = core.now();
+    let from = source.now();
     if !is_lap(plan, from, turn, ticks) {
-        return merge_to_end(alloc, plan, core, kept, told, first);
+        return merge_to_end(alloc, plan, source, kept, told, first);
     }
     let until = from + ticks;
-    let places = core.places().copy(alloc)?;
-    let (sum, lap) = merge_lap(alloc, plan, core, told, first, until)?;
-    if core.now() == until && core.places().is_same(&places) {
+    let places = source.places(plan).copy(alloc)?;
+    let (sum, lap) = merge_lap(alloc, plan, source, told, first, until)?;
+    if source.now() == until && source.places(plan).is_same(&places) {
         return with_laps(plan, &lap, from, ticks, sum);
     }
     forget_nodes(kept);
-    merge_to_end(alloc, plan, core, kept, told, sum)
+    merge_to_end(alloc, plan, source, kept, told, sum)
 }

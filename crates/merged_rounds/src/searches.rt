@@ -2,11 +2,12 @@
 ghost use Rattle.std.specs.Prelude.{ℕ, ◌≡◌, ◌<◌, ◌≤◌, ◌*◌, length, IfErr, IfOk, IfSome};
 ghost use Rattle.run_tree.specs.Plans.{stop_of};
 ghost use Rattle.event_core.specs.Counts.{IsCountFault};
-ghost use Rattle.merged_rounds.specs.Laps.{IsMerging};
+ghost use Rattle.merged_rounds.specs.Replays.{IsMergingFrom};
 
 use crate::passes::merge_up_to;
+use crate::sources::Source;
 use crate::sums::RoundSum;
-use event_core::{Core, CountFault};
+use event_core::CountFault;
 use run_tree::Plan;
 use sched_base::{Leaf, NodeId};
 use std::alloc::Global;
@@ -31,31 +32,31 @@ pub(crate) fn turn_of(plan: &Plan) -> Option<u128>
 pub(crate) fn merge_until_again(
     alloc: Global,
     plan: &Plan,
-    core: &mut Core,
+    source: &mut Source,
     kept: &mut [Option<NodeId>],
     told: &mut [Option<Leaf>],
     first: RoundSum,
     turn: u128,
 ) -> Result<(RoundSum, Option<u128>), CountFault>
-    requires merging { IsMerging plan.now core.old first kept.old }
+    requires merging { IsMergingFrom plan.now source.old first kept.old }
     requires kept { length kept.old ≡ plan.now.tree.processors }
     requires told { length told.old ≡ plan.now.tree.processors }
     requires turn { turn ≡ plan.now.tree.scale * plan.now.tree.scale }
-    ensures merging { IfOk result (λ pair. IsMerging plan.now core.new pair.0 kept.new) }
+    ensures merging { IfOk result (λ pair. IsMergingFrom plan.now source.new pair.0 kept.new) }
     ensures fault { IfErr result (λ fault. IsCountFault plan.now fault) }
 {
     let stop = plan.rounds_end();
     let mut sum = first;
-    let mut seen = core.places().copy(alloc)?;
-    let mut seen_at: u128 = 0;
+    let mut seen = source.places(plan).copy(alloc)?;
+    let mut seen_at = source.now();
     let mut at = turn;
     'turns: while at < stop {
-        sum = merge_up_to(alloc, plan, core, kept, told, sum, at)?;
-        if core.places().is_same(&seen) {
+        sum = merge_up_to(alloc, plan, source, kept, told, sum, at)?;
+        if at > seen_at && source.places(plan).is_same(&seen) {
             return Ok((sum, Some(at - seen_at)));
         }
         if at / 2 >= seen_at {
-            seen = core.places().copy(alloc)?;
+            seen = source.places(plan).copy(alloc)?;
             seen_at = at;
         }
         at += turn;

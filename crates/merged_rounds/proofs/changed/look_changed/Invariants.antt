@@ -3,4 +3,4 @@ use Rattle.merged_rounds.specs.Changes.{IsChange}
 use Rattle.merged_rounds.proofs.changed.look_changed.Given as goal
 
 abbrev pub invariant-loop-k : goal.invariant-loop-k
-invariant-loop-k l = (q : ℕ) → IsChange l.plan l.start l.core.tick l.changed l.k q (get_or l.told q None)
+invariant-loop-k l = (q : ℕ) → IsChange l.plan l.start l.source.tick l.changed l.k q (get_or l.told q None)

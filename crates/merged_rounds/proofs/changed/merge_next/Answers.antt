@@ -10,18 +10,18 @@ use Rattle.merged_rounds.proofs.changed.merge_next.Goals as goal
 pub with_changed-requires-clause-told : goal.with_changed-requires-clause-told
 with_changed-requires-clause-told c =
     let p = c.args.plan.now in
-    let start = c.args.core.now.tick in
+    let start = c.args.source.now.tick in
     let end = c.go_telling-count.new.self.tick in
     let seen = c.first_of-seen.result.now in
     let each : (q : ℕ) → IsChange p start end seen (length seen) q (get_or c.look_changed.new.told q None) =
-    (λ q. subst (λ (n : ℕ). IsChange p n end seen (length seen) q (get_or c.look_changed.new.told q None)) c.now-start.ensures.value (c.look_changed.ensures q)) in
+    (λ q. subst (λ (n : ℕ). IsChange p n end seen (length seen) q (get_or c.look_changed.new.told q None)) c.now-start.ensures (c.look_changed.ensures q)) in
     let many = c.first_of-seen.ensures.long in
     let long : length c.look_changed.new.told ≡ p.tree.processors = c.look_changed.auto.told ∙ c.requires.told in
     let told = changed_told p start end seen (length seen) c.requires.showing.start c.look_changed.new.told c.args.first.rows.lanes long each
     (λ q none l no. c.go_telling-count.ensures.others q c.requires.showing.start none l (λ t. no t.0 (let m = t.1 in omega (arith, m, many)) (c.first_of-seen.ensures.each t.0 t.1 ∙ t.2)) c.requires.on_time c.requires.showing.round)
     c.requires.showing.last in
-    subst (λ (n : ℕ). AreTold c.args.first.rows.lanes c.look_changed.new.told (rows_of_round p c.now-start.result n)) (sym c.now-end.ensures.value)
-    (subst (λ (n : ℕ). AreTold c.args.first.rows.lanes c.look_changed.new.told (rows_of_round p n end)) (sym c.now-start.ensures.value) told)
+    subst (λ (n : ℕ). AreTold c.args.first.rows.lanes c.look_changed.new.told (rows_of_round p c.now-start.result n)) (sym c.now-end.ensures)
+    (subst (λ (n : ℕ). AreTold c.args.first.rows.lanes c.look_changed.new.told (rows_of_round p n end)) (sym c.now-start.ensures) told)
 
 pub forget_changed-requires-clause-within : goal.forget_changed-requires-clause-within
 forget_changed-requires-clause-within c = λ k l.
@@ -36,9 +36,9 @@ forget_changed-requires-clause-within c = λ k l.
 pub returns-clause-showing : goal.returns-clause-showing
 returns-clause-showing c =
     let p = c.args.plan.now in
-    let start = c.args.core.now.tick in
+    let start = c.args.source.now.tick in
     let end = c.go_telling-count.new.self.tick in
     let rows : rows_of_round p c.now-start.result c.now-end.result ≡ rows_of_round p start end =
-    ap (λ n. rows_of_round p n c.now-end.result) c.now-start.ensures.value ∙ ap (rows_of_round p start) c.now-end.ensures.value in
-    showing_on p c.go_telling-count.new.self c.in_ok-sum.sum start c.go_telling-count.ensures.belongs c.go_telling-count.ensures.round (subst (λ (n : ℕ). IsSumUpTo p n c.in_ok-sum.sum) c.now-end.ensures.value c.in_ok-sum.ensures.sum)
+    ap (λ n. rows_of_round p n c.now-end.result) c.now-start.ensures ∙ ap (rows_of_round p start) c.now-end.ensures in
+    showing_on p c.go_telling-count.new.self c.in_ok-sum.sum start c.go_telling-count.ensures.belongs c.go_telling-count.ensures.round (subst (λ (n : ℕ). IsSumUpTo p n c.in_ok-sum.sum) c.now-end.ensures c.in_ok-sum.ensures.sum)
     (λ q r at. c.in_ok-sum.ensures.ends q r (ap (λ (rs : List Row). slice_get rs q) rows ∙ at))

@@ -9,53 +9,53 @@ pub rounds-init : goal.rounds-init
 rounds-init c = record {
   belongs = c.requires.belongs;
   sum = c.requires.sum;
-  lap = subst (λ (es : List ℕ). IsLap c.args.plan.now c.args.core.now.tick es c.no_lap-lap.result.told.items) (sym c.no_lap-lap.ensures.ends)
-      (subst (λ (ts : List (Option Leaf)). IsLap c.args.plan.now c.args.core.now.tick [] ts) (sym c.no_lap-lap.ensures.told) (no_lap c.args.plan.now c.args.core.now.tick));
-  end = ap (λ (es : List ℕ). round_start c.args.core.now.tick es (length es)) c.no_lap-lap.ensures.ends;
+  lap = subst (λ (es : List ℕ). IsLap c.args.plan.now c.args.source.now.tick es c.no_lap-lap.result.told.items) (sym c.no_lap-lap.ensures.ends)
+      (subst (λ (ts : List (Option Leaf)). IsLap c.args.plan.now c.args.source.now.tick [] ts) (sym c.no_lap-lap.ensures.told) (no_lap c.args.plan.now c.args.source.now.tick));
+  end = ap (λ (es : List ℕ). round_start c.args.source.now.tick es (length es)) c.no_lap-lap.ensures.ends;
 }
 
 pub go-requires-clause-belongs : goal.go-requires-clause-belongs
 go-requires-clause-belongs c = c.rounds.invariant.belongs
 
 pub go-requires-clause-early : goal.go-requires-clause-early
-go-requires-clause-early c = let now = c.now.ensures.value in let on = c.rounds-test.true in let most = c.requires.until in omega (arith, now, on, most)
+go-requires-clause-early c = let now = c.now.ensures in let on = c.rounds-test.true in let most = c.requires.until in omega (arith, now, on, most)
 
 pub look_all-requires-clause-belongs : goal.look_all-requires-clause-belongs
 look_all-requires-clause-belongs c = c.go.ensures.belongs
 
 pub look_all-requires-clause-round : goal.look_all-requires-clause-round
-look_all-requires-clause-round c = subst (λ (n : ℕ). IsRoundUpTo c.args.plan.now n c.go.new.self.tick) (sym c.now-start.ensures.value) c.go.ensures.round
+look_all-requires-clause-round c = subst (λ (n : ℕ). IsRoundUpTo c.args.plan.now n c.go.new.self.tick) (sym c.now-start.ensures) c.go.ensures.round
 
 pub look_all-requires-clause-told : goal.look_all-requires-clause-told
 look_all-requires-clause-told c = c.rounds.auto.told ∙ c.requires.told
 
 pub with_round-requires-clause-sum : goal.with_round-requires-clause-sum
-with_round-requires-clause-sum c = subst (λ (n : ℕ). IsSumUpTo c.args.plan.now n c.rounds.sum) (sym c.now-start.ensures.value) c.rounds.invariant.sum
+with_round-requires-clause-sum c = subst (λ (n : ℕ). IsSumUpTo c.args.plan.now n c.rounds.sum) (sym c.now-start.ensures) c.rounds.invariant.sum
 
 pub with_round-requires-clause-round : goal.with_round-requires-clause-round
 with_round-requires-clause-round c =
-    subst (λ (n : ℕ). IsRoundUpTo c.args.plan.now c.now-start.result n) (sym c.now-end.ensures.value)
-    (subst (λ (n : ℕ). IsRoundUpTo c.args.plan.now n c.go.new.self.tick) (sym c.now-start.ensures.value) c.go.ensures.round)
+    subst (λ (n : ℕ). IsRoundUpTo c.args.plan.now c.now-start.result n) (sym c.now-end.ensures)
+    (subst (λ (n : ℕ). IsRoundUpTo c.args.plan.now n c.go.new.self.tick) (sym c.now-start.ensures) c.go.ensures.round)
 
 pub with_round-requires-clause-told : goal.with_round-requires-clause-told
 with_round-requires-clause-told c =
     told_all c.args.plan.now c.now-start.result c.now-end.result c.look_all.new.told c.rounds.sum.rows.lanes
-    (subst (λ (n : ℕ). IsAllTold c.args.plan.now c.now-start.result n c.look_all.new.told) (sym c.now-end.ensures.value) c.look_all.ensures)
+    (subst (λ (n : ℕ). IsAllTold c.args.plan.now c.now-start.result n c.look_all.new.told) (sym c.now-end.ensures) c.look_all.ensures)
 
 pub rounds-preserved : goal.rounds-preserved
 rounds-preserved c =
     let p = c.args.plan.now in
-    let first = c.args.core.now.tick in
-    let start = c.rounds.core.tick in
+    let first = c.args.source.now.tick in
+    let start = c.rounds.source.tick in
     let end = c.go.new.self.tick in
     let ends = c.rounds.lap.ends.items in
     let all = c.rounds.lap.told.items in
-    let told = subst (λ (n : ℕ). IsAllTold p n end c.look_all.new.told) c.now-start.ensures.value c.look_all.ensures in
+    let told = subst (λ (n : ℕ). IsAllTold p n end c.look_all.new.told) c.now-start.ensures c.look_all.ensures in
     let lap = lap_on p first start end ends all c.look_all.new.told c.rounds.invariant.lap c.rounds.invariant.end c.go.ensures.round told in
-    let ends_are : c.in_ok-lap.lap.ends.items ≡ ends ++ end ∷ [] = c.in_ok-lap.ensures.ends ∙ ap (λ n. ends ++ n ∷ []) c.now-end.ensures.value in
+    let ends_are : c.in_ok-lap.lap.ends.items ≡ ends ++ end ∷ [] = c.in_ok-lap.ensures.ends ∙ ap (λ n. ends ++ n ∷ []) c.now-end.ensures in
     record {
       belongs = c.go.ensures.belongs;
-      sum = subst (λ (n : ℕ). IsSumUpTo p n c.in_ok-sum.sum) c.now-end.ensures.value c.in_ok-sum.ensures.sum;
+      sum = subst (λ (n : ℕ). IsSumUpTo p n c.in_ok-sum.sum) c.now-end.ensures c.in_ok-sum.ensures.sum;
       lap = subst (λ (es : List ℕ). IsLap p first es c.in_ok-lap.lap.told.items) (sym ends_are)
           (subst (λ (ts : List (Option Leaf)). IsLap p first (ends ++ end ∷ []) ts) (sym c.in_ok-lap.ensures.told) lap);
       end = ap (λ (es : List ℕ). round_start first es (length es)) ends_are ∙ last_start first end ends;
@@ -63,7 +63,7 @@ rounds-preserved c =
 
 pub rounds-smaller : goal.rounds-smaller
 rounds-smaller c =
-    let now = c.now.ensures.value in
+    let now = c.now.ensures in
     let on = c.rounds-test.true in
     let most = c.requires.until in
     let above = c.go.ensures.round.above in

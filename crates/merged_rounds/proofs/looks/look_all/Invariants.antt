@@ -4,4 +4,4 @@ use Rattle.merged_rounds.specs.Passes.{leaf_at}
 use Rattle.merged_rounds.proofs.looks.look_all.Given as goal
 
 abbrev pub invariant-loop-q : goal.invariant-loop-q
-invariant-loop-q l = (k : ℕ) (none : Row) → k < l.q → get_or l.told k None ≡ Some (leaf_at l.plan l.start l.core.tick k none)
+invariant-loop-q l = (k : ℕ) (none : Row) → k < l.q → get_or l.told k None ≡ Some (leaf_at l.plan l.start l.source.tick k none)

@@ -1,12 +1,11 @@
 use Rattle.std.proofs.Common.{◌-◌, ◌≤◌}
 use Rattle.run_tree.specs.Plans.{stop_of}
-use Rattle.merged_rounds.specs.Laps.{IsMerging}
+use Rattle.merged_rounds.specs.Replays.{IsMergingFrom}
 use Rattle.merged_rounds.proofs.searches.merge_until_again.Given as goal
 
 abbrev pub invariant-turns : goal.invariant-turns
 invariant-turns l = record {
-  merging : IsMerging l.plan l.core l.sum l.kept;
-  seen : l.seen_at ≤ l.at;
+  merging : IsMergingFrom l.plan l.source l.sum l.kept;
   late : l.turn ≤ l.at;
 }
 

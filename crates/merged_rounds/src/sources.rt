@@ -1,0 +1,139 @@
+//! Where rounds come from: a core computes them, or those of the first hyperperiod come again.
+ghost use Rattle.std.specs.Prelude.{ℕ, ◌≡◌, ◌<◌, ◌≤◌, true, false, length, IfOk, slice_index};
+ghost use Rattle.std.specs.List.{AllByRecursion};
+ghost use Rattle.sched_base.specs.declared.rows.Row.{Row as DeclaredRow};
+ghost use Rattle.run_tree.specs.Plans.{stop_of};
+ghost use Rattle.event_core.specs.Cores.{IsCoreOf, places_of};
+ghost use Rattle.event_core.specs.Rounds.{IsRoundUpTo};
+ghost use Rattle.event_core.specs.Told.{IsTold};
+ghost use Rattle.merged_rounds.specs.Passes.{leaf_at};
+ghost use Rattle.merged_rounds.specs.Replays.{BeginsAgain, IsComputed, IsSourceOf, packs_of};
+
+use crate::laps::Lap;
+use crate::replays::{Replay, replay_of};
+use cpu_assign::Places;
+use event_core::Core;
+use run_tree::Plan;
+use sched_base::{Leaf, NoMemory};
+use std::alloc::Global;
+
+/// Where rounds come from: a core computes them, or those of the first hyperperiod come again. They have gone by up to a tick.
+#[derive(Drop)]
+pub(crate) struct Source {
+    pub(crate) core: Core,
+    pub(crate) tick: u128,
+    replays: bool,
+    replay: Replay,
+}
+
+/// The rounds that a core computes from its tick on, or those of a lap again.
+pub(crate) fn source_of(
+    alloc: Global,
+    plan: &Plan,
+    core: Core,
+    lap: Lap,
+    replays: bool,
+) -> Result<Source, NoMemory>
+    requires belongs { IsCoreOf plan.now core }
+    requires again { replays ≡ true → BeginsAgain plan.now core.tick lap }
+    ensures belongs { IfOk result (λ source. IsSourceOf plan.now source) }
+    ensures tick { IfOk result (λ source. source.tick ≡ core.tick) }
+{
+    let replay = replay_of(alloc, plan, &core, lap)?;
+    let tick = core.now();
+    Ok(Source {
+        core,
+        tick,
+        replays,
+        replay,
+    })
+}
+
+impl Source {
+    /// The tick at which the next round starts, or at which the last one ended.
+    pub(crate) fn now(&self) -> u128
+        ensures { result ≡ self.now.tick }
+    {
+        self.tick
+    }
+
+    /// Whether kept rounds come again.
+    pub(crate) fn replays(&self, plan: &Plan) -> bool
+        requires { IsSourceOf plan.now self.now }
+        ensures again { result ≡ true → AllByRecursion (λ t. t.offset ≡ 0) plan.now.set.tasks }
+        ensures computed { result ≡ false → IsComputed plan.now self.now }
+        ensures off { result ≡ self.now.replays }
+    {
+        let _plan = plan;
+        self.replays
+    }
+
+    /// The places before the round that starts at this tick.
+    pub(crate) fn places(&self, plan: &Plan) -> &Places
+        requires { IsSourceOf plan.now self.now }
+        ensures { result.now ≡ places_of plan.now self.now.tick }
+    {
+        let _plan = plan;
+        if self.replays {
+            self.replay.places()
+        } else {
+            self.core.places()
+        }
+    }
+
+    /// Moves to the end of the next round. It takes no memory.
+    pub(crate) fn go(&mut self, plan: &Plan)
+        requires belongs { IsSourceOf plan.now self.old }
+        requires early { self.old.tick < stop_of plan.now }
+        ensures belongs { IsSourceOf plan.now self.new }
+        ensures round { IsRoundUpTo plan.now self.old.tick self.new.tick }
+    {
+        if self.replays {
+            self.tick = self.replay.go(plan, self.tick);
+        } else {
+            self.core.go(plan);
+            self.tick = self.core.now();
+        }
+    }
+
+    /// Moves to the end of the next round as `go` does, and tells the processors, numbered from 0, on which that round may show something
+    /// else than the one before: where no task is released late, each other one shows the same. How many are told; one may be told
+    /// twice. It takes no memory.
+    pub(crate) fn go_telling(&mut self, plan: &Plan, told: &mut [u32]) -> usize
+        requires belongs { IsSourceOf plan.now self.old }
+        requires early { self.old.tick < stop_of plan.now }
+        requires room { length told.old ≡ packs_of plan.now }
+        ensures belongs { IsSourceOf plan.now self.new }
+        ensures round { IsRoundUpTo plan.now self.old.tick self.new.tick }
+        ensures within { result ≤ length told.new }
+        ensures processors { (j : ℕ) → j < result → slice_index told.new j < plan.now.tree.processors }
+        ensures others { (q start : ℕ) (none : DeclaredRow) → q < plan.now.tree.processors → (IsTold told.new result q → ⊥) →
+            AllByRecursion (λ t. t.offset ≡ 0) plan.now.set.tasks → IsRoundUpTo plan.now start self.old.tick →
+            leaf_at plan.now self.old.tick self.new.tick q none ≡ leaf_at plan.now start self.old.tick q none }
+    {
+        if self.replays {
+            let start = self.tick;
+            let (end, count) = self.replay.go_telling(plan, start, told);
+            self.tick = end;
+            count
+        } else {
+            let count = self.core.go_telling(plan, told);
+            self.tick = self.core.now();
+            count
+        }
+    }
+
+    /// What processor q, numbered from 0, shows in the round just gone, which began at tick `start`. It takes no memory.
+    pub(crate) fn leaf_on(&self, plan: &Plan, start: u128, q: u32) -> Leaf
+        requires belongs { IsSourceOf plan.now self.now }
+        requires round { IsRoundUpTo plan.now start self.now.tick }
+        requires processor { q < plan.now.tree.processors }
+        ensures { (none : DeclaredRow) → leaf_at plan.now start self.now.tick q none ≡ result }
+    {
+        if self.replays {
+            self.replay.leaf_on(plan, start, self.tick, q)
+        } else {
+            self.core.leaf_on(plan, start, q)
+        }
+    }
+}
