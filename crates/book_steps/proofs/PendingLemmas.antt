@@ -1,17 +1,17 @@
 -- What an event and a computed round keep of the pending rows.
-use Rattle.std.proofs.Common.{◌≡◌, ◌≢◌, inl, inr, ℕ, zero, suc, ◌+◌, ◌-◌, ◌*◌, ◌<◌, ◌≤◌, ◌^◌, Bool, true, false, List, [], ◌∷◌, ◌++◌, None, Some, drop, length, map, set, get_or, take, replicate, refl, sym, ap, ◌∙◌, subst, arith, add-one}
+use Rattle.std.proofs.Common.{◌≡◌, ◌≢◌, inl, inr, ℕ, zero, suc, ◌+◌, ◌-◌, ◌*◌, ◌<◌, ◌≤◌, ◌^◌, ◌⊎◌, Bool, true, false, List, [], ◌∷◌, ◌++◌, None, Some, drop, length, map, set, get_or, take, replicate, refl, sym, ap, ◌∙◌, subst, arith, add-one}
 use Rattle.std.specs.Prelude.{slice_get, slice_index}
-use Rattle.std.proofs.lemmas.Bool.{eq-eqb}
-use Rattle.std.proofs.lemmas.List.{length-set, length-replicate}
+use Rattle.std.proofs.lemmas.Bool.{cases_eq, eq-eqb}
+use Rattle.std.proofs.lemmas.List.{get_or-set_other, get_or-set_same, length-set, length-replicate}
 use Rattle.std.proofs.lemmas.Option.{slice_get-get_or, slice_get_within}
 use Rattle.sched_base.specs.declared.rows.Leaf.{Leaf}
-use Rattle.sched_base.specs.declared.rows.Leaf.TheVariants.{Task}
+use Rattle.sched_base.specs.declared.rows.Leaf.TheVariants.{Task, Wait, Idle, Empty}
 use Rattle.sched_base.specs.declared.rows.Row.{Row}
 use Rattle.sched_base.specs.declared.rows.TaskId.{TaskId}
 use Rattle.sched_base.specs.Rows.{is_of_task}
 use Rattle.sched_base.specs.Tables.{Table, lane_of, RowAt, IsTable, end_after, rounds_in, ticks_in, ticks_before, with_round}
 use Rattle.sched_base.proofs.ScheduleLanes.{lane_of-lanes_of, length-lanes_of}
-use Rattle.sched_base.proofs.TableLemmas.{no_row, row_within}
+use Rattle.sched_base.proofs.TableLemmas.{lane_within, no_row, row_within}
 use Rattle.sched_base.proofs.TickLemmas.{ticks_before-le}
 use Rattle.sched_laws.proofs.WholeRounds.{length-round}
 use Rattle.run_tree.specs.Plans.{PlanContents, IsPlan, rounds_of, schedule_of, stop_of}
@@ -30,10 +30,10 @@ use Rattle.plan_rounds.proofs.AgainLemmas.{new_row, row_of_plan}
 use Rattle.plan_rounds.specs.Parts.{RowsKept}
 use Rattle.plan_rounds.proofs.RowLemmas.{RowsKept-set, RowsKept-start}
 use Rattle.book_steps.specs.declared.ring.PendingRow.{PendingRow}
-use Rattle.book_steps.specs.Pending.{AreCounted, ArePending, CanCount, IsPending, PendingContents, PendingKept, all_computed, given_to, pending, rounds_up_to}
+use Rattle.book_steps.specs.Pending.{AreCounted, AreNoted, ArePending, CanCount, IsPending, PendingContents, PendingKept, all_computed, given_to, last_of, pending, rounds_up_to, with_last}
 use Rattle.book_steps.specs.Books.{no_rows}
 use Rattle.book_steps.specs.Turns.{with_ticks}
-use Rattle.book_steps.proofs.HeldRounds.{ArePending-less, ArePending-more, is_held, room_left}
+use Rattle.book_steps.proofs.HeldRounds.{ArePending-less, ArePending-more, is_held, place_within, room_left}
 use Rattle.book_steps.proofs.BookLemmas.{is_task, length-with_ticks, with_ticks-at}
 use Rattle.book_steps.proofs.TickCounts.{place_ticks, row_ticks-some, ticks_in-next}
 
@@ -113,6 +113,76 @@ module _ (old : List ℕ) (rows : List Row) (can : CanCount old rows) (k : ℕ) 
         omega (arith, so_far, added, more, one);
   }
 
+-- ---- the last rounds of a round's rows
+
+pub AreNoted-none : (tasks round : ℕ) (old : List ℕ) → AreNoted tasks round old [] old
+AreNoted-none tasks round old = record { many = refl; least = λ i n low before. before; each = λ q r task at is. absurd (let e : None ≡ Some r = at in cc) }
+
+pub AreNoted-all : (tasks round : ℕ) (old : List ℕ) (rows : List Row) (k : ℕ) (new : List ℕ) → length rows ≤ k → AreNoted tasks round old (take k rows) new → AreNoted tasks round old rows new
+AreNoted-all tasks round old rows k new past are = subst (λ (rs : List Row). AreNoted tasks round old rs new) (take_whole rows k past) are
+
+-- the first rows are all but the last of them
+take_more : (rows : List Row) (k q : ℕ) (r : Row) → slice_get (take (suc k) rows) q ≡ Some r → (slice_get (take k rows) q ≡ Some r) ⊎ ((q ≡ k) × (slice_get rows k ≡ Some r))
+take_more [] k q r at = absurd (let e : None ≡ Some r = at in cc)
+take_more (s ∷ rows) zero zero r at = inr (refl, at)
+take_more (s ∷ rows) zero (suc q) r at = absurd (let e : None ≡ Some r = at in cc)
+take_more (s ∷ rows) (suc k) zero r at = inl at
+take_more (s ∷ rows) (suc k) (suc q) r at = elim (take_more rows k q r at) [ inl before ↦ inl before | inr (same, last) ↦ inr (ap suc same, last) ]
+
+module _ (tasks round : ℕ) (old : List ℕ) (rows : List Row) (k : ℕ) (new : List ℕ) (are : AreNoted tasks round old (take k rows) new) (r : Row) (at : slice_get rows k ≡ Some r) where
+  -- a row of no task is noted nowhere
+  pub AreNoted-skip : ((task : TaskId) → r.leaf ≢ Task task) → AreNoted tasks round old (take (k + 1) rows) new
+  AreNoted-skip none = record {
+    many = are.many;
+    least = are.least;
+    each = λ q s task there is. elim (take_more rows k q s (rw add-one at there)) [
+      | inl before ↦ are.each q s task before is
+      | inr last ↦ absurd (let e : Some s ≡ Some r = sym last.1 ∙ at in let same : s ≡ r = cc in none task (sym (ap (λ (x : Row). x.leaf) same) ∙ is))
+    ];
+  }
+
+  module _ (task : TaskId) (is : r.leaf ≡ Task task) (within : k * tasks + task.0 < length new) where
+    abbrev place : ℕ
+    place = k * tasks + task.0
+
+    -- what was below stays below
+    stays : (i n : ℕ) → n < round → n < slice_index new i → n < slice_index (set new place round) i
+    stays i n low before = elim (cases_eq i place) [
+      | inl same ↦ (let here = get_or-set_same new place round 0 within in let e = ap (slice_index (set new place round)) same in omega (arith, here, e, low))
+      | inr other ↦ (let there = get_or-set_other new place i round 0 other in omega (arith, there, before))
+    ]
+
+    pub AreNoted-next : AreNoted tasks round old (take (k + 1) rows) (set new place round)
+    AreNoted-next = record {
+      many = length-set new place round ∙ are.many;
+      least = λ i n low before. stays i n low (are.least i n low before);
+      each = λ q s other there of. elim (take_more rows k q s (rw add-one at there)) [
+        | inl before ↦ (
+            let up = are.each q s other before of in
+            elim (cases_eq (q * tasks + other.0) place) [
+              | inl same ↦ (let here = get_or-set_same new place round 0 within in let e = ap (slice_index (set new place round)) same in omega (arith, here, e))
+              | inr apart ↦ (let kept = get_or-set_other new place (q * tasks + other.0) round 0 apart in omega (arith, kept, up))
+            ]
+            )
+        | inr last ↦ (
+            let e : Some s ≡ Some r = sym last.1 ∙ at in
+            let same : s ≡ r = cc in
+            let leaf : Task other ≡ Task task = sym of ∙ ap (λ (x : Row). x.leaf) same ∙ is in
+            let named : other ≡ task = cc in
+            let places : q * tasks + other.0 ≡ place = ap (λ n. n * tasks + other.0) last.0 ∙ ap (λ (t : TaskId). k * tasks + t.0) named in
+            let here = get_or-set_same new place round 0 within in
+            let e = ap (slice_index (set new place round)) places in
+            omega (arith, here, e)
+            )
+      ];
+    }
+
+  pub AreNoted-leaf : (leaf : Leaf) → r.leaf ≡ leaf → ((task : TaskId) → leaf ≡ Task task → k * tasks + task.0 < length new) → AreNoted tasks round old (take (k + 1) rows) (with_last new tasks round k leaf)
+  AreNoted-leaf (Task task) is within = AreNoted-next task is (within task refl)
+  AreNoted-leaf (Wait other) is within = AreNoted-skip (λ task named. absurd (let e : Wait other ≡ Task task = sym is ∙ named in cc))
+  AreNoted-leaf (Idle number) is within = AreNoted-skip (λ task named. absurd (let e : Idle number ≡ Task task = sym is ∙ named in cc))
+  AreNoted-leaf Empty is within = AreNoted-skip (λ task named. absurd (let e : Empty ≡ Task task = sym is ∙ named in cc))
+
 module _ (p : PlanContents) (h : IsPlan p) where
   abbrev all : List (List Row)
   all = plan_rows p
@@ -135,8 +205,8 @@ module _ (p : PlanContents) (h : IsPlan p) where
 
   module _ (window : ℕ) (s : State) (begins : s ≡ start processors) (r : PendingContents) where
     pub PendingKept-start : IsCoreOf p r.core → r.core.tick ≡ 0 → r.width ≡ processors → r.held ≡ buffer [] (window * processors) → r.computed ≡ 0
-        → r.given ≡ replicate (length p.set.tasks) 0 → PendingKept p window s r
-    PendingKept-start belongs first wide held none given =
+        → r.given ≡ replicate (length p.set.tasks) 0 → r.last ≡ replicate (processors * length p.set.tasks) 0 → PendingKept p window s r
+    PendingKept-start belongs first wide held none given last =
         let lanes : lanes_at p r.core.tick ≡ replicate processors [] = ap (lanes_at p) first ∙ no_lanes p h in
         let before : rounds_before p r.core.tick ≡ 0 = ap (rounds_before p) first ∙ no_rounds p in
         record {
@@ -150,6 +220,8 @@ module _ (p : PlanContents) (h : IsPlan p) where
           places = ap (λ (b : Buffer PendingRow). b.capacity) held;
           tasks = ap length given ∙ length-replicate (length p.set.tasks) 0;
           given = λ t below. ap (λ (xs : List ℕ). slice_index xs t) given ∙ zero_in (length p.set.tasks) t ∙ sym (ap (λ n. ticks_before t n all) none ∙ ticks_of_none t all);
+          last_places = ap length last ∙ length-replicate (processors * length p.set.tasks) 0;
+          last = λ q j row low at. absurd (omega (arith, none, low));
         }
 
   -- the rounds that a contract sees are those that are counted
@@ -176,6 +248,8 @@ module _ (p : PlanContents) (h : IsPlan p) where
       places = k.places;
       tasks = k.tasks;
       given = k.given;
+      last_places = k.last_places;
+      last = k.last;
     }
 
     module _ (within : q < length s.lanes) (below : posted_at s q < r.computed) (one : lane.posted ≡ posted_at s q + 1) (free : lane.out ≡ false) where
@@ -204,6 +278,8 @@ module _ (p : PlanContents) (h : IsPlan p) where
         places = k.places;
         tasks = k.tasks;
         given = k.given;
+        last_places = k.last_places;
+        last = k.last;
       }
 
       abbrev fewer : PendingContents
@@ -223,6 +299,8 @@ module _ (p : PlanContents) (h : IsPlan p) where
         places = k.places;
         tasks = k.tasks;
         given = k.given;
+        last_places = k.last_places;
+        last = k.last;
       }
 
   -- ---- a round more
@@ -285,7 +363,8 @@ module _ (p : PlanContents) (h : IsPlan p) where
 
     module _ (m : PendingContents) (belongs : IsCoreOf p m.core) (round : IsRoundUpTo p r.core.tick m.core.tick) (same_width : m.width ≡ r.width)
         (pushed : m.held ≡ buffer (r.held.items ++ map (pending r.given) (rows_of_round p r.core.tick m.core.tick)) r.held.capacity) (one : m.computed ≡ r.computed + 1)
-        (counted : AreCounted r.given (rows_of_round p r.core.tick m.core.tick) m.given) (below : r.computed < least_posted s + window) (fits : r.computed + 1 < 2 ^ 64) where
+        (counted : AreCounted r.given (rows_of_round p r.core.tick m.core.tick) m.given)
+        (noted : AreNoted (length r.given) (r.computed + 1) r.last (rows_of_round p r.core.tick m.core.tick) m.last) (below : r.computed < least_posted s + window) (fits : r.computed + 1 < 2 ^ 64) where
       abbrev begin : ℕ
       begin = r.core.tick
 
@@ -313,6 +392,34 @@ module _ (p : PlanContents) (h : IsPlan p) where
                 ap (given_to r.given) is ∙ k.given task.0 low;
           }
 
+      -- a row of an earlier round stays before the last one
+      last_more : (q j : ℕ) (leaf : Leaf) → j < r.computed → j < last_of r.last (length r.given) r.computed q leaf → j < last_of m.last (length m.given) m.computed q leaf
+      last_more q j (Task task) low before = subst (λ n. j < slice_index m.last (q * n + task.0)) (sym counted.many) (noted.least (q * length r.given + task.0) j (omega (arith, low)) before)
+      last_more q j (Wait task) low before = omega (arith, low, one)
+      last_more q j (Idle number) low before = omega (arith, low, one)
+      last_more q j Empty low before = omega (arith, low, one)
+
+      -- a row of the new round is the last one
+      last_new : (q : ℕ) (row : Row) (leaf : Leaf) → slice_get more_rows q ≡ Some row → row.leaf ≡ leaf → r.computed < last_of m.last (length m.given) m.computed q leaf
+      last_new q row (Task task) at is = subst (λ n. r.computed < slice_index m.last (q * n + task.0)) (sym counted.many) (let up = noted.each q row task at is in omega (arith, up))
+      last_new q row (Wait task) at is = omega (arith, one)
+      last_new q row (Idle number) at is = omega (arith, one)
+      last_new q row Empty at is = omega (arith, one)
+
+      last_kept : (q j : ℕ) (row : Row) → j < m.computed → RowAt all q j row → j < last_of m.last (length m.given) m.computed q row.leaf
+      last_kept q j row low at = elim (below_or j r.computed) [
+        | inl before ↦ last_more q j row.leaf before (k.last q j row before at)
+        | inr past ↦ (
+            let here : j ≡ r.computed = omega (arith, low, past, one) in
+            let inside = lane_within all q j row at in
+            let (new, got) = slice_get-some more_rows q (let many = wide begin m.core.tick round in let lanes = plan_lanes p h in omega (arith, inside, many, lanes)) in
+            let there : RowAt all q j new = subst (λ n. RowAt all q n new) (sym (here ∙ k.computed)) (row_of_round begin m.core.tick round (all_computed p r) k.kept.rounds refl q new got) in
+            let e : Some new ≡ Some row = sym there ∙ at in
+            let same : new ≡ row = cc in
+            subst (λ n. n < last_of m.last (length m.given) m.computed q row.leaf) (sym here) (last_new q row row.leaf (subst (λ x. slice_get more_rows q ≡ Some x) same got) refl)
+            )
+      ]
+
       pub PendingKept-more : PendingKept p window s m
       PendingKept-more = record {
         kept = record {
@@ -337,7 +444,18 @@ module _ (p : PlanContents) (h : IsPlan p) where
             let is : m.computed ≡ rounds_before p begin + 1 = let c = k.computed in omega (arith, one, c) in
             let all_of = ap (λ n. ticks_before t n all) is in
             omega (arith, so_far, added, count, more, all_of);
+        last_places = noted.many ∙ k.last_places;
+        last = last_kept;
       }
+
+    -- each processor has a place for each task
+    pub last_places_are : length r.last ≡ r.width * length r.given
+    last_places_are = k.last_places ∙ ap (λ n. n * length p.set.tasks) (sym k.kept.rounds.width) ∙ ap (λ n. r.width * n) (sym k.tasks)
+
+    pub last_within : (q t : ℕ) → q < processors → t < length p.set.tasks → q * length r.given + t < length r.last
+    last_within q t inside low =
+        subst (λ n. q * n + t < length r.last) (sym k.tasks)
+        (let there = place_within q processors (length p.set.tasks) t inside low in let places = k.last_places in omega (arith, there, places))
 
     -- there is a place for each row of the next round
     pub places_left : r.computed < least_posted s + window → length r.held.items + r.width ≤ r.held.capacity
@@ -400,6 +518,12 @@ module _ (p : PlanContents) (h : IsPlan p) where
       pub row_of_pending : (i : ℕ) (next : PendingRow) → posted_at s q - least ≤ i → i < n - least → slice_get r.held.items (i * r.width + q) ≡ Some next → next.row.leaf ≡ leaf
           → (j : ℕ) × (row : Row) × (posted_at s q ≤ j) × (j < n) × RowAt all q j row × (row.leaf ≡ leaf)
       row_of_pending i next past low at is = (least + i, next.row, omega (arith, past), omega (arith, low), (pending_at i next at).row, is)
+
+      -- and it stands before the last one
+      pub row_is_early : (i : ℕ) (next : PendingRow) → i < n - least → slice_get r.held.items (i * r.width + q) ≡ Some next → next.row.leaf ≡ leaf
+          → least + i < last_of r.last (length r.given) r.computed q leaf
+      row_is_early i next low at is =
+          subst (λ l. least + i < last_of r.last (length r.given) r.computed q l) is (k.last q (least + i) next.row (omega (arith, low, most)) (pending_at i next at).row)
 
       -- and where none is of the leaf, all its rows before round n are posted
       pub none_unposted : ((i : ℕ) (next : PendingRow) → posted_at s q - least ≤ i → i < n - least → slice_get r.held.items (i * r.width + q) ≡ Some next → next.row.leaf ≢ leaf)

@@ -1,5 +1,5 @@
 -- The rows of a plan that are computed and not yet let go, round by round.
-use Rattle.std.specs.Prelude.{ℕ, ◌≡◌, ◌<◌, ◌≤◌, ◌+◌, ◌-◌, ◌*◌, ◌^◌, List, None, Some, length, slice_get, slice_index}
+use Rattle.std.specs.Prelude.{ℕ, ◌≡◌, ◌<◌, ◌≤◌, ◌+◌, ◌-◌, ◌*◌, ◌^◌, List, None, Some, length, slice_get, slice_index, slice_set}
 use Rattle.sched_base.specs.declared.rows.Leaf.{Leaf}
 use Rattle.sched_base.specs.declared.rows.Leaf.TheVariants.{Task, Wait, Idle, Empty}
 use Rattle.sched_base.specs.declared.rows.Row.{Row}
@@ -24,6 +24,8 @@ pub record PendingContents : Type 0 where
   -- how many rounds are computed, and of each task the ticks of its rows in them
   pub computed : ℕ
   pub given : List ℕ
+  -- of each processor, and in it of each task, the number of rounds up to the last computed one in which the task has a row there
+  pub last : List ℕ
 
 -- the ticks that a leaf's task was given
 abbrev pub given_to : List ℕ → Leaf → ℕ
@@ -46,6 +48,30 @@ pub record CanCount (given : List ℕ) (rows : List Row) : Type 0 where
   pub forward : (q : ℕ) (r : Row) → slice_get rows q ≡ Some r → r.start ≤ r.end
   pub tasks : (q : ℕ) (r : Row) (task : TaskId) → slice_get rows q ≡ Some r → r.leaf ≡ Task task → task.0 < length given
   pub fits : (t : ℕ) → t < length given → slice_index given t + ticks_in t rows < 2 ^ 127
+
+-- the number of rounds up to the last computed one in which processor q can have a row of the leaf
+abbrev pub last_of : List ℕ → ℕ → ℕ → ℕ → Leaf → ℕ
+last_of last tasks computed q (Task task) = slice_index last (q * tasks + task.0)
+last_of last tasks computed q (Wait task) = computed
+last_of last tasks computed q (Idle number) = computed
+last_of last tasks computed q Empty = computed
+
+-- the last rounds, with this one as that of processor q and the leaf's task
+abbrev pub with_last : List ℕ → ℕ → ℕ → ℕ → Leaf → List ℕ
+with_last last tasks round q (Task task) = slice_set last (q * tasks + task.0) round
+with_last last tasks round q (Wait task) = last
+with_last last tasks round q (Idle number) = last
+with_last last tasks round q Empty = last
+
+-- there is a place for the processor and the task of each of these rows, of one round
+abbrev pub CanNote : ℕ → List Row → ℕ → Type 0
+CanNote tasks rows places = (q : ℕ) (r : Row) (task : TaskId) → slice_get rows q ≡ Some r → r.leaf ≡ Task task → q * tasks + task.0 < places
+
+-- each of these rows has the round with this number as the last one of its processor and task, and no other has a lower one than before
+pub record AreNoted (tasks round : ℕ) (old : List ℕ) (rows : List Row) (new : List ℕ) : Type 0 where
+  pub many : length new ≡ length old
+  pub least : (i n : ℕ) → n < round → n < slice_index old i → n < slice_index new i
+  pub each : (q : ℕ) (r : Row) (task : TaskId) → slice_get rows q ≡ Some r → r.leaf ≡ Task task → round ≤ slice_index new (q * tasks + task.0)
 
 -- this is the row of processor q in round k, with the ticks of its task's rows in the rounds before it
 pub record IsPending (rows : List (List Row)) (q k : ℕ) (next : PendingRow) : Type 0 where
@@ -74,3 +100,5 @@ pub record PendingKept (p : PlanContents) (window : ℕ) (s : State) (r : Pendin
   pub places : r.held.capacity ≡ window * p.tree.processors
   pub tasks : length r.given ≡ length p.set.tasks
   pub given : (t : ℕ) → t < length p.set.tasks → slice_index r.given t ≡ ticks_before t r.computed (plan_rows p)
+  pub last_places : length r.last ≡ p.tree.processors * length p.set.tasks
+  pub last : (q j : ℕ) (row : Row) → j < r.computed → RowAt (plan_rows p) q j row → j < last_of r.last (length r.given) r.computed q row.leaf

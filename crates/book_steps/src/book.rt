@@ -65,6 +65,7 @@ impl Parts {
         ensures held { IfOk result (λ q. q.pending.held ≡ buffer [] (window * plan.now.tree.processors)) }
         ensures computed { IfOk result (λ q. q.pending.computed ≡ 0) }
         ensures given { IfOk result (λ q. q.pending.given ≡ replicate (length plan.now.set.tasks) 0) }
+        ensures last { IfOk result (λ q. q.pending.last ≡ replicate (plan.now.tree.processors * length plan.now.set.tasks) 0) }
         ensures state { IfOk result (λ q. q.state ≡ start plan.now.tree.processors) }
         ensures totals { IfOk result (λ q. q.totals.items ≡ replicate (length plan.now.set.tasks) 0) }
         ensures faults { IfOk result (λ q. q.faults.items ≡ replicate plan.now.tree.processors None) }

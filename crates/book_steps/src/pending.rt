@@ -8,7 +8,7 @@ ghost use Rattle.event_core.specs.Cores.{IsCoreOf};
 ghost use Rattle.event_core.specs.Rounds.{IsRoundUpTo, rows_of_round};
 ghost use Rattle.circular_buffer.specs.Buffer.{buffer};
 ghost use Rattle.book_steps.specs.declared.ring.PendingRow.{PendingRow as DeclaredRow};
-ghost use Rattle.book_steps.specs.Pending.{AreCounted, CanCount, given_to as ticks_given, pending};
+ghost use Rattle.book_steps.specs.Pending.{AreCounted, AreNoted, CanCount, CanNote, given_to as ticks_given, last_of, pending, with_last};
 ghost use Rattle.book_steps.specs.Turns.{with_ticks};
 
 use crate::ring::{PendingRow, Ring};
@@ -28,6 +28,8 @@ pub(crate) struct Pending {
     // The number of rounds computed so far, and of each task the ticks of its rows in them.
     computed: u64,
     given: Vec<u128>,
+    // Of each processor, and in it of each task, the number of rounds up to the last computed one in which the task has a row there.
+    last: Vec<u64>,
 }
 
 impl Model for Pending {
@@ -36,7 +38,7 @@ impl Model for Pending {
 
     ghost Value = { PendingContents };
 
-    ghost view = { λ r. record { core = r.core; width = vec_len r.rows; held = r.held; computed = r.computed; given = r.given.items } };
+    ghost view = { λ r. record { core = r.core; width = vec_len r.rows; held = r.held; computed = r.computed; given = r.given.items; last = r.last.items } };
 }
 
 impl Pending {
@@ -49,11 +51,13 @@ impl Pending {
         ensures held { IfOk result (λ r. r.held ≡ buffer [] (window * plan.now.tree.processors)) }
         ensures computed { IfOk result (λ r. r.computed ≡ 0) }
         ensures given { IfOk result (λ r. r.given ≡ replicate (length plan.now.set.tasks) 0) }
+        ensures last { IfOk result (λ r. r.last ≡ replicate (plan.now.tree.processors * length plan.now.set.tasks) 0) }
     {
         let processors = plan.tree().processors();
         let tasks = plan.set().count();
         let held = Ring::new(alloc, window as usize * processors as usize)?;
         let given = vec![in alloc; 0u128; tasks as usize]?;
+        let last = vec![in alloc; 0u64; processors as usize * tasks as usize]?;
         let rows = blank_rows(alloc, processors)?;
         let core = Core::new(alloc, plan)?;
         Ok(Pending {
@@ -62,6 +66,7 @@ impl Pending {
             held,
             computed: 0,
             given,
+            last,
         })
     }
 
@@ -72,6 +77,7 @@ impl Pending {
         requires width { self.old.width ≡ plan.now.tree.processors }
         requires places { length self.old.held.items + self.old.width ≤ self.old.held.capacity }
         requires counted { self.old.computed + 1 < 2 ^ 64 }
+        requires each { length self.old.last ≡ self.old.width * length self.old.given }
         requires fits { (end : ℕ) → IsRoundUpTo plan.now self.old.core.tick end → CanCount self.old.given (rows_of_round plan.now self.old.core.tick end) }
         ensures belongs { IsCoreOf plan.now self.new.core }
         ensures round { IsRoundUpTo plan.now self.old.core.tick self.new.core.tick }
@@ -80,11 +86,19 @@ impl Pending {
             ++ map (pending self.old.given) (rows_of_round plan.now self.old.core.tick self.new.core.tick)) self.old.held.capacity }
         ensures computed { self.new.computed ≡ self.old.computed + 1 }
         ensures given { AreCounted self.old.given (rows_of_round plan.now self.old.core.tick self.new.core.tick) self.new.given }
+        ensures last { AreNoted (length self.old.given) (self.old.computed + 1) self.old.last
+            (rows_of_round plan.now self.old.core.tick self.new.core.tick) self.new.last }
     {
         self.core.advance(plan, &mut self.rows);
         push_each(&mut self.held, self.given.as_slice(), self.rows.as_slice());
-        count_each(&mut self.given, self.rows.as_slice());
         self.computed += 1;
+        note_each(
+            &mut self.last,
+            self.given.len(),
+            self.computed,
+            self.rows.as_slice(),
+        );
+        count_each(&mut self.given, self.rows.as_slice());
     }
 
     /// The number of rounds computed so far.
@@ -118,7 +132,22 @@ impl Pending {
         self.held.row(self.place_of(round, q))
     }
 
-    /// Whether a row of processor q in the held rounds `from` to `to`, that without, is of the leaf.
+    /// The number of rounds up to the last computed one in which processor q can have a row of the leaf. For a leaf that is no task these are all
+    /// computed ones.
+    pub(crate) fn last(&self, q: u32, leaf: Leaf) -> u64
+        requires { (task : DeclaredTaskId) → leaf ≡ Task task → q * length self.now.given + task.0 < length self.now.last }
+        ensures { result ≡ last_of self.now.last (length self.now.given) self.now.computed q leaf }
+    {
+        match leaf {
+            Leaf::Task(task) => self.last[q as usize * self.given.len() + task.0 as usize],
+            Leaf::Wait(_) => self.computed,
+            Leaf::Idle(_) => self.computed,
+            Leaf::Empty => self.computed,
+        }
+    }
+
+    /// Whether a row of processor q in the held rounds `from` to `to`, that without, is of the leaf. It looks at the last of them first: up to
+    /// the last round of the leaf it is found at one look.
     pub(crate) fn has(&self, q: u32, from: u64, to: u64, leaf: Leaf) -> bool
         requires { (i : ℕ) → i < to → i * self.now.width + q < length self.now.held.items }
         ensures some { result ≡ true → (i : ℕ) × (next : DeclaredRow) × (from ≤ i) × (i < to)
@@ -126,7 +155,8 @@ impl Pending {
         ensures none { result ≡ false → (i : ℕ) (next : DeclaredRow) → from ≤ i → i < to
             → slice_get self.now.held.items (i * self.now.width + q) ≡ Some next → next.row.leaf ≢ leaf }
     {
-        for i in from..to {
+        for n in from..to {
+            let i = from + (to - 1 - n);
             if self.held.is_of(self.place_of(i, q), leaf) {
                 return true;
             }
@@ -177,6 +207,26 @@ fn count_each(given: &mut Vec<u128>, rows: &[Row])
 {
     for q in 0..rows.len() {
         add_ticks(given, rows[q]);
+    }
+}
+
+// Notes the round with this number as the last one of each of its rows.
+fn note_each(last: &mut Vec<u64>, tasks: usize, round: u64, rows: &[Row])
+    requires { CanNote tasks rows.now (length last.old.items) }
+    ensures { AreNoted tasks round last.old.items rows.now last.new.items }
+{
+    for q in 0..rows.len() {
+        note(last, tasks, round, q, rows[q].leaf);
+    }
+}
+
+// Notes the round with this number as the last one in which processor q has the leaf.
+fn note(last: &mut Vec<u64>, tasks: usize, round: u64, q: usize, leaf: Leaf)
+    requires { (task : DeclaredTaskId) → leaf ≡ Task task → q * tasks + task.0 < length last.old.items }
+    ensures { last.new.items ≡ with_last last.old.items tasks round q leaf }
+{
+    if let Leaf::Task(task) = leaf {
+        last[q * tasks + task.0 as usize] = round;
     }
 }
 

@@ -1,6 +1,8 @@
 //! Handing rows out.
 ghost use Rattle.std.specs.Prelude.{◌≡◌, ◌<◌, ◌≤◌, ◌+◌, ◌↔◌, ℕ, length, true, false, IfSome, IfNone, IsTrue};
+ghost use Rattle.sched_base.specs.declared.rows.Leaf.TheVariants.{Task};
 ghost use Rattle.sched_base.specs.declared.rows.Row.{Row as DeclaredRow};
+ghost use Rattle.sched_base.specs.declared.rows.TaskId.{TaskId as DeclaredTaskId};
 ghost use Rattle.sched_base.specs.Tables.{RowAt, rounds_in};
 ghost use Rattle.run_tree.specs.Plans.{rounds_of};
 ghost use Rattle.book_machine.specs.Machine.{EarlierPosted, HasTakeable, IsWaitedFor, PostedBefore, WaitsFor, lane_at, posted_at, least_posted};
@@ -147,6 +149,7 @@ impl StepBook {
     // The lowest other processor that has an unposted row of the leaf before the round.
     fn lowest_with(&self, p: u32, round: u64, leaf: Leaf) -> Option<u32>
         requires round { round ≤ rounds_in self.now.table.lanes }
+        requires task { (task : DeclaredTaskId) → leaf ≡ Task task → task.0 < length self.now.plan.set.tasks }
         ensures none { IfNone result (EarlierPosted (plan_rows self.now.plan) self.now.state.lanes p round leaf) }
         ensures some { IfSome result (λ q. IsWaitedFor (plan_rows self.now.plan) self.now.state.lanes p round leaf q) }
     {
@@ -163,16 +166,18 @@ impl StepBook {
     fn has_unposted(&self, q: u32, round: u64, leaf: Leaf) -> bool
         requires processor { q < length self.now.state.lanes }
         requires round { round ≤ rounds_in self.now.table.lanes }
+        requires task { (task : DeclaredTaskId) → leaf ≡ Task task → task.0 < length self.now.plan.set.tasks }
         ensures some { result ≡ true → (j : ℕ) × (r : DeclaredRow) × (posted_at self.now.state q ≤ j) × (j < round)
             × RowAt (plan_rows self.now.plan) q j r × (r.leaf ≡ leaf) }
         ensures none { result ≡ false → PostedBefore (plan_rows self.now.plan) self.now.state.lanes q round leaf }
     {
         self.plan.know_lawful();
         let least = self.state.least();
+        let last = round.min(self.pending.last(q, leaf));
         self.pending.has(
             q,
             self.state.posted(q) - least,
-            round.saturating_sub(least),
+            last.saturating_sub(least),
             leaf,
         )
     }

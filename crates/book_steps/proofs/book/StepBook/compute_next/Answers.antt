@@ -5,7 +5,7 @@ use Rattle.book_machine.specs.Machine.{least_posted}
 use Rattle.plan_rounds.proofs.RoundLemmas.{below_or}
 use Rattle.book_steps.specs.Pending.{PendingKept}
 use Rattle.book_steps.proofs.BookLemmas.{AreFaults-more}
-use Rattle.book_steps.proofs.PendingLemmas.{CanCount-next, PendingKept-more, places_left}
+use Rattle.book_steps.proofs.PendingLemmas.{CanCount-next, PendingKept-more, last_places_are, places_left}
 use Rattle.book_steps.proofs.book.StepBook.compute_next.Goals.{After-know_lawful}
 use Rattle.book_steps.proofs.book.StepBook.compute_next.Goals as goal
 
@@ -52,6 +52,11 @@ compute_next-requires-clause-places c =
     let r = (goal.at.compute_next-requires-clause-places c).After-know_lawful in
     places_left c.self.inside.plan c.know_lawful.ensures.lawful c.self.inside.window c.self.inside.state c.self.inside.pending (pending r) (below r)
 
+pub compute_next-requires-clause-each : goal.compute_next-requires-clause-each
+compute_next-requires-clause-each c =
+    let r = (goal.at.compute_next-requires-clause-each c).After-know_lawful in
+    last_places_are c.self.inside.plan c.know_lawful.ensures.lawful c.self.inside.window c.self.inside.state c.self.inside.pending (pending r)
+
 pub compute_next-requires-clause-fits : goal.compute_next-requires-clause-fits
 compute_next-requires-clause-fits c =
     CanCount-next c.self.inside.plan c.know_lawful.ensures.lawful c.self.inside.window c.self.inside.state c.self.inside.pending c.self.invariant.pending
@@ -78,7 +83,7 @@ invariant_of-self c =
       compiled = c.self.invariant.compiled;
       some_window = c.self.invariant.some_window;
       small_window = c.self.invariant.small_window;
-      pending = PendingKept-more c.self.inside.plan c.know_lawful.ensures.lawful c.self.inside.window c.self.inside.state c.self.inside.pending c.self.invariant.pending new done.belongs done.round done.width done.held done.computed done.given (below r) (fits r);
+      pending = PendingKept-more c.self.inside.plan c.know_lawful.ensures.lawful c.self.inside.window c.self.inside.state c.self.inside.pending c.self.invariant.pending new done.belongs done.round done.width done.held done.computed done.given done.last (below r) (fits r);
       led = c.self.invariant.led;
       totals = c.self.invariant.totals;
       faults = AreFaults-more c.self.inside.state c.self.inside.pending.computed new.computed c.self.inside.faults.items (let one = done.computed in omega (arith, one)) c.self.invariant.faults;
@@ -91,7 +96,7 @@ pub returns-clause-one_more : goal.returns-clause-one_more
 returns-clause-one_more c =
     let r = (goal.at.returns-clause-one_more c).After-know_lawful in
     let plan = c.self.inside.plan in
-    let kept = PendingKept-more plan c.know_lawful.ensures.lawful c.self.inside.window c.self.inside.state c.self.inside.pending c.self.invariant.pending c.compute_next.new.self c.compute_next.ensures.belongs c.compute_next.ensures.round c.compute_next.ensures.width c.compute_next.ensures.held c.compute_next.ensures.computed c.compute_next.ensures.given (below r) (fits r) in
+    let kept = PendingKept-more plan c.know_lawful.ensures.lawful c.self.inside.window c.self.inside.state c.self.inside.pending c.self.invariant.pending c.compute_next.new.self c.compute_next.ensures.belongs c.compute_next.ensures.round c.compute_next.ensures.width c.compute_next.ensures.held c.compute_next.ensures.computed c.compute_next.ensures.given c.compute_next.ensures.last (below r) (fits r) in
     rw (← c.self.view_is) (
     let before = (pending r).kept.rounds.count in
     let after = kept.kept.rounds.count in

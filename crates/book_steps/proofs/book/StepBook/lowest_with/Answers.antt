@@ -12,6 +12,9 @@ has_unposted-requires-clause-processor c = let all = c.processors-q-end.ensures.
 pub has_unposted-requires-clause-round : goal.has_unposted-requires-clause-round
 has_unposted-requires-clause-round c = c.requires.round
 
+pub has_unposted-requires-clause-task : goal.has_unposted-requires-clause-task
+has_unposted-requires-clause-task c = c.requires.task
+
 pub returns-then-has_unposted-clause-some : goal.returns-then-has_unposted-clause-some
 returns-then-has_unposted-clause-some c = record {
   lane = let all = c.processors-q-end.ensures.lanes in let before = c.loop-q-test.true in omega (arith, all, before);

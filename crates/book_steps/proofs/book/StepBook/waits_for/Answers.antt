@@ -1,11 +1,14 @@
 use Rattle.std.proofs.Common.{◌≡◌, ◌<◌, ◌≤◌, ◌+◌, ℕ, inl, inr, Option, IfSome, length, subst, arith}
+use Rattle.sched_base.specs.declared.rows.Leaf.TheVariants.{Task}
+use Rattle.sched_base.specs.declared.rows.TaskId.{TaskId}
 use Rattle.book_machine.specs.Machine.{EarlierPosted, IsWaitedFor, WaitsFor, least_posted, posted_at}
 use Rattle.book_machine.proofs.Lanes.{least_le}
 use Rattle.plan_rounds.specs.PlanRows.{plan_rows}
-use Rattle.plan_rounds.proofs.RoundLemmas.{plan_lanes}
+use Rattle.plan_rounds.proofs.RoundLemmas.{names_task, plan_lanes}
 use Rattle.plan_rounds.proofs.RowLemmas.{IfNone-by, IfSome-by, waited_is_behind}
 use Rattle.book_steps.specs.declared.ring.PendingRow.{PendingRow}
 use Rattle.book_steps.specs.Pending.{IsPending, PendingKept}
+use Rattle.book_steps.proofs.BookLemmas.{is_task}
 use Rattle.book_steps.proofs.PendingLemmas.{computed_is}
 use Rattle.book_steps.proofs.book.StepBook.waits_for.Goals.{After-know_lawful}
 use Rattle.book_steps.proofs.book.StepBook.waits_for.Goals as goal
@@ -33,6 +36,10 @@ module _ (c : After-know_lawful) where
       let held = (rw (← c.self.view_is) at c.requires.held) near in
       let is = computed_is c.self.inside.plan c.know_lawful.ensures.lawful c.self.inside.window c.self.inside.state c.self.inside.pending pending in
       omega (arith, held, is)
+
+  -- the task that its row names is one of the plan's
+  named : (next : PendingRow) → IsPending (plan_rows c.self.inside.plan) c.args.p (posted_at c.self.inside.state c.args.p) next → (task : TaskId) → next.row.leaf ≡ Task task → task.0 < length c.self.inside.plan.set.tasks
+  named next pends task is = names_task c.self.inside.plan c.know_lawful.ensures.lawful c.args.p (posted_at c.self.inside.state c.args.p) task.0 next.row pends.row (is_task next.row.leaf task is)
 
   -- the lane that is found is the one waited for
   waits_in : (next : PendingRow) → posted_at c.self.inside.state c.args.p < least_posted c.self.inside.state + c.self.inside.window → IsPending (plan_rows c.args.self.now.plan) c.args.p (posted_at c.args.self.now.state c.args.p) next
@@ -119,7 +126,10 @@ lowest_with-requires c =
     let near = c.if-round-least.false in
     let held = below r (omega (arith, most, posted, least, window, near)) in
     let is = computed_is c.self.inside.plan c.know_lawful.ensures.lawful c.self.inside.window c.self.inside.state c.self.inside.pending (pending r) in
-    record { round = rw (← c.self.view_is) (omega (arith, held, posted, is)) }
+    record {
+      round = rw (← c.self.view_is) (omega (arith, held, posted, is));
+      task = λ task is. rw (← c.self.view_is) (named r c.next_row-next.result (rw (← c.self.view_is) at c.next_row-next.ensures) task is);
+    }
 
 pub returns-then-is_clear-clause-none : goal.returns-then-is_clear-clause-none
 returns-then-is_clear-clause-none c =

@@ -1,7 +1,7 @@
-use Rattle.std.proofs.Common.{◌≡◌, ◌≢◌, ◌<◌, ◌≤◌, ◌+◌, ◌*◌, ℕ, Some}
+use Rattle.std.proofs.Common.{◌≡◌, ◌≢◌, ◌<◌, ◌≤◌, ◌+◌, ◌-◌, ◌*◌, ℕ, Some}
 use Rattle.std.specs.Prelude.{slice_get}
 use Rattle.book_steps.specs.declared.ring.PendingRow.{PendingRow}
 use Rattle.book_steps.proofs.pending.Pending.has.Given as goal
 
-abbrev pub invariant-loop-i : goal.invariant-loop-i
-invariant-loop-i l = (k : ℕ) (next : PendingRow) → l.from ≤ k → k < l.i → slice_get l.self.held.items (k * l.self.width + l.q) ≡ Some next → next.row.leaf ≢ l.leaf
+abbrev pub invariant-loop-n : goal.invariant-loop-n
+invariant-loop-n l = (k : ℕ) (next : PendingRow) → l.from + (l.to - l.n) ≤ k → k < l.to → slice_get l.self.held.items (k * l.self.width + l.q) ≡ Some next → next.row.leaf ≢ l.leaf
