@@ -222,20 +222,20 @@ static inline void fl_pause(void)
 #endif
 }
 
-/* How often the lock is tried before a thread sleeps for it, and for how many moments at most between two tries. */
-enum { FL_TRIES = 14, FL_PAUSES = 64 };
+/* How often the lock is tried before a thread sleeps for it, and how many moments pass between two tries. */
+enum { FL_TRIES = 100, FL_PAUSES = 10 };
 
-/* Takes the lock. It is held for less time than a sleep takes, so it is tried some times before that, with twice as many moments between two tries each
- * time. A thread with a priority may keep the one that holds it from its CPU, and sleeps at once. */
+/* Takes the lock. It is held for less time than a sleep takes, so it is tried some times before that; where threads share CPUs the one that holds it
+ * may be waiting for a CPU, which it gets between two tries. A thread with a priority gives its CPU to none below it, and sleeps at once. */
 static inline void fl_lock(struct fl_execution *in)
 {
-    int tries, pauses, pause = 1;
+    int tries, pauses;
     for (tries = in->crew->priority ? 0 : FL_TRIES; tries > 0; tries--) {
         if (pthread_mutex_trylock(in->lock) == 0)
             return;
-        for (pauses = pause; pauses > 0; pauses--)
+        for (pauses = FL_PAUSES; pauses > 0; pauses--)
             fl_pause();
-        pause = pause < FL_PAUSES ? 2 * pause : pause;
+        sched_yield();
     }
     pthread_mutex_lock(in->lock);
 }
