@@ -3,6 +3,7 @@ ghost use Rattle.std.specs.Prelude.{◌≡◌, ◌<◌, [], ◌∷◌, ◌++◌,
 ghost use Rattle.merged_rows.specs.Columns.{Begun, going_on, shows_last, showing};
 
 use crate::neighbours::is_shown_alike;
+use crate::starts::Starts;
 use sched_base::{Leaf, NoMemory};
 use std::alloc::Global;
 use std::marker::Model;
@@ -10,19 +11,19 @@ use std::marker::Model;
 /// The rows of one processor as they begin, each at a tick and with what it shows. A row goes on up to the next one's start.
 #[derive(Drop)]
 pub(crate) struct MergedLane {
-    starts: Vec<u128>,
+    starts: Starts,
     leaves: Vec<Leaf>,
 }
 
 impl Model for MergedLane {
-    ghost use Rattle.std.specs.Prelude.{◌≡◌, List, vec_len};
+    ghost use Rattle.std.specs.Prelude.{◌≡◌, List, length};
     ghost use Rattle.merged_rows.specs.Columns.{Begun, begun_of};
 
     ghost Value = { List Begun };
 
-    ghost view = { λ l. begun_of l.starts.items l.leaves.items };
+    ghost view = { λ l. begun_of l.starts l.leaves.items };
 
-    ghost invariant = { λ l. vec_len l.starts ≡ vec_len l.leaves };
+    ghost invariant = { λ l. length l.starts ≡ length l.leaves.items };
 }
 
 impl MergedLane {
@@ -31,7 +32,7 @@ impl MergedLane {
         ensures { result ≡ [] }
     {
         MergedLane {
-            starts: Vec::new(alloc),
+            starts: Starts::new(alloc),
             leaves: Vec::new(alloc),
         }
     }
@@ -72,9 +73,8 @@ impl MergedLane {
         ensures begun { OnOk result (self.new ≡ self.old ++ record { start = start; leaf = leaf } ∷ []) }
         ensures err { OnErr result (self.new ≡ self.old) }
     {
-        self.starts.reserve(1)?;
         self.leaves.reserve(1)?;
-        self.starts.push_reserved(start);
+        self.starts.push(start)?;
         self.leaves.push_reserved(leaf);
         Ok(())
     }
@@ -83,7 +83,7 @@ impl MergedLane {
     pub(crate) fn count(&self) -> usize
         ensures { result ≡ length self.now }
     {
-        self.starts.len()
+        self.leaves.len()
     }
 
     /// Where row i begins, and what it shows.
@@ -91,6 +91,6 @@ impl MergedLane {
         requires { i < length self.now }
         ensures { slice_get self.now i ≡ Some (record { start = result.0; leaf = result.1 }) }
     {
-        (self.starts[i], self.leaves[i])
+        (self.starts.at(i), self.leaves[i])
     }
 }

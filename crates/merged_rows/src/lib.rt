@@ -5,6 +5,7 @@
 mod lanes;
 mod merging;
 mod neighbours;
+mod starts;
 mod totals;
 
 pub use merging::MergedRows;

@@ -12,7 +12,7 @@ use std::marker::Model;
 
 /// The rows of each processor up to a tick, merged: those that follow one another under one name are one row.
 ///
-/// Seen as these rows, lane by lane, and the tick. They take 24 bytes for each merged row.
+/// Seen as these rows, lane by lane, and the tick. They take 16 bytes for each merged row, and 24 for one whose start is past 64 bits.
 pub struct MergedRows {
     lanes: Vec<MergedLane>,
     end: u128,

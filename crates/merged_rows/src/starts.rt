@@ -1,0 +1,63 @@
+//! Ticks in a column, each as narrow as it is.
+ghost use Rattle.std.specs.Prelude.{◌≡◌, ◌<◌, [], ◌∷◌, ◌++◌, length, slice_index, OnOk, OnErr};
+
+use sched_base::NoMemory;
+use std::alloc::Global;
+use std::marker::Model;
+
+/// Ticks one after another: those in front of the first past 64 bits take 8 bytes each, that one and those behind it 16.
+///
+/// It is seen as the list of them.
+#[derive(Drop)]
+pub(crate) struct Starts {
+    narrow: Vec<u64>,
+    wide: Vec<u128>,
+}
+
+impl Model for Starts {
+    ghost use Rattle.std.specs.Prelude.{ℕ, List, ◌++◌};
+
+    ghost Value = { List ℕ };
+
+    ghost view = { λ s. s.narrow.items ++ s.wide.items };
+}
+
+impl Starts {
+    /// No tick yet. It takes no memory.
+    pub(crate) fn new(alloc: Global) -> Starts
+        ensures { result ≡ [] }
+    {
+        Starts {
+            narrow: Vec::new(alloc),
+            wide: Vec::new(alloc),
+        }
+    }
+
+    /// One tick more.
+    #[inline(always)]
+    pub(crate) fn push(&mut self, tick: u128) -> Result<(), NoMemory>
+        ensures pushed { OnOk result (self.new ≡ self.old ++ tick ∷ []) }
+        ensures err { OnErr result (self.new ≡ self.old) }
+    {
+        if self.wide.is_empty() && tick <= u128::from(u64::MAX) {
+            self.narrow.push(tick as u64)?;
+        } else {
+            self.wide.push(tick)?;
+        }
+        Ok(())
+    }
+
+    /// Tick i.
+    #[inline(always)]
+    pub(crate) fn at(&self, i: usize) -> u128
+        requires { i < length self.now }
+        ensures { result ≡ slice_index self.now i }
+    {
+        let count = self.narrow.len();
+        if i < count {
+            u128::from(self.narrow[i])
+        } else {
+            self.wide[i - count]
+        }
+    }
+}
