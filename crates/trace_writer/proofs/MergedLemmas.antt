@@ -1,11 +1,9 @@
 -- All rows, lane by lane.
-use Rattle.std.proofs.Common.{ℕ, zero, suc, ◌+◌, ◌<◌, ◌≤◌, ◌≡◌, List, [], ◌∷◌, ◌++◌, length, take, get_or, Some, None, refl, ap, ◌∙◌, arith, length-append, add-one, subst}
-use Rattle.std.specs.Prelude.{slice_get}
+use Rattle.std.proofs.Common.{ℕ, zero, suc, ◌+◌, ◌<◌, ◌≤◌, ◌≡◌, List, [], ◌∷◌, ◌++◌, length, take, refl, ap, ◌∙◌, arith, length-append, add-one}
 use Rattle.std.specs.List.{flat_map}
 use Rattle.std.proofs.lemmas.List.Concat.{flat_map-append}
 use Rattle.sched_base.specs.declared.rows.Row.{Row}
 use Rattle.sched_base.specs.Tables.{all_rows, lane_of}
-use Rattle.row_totals.specs.Sums.{IsAmong, NamesAmong}
 
 -- the text of all rows is that of each lane's
 pub all_text : (f : Row → List ℕ) (lanes : List (List Row)) → flat_map f (all_rows lanes) ≡ flat_map (flat_map f) lanes

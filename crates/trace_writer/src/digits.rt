@@ -1,14 +1,14 @@
 //! Decimal digits, written where they are to stand.
-ghost use Rattle.std.specs.Prelude.{◌≡◌, ◌≤◌, ◌<◌, ◌+◌, ◌*◌, ◌/◌, ◌%◌, ◌^◌, ◌++◌, length, take, replicate, decimal};
+ghost use Rattle.std.specs.Prelude.{◌≡◌, ◌≤◌, ◌<◌, ◌+◌, ◌*◌, ◌/◌, ◌%◌, ◌^◌, ◌++◌, length, take, decimal};
 ghost use Rattle.trace_writer.specs.Digits.{low_digits, worth_of_four};
 
 use itoa::write_digits;
 
-/// This many digits are cut off at once from a number past 64 bits.
-const CUT: usize = 19;
+/// Eight digits have as many values.
+const EIGHT: u64 = 100_000_000;
 
-/// 10 ^ 19, the greatest power of 10 within 64 bits.
-const SPLIT: u128 = 10_000_000_000_000_000_000;
+/// Sixteen digits have as many values.
+const SIXTEEN: u64 = 10_000_000_000_000_000;
 
 /// Writes the digits of a number from place `at` on, and says where they end.
 pub(crate) fn put_number(bytes: &mut [u8], at: usize, number: u128) -> usize
@@ -19,36 +19,56 @@ pub(crate) fn put_number(bytes: &mut [u8], at: usize, number: u128) -> usize
     if number <= u128::from(u64::MAX) {
         return put_short(bytes, at, number as u64);
     }
-    put_long(bytes, at, number)
+    put_wide(bytes, at, number)
 }
 
-// Writes the digits of a number past 64 bits: one division leaves two numbers, of which the second has 64 bits.
-fn put_long(bytes: &mut [u8], at: usize, number: u128) -> usize
+// So of one past 64 bits.
+fn put_wide(bytes: &mut [u8], at: usize, number: u128) -> usize
     requires room { at + 40 ≤ length bytes.old }
-    requires long { 10 ^ 19 ≤ number }
+    requires long { 10 ^ 16 ≤ number }
     ensures end { result ≡ at + length (decimal number) }
     ensures text { take result bytes.new ≡ take at bytes.old ++ decimal number }
 {
-    let high = number / SPLIT;
-    let low = (number % SPLIT) as u64;
+    let (high, low) = cut(number);
     let end = put_high(bytes, at, high);
-    put_low(bytes, end, low);
-    end + CUT
+    put_sixteen(bytes, end, low);
+    end + 16
 }
 
-// Writes what is left of a number in front of its last 19 digits: at most one digit stands before the last 19 of these.
+/// What is in front of a number's last sixteen digits, and these.
+pub(crate) fn cut(number: u128) -> (u128, u64)
+    ensures high { result.0 ≡ number / 10 ^ 16 }
+    ensures low { result.1 ≡ number % 10 ^ 16 }
+{
+    let high = number / u128::from(SIXTEEN);
+    (high, (number - high * u128::from(SIXTEEN)) as u64)
+}
+
+// Writes what is in front of the last sixteen digits of a number past 64 bits.
 fn put_high(bytes: &mut [u8], at: usize, high: u128) -> usize
-    requires room { at + 21 ≤ length bytes.old }
-    requires few { high < 10 ^ 20 }
+    requires room { at + 24 ≤ length bytes.old }
+    requires few { high < 10 ^ 23 }
     ensures end { result ≡ at + length (decimal high) }
     ensures text { take result bytes.new ≡ take at bytes.old ++ decimal high }
 {
     if high <= u128::from(u64::MAX) {
         return put_short(bytes, at, high as u64);
     }
-    let end = put_short(bytes, at, (high / SPLIT) as u64);
-    put_low(bytes, end, (high % SPLIT) as u64);
-    end + CUT
+    put_highest(bytes, at, high)
+}
+
+// So of one past 64 bits.
+fn put_highest(bytes: &mut [u8], at: usize, high: u128) -> usize
+    requires room { at + 24 ≤ length bytes.old }
+    requires few { high < 10 ^ 23 }
+    requires long { 10 ^ 16 ≤ high }
+    ensures end { result ≡ at + length (decimal high) }
+    ensures text { take result bytes.new ≡ take at bytes.old ++ decimal high }
+{
+    let (front, low) = cut(high);
+    let end = put_few(bytes, at, front as u32);
+    put_sixteen(bytes, end, low);
+    end + 16
 }
 
 /// Writes the digits of a number within 64 bits from place `at` on, and says where they end.
@@ -57,43 +77,84 @@ pub(crate) fn put_short(bytes: &mut [u8], at: usize, number: u64) -> usize
     ensures end { result ≡ at + length (decimal number) }
     ensures text { take result bytes.new ≡ take at bytes.old ++ decimal number }
 {
+    if number < EIGHT {
+        put_few(bytes, at, number as u32)
+    } else if number < SIXTEEN {
+        put_middle(bytes, at, number)
+    } else {
+        put_long(bytes, at, number)
+    }
+}
+
+// So of a number with nine digits or more, and sixteen at most.
+fn put_middle(bytes: &mut [u8], at: usize, number: u64) -> usize
+    requires long { 10 ^ 8 ≤ number }
+    requires short { number < 10 ^ 16 }
+    requires room { at + length (decimal number) ≤ length bytes.old }
+    ensures end { result ≡ at + length (decimal number) }
+    ensures text { take result bytes.new ≡ take at bytes.old ++ decimal number }
+{
+    let end = put_few(bytes, at, (number / EIGHT) as u32);
+    put_eight(bytes, end, (number % EIGHT) as u32);
+    end + 8
+}
+
+// So of one with seventeen digits or more.
+fn put_long(bytes: &mut [u8], at: usize, number: u64) -> usize
+    requires long { 10 ^ 16 ≤ number }
+    requires room { at + length (decimal number) ≤ length bytes.old }
+    ensures end { result ≡ at + length (decimal number) }
+    ensures text { take result bytes.new ≡ take at bytes.old ++ decimal number }
+{
+    let end = put_few(bytes, at, (number / SIXTEEN) as u32);
+    put_sixteen(bytes, end, number % SIXTEEN);
+    end + 16
+}
+
+// Writes the digits of a number that has at most eight.
+fn put_few(bytes: &mut [u8], at: usize, number: u32) -> usize
+    requires few { number < 10 ^ 8 }
+    requires room { at + length (decimal number) ≤ length bytes.old }
+    ensures end { result ≡ at + length (decimal number) }
+    ensures text { take result bytes.new ≡ take at bytes.old ++ decimal number }
+{
     let end = at + digit_count(number);
-    write_digits(number, bytes, end);
+    write_digits(u64::from(number), bytes, end);
     end
 }
 
-// Writes the last 19 digits of a number, those in front that are 0 too.
-fn put_low(bytes: &mut [u8], at: usize, low: u64)
-    requires room { at + 19 ≤ length bytes.old }
-    requires few { low < 10 ^ 19 }
-    ensures text { take (at + 19) bytes.new ≡ take at bytes.old ++ low_digits 19 low }
+// Writes the last sixteen digits of a number, those in front that are 0 too.
+fn put_sixteen(bytes: &mut [u8], at: usize, low: u64)
+    requires room { at + 16 ≤ length bytes.old }
+    requires few { low < 10 ^ 16 }
+    ensures text { take (at + 16) bytes.new ≡ take at bytes.old ++ low_digits 16 low }
 {
-    put_zeros(bytes, at);
-    write_digits(low, bytes, at + CUT);
+    put_eight(bytes, at, (low / EIGHT) as u32);
+    put_eight(bytes, at + 8, (low % EIGHT) as u32);
 }
 
-fn put_zeros(bytes: &mut [u8], at: usize)
-    requires { at + 19 ≤ length bytes.old }
-    ensures { take (at + 19) bytes.new ≡ take at bytes.old ++ replicate 19 48 }
+/// Writes the last eight digits of a number, those in front that are 0 too.
+pub(crate) fn put_eight(bytes: &mut [u8], at: usize, low: u32)
+    requires room { at + 8 ≤ length bytes.old }
+    requires few { low < 10 ^ 8 }
+    ensures text { take (at + 8) bytes.new ≡ take at bytes.old ++ low_digits 8 low }
 {
-    let end = at + CUT;
-    bytes[at..end].copy_from_slice(b"0000000000000000000");
+    put_block(bytes, at, &eight_digits(low), 8);
 }
 
 // How many digits the number has.
-fn digit_count(number: u64) -> usize
+fn digit_count(number: u32) -> usize
+    requires { number < 10 ^ 8 }
     ensures { result ≡ length (decimal number) }
 {
-    let mut count = 0;
-    let mut left = number;
-    while left >= 10_000 {
-        count += 4;
-        left /= 10_000;
+    if number < 10_000 {
+        digit_count_of_short(number)
+    } else {
+        4 + digit_count_of_short(number / 10_000)
     }
-    count + digit_count_of_short(left)
 }
 
-fn digit_count_of_short(number: u64) -> usize
+fn digit_count_of_short(number: u32) -> usize
     requires { number < 10_000 }
     ensures { result ≡ length (decimal number) }
 {

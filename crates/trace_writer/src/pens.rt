@@ -1,9 +1,9 @@
 //! What is kept from one line to the next.
-ghost use Rattle.std.specs.Prelude.{◌≡◌, ◌≤◌, ◌<◌, ◌+◌, ◌-◌, ◌/◌, ◌^◌, ◌++◌, ◌∷◌, ◌==◌, [], codes, length, take, decimal};
+ghost use Rattle.std.specs.Prelude.{◌≡◌, ◌≤◌, ◌<◌, ◌+◌, ◌-◌, ◌/◌, ◌%◌, ◌^◌, ◌++◌, ◌∷◌, ◌==◌, [], codes, length, take, decimal};
 ghost use Rattle.sched_base.specs.Bytes.{space};
 ghost use Rattle.trace_writer.specs.Digits.{front_digits, last_digits};
 
-use crate::digits::{eight_digits, put_block, put_number, put_short};
+use crate::digits::{cut, eight_digits, put_block, put_eight, put_number, put_short};
 use std::marker::Model;
 
 /// The last eight digits of a number have as many values.
@@ -69,10 +69,10 @@ impl Count {
     fn turn(&mut self, number: u128)
         ensures { self.new ≡ number }
     {
-        let high = number / SPLIT;
-        let base = high * SPLIT;
-        self.front_len = put_front(&mut self.front, high);
-        let (last, last_len) = last_of((number - base) as u32, base == 0);
+        let (len, low) = put_front(&mut self.front, number);
+        let base = number - u128::from(low);
+        self.front_len = len;
+        let (last, last_len) = last_of(low, base == 0);
         self.base = base;
         self.last = last;
         self.last_len = last_len;
@@ -101,17 +101,47 @@ impl Count {
     }
 }
 
-// Writes the digits of a number, none where it is 0, and says how many these are.
-fn put_front(bytes: &mut [u8], high: u128) -> usize
+// Writes the digits in front of a number's last eight, and says how many these are; and what the last eight are.
+fn put_front(bytes: &mut [u8], number: u128) -> (usize, u32)
     requires room { 40 ≤ length bytes.old }
-    requires small { high < 10 ^ 31 }
-    ensures few { result ≤ 32 }
-    ensures text { take result bytes.new ≡ front_digits high }
+    ensures few { result.0 ≤ 32 }
+    ensures text { take result.0 bytes.new ≡ front_digits (number / 10 ^ 8) }
+    ensures low { result.1 ≡ number % 10 ^ 8 }
 {
-    if high == 0 {
-        return 0;
+    if number <= u128::from(u64::MAX) {
+        put_front_of_short(bytes, number as u64)
+    } else {
+        put_front_of_long(bytes, number)
     }
-    put_number(bytes, 0, high)
+}
+
+// So of a number within 64 bits.
+fn put_front_of_short(bytes: &mut [u8], number: u64) -> (usize, u32)
+    requires room { 40 ≤ length bytes.old }
+    ensures few { result.0 ≤ 32 }
+    ensures text { take result.0 bytes.new ≡ front_digits (number / 10 ^ 8) }
+    ensures low { result.1 ≡ number % 10 ^ 8 }
+{
+    let high = number / 100_000_000;
+    let low = (number - high * 100_000_000) as u32;
+    if high == 0 {
+        return (0, low);
+    }
+    (put_short(bytes, 0, high), low)
+}
+
+// So of one past 64 bits, by what is in front of its last sixteen digits.
+fn put_front_of_long(bytes: &mut [u8], number: u128) -> (usize, u32)
+    requires room { 40 ≤ length bytes.old }
+    requires long { 10 ^ 16 ≤ number }
+    ensures few { result.0 ≤ 32 }
+    ensures text { take result.0 bytes.new ≡ front_digits (number / 10 ^ 8) }
+    ensures low { result.1 ≡ number % 10 ^ 8 }
+{
+    let (high, rest) = cut(number);
+    let end = put_number(bytes, 0, high);
+    put_eight(bytes, end, (rest / 100_000_000) as u32);
+    (end + 8, (rest % 100_000_000) as u32)
 }
 
 // The last digits of a number and how many these are: all of them where it has no others, else eight.

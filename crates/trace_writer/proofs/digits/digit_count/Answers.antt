@@ -1,23 +1,17 @@
 use Rattle.std.proofs.Common.{arith}
-use Rattle.std.proofs.lemmas.Fmt.{length-decimal-le}
 use Rattle.itoa.proofs.Decimal.{length_four}
 use Rattle.trace_writer.proofs.digits.digit_count.Goals as goal
-
-pub overflow_add-count : goal.overflow_add-count
-overflow_add-count c =
-    let long = length-decimal-le 20 c.args.number (omega arith) (omega arith) (omega arith) in
-    let so_far = c.loop-left.invariant in
-    omega (arith, long, so_far)
-
-pub loop-left-preserved : goal.loop-left-preserved
-loop-left-preserved c =
-    let four = length_four c.loop-left.left (omega arith) c.loop-left.auto.left-fits.fits in
-    let so_far = c.loop-left.invariant in
-    omega (arith, four, so_far)
+use Rattle.std.proofs.lemmas.Fmt.{length-decimal-le}
 
 pub overflow_add-result : goal.overflow_add-result
 overflow_add-result c =
-    let long = length-decimal-le 20 c.args.number (omega arith) (omega arith) (omega arith) in
-    let so_far = c.loop-left.invariant in
-    let here = c.digit_count_of_short.ensures in
-    omega (arith, long, so_far, here)
+    let four = length_four c.args.number (omega arith) (omega (arith, c.requires)) in
+    let short = length-decimal-le 8 c.args.number (omega arith) c.requires (omega (arith, c.requires)) in
+    let here = c.digit_count_of_short-else-number-lt10000.ensures in
+    omega (arith, four, short, here)
+
+pub returns-else-number-lt10000 : goal.returns-else-number-lt10000
+returns-else-number-lt10000 c =
+    let four = length_four c.args.number (omega arith) (omega (arith, c.requires)) in
+    let here = c.digit_count_of_short-else-number-lt10000.ensures in
+    omega (arith, four, here)

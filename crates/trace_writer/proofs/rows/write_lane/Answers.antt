@@ -1,9 +1,6 @@
-use Rattle.std.proofs.Common.{◌+◌, ◌≡◌, ◌≤◌, length, arith, le_refl, le_trans, subst, sym}
-use Rattle.sched_base.specs.Tables.{lane_of}
+use Rattle.std.proofs.Common.{length, le_refl, le_trans, subst, sym}
 use Rattle.row_totals.specs.Sums.{NamesAmong}
-use Rattle.sched_edges.proofs.CauseLemmas.{cause_cut}
-use Rattle.trace_writer.proofs.CauseLemmas.{no_answer}
-use Rattle.trace_writer.proofs.LaneLemmas.{page_counts, written_none, written_counts, written_more, written_cut, written_all}
+use Rattle.trace_writer.proofs.LaneLemmas.{written_none, written_more, written_cut}
 use Rattle.trace_writer.proofs.rows.write_lane.Goals as goal
 
 pub pages-init : goal.pages-init

@@ -1,0 +1,36 @@
+use Rattle.std.proofs.Common.{◌+◌, ◌%◌, ◌^◌, ◌≡◌, ◌∙◌, ◌++◌, ap, sym, length, arith}
+use Rattle.std.specs.Fmt.{decimal}
+use Rattle.std.proofs.lemmas.Fmt.{length-decimal-le_wide}
+use Rattle.trace_writer.specs.Digits.{low_digits}
+use Rattle.trace_writer.proofs.DigitLemmas.{sixteen_length, sixteen_parts, then_written}
+use Rattle.trace_writer.proofs.digits.put_highest.Goals as goal
+
+pub put_few-end-requires-clause-room : goal.put_few-end-requires-clause-room
+put_few-end-requires-clause-room c =
+    let high = c.cut-front.ensures.high in
+    let few = c.requires.few in
+    let short = length-decimal-le_wide 7 c.cut-front.result.0 (omega arith) (omega (arith, high, few)) (omega (arith, high, few)) in
+    let room = c.requires.room in
+    omega (arith, short, room)
+
+pub put_sixteen-requires-clause-room : goal.put_sixteen-requires-clause-room
+put_sixteen-requires-clause-room c =
+    let high = c.cut-front.ensures.high in
+    let few = c.requires.few in
+    let short = length-decimal-le_wide 7 c.cut-front.result.0 (omega arith) (omega (arith, high, few)) (omega (arith, high, few)) in
+    let room = c.requires.room in
+    let end = c.put_few-end.ensures.end in
+    omega (arith, short, room, end)
+
+pub returns-clause-end : goal.returns-clause-end
+returns-clause-end c =
+    let long : length (decimal c.args.high) ≡ length (decimal c.cut-front.result.0) + 16 =
+    sixteen_length c.args.high c.requires.long (omega (arith, c.requires.few)) ∙ ap (λ n. length (decimal n) + 16) (sym c.cut-front.ensures.high) in
+    let end = c.put_few-end.ensures.end in
+    omega (arith, long, end)
+
+pub returns-clause-text : goal.returns-clause-text
+returns-clause-text c =
+    let parts : decimal c.args.high ≡ decimal c.cut-front.result.0 ++ low_digits 16 c.cut-front.result.1 =
+    sixteen_parts c.args.high c.requires.long (omega (arith, c.requires.few)) ∙ ap (λ n. decimal n ++ low_digits 16 (c.args.high % 10 ^ 16)) (sym c.cut-front.ensures.high) ∙ ap (λ n. decimal c.cut-front.result.0 ++ low_digits 16 n) (sym c.cut-front.ensures.low) in
+    then_written _ _ _ _ _ _ parts c.put_few-end.ensures.text c.put_sixteen.ensures.text

@@ -1,0 +1,25 @@
+use Rattle.std.proofs.Common.{arith}
+use Rattle.trace_writer.proofs.DigitLemmas.{eight_length, eight_parts, then_written}
+use Rattle.trace_writer.proofs.digits.put_middle.Goals as goal
+
+pub put_few-end-requires-clause-room : goal.put_few-end-requires-clause-room
+put_few-end-requires-clause-room c =
+    let long = eight_length c.args.number c.requires.long (omega arith) in
+    let room = c.requires.room in
+    omega (arith, long, room)
+
+pub put_eight-requires-clause-room : goal.put_eight-requires-clause-room
+put_eight-requires-clause-room c =
+    let long = eight_length c.args.number c.requires.long (omega arith) in
+    let room = c.requires.room in
+    let end = c.put_few-end.ensures.end in
+    omega (arith, long, room, end)
+
+pub returns-clause-end : goal.returns-clause-end
+returns-clause-end c =
+    let long = eight_length c.args.number c.requires.long (omega arith) in
+    let end = c.put_few-end.ensures.end in
+    omega (arith, long, end)
+
+pub returns-clause-text : goal.returns-clause-text
+returns-clause-text c = then_written _ _ _ _ _ _ (eight_parts c.args.number c.requires.long (omega arith)) c.put_few-end.ensures.text c.put_eight.ensures.text
