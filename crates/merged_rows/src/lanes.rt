@@ -69,6 +69,7 @@ impl MergedLane {
         }
     }
 
+    #[inline(always)]
     fn begin(&mut self, start: u128, leaf: Leaf) -> Result<(), NoMemory>
         ensures begun { OnOk result (self.new ≡ self.old ++ record { start = start; leaf = leaf } ∷ []) }
         ensures err { OnErr result (self.new ≡ self.old) }

@@ -53,6 +53,7 @@ impl MergedRows {
 
     /// With the next round, up to tick `end`. Of each processor in order it is told what it shows there, or nothing where its last
     /// row before shows the same. Memory is taken for a processor that shows something else than before.
+    #[inline(always)]
     pub fn with_round(mut self, end: u128, told: &[Option<Leaf>]) -> Result<MergedRows, NoMemory>
         requires whole { length told.now ≡ length self.lanes }
         ensures merged { IfOk result (λ m. (lanes : List (List declared_row)) (rows : List declared_row) → self.lanes ≡ map merged lanes
@@ -68,6 +69,7 @@ impl MergedRows {
 
     /// With the next round, up to tick `end`, as `with_round`, where the processors are listed of which something is told; one may stand
     /// there twice. It costs time for these.
+    #[inline(always)]
     pub fn with_changed(
         mut self,
         end: u128,
@@ -129,6 +131,7 @@ impl MergedRows {
 }
 
 // Each processor shows what is told of it, from tick `start` on, and else goes on.
+#[inline(always)]
 fn show_told(lanes: &mut [MergedLane], start: u128, told: &[Option<Leaf>]) -> Result<(), NoMemory>
     requires whole { length told.now ≡ length lanes.old }
     ensures shown { OnOk result (lanes.new ≡ going_on_each lanes.old start told.now) }
@@ -140,6 +143,7 @@ fn show_told(lanes: &mut [MergedLane], start: u128, told: &[Option<Leaf>]) -> Re
 }
 
 // The same, where all others than these processors go on.
+#[inline(always)]
 fn show_changed(
     lanes: &mut [MergedLane],
     start: u128,

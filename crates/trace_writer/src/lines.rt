@@ -47,6 +47,7 @@ fn start_of_task(task: &Task) -> Line
 
 /// Adds the line of a row to a page that has room for any.
 #[tactic(auto, unfolding(trace_format::specs::Lines::row_line, sched_edges::specs::Lines::line_of))]
+#[inline(always)]
 pub(crate) fn add_row(page: &mut Page, pen: &mut Pen, set: &TaskSet, row: &Row)
     requires among { IsAmong (length set.now.tasks) row.now.leaf }
     requires room { length page.old ≤ 3840 }

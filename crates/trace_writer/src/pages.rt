@@ -61,6 +61,7 @@ impl Page {
     }
 
     /// Adds a text.
+    #[inline(always)]
     pub(crate) fn text(&mut self, text: &[u8])
         requires { length self.old + length text.now ≤ 4096 }
         ensures { self.new ≡ self.old ++ text.now }
@@ -71,6 +72,7 @@ impl Page {
     }
 
     /// Adds a number whose digits are kept.
+    #[inline(always)]
     pub(crate) fn count(&mut self, count: &Count)
         requires { length self.old + 40 ≤ 4096 }
         ensures text { self.new ≡ self.old ++ decimal count.now }
@@ -80,6 +82,7 @@ impl Page {
     }
 
     /// Adds the first words of a row's line.
+    #[inline(always)]
     pub(crate) fn lead(&mut self, lead: &Lead)
         requires { length self.old + 16 ≤ 4096 }
         ensures text { self.new ≡ self.old ++ (codes "row " ++ (decimal lead.now ++ space ∷ [])) }
@@ -89,6 +92,7 @@ impl Page {
     }
 
     /// Adds the space between two words.
+    #[inline(always)]
     pub(crate) fn space(&mut self)
         requires { length self.old < 4096 }
         ensures { self.new ≡ self.old ++ space ∷ [] }
@@ -97,6 +101,7 @@ impl Page {
     }
 
     /// Adds the line feed.
+    #[inline(always)]
     pub(crate) fn end(&mut self)
         requires { length self.old < 4096 }
         ensures { self.new ≡ self.old ++ line_feed ∷ [] }

@@ -52,6 +52,7 @@ impl Count {
     }
 
     /// Another number.
+    #[inline(always)]
     pub(crate) fn set(&mut self, number: u128)
         ensures { self.new ≡ number }
     {
@@ -80,6 +81,7 @@ impl Count {
     }
 
     // Another number that has the same digits before the last eight.
+    #[inline(always)]
     fn go_on(&mut self, number: u128)
         requires { number / 10 ^ 8 ≡ self.old / 10 ^ 8 }
         ensures { self.new ≡ number }
@@ -91,6 +93,7 @@ impl Count {
     }
 
     /// Writes the digits from place `at` on, and says where they end.
+    #[inline(always)]
     pub(crate) fn put(&self, bytes: &mut [u8], at: usize) -> usize
         requires room { at + 40 ≤ length bytes.old }
         ensures end { result ≤ at + 40 }
