@@ -4,3 +4,4 @@ pub mod TurnLemmas
 pub mod OrderLemmas
 pub mod BegunLemmas
 pub mod EndLemmas
+pub mod TaskTurns

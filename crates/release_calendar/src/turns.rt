@@ -213,6 +213,7 @@ fn turn_due(
     requires plan { IsPlan plan.now }
     requires member { IsMember plan.now.tree n.0 }
     requires at { at ≤ plan.now.set.horizon }
+    requires boundary { boundary_of plan.now n.0 at ≡ true }
     requires begins { length begins.old ≡ length plan.now.tree.nodes }
     requires ends { length ends.old ≡ length plan.now.tree.nodes }
     requires order { length order.old ≡ length plan.now.tree.nodes }

@@ -12,6 +12,9 @@ end_from-end-requires-clause-member c = c.requires.member
 pub end_from-end-requires-clause-at : goal.end_from-end-requires-clause-at
 end_from-end-requires-clause-at c = c.requires.at
 
+pub end_from-end-requires-clause-begins : goal.end_from-end-requires-clause-begins
+end_from-end-requires-clause-begins c = c.requires.boundary
+
 pub end_from-end-requires-clause-ends : goal.end_from-end-requires-clause-ends
 end_from-end-requires-clause-ends c = c.requires.ends
 

@@ -1,4 +1,4 @@
-use Rattle.std.proofs.Common.{arith, ap, subst, sym, take, ◌+◌, ◌∙◌, ◌<◌, List, ℕ, length}
+use Rattle.std.proofs.Common.{arith, ◌≡◌, get_or, ap, subst, sym, take, ◌+◌, ◌∙◌, ◌<◌, List, ℕ, length}
 use Rattle.std.proofs.Math.ListN.{set}
 use Rattle.knockout.specs.Knockouts.{IsFirst}
 use Rattle.run_tree.specs.Windows.{window_end}
@@ -45,6 +45,19 @@ turn_due-requires-clause-member c =
     let kept = c.loop-first.auto.ends in
     let at = c.loop-first-test.true in
     ends_member c.args.plan.now c.requires.plan c.loop-first.ends c.args.at x c.loop-first.invariant.1.packs c.requires.at (omega (arith, within, long, kept)) (omega (arith, here, at))
+
+pub turn_due-requires-clause-boundary : goal.turn_due-requires-clause-boundary
+turn_due-requires-clause-boundary c =
+    let x = c.loop-first.first.index in
+    let f = c.loop-first.invariant.2 in
+    let here = f.here in
+    let within = f.within in
+    let long = c.requires.ends in
+    let kept = c.loop-first.auto.ends in
+    let at = c.loop-first-test.true in
+    let end : get_or c.loop-first.ends x 0 ≡ c.args.at = omega (arith, here, at) in
+    let is = ends_member c.args.plan.now c.requires.plan c.loop-first.ends c.args.at x c.loop-first.invariant.1.packs c.requires.at (omega (arith, within, long, kept)) (omega (arith, here, at)) in
+    (c.loop-first.invariant.1.ready x is).due end
 
 pub turn_due-requires-clause-known : goal.turn_due-requires-clause-known
 turn_due-requires-clause-known c = λ x i later. ((c.loop-first.invariant.1.ready x i).other later).end
