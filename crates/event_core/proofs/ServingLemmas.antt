@@ -1,11 +1,12 @@
 -- One member of a pack for another, among those that run.
-use Rattle.std.proofs.Common.{◌≡◌, ◌≢◌, ℕ, ◌<◌, Bool, true, false, List, length, Option, Some, None, refl, ap, arith, inl, inr, sym, subst, ◌∙◌, get_or, eq-eqb, get_or-set_same, get_or-set_other}
+use Rattle.std.proofs.Common.{option_map, ◌≡◌, ◌≢◌, ℕ, ◌+◌, ◌<◌, Bool, true, false, List, length, Option, Some, None, refl, ap, arith, inl, inr, sym, subst, ◌∙◌, get_or, eq-eqb, get_or-set_same, get_or-set_other}
 use Rattle.std.proofs.lemmas.Bool.{cases_eq, ne_eqb}
 use Rattle.std.proofs.lemmas.List.{length-set}
 use Rattle.std.proofs.Math.ListN.{set}
 use Rattle.sched_base.specs.Candidates.{is_at}
 use Rattle.run_tree.specs.Tree.{Tree, IsTree, IsPack, IsMember, home, place, members, member}
-use Rattle.event_core.specs.Serving.{with_place, IsOver}
+use Rattle.server_budget.specs.Dues.{DueContents}
+use Rattle.event_core.specs.Serving.{dry_by, no_tick, with_place, IsOver}
 
 module _ (t : Tree) (h : IsTree t) (p : ℕ) (i : IsPack t p) where
   with_long : (k : Option ℕ) (on : Bool) (runs : List Bool) → length (with_place t p k on runs) ≡ length runs
@@ -35,6 +36,27 @@ module _ (t : Tree) (h : IsTree t) (p : ℕ) (i : IsPack t p) where
         let there : get_or (set runs (member t p k) on) (member t p j) false ≡ get_or runs (member t p j) false = rw get_or-set_other refl in
         there ∙ sym (ap (λ (c : Bool). elim c as (λ z. Bool) [ true ↦ on | false ↦ get_or runs (member t p j) false ]) (ne_eqb k j ne)))
   ]
+
+  -- the same by the node that stands at the place
+  pub with_node : (k : Option ℕ) (m : ℕ) (on : Bool) (runs : List Bool) → Some m ≡ option_map (member t p) k → set runs m on ≡ with_place t p k on runs
+  with_node None m on runs e = cc
+  with_node (Some j) m on runs e = (let at : m ≡ member t p j = cc in ap (λ x. set runs x on) at)
+
+  pub with_nobody : (k : Option ℕ) (on : Bool) (runs : List Bool) → None ≡ option_map (member t p) k → runs ≡ with_place t p k on runs
+  with_nobody None on runs e = refl
+  with_nobody (Some j) on runs e = cc
+
+  pub runs_node : (k : Option ℕ) (m : ℕ) (on : Bool) (runs : List Bool) → Some m ≡ option_map (member t p) k → ((j : ℕ) → k ≡ Some j → get_or runs (member t p j) false ≡ on) → get_or runs m false ≡ on
+  runs_node None m on runs e is = cc
+  runs_node (Some j) m on runs e is = (let at : m ≡ member t p j = cc in ap (λ x. get_or runs x false) at ∙ is j refl)
+
+  pub dry_node : (d : DueContents) (k : Option ℕ) (m : ℕ) → Some m ≡ option_map (member t p) k → d.tick + get_or d.remains m 0 ≡ dry_by t d p k
+  dry_node d None m e = cc
+  dry_node d (Some j) m e = (let at : m ≡ member t p j = cc in ap (λ x. d.tick + get_or d.remains x 0) at)
+
+  pub dry_nobody : (d : DueContents) (k : Option ℕ) → None ≡ option_map (member t p) k → no_tick ≡ dry_by t d p k
+  dry_nobody d None e = refl
+  dry_nobody d (Some j) e = cc
 
   -- once the one that ran has stopped, none of them runs
   pub none_runs : (was : Option ℕ) (runs runs' : List Bool) (j : ℕ) → length runs ≡ length t.nodes → ((n : ℕ) → was ≡ Some n → n < length (members t p)) → j < length (members t p) →

@@ -1,5 +1,5 @@
 //! Which member of a pack runs, and what is left of its due.
-ghost use Rattle.std.specs.Prelude.{ℕ, List, ◌≡◌, ◌≢◌, ◌<◌, ◌≤◌, length, true, false, Some, slice_index_or};
+ghost use Rattle.std.specs.Prelude.{ℕ, List, ◌≡◌, ◌≢◌, ◌<◌, ◌≤◌, length, true, false, Some, option_map, slice_index_or};
 ghost use Rattle.sched_base.specs.Candidates.{is_at};
 ghost use Rattle.run_tree.specs.Tree.{IsTree, IsPack, IsMember, level, member, members};
 ghost use Rattle.edf_pick.specs.Ready.{AreReady};
@@ -12,29 +12,32 @@ use knockout::Knockout;
 use run_tree::Tree;
 use sched_base::NodeId;
 use server_budget::Dues;
-use tree_select::hand_over;
+use tree_select::{Handed, hand_over};
 
-// Member k of pack p, where there is one, stops.
-fn stop_place(tree: &Tree, p: NodeId, k: Option<u32>, dues: &mut Dues)
+// The member at place k of pack p, where there is one, stops. The place is only spoken of.
+fn stop_place(tree: &Tree, p: NodeId, k: Option<u32>, node: Option<NodeId>, dues: &mut Dues)
     requires tree { IsTree tree.now }
     requires pack { IsPack tree.now p.0 }
     requires member { (j : ℕ) → k ≡ Some j → j < length (members tree.now p.0) }
+    requires node { option_map (λ n. n.0) node ≡ option_map (member tree.now p.0) k }
     requires nodes { length dues.old.runs ≡ length tree.now.nodes }
     requires runs { (j : ℕ) → k ≡ Some j → slice_index_or dues.old.runs (member tree.now p.0 j) false ≡ true }
     ensures tick { dues.new.tick ≡ dues.old.tick }
     ensures remains { dues.new.remains ≡ dues.old.remains }
     ensures runs { dues.new.runs ≡ with_place tree.now p.0 k false dues.old.runs }
 {
-    if let Some(k) = k {
-        dues.stop(id_of(tree, p, k));
+    let _place = (tree.nodes(), p, k);
+    if let Some(n) = node {
+        dues.stop(n);
     }
 }
 
-// Member k of pack p, where there is one, starts.
-fn start_place(tree: &Tree, p: NodeId, k: Option<u32>, dues: &mut Dues)
+// The member at place k of pack p, where there is one, starts. The place is only spoken of.
+fn start_place(tree: &Tree, p: NodeId, k: Option<u32>, node: Option<NodeId>, dues: &mut Dues)
     requires tree { IsTree tree.now }
     requires pack { IsPack tree.now p.0 }
     requires member { (j : ℕ) → k ≡ Some j → j < length (members tree.now p.0) }
+    requires node { option_map (λ n. n.0) node ≡ option_map (member tree.now p.0) k }
     requires nodes { length dues.old.runs ≡ length tree.now.nodes }
     requires rests { (j : ℕ) → k ≡ Some j → slice_index_or dues.old.runs (member tree.now p.0 j) false ≡ false }
     requires fits { AreFitting tree.now dues.old }
@@ -42,54 +45,55 @@ fn start_place(tree: &Tree, p: NodeId, k: Option<u32>, dues: &mut Dues)
     ensures remains { dues.new.remains ≡ dues.old.remains }
     ensures runs { dues.new.runs ≡ with_place tree.now p.0 k true dues.old.runs }
 {
-    if let Some(k) = k {
-        dues.start(id_of(tree, p, k));
+    let _place = (tree.nodes(), p, k);
+    if let Some(n) = node {
+        dues.start(n);
     }
 }
 
-// Member k of pack p.
-pub(crate) fn id_of(tree: &Tree, p: NodeId, k: u32) -> NodeId
-    requires tree { IsTree tree.now }
-    requires pack { IsPack tree.now p.0 }
-    requires member { k < length (members tree.now p.0) }
-    ensures value { result.0 ≡ member tree.now p.0 k }
-    ensures member { IsMember tree.now result.0 }
-{
-    tree.member(p, k as usize)
+/// The member of a pack that runs: its place, and the node; None where none does.
+#[derive(Clone, Copy)]
+pub(crate) struct Served {
+    pub(crate) place: Option<u32>,
+    pub(crate) node: Option<NodeId>,
 }
 
-// Of pack p, the member at `was` stops, and the one at `next` starts.
-fn change_over(tree: &Tree, p: NodeId, was: Option<u32>, next: Option<u32>, dues: &mut Dues)
+// Of pack p, the member at `was` stops, and the one that is handed to starts.
+fn change_over(tree: &Tree, p: NodeId, was: Option<u32>, next: Handed, dues: &mut Dues)
     requires tree { IsTree tree.now }
     requires pack { IsPack tree.now p.0 }
     requires before { (j : ℕ) → was ≡ Some j → j < length (members tree.now p.0) }
-    requires after { (j : ℕ) → next ≡ Some j → j < length (members tree.now p.0) }
-    requires other { was ≢ next }
+    requires after { (j : ℕ) → next.place ≡ Some j → j < length (members tree.now p.0) }
+    requires before_at { option_map (λ n. n.0) next.before ≡ option_map (member tree.now p.0) was }
+    requires after_at { option_map (λ n. n.0) next.node ≡ option_map (member tree.now p.0) next.place }
+    requires other { was ≢ next.place }
     requires nodes { length dues.old.runs ≡ length tree.now.nodes }
     requires runs { (j : ℕ) → j < length (members tree.now p.0) → slice_index_or dues.old.runs (member tree.now p.0 j) false ≡ is_at was j }
     requires fits { AreFitting tree.now dues.old }
     ensures tick { dues.new.tick ≡ dues.old.tick }
     ensures remains { dues.new.remains ≡ dues.old.remains }
-    ensures over { IsOver tree.now p.0 next dues.old.runs dues.new.runs }
+    ensures over { IsOver tree.now p.0 next.place dues.old.runs dues.new.runs }
 {
-    stop_place(tree, p, was, dues);
-    start_place(tree, p, next, dues);
+    stop_place(tree, p, was, next.before, dues);
+    start_place(tree, p, next.place, next.node, dues);
 }
 
-// Of pack p, the member at `was` stops, and the one at `next` starts; nothing happens where it is one member.
-fn change_if(tree: &Tree, p: NodeId, was: Option<u32>, next: Option<u32>, dues: &mut Dues)
+// Of pack p, the member at `was` stops, and the one that is handed to starts; nothing happens where it is one member.
+fn change_if(tree: &Tree, p: NodeId, was: Option<u32>, next: Handed, dues: &mut Dues)
     requires tree { IsTree tree.now }
     requires pack { IsPack tree.now p.0 }
     requires before { (j : ℕ) → was ≡ Some j → j < length (members tree.now p.0) }
-    requires after { (j : ℕ) → next ≡ Some j → j < length (members tree.now p.0) }
+    requires after { (j : ℕ) → next.place ≡ Some j → j < length (members tree.now p.0) }
+    requires before_at { option_map (λ n. n.0) next.before ≡ option_map (member tree.now p.0) was }
+    requires after_at { option_map (λ n. n.0) next.node ≡ option_map (member tree.now p.0) next.place }
     requires nodes { length dues.old.runs ≡ length tree.now.nodes }
     requires runs { (j : ℕ) → j < length (members tree.now p.0) → slice_index_or dues.old.runs (member tree.now p.0 j) false ≡ is_at was j }
     requires fits { AreFitting tree.now dues.old }
     ensures tick { dues.new.tick ≡ dues.old.tick }
     ensures remains { dues.new.remains ≡ dues.old.remains }
-    ensures over { IsOver tree.now p.0 next dues.old.runs dues.new.runs }
+    ensures over { IsOver tree.now p.0 next.place dues.old.runs dues.new.runs }
 {
-    if was != next {
+    if was != next.place {
         change_over(tree, p, was, next, dues);
     }
 }
@@ -104,7 +108,7 @@ pub(crate) fn serve(
     dues: &mut Dues,
     stale: &mut [bool],
     runs: &mut [bool],
-) -> Option<u32>
+) -> Served
     requires tree { IsTree tree.now }
     requires pack { IsPack tree.now p.0 }
     requires ready { length ready.now ≡ length (members tree.now p.0) }
@@ -116,8 +120,9 @@ pub(crate) fn serve(
     requires agree { (x : ℕ) → IsMember tree.now x → slice_index_or dues.old.runs x false ≡ slice_index_or runs.old x false }
     requires fits { AreFitting tree.now dues.old }
     requires led { AreLed tree.now runs.old }
-    ensures now { (j : ℕ) → j < length (members tree.now p.0) → slice_index_or runs.new (member tree.now p.0 j) false ≡ is_at result j }
-    ensures within { (j : ℕ) → result ≡ Some j → j < length (members tree.now p.0) }
+    ensures now { (j : ℕ) → j < length (members tree.now p.0) → slice_index_or runs.new (member tree.now p.0 j) false ≡ is_at result.place j }
+    ensures within { (j : ℕ) → result.place ≡ Some j → j < length (members tree.now p.0) }
+    ensures node { option_map (λ n. n.0) result.node ≡ option_map (member tree.now p.0) result.place }
     ensures nodes { length dues.new.runs ≡ length dues.old.runs }
     ensures tick { dues.new.tick ≡ dues.old.tick }
     ensures remains { dues.new.remains ≡ dues.old.remains }
@@ -138,5 +143,8 @@ pub(crate) fn serve(
 {
     let next = hand_over(tree, p, was, first_ready(ready), stale, runs);
     change_if(tree, p, was, next, dues);
-    next
+    Served {
+        place: next.place,
+        node: next.node,
+    }
 }

@@ -1,5 +1,5 @@
 //! The walk over the packs that are to be looked at again.
-ghost use Rattle.std.specs.Prelude.{ℕ, List, Option, [], ◌∷◌, ◌++◌, ◌≡◌, ◌≢◌, ◌+◌, ◌&&◌, ◌<◌, ◌≤◌, not, length, true, false, None, Some};
+ghost use Rattle.std.specs.Prelude.{ℕ, List, Option, [], ◌∷◌, ◌++◌, ◌≡◌, ◌≢◌, ◌+◌, ◌&&◌, ◌<◌, ◌≤◌, not, length, true, false, option_map, None, Some};
 ghost use Rattle.std.specs.Prelude.{slice_index, slice_index_or};
 ghost use Rattle.sched_base.specs.Places.{is_held};
 ghost use Rattle.run_tree.specs.Tree.{IsTree, IsPack, member, members, level};
@@ -10,7 +10,7 @@ ghost use Rattle.tree_select.specs.Marked.{AreFreshFrom};
 ghost use Rattle.event_core.specs.Serving.{dry_by, first_served, lists, AreFitting, AreLong, AreSeen, AreSettledFrom, AreUnchanged, IsServing};
 ghost use Rattle.event_core.specs.Steps.{packs_by};
 
-use crate::serving::{id_of, serve};
+use crate::serving::{Served, serve};
 use crate::ticks::Ticks;
 use cpu_assign::{Changes, Places};
 use knockout::Knockout;
@@ -26,18 +26,20 @@ fn ready_at(ready: &[Knockout], p: NodeId) -> &Knockout
     &ready[p.0 as usize]
 }
 
-// The tick at which the member at this place of pack p, which runs, has nothing left.
-fn dry_of(tree: &Tree, p: NodeId, k: Option<u32>, dues: &Dues) -> u128
+// The tick at which the member of pack p that runs has nothing left. The pack is only spoken of.
+fn dry_of(tree: &Tree, p: NodeId, served: Served, dues: &Dues) -> u128
     requires tree { IsTree tree.now }
     requires pack { IsPack tree.now p.0 }
-    requires member { (j : ℕ) → k ≡ Some j → j < length (members tree.now p.0) }
+    requires member { (j : ℕ) → served.place ≡ Some j → j < length (members tree.now p.0) }
+    requires node { option_map (λ n. n.0) served.node ≡ option_map (member tree.now p.0) served.place }
     requires nodes { length dues.now.runs ≡ length tree.now.nodes }
-    requires runs { (j : ℕ) → k ≡ Some j → slice_index_or dues.now.runs (member tree.now p.0 j) false ≡ true }
-    ensures { result ≡ dry_by tree.now dues.now p.0 k }
+    requires runs { (j : ℕ) → served.place ≡ Some j → slice_index_or dues.now.runs (member tree.now p.0 j) false ≡ true }
+    ensures { result ≡ dry_by tree.now dues.now p.0 served.place }
 {
-    match k {
+    let _pack = (tree.nodes(), p);
+    match served.node {
         None => u128::MAX,
-        Some(k) => dues.dry(id_of(tree, p, k)),
+        Some(n) => dues.dry(n),
     }
 }
 
@@ -71,7 +73,7 @@ fn serve_pack(
     let _ends = ends.len();
     let was = serves[p.0 as usize];
     let next = serve(tree, p, ready_at(ready, p), was, dues, stale, runs);
-    serves[p.0 as usize] = next;
+    serves[p.0 as usize] = next.place;
     dry.set(p, dry_of(tree, p, next, dues));
 }
 

@@ -18,7 +18,11 @@ fn period_end(task: &Task, at: u64) -> u64
     requires begins { task_boundary task.now at ≡ true }
     ensures { result ≡ window_end (task_boundary task.now) at }
 {
-    if at < task.offset { task.offset } else { at + task.period }
+    if at < task.offset {
+        task.offset
+    } else {
+        at + task.period
+    }
 }
 
 // Where the window of a set's task that begins at a unit ends.

@@ -1,5 +1,5 @@
 -- One member for another.
-use Rattle.std.proofs.Common.{ltb, ◌≡◌, ◌≢◌, ℕ, ◌<◌, ◌≤◌, ◌&&◌, Bool, true, false, List, length, Option, Some, None, refl, ap, ap₂, arith, inl, inr, sym, subst, le_refl, ◌∙◌, get_or, eq-eqb}
+use Rattle.std.proofs.Common.{ltb, option_map, ◌≡◌, ◌≢◌, ℕ, ◌<◌, ◌≤◌, ◌&&◌, Bool, true, false, List, length, Option, Some, None, refl, ap, ap₂, arith, inl, inr, sym, subst, le_refl, ◌∙◌, get_or, eq-eqb}
 use Rattle.std.proofs.lemmas.Bool.{cases_eq, ne_eqb}
 use Rattle.std.proofs.Math.ListN.{set}
 use Rattle.sched_base.specs.Candidates.{is_at}
@@ -44,6 +44,19 @@ module _ (t : Tree) (h : IsTree t) where
 
       member_no_primal : (x : ℕ) → IsMember t x → primal_at (kind_at t m) ≢ Some x
       member_no_primal x j e = apart t h x x (primal_is t h m x own.0.0 e).0 j refl
+
+  -- the node at a place of a pack is one of its members
+  pub node_member : (p m : ℕ) (k : Option ℕ) → IsPack t p → ((j : ℕ) → k ≡ Some j → j < length (members t p)) → Some m ≡ option_map (member t p) k → IsMember t m
+  node_member p m None i within e = cc
+  node_member p m (Some k) i within e = (let at : m ≡ member t p k = cc in let P : ℕ → Type 0 = λ x. IsMember t x in subst P (sym at) (h.members_are p k i (within k refl)).0)
+
+  pub placed_node : (p m : ℕ) (k : Option ℕ) (on : Bool) (stale runs stale' runs' : List Bool) → IsPack t p → ((j : ℕ) → k ≡ Some j → j < length (members t p)) → Some m ≡ option_map (member t p) k → IsTurned t m on stale runs stale' runs' → IsPlaced t p k on stale runs stale' runs'
+  placed_node p m None on stale runs stale' runs' i within e turned = cc
+  placed_node p m (Some k) on stale runs stale' runs' i within e turned = (let at : m ≡ member t p k = cc in placed_one p k m on stale runs stale' runs' i (within k refl) at turned)
+
+  pub placed_nobody : (p : ℕ) (k : Option ℕ) (on : Bool) (stale runs : List Bool) → None ≡ option_map (member t p) k → IsPlaced t p k on stale runs stale runs
+  placed_nobody p None on stale runs e = placed_none p on stale runs
+  placed_nobody p (Some k) on stale runs e = cc
 
   -- the same member goes on
   pub handed_same : (p : ℕ) (was next : Option ℕ) (stale runs : List Bool) → was ≡ next → ((j : ℕ) → j < length (members t p) → get_or runs (member t p j) false ≡ is_at was j) → IsHanded t p next stale runs stale runs

@@ -1,5 +1,5 @@
 //! Selection again by packs that know which of their members runs: two members change at most.
-ghost use Rattle.std.specs.Prelude.{ℕ, List, ◌≡◌, ◌≢◌, ◌<◌, ◌≤◌, length, true, false, None, Some, slice_index_or};
+ghost use Rattle.std.specs.Prelude.{ℕ, List, ◌≡◌, ◌≢◌, ◌<◌, ◌≤◌, length, true, false, None, Some, option_map, slice_index_or};
 ghost use Rattle.sched_base.specs.Candidates.{is_at};
 ghost use Rattle.run_tree.specs.Tree.{IsTree, IsPack, level, member, members};
 ghost use Rattle.tree_select.specs.Selected.{picked};
@@ -17,11 +17,33 @@ fn served_by(on: bool, picked: Option<u32>) -> Option<u32>
     if on { picked } else { None }
 }
 
-// Member k of pack p, where there is one, runs or rests.
+/// Which member of a pack ran and which one runs now, and the place of the latter; None where none does.
+#[derive(Clone, Copy)]
+pub struct Handed {
+    pub place: Option<u32>,
+    pub node: Option<NodeId>,
+    pub before: Option<NodeId>,
+}
+
+// The member at this place of pack p, where there is one.
+fn node_at(tree: &Tree, p: NodeId, k: Option<u32>) -> Option<NodeId>
+    requires tree { IsTree tree.now }
+    requires pack { IsPack tree.now p.0 }
+    requires member { (j : ℕ) → k ≡ Some j → j < length (members tree.now p.0) }
+    ensures { option_map (λ n. n.0) result ≡ option_map (member tree.now p.0) k }
+{
+    match k {
+        None => None,
+        Some(k) => Some(id_of(tree, p, k as usize)),
+    }
+}
+
+// The member at place k of pack p, where there is one, runs or rests. The place is only spoken of.
 fn set_place(
     tree: &Tree,
     p: NodeId,
     k: Option<u32>,
+    node: Option<NodeId>,
     on: bool,
     stale: &mut [bool],
     runs: &mut [bool],
@@ -29,12 +51,14 @@ fn set_place(
     requires tree { IsTree tree.now }
     requires pack { IsPack tree.now p.0 }
     requires member { (j : ℕ) → k ≡ Some j → j < length (members tree.now p.0) }
+    requires node { option_map (λ n. n.0) node ≡ option_map (member tree.now p.0) k }
     requires stale { length stale.old ≡ length tree.now.nodes }
     requires runs { length runs.old ≡ length tree.now.nodes }
     ensures { IsPlaced tree.now p.0 k on stale.old runs.old stale.new runs.new }
 {
-    if let Some(k) = k {
-        set_member(tree, id_of(tree, p, k as usize), on, stale, runs);
+    let _place = (p, k);
+    if let Some(m) = node {
+        set_member(tree, m, on, stale, runs);
     }
 }
 
@@ -44,6 +68,8 @@ fn hand_on(
     p: NodeId,
     was: Option<u32>,
     next: Option<u32>,
+    before: Option<NodeId>,
+    after: Option<NodeId>,
     stale: &mut [bool],
     runs: &mut [bool],
 )
@@ -52,6 +78,8 @@ fn hand_on(
     requires was { (j : ℕ) → j < length (members tree.now p.0) → slice_index_or runs.old (member tree.now p.0 j) false ≡ is_at was j }
     requires before { (j : ℕ) → was ≡ Some j → j < length (members tree.now p.0) }
     requires after { (j : ℕ) → next ≡ Some j → j < length (members tree.now p.0) }
+    requires before_at { option_map (λ n. n.0) before ≡ option_map (member tree.now p.0) was }
+    requires after_at { option_map (λ n. n.0) after ≡ option_map (member tree.now p.0) next }
     requires stale { length stale.old ≡ length tree.now.nodes }
     requires runs { length runs.old ≡ length tree.now.nodes }
     ensures { IsHanded tree.now p.0 next stale.old runs.old stale.new runs.new }
@@ -59,12 +87,12 @@ fn hand_on(
     if was == next {
         return;
     }
-    set_place(tree, p, was, false, stale, runs);
-    set_place(tree, p, next, true, stale, runs);
+    set_place(tree, p, was, before, false, stale, runs);
+    set_place(tree, p, next, after, true, stale, runs);
 }
 
 /// Pack p, of whose members the one at `was` ran, loses its mark, and lets the one run that is picked now, where the pack
-/// runs. It returns which that is.
+/// runs. It returns which these are.
 pub fn hand_over(
     tree: &Tree,
     p: NodeId,
@@ -72,7 +100,7 @@ pub fn hand_over(
     chosen: Option<u32>,
     stale: &mut [bool],
     runs: &mut [bool],
-) -> Option<u32>
+) -> Handed
     requires tree { IsTree tree.now }
     requires pack { IsPack tree.now p.0 }
     requires was { (j : ℕ) → j < length (members tree.now p.0) → slice_index_or runs.old (member tree.now p.0 j) false ≡ is_at was j }
@@ -81,9 +109,11 @@ pub fn hand_over(
     requires stale { length stale.old ≡ length tree.now.nodes }
     requires runs { length runs.old ≡ length tree.now.nodes }
     requires led { AreLed tree.now runs.old }
-    ensures within { (j : ℕ) → result ≡ Some j → j < length (members tree.now p.0) }
-    ensures result { result ≡ served_by (slice_index_or runs.old p.0 false) chosen }
-    ensures now { (j : ℕ) → j < length (members tree.now p.0) → slice_index_or runs.new (member tree.now p.0 j) false ≡ is_at result j }
+    ensures within { (j : ℕ) → result.place ≡ Some j → j < length (members tree.now p.0) }
+    ensures result { result.place ≡ served_by (slice_index_or runs.old p.0 false) chosen }
+    ensures node { option_map (λ n. n.0) result.node ≡ option_map (member tree.now p.0) result.place }
+    ensures before { option_map (λ n. n.0) result.before ≡ option_map (member tree.now p.0) was }
+    ensures now { (j : ℕ) → j < length (members tree.now p.0) → slice_index_or runs.new (member tree.now p.0 j) false ≡ is_at result.place j }
     ensures led { AreLed tree.now runs.new }
     ensures served { (remains ends : List ℕ) → chosen ≡ picked tree.now remains ends p.0 → AreServed tree.now remains ends stale.old runs.old →
         AreServed tree.now remains ends stale.new runs.new }
@@ -98,7 +128,13 @@ pub fn hand_over(
         slice_index_or stale.new q false ≡ slice_index_or stale.old q false }
 {
     stale[p.0 as usize] = false;
-    let next = served_by(runs[p.0 as usize], chosen);
-    hand_on(tree, p, was, next, stale, runs);
-    next
+    let place = served_by(runs[p.0 as usize], chosen);
+    let before = node_at(tree, p, was);
+    let node = node_at(tree, p, place);
+    hand_on(tree, p, was, place, before, node, stale, runs);
+    Handed {
+        place,
+        node,
+        before,
+    }
 }

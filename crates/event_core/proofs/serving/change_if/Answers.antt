@@ -36,3 +36,9 @@ returns-else-ne-clause-tick c = refl
 
 pub returns-else-ne-clause-remains : goal.returns-else-ne-clause-remains
 returns-else-ne-clause-remains c = refl
+
+pub change_over-requires-clause-before_at : goal.change_over-requires-clause-before_at
+change_over-requires-clause-before_at c = c.requires.before_at
+
+pub change_over-requires-clause-after_at : goal.change_over-requires-clause-after_at
+change_over-requires-clause-after_at c = c.requires.after_at

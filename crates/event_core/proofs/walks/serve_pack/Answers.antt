@@ -39,7 +39,7 @@ pub returns-clause-serving : goal.returns-clause-serving
 returns-clause-serving c =
     let b = c.requires.pack.0 in
     let long = c.requires.long.serves in
-    serving_step c.args.tree.now c.args.dues.now c.serve-next.new.dues c.args.ends.now (lists c.args.ready.now c.args.serves.now c.args.dry.now c.args.stale.now c.args.runs.now) (lists c.args.ready.now _ _ c.serve-next.new.stale c.serve-next.new.runs) c.args.p.0 c.serve-next.result
+    serving_step c.args.tree.now c.args.dues.now c.serve-next.new.dues c.args.ends.now (lists c.args.ready.now c.args.serves.now c.args.dry.now c.args.stale.now c.args.runs.now) (lists c.args.ready.now _ _ c.serve-next.new.stale c.serve-next.new.runs) c.args.p.0 c.serve-next.result.place
     c.requires.pack (omega (arith, b, long)) c.serve-next.ensures.tick c.serve-next.ensures.remains refl refl (c.set.ensures ∙ ap (λ (n : ℕ). set c.args.dry.now c.args.p.0 n) c.dry_of.ensures)
     c.serve-next.ensures.within c.serve-next.ensures.now c.serve-next.ensures.others c.serve-next.ensures.agree c.serve-next.ensures.rest c.serve-next.ensures.unmarked c.serve-next.ensures.led
     (c.serve-next.ensures.served c.args.ends.now (subst (λ (xs : List ℕ). AreReady (candidates c.args.tree.now c.args.dues.now.remains c.args.ends.now c.args.p.0) xs) (sym c.ready_at.ensures) (c.requires.serving.picks c.args.p.0 c.requires.pack)) c.requires.serving.served) c.requires.serving
@@ -100,3 +100,6 @@ dry_of-requires-clause-pack c = c.requires.pack
 
 pub set-requires : goal.set-requires
 set-requires c = let b = c.requires.pack.0 in let long = c.requires.serving.ticks.long in omega (arith, b, long)
+
+pub dry_of-requires-clause-node : goal.dry_of-requires-clause-node
+dry_of-requires-clause-node c = c.serve-next.ensures.node
