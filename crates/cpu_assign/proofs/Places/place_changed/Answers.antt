@@ -1,54 +1,16 @@
-use Rattle.std.proofs.Common.{length, ap, ap₂, subst, subst₂, sym, ◌∙◌}
-use Rattle.sched_base.specs.Places.{Placing, place, waiting}
-use Rattle.cpu_assign.specs.Noted.{IsNoted}
-use Rattle.cpu_assign.specs.Changed.{stopping}
-use Rattle.cpu_assign.proofs.StepLemmas.{placing, written}
 use Rattle.cpu_assign.proofs.Places.place_changed.Goals as goal
 
-pub place_changed-requires-clause-processors : goal.place_changed-requires-clause-processors
-place_changed-requires-clause-processors c = c.requires.processors ∙ sym (ap length c.deref_mut.ensures.value ∙ ap (λ (p : Placing). length p.onto) c.self.view_is)
+pub place_again-requires-clause-room : goal.place_again-requires-clause-room
+place_again-requires-clause-room c = c.requires.processors
 
-pub place_changed-requires-clause-noted : goal.place_changed-requires-clause-noted
-place_changed-requires-clause-noted c =
-    subst (λ (p : Placing). IsNoted p.onto p.last) (sym (ap₂ placing c.deref_mut.ensures.value c.deref_mut-2.ensures.value)) c.self.invariant
-
-pub place_changed-requires-clause-changes : goal.place_changed-requires-clause-changes
-place_changed-requires-clause-changes c =
-    let was = ap₂ placing c.deref_mut.ensures.value c.deref_mut-2.ensures.value ∙ c.self.view_is in
-    let (runs, long, changed) = c.requires.changes in (
-      runs,
-      ap (λ (p : Placing). length p.last) was ∙ long,
-      c.stopped.ensures ∙ changed.stops ∙ ap (λ (p : Placing). stopping runs p.onto) (sym was),
-      c.begun.ensures ∙ changed.begins ∙ ap (λ (p : Placing). waiting runs p.onto) (sym was),
-    )
-
-pub invariant_of-self : goal.invariant_of-self
-invariant_of-self c =
-    let onto = written c.self.inside.onto c.deref_mut.result.now c.place_changed.new.onto c.deref_mut.ensures.value c.place_changed.auto.onto in
-    let last = written c.self.inside.last c.deref_mut-2.result.now c.place_changed.new.last c.deref_mut-2.ensures.value c.place_changed.auto.last in
-    subst₂ IsNoted (sym onto) (sym last) c.place_changed.ensures.noted
+pub place_again-requires-clause-changes : goal.place_again-requires-clause-changes
+place_again-requires-clause-changes c = c.requires.changes
 
 pub returns-clause-places : goal.returns-clause-places
-returns-clause-places c = λ runs long changed.
-    let was = ap₂ placing c.deref_mut.ensures.value c.deref_mut-2.ensures.value ∙ c.self.view_is in
-    let packs = ap (λ (p : Placing). length p.last) was ∙ long in
-    let stops = c.stopped.ensures ∙ changed.stops ∙ ap (λ (p : Placing). stopping runs p.onto) (sym was) in
-    let begins = c.begun.ensures ∙ changed.begins ∙ ap (λ (p : Placing). waiting runs p.onto) (sym was) in
-    let onto = written c.self.inside.onto c.deref_mut.result.now c.place_changed.new.onto c.deref_mut.ensures.value c.place_changed.auto.onto in
-    let last = written c.self.inside.last c.deref_mut-2.result.now c.place_changed.new.last c.deref_mut-2.ensures.value c.place_changed.auto.last in
-    ap₂ placing (onto ∙ c.place_changed.ensures.onto runs packs stops begins) (last ∙ c.place_changed.ensures.last runs packs stops begins) ∙ ap (place runs) was
+returns-clause-places c = c.place_again.ensures.places
 
 pub returns-clause-packs : goal.returns-clause-packs
-returns-clause-packs c =
-    let last = written c.self.inside.last c.deref_mut-2.result.now c.place_changed.new.last c.deref_mut-2.ensures.value c.place_changed.auto.last in
-    ap length last ∙ c.place_changed.auto.last ∙ ap length c.deref_mut-2.ensures.value ∙ ap (λ (p : Placing). length p.last) c.self.view_is
+returns-clause-packs c = c.place_again.ensures.packs
 
 pub returns-clause-processors : goal.returns-clause-processors
-returns-clause-processors c =
-    let onto = written c.self.inside.onto c.deref_mut.result.now c.place_changed.new.onto c.deref_mut.ensures.value c.place_changed.auto.onto in
-    ap length onto ∙ c.place_changed.auto.onto ∙ ap length c.deref_mut.ensures.value ∙ ap (λ (p : Placing). length p.onto) c.self.view_is
-
-pub returns-clause-told : goal.returns-clause-told
-returns-clause-told c =
-    let onto = written c.self.inside.onto c.deref_mut.result.now c.place_changed.new.onto c.deref_mut.ensures.value c.place_changed.auto.onto in
-    c.place_changed.ensures.told ∙ sym onto
+returns-clause-processors c = c.place_again.ensures.processors
