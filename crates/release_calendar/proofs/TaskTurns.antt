@@ -1,5 +1,5 @@
 -- Where the window of a task ends that begins at one of its boundaries.
-use Rattle.std.proofs.Common.{◌≡◌, ℕ, length, sym, ◌+◌, ◌-◌, ◌*◌, ◌/◌, ◌%◌, ◌<◌, ◌≤◌, ◌&&◌, ◌||◌, eqb, leb, true, ap, arith, ◌∙◌, div-add-mod', inl, inr}
+use Rattle.std.proofs.Common.{◌≡◌, ℕ, length, sym, ◌+◌, ◌-◌, ◌*◌, ◌/◌, ◌%◌, ◌<◌, ◌≤◌, ◌&&◌, eqb, leb, true, ap, arith, ◌∙◌, div-add-mod', inl, inr}
 use native.Mathlib.Nat.{zero-mod}
 use Rattle.std.proofs.lemmas.Bool.{eqb-true, or_cases, and_parts}
 use Rattle.sched_base.specs.declared.sets.Task as declared

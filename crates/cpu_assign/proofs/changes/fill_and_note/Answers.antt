@@ -1,4 +1,4 @@
-use Rattle.std.proofs.Common.{◌≡◌, ap, arith, get_or, None, subst, sym, ◌∙◌, List, Option, ℕ, length}
+use Rattle.std.proofs.Common.{ap, arith, get_or, None, subst, sym, ◌∙◌, List, Option, ℕ}
 use Rattle.sched_base.specs.Places.{filled}
 use Rattle.cpu_assign.specs.Changed.{still_waiting}
 use Rattle.cpu_assign.specs.Noted.{IsNoted}
