@@ -256,6 +256,10 @@ block_skipped least ticks used now from at h begins late was = λ k l low high e
   | inr after ↦ (let same : k / 8 ≡ at / 8 = omega (arith, high, after, begins) in let b = h.bound k l in let a = ap (λ j. get_or least j 0) same in omega (arith, a, b, e, late))
 ]
 
+-- where all that is used is one block, and none of it comes as soon
+pub all_skipped : (least ticks : List ℕ) (used now from : ℕ) → AreInBlocks least ticks used → used ≤ 8 → now < get_or least 0 0 → AreSkipped ticks now from used
+all_skipped least ticks used now from h one late k l low high e = (let same : k / 8 ≡ 0 = omega (arith, high, one) in let b = h.bound k l in let a = ap (λ j. get_or least j 0) same in omega (arith, a, b, e, late))
+
 -- by nodes
 pub skipped_by : (number nodes ticks : List ℕ) (now from to : ℕ) → ArePlaces number nodes (length ticks) → AreSkipped ticks now from to →
     (x : ℕ) → x < length (ticks_by number ticks) → from ≤ get_or number x 0 → get_or number x 0 < to → get_or (ticks_by number ticks) x 0 ≢ now

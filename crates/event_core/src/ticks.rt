@@ -96,7 +96,22 @@ fn least_of(ticks: &[u128], from: usize, to: usize) -> u128
     first
 }
 
-// The first of a tick and of all others, as far as a block has one; what is kept of the block is then its least.
+// The first of a tick and of a block's; what is kept of the block is then its least.
+fn first_anew(least: &mut [u128], ticks: &[u128], used: usize, block: usize, first: u128) -> u128
+    requires blocks { AreInBlocks least.old ticks.now used }
+    requires block { block * 8 < used }
+    ensures blocks { AreInBlocks least.new ticks.now used }
+    ensures below { result ≤ first }
+    ensures all { (k : ℕ) → k < length ticks.now → k / 8 ≡ block → result ≤ slice_index ticks.now k }
+    ensures one { (result ≡ first) ⊎ ((k : ℕ) × (k < length ticks.now) × (result ≡ slice_index ticks.now k)) }
+{
+    let from = block * BLOCK;
+    let own = least_of(ticks, from, used.min(from + BLOCK));
+    least[block] = own;
+    first.min(own)
+}
+
+// The first of a tick and of a block's, which isn't looked at where it has none before.
 fn first_in(least: &mut [u128], ticks: &[u128], used: usize, block: usize, first: u128) -> u128
     requires blocks { AreInBlocks least.old ticks.now used }
     requires block { block * 8 < used }
@@ -108,10 +123,19 @@ fn first_in(least: &mut [u128], ticks: &[u128], used: usize, block: usize, first
     if least[block] >= first {
         return first;
     }
-    let from = block * BLOCK;
-    let own = least_of(ticks, from, used.min(from + BLOCK));
-    least[block] = own;
-    first.min(own)
+    first_anew(least, ticks, used, block, first)
+}
+
+// The first of a tick and of all others, where these are one block.
+fn first_of_one(least: &mut [u128], ticks: &[u128], used: usize, most: u128) -> u128
+    requires blocks { AreInBlocks least.old ticks.now used }
+    requires some { 0 < used }
+    requires one { used ≤ 8 }
+    requires most { most < no_tick }
+    ensures blocks { AreInBlocks least.new ticks.now used }
+    ensures first { IsFirstTick ticks.now most result }
+{
+    first_anew(least, ticks, used, 0, most)
 }
 
 // The first of a tick and of all others.
@@ -121,11 +145,48 @@ fn first_of(least: &mut [u128], ticks: &[u128], used: usize, most: u128) -> u128
     ensures blocks { AreInBlocks least.new ticks.now used }
     ensures first { IsFirstTick ticks.now most result }
 {
+    if used > 0 && used <= BLOCK {
+        return first_of_one(least, ticks, used, most);
+    }
     let mut first = most;
     for block in 0..used.div_ceil(BLOCK) {
         first = first_in(least, ticks, used, block, first);
     }
     first
+}
+
+// The first place from one to another that has this tick, or the latter where there is none.
+fn next_in(ticks: &[u128], now: u128, from: usize, to: usize) -> usize
+    requires from { from ≤ to }
+    requires within { to ≤ length ticks.now }
+    ensures after { from ≤ result }
+    ensures within { result ≤ to }
+    ensures here { result < to → slice_index ticks.now result ≡ now }
+    ensures skipped { (k : ℕ) → k < length ticks.now → from ≤ k → k < result → slice_index ticks.now k ≢ now }
+{
+    for k in from..to {
+        if ticks[k] == now {
+            return k;
+        }
+    }
+    to
+}
+
+// The same where the places that are used are one block.
+fn next_of_one(least: &[u128], ticks: &[u128], used: usize, now: u128, from: usize) -> usize
+    requires blocks { AreInBlocks least.now ticks.now used }
+    requires some { 0 < used }
+    requires one { used ≤ 8 }
+    requires from { from ≤ used }
+    ensures after { from ≤ result }
+    ensures within { result ≤ used }
+    ensures here { result < used → slice_index ticks.now result ≡ now }
+    ensures skipped { (k : ℕ) → k < length ticks.now → from ≤ k → k < result → slice_index ticks.now k ≢ now }
+{
+    if now < least[0] {
+        return used;
+    }
+    next_in(ticks, now, from, used)
 }
 
 /// The first place from number `from` on that has this tick, or the number of places that are used where there is none.
@@ -137,6 +198,9 @@ pub(crate) fn next_of(least: &[u128], ticks: &[u128], used: usize, now: u128, fr
     ensures here { result < used → slice_index ticks.now result ≡ now }
     ensures skipped { (k : ℕ) → k < length ticks.now → from ≤ k → k < result → slice_index ticks.now k ≢ now }
 {
+    if used > 0 && used <= BLOCK {
+        return next_of_one(least, ticks, used, now, from);
+    }
     let mut k = from;
     while k < used {
         if k % BLOCK == 0 && now < least[k / BLOCK] {
