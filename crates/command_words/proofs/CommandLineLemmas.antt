@@ -15,12 +15,12 @@ use Rattle.command_words.specs.declared.command.Reading.TheVariants.{Rate, Tree,
 use Rattle.command_words.specs.declared.command.Execution.{Execution}
 use Rattle.command_words.specs.declared.command.Execution.TheVariants.{Exec, ExecMet, Drill, Jobs, Modes}
 use Rattle.sched_base.specs.Limits.{window_limit}
-use Rattle.command_words.specs.Words.{window_of, exec_with, drill_of, drill_with}
+use Rattle.command_words.specs.Words.{exec_with, number_in}
 use Rattle.command_words.specs.Words.{drawn, reading_named}
 use Rattle.command_words.specs.CommandLine.{parser, Spells, SpellsWrap, SpellsExec}
 use Rattle.command_words.proofs.ValueLemmas.{IsBare, in_range_is_bare}
 use Rattle.command_words.proofs.DrawLineLemmas.{reads_draw}
-use Rattle.std.specs.Prelude.{nat_lt, ◌^◌, if◌then◌else◌, nat_le, ◌&&◌}
+use Rattle.std.specs.Prelude.{◌-◌, ◌^◌, if◌then◌else◌, nat_le, ◌&&◌}
 
 -- a window is from 1 to the largest one
 abbrev as_window : ℕ → Option ℕ
@@ -28,7 +28,7 @@ as_window n = if nat_le 1 n && nat_le n window_limit then Some n else None
 
 -- the number of a drill is below 2 ^ 64
 abbrev as_drill : ℕ → Option ℕ
-as_drill n = if nat_lt n (2 ^ 64) then Some n else None
+as_drill n = if nat_le 0 n && nat_le n (2 ^ 64 - 1) then Some n else None
 
 pub simple : is_simple parser ≡ true
 unfolding clap_on_literals
@@ -52,7 +52,7 @@ unfolding clap_on_literals
 bare_read [] bare = absurd bare
 bare_read (d ∷ ds) bare = record { taken = rw (bare, bare) refl; unmet = rw (bare, bare) refl; value = rw (bare, bare) refl }
 
-read_window : (v : Text) (n : ℕ) → window_of v ≡ Some n → IsRead v
+read_window : (v : Text) (n : ℕ) → number_in 1 window_limit v ≡ Some n → IsRead v
 read_window v n e = bare_read v (in_range_is_bare as_window v n e)
 
 taken_joined : (v : Text) → takes parser (joined v) ≡ true
@@ -84,7 +84,7 @@ unfolding clap_on_literals
 bare_number [] bare = absurd bare
 bare_number (d ∷ ds) bare = record { taken = simp bare; named = refl; value = simp bare }
 
-read_number : (v : Text) (n : ℕ) → drill_of v ≡ Some n → IsReadNumber v
+read_number : (v : Text) (n : ℕ) → number_in 0 (2 ^ 64 - 1) v ≡ Some n → IsReadNumber v
 read_number v n e = bare_number v (in_range_is_bare as_drill v n e)
 
 taken_wrap : (words : List Text) → SpellsWrap words → takes parser words ≡ true
@@ -497,7 +497,7 @@ draw_used c words rows spells name is =
 
 -- what the matches of `drill` say of its number
 pub drill_used : (c : Command) (words : List Text) (rows : List Row) → Spells c words → IsCalled (codes "drill") c → Some rows ≡ matches_by words
-    → (value : Text) × (first_of (codes "number") rows ≡ Some value) × (option_map Execute (drill_with value) ≡ Some c)
+    → (value : Text) × (first_of (codes "number") rows ≡ Some value) × (option_map Execute (option_map (λ number. Drill number) (number_in 0 (2 ^ 64 - 1) value)) ≡ Some c)
 drill_used c words rows spells name is =
     let (n, own) = name in
     let (value, writes, spelled) = subst (λ (x : Command). Spells x words) own spells in (

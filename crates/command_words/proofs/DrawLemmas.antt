@@ -3,7 +3,7 @@ use Rattle.std.proofs.Common.{◌≡◌, ◌≢◌, ℕ, ◌-◌, ◌<◌, ◌�
 use Rattle.std.specs.Str.{bytes_eq}
 use Rattle.std.proofs.lemmas.Bool.{cond-true}
 use Rattle.std.proofs.lemmas.List.{take_all}
-use Rattle.command_words.specs.Words.{front, drawn, draw_at_end, draw_behind, draw_of}
+use Rattle.command_words.specs.Words.{front, drawn, draw_at_end, draw_of}
 
 abbrev Text : Type 0
 Text = List ℕ
@@ -16,7 +16,7 @@ drawn_by words behind rest from units f b u r =
     let p = front (codes "--from") words in
     let q = front (codes "--units") behind in
     ap (λ o. draw_at_end o units rest) f ∙ (ap (λ o. draw_at_end p.0 o rest) u ∙ (ap (λ ws. draw_at_end p.0 q.0 ws) r
-    ∙ ap (λ ws. draw_behind p.0 (front (codes "--units") ws)) b))
+    ∙ ap (λ ws. draw_at_end p.0 (front (codes "--units") ws).0 (front (codes "--units") ws).1) b))
 
 pub at_end_none : (from units : Option Text) (rest : List Text) → length rest ≡ 0 → drawn from units ≡ draw_at_end from units rest
 at_end_none from units [] e = refl

@@ -7,23 +7,24 @@ use Rattle.clap.proofs.OnLiterals.{clap_on_literals}
 use Rattle.command_words.specs.declared.asking.Asked.{Asked}
 use Rattle.command_words.specs.declared.command.Reading.{Reading}
 use Rattle.command_words.specs.declared.command.Reading.TheVariants.{Draw}
-use Rattle.command_words.specs.Words.{units_of, asked_from, asked_units, drawn}
+use Rattle.sched_base.specs.Limits.{unit_limit}
+use Rattle.command_words.specs.Words.{number_in, asked_from, asked_units, drawn}
 use Rattle.command_words.specs.CommandLine.{parser, SpellsOption, SpellsDraw}
 use Rattle.command_words.proofs.WordLemmas.{mapped, and_then_some}
 use Rattle.command_words.proofs.ValueLemmas.{IsBare, in_range_is_bare}
-use Rattle.std.specs.Prelude.{nat_lt, ◌^◌, if◌then◌else◌, nat_le, ◌&&◌}
+use Rattle.std.specs.Prelude.{if◌then◌else◌, nat_le, ◌&&◌}
 
 -- `draw` from this unit on
 abbrev draw_from : ℕ → Option ℕ → Reading
 draw_from from units = Draw (record { from = from; units = units })
 
--- so many units are from 1 to 2 ^ 32 - 1
+-- so many units are from 1 to the limit
 abbrev as_units : ℕ → Option ℕ
-as_units n = if nat_le 1 n && nat_lt n (2 ^ 32) then Some n else None
+as_units n = if nat_le 1 n && nat_le n unit_limit then Some n else None
 
--- a unit is below 2 ^ 32, as a horizon is
+-- a unit is at most the limit, as a horizon is
 abbrev as_unit : ℕ → Option ℕ
-as_unit n = if nat_lt n (2 ^ 32) then Some n else None
+as_unit n = if nat_le 0 n && nat_le n unit_limit then Some n else None
 
 -- the words of `draw` with these options
 abbrev drawing : List Text → List Text
@@ -92,7 +93,7 @@ from_in (Some v) u e = from_bare v (in_range_is_bare as_unit v u e)
 
 units_in : (units : Option Text) (n : Option ℕ) → asked_units units ≡ Some n → IsUnitsIn units
 units_in None n e = tt
-units_in (Some w) n e = let (m, is, same) = mapped (λ m. Some m) (units_of w) n e in units_bare w (in_range_is_bare as_units w m is)
+units_in (Some w) n e = let (m, is, same) = mapped (λ m. Some m) (number_in 1 unit_limit w) n e in units_bare w (in_range_is_bare as_units w m is)
 
 -- the option with its value behind `=`
 abbrev option_word : Text → Option Text → List Text

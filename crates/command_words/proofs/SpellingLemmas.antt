@@ -1,8 +1,10 @@
 -- The words of a command line are those of its command, and of no other.
-use Rattle.std.proofs.Common.{◌≡◌, ◌≢◌, ◌⊎◌, inl, inr, ℕ, zero, suc, if◌then◌else◌, ◌≤◌, List, [], ◌∷◌, ◌++◌, codes, take, drop}
+use Rattle.std.proofs.Common.{◌≡◌, ◌≢◌, ◌⊎◌, inl, inr, ℕ, zero, suc, ◌-◌, ◌^◌, if◌then◌else◌, ◌≤◌, List, [], ◌∷◌, ◌++◌, codes, take, drop}
 use Rattle.std.proofs.Common.{Option, Some, None, Bool, true, false, ◌&&◌, option_map, option_and_then, length, refl, sym, ap, ap₂}
-use Rattle.std.proofs.Common.{subst, ◌∙◌, arith, rules, tests, append-nil, IfSome}
+use Rattle.std.proofs.Common.{subst, ◌∙◌, arith, rules, tests, append-nil, eq-eqb, IfSome}
+use Rattle.std.specs.Prelude.{◌==◌}
 use Rattle.std.specs.Str.{bytes_eq}
+use Rattle.std.proofs.lemmas.Bool.{eqb-true}
 use Rattle.clap.specs.Words.{Text}
 use Rattle.command_words.specs.declared.command.Command.{Command}
 use Rattle.command_words.specs.declared.command.Command.TheVariants.{Read, Batch, Execute}
@@ -10,13 +12,13 @@ use Rattle.command_words.specs.declared.command.Reading.{Reading}
 use Rattle.command_words.specs.declared.command.Reading.TheVariants.{Rate, Tree, Trace, TraceMet, TraceWrap, TraceRepeat, Table, TableRepeat, Check, Follow, Draw}
 use Rattle.command_words.specs.declared.command.Execution.{Execution}
 use Rattle.command_words.specs.declared.command.Execution.TheVariants.{Exec, ExecMet, Drill, Jobs, Modes}
-use Rattle.sched_base.specs.Limits.{window_limit}
-use Rattle.command_words.specs.Words.{window_of, exec_with, exec_by, drill_of, drill_with, after_text, HasWindow}
-use Rattle.command_words.specs.Words.{reading_of, reading_by, reading_named, reading_with, reading_with_value, batch_of, execution_of, execution_named, execution_with, execution_with_value}
-use Rattle.command_words.specs.Words.{value_in, met_at, front, units_of, asked_units, drawn, draw_at_end, draw_of, DrawsSomeUnit}
+use Rattle.sched_base.specs.Limits.{unit_limit, window_limit}
+use Rattle.command_words.specs.Words.{number_in, exec_with, exec_by, after_text, HasWindow}
+use Rattle.command_words.specs.Words.{reading_of, reading_by, reading_named, reading_with, reading_with_value, execution_of, execution_named, execution_with, execution_with_value}
+use Rattle.command_words.specs.Words.{value_in, met_at, front, asked_units, drawn, draw_at_end, draw_of, DrawsSomeUnit}
 use Rattle.command_words.specs.Words.{asks_to_execute, asks_for_batch, asks_for_threads, command_of}
 use Rattle.command_words.specs.CommandLine.{Spells, SpellsExec, SpellsOption}
-use Rattle.command_words.proofs.WordLemmas.{executes, reads, batches, only_batch, if_is, same_text}
+use Rattle.command_words.proofs.WordLemmas.{batch_of, executes, reads, batches, only_batch, if_is, same_text}
 use Rattle.command_words.proofs.WordLemmas.{some_is, no_some, mapped, and_then_some}
 use Rattle.command_words.proofs.DrawLineLemmas.{asked_by}
 use Rattle.command_words.proofs.CommandLineLemmas.{apart, joined}
@@ -45,7 +47,7 @@ followed (Some v) x e = (v, refl, e)
 
 exec_spelled : (v : Text) (x : Execution) (words : List Text) → exec_with v ≡ Some x → (words ≡ apart v) ⊎ (words ≡ joined v) → Spells (Execute x) words
 exec_spelled v x words e is =
-    let (n, writes, same) = mapped (λ w. Exec w) (window_of v) x e in
+    let (n, writes, same) = mapped (λ w. Exec w) (number_in 1 window_limit v) x e in
     subst (λ (y : Execution). Spells (Execute y) words) same (inr (v, writes, is))
 
 by_spelled : (w o : Text) (x : Execution) → w ≡ codes "exec" → exec_by o ≡ Some x → Spells (Execute x) (w ∷ o ∷ [])
@@ -58,9 +60,9 @@ by_spelled w o x we e = elim (if_is (bytes_eq o (codes "--met")) _ _ _ e) [
       exec_spelled v x (w ∷ o ∷ []) given (inr (ap₂ (λ a b. a ∷ b ∷ []) we (after_is (codes "--window=") o v after)))
 ]
 
-drill_spelled : (w v : Text) (x : Execution) → w ≡ codes "drill" → drill_with v ≡ Some x → Spells (Execute x) (w ∷ v ∷ [])
+drill_spelled : (w v : Text) (x : Execution) → w ≡ codes "drill" → option_map (λ number. Drill number) (number_in 0 (2 ^ 64 - 1) v) ≡ Some x → Spells (Execute x) (w ∷ v ∷ [])
 drill_spelled w v x we e =
-    let (n, writes, same) = mapped (λ m. Drill m) (drill_of v) x e in
+    let (n, writes, same) = mapped (λ m. Drill m) (number_in 0 (2 ^ 64 - 1) v) x e in
     subst (λ (y : Execution). Spells (Execute y) (w ∷ v ∷ [])) same (v, writes, ap (λ a. a ∷ v ∷ []) we)
 
 -- one word, where it is the name of a command
@@ -185,13 +187,13 @@ reading_spelled (w ∷ options) x e = elim (if_is (bytes_eq w (codes "draw")) _ 
 ]
 
 -- a picture that is asked for shows one unit at least
-units_bound : (v : Text) (n : ℕ) → units_of v ≡ Some n → 1 ≤ n
+units_bound : (v : Text) (n : ℕ) → number_in 1 unit_limit v ≡ Some n → 1 ≤ n
 units_bound v n e = search (rules, tests)
 
 units_some : (units : Option Text) (n : Option ℕ) → asked_units units ≡ Some n → IfSome n (λ m. 1 ≤ m)
 units_some None n e = subst (λ (o : Option ℕ). IfSome o (λ m. 1 ≤ m)) (some_is None n e) tt
 units_some (Some w) n e =
-    let (m, is, same) = mapped (λ m. Some m) (units_of w) n e in
+    let (m, is, same) = mapped (λ m. Some m) (number_in 1 unit_limit w) n e in
     subst (λ (o : Option ℕ). IfSome o (λ k. 1 ≤ k)) same (units_bound w m is)
 
 some_by : (x : Reading) (words : List Text) → Spells (Read x) words → DrawsSomeUnit x
@@ -252,13 +254,17 @@ execution_spelled (w ∷ o ∷ []) x e = execution_with_spelled w o x e
 execution_spelled (w ∷ o ∷ v ∷ []) x e = execution_value_spelled w o v x e
 execution_spelled (w ∷ o ∷ v ∷ u ∷ xs) x e = absurd (no_some x e)
 
-batch_spelled : (words : List Text) (c : Command) → batch_of words ≡ Some c → Spells c words
-batch_spelled [] c e = absurd (no_some c e)
-batch_spelled (w ∷ []) c e = elim (if_is (bytes_eq w (codes "batch")) _ _ _ e) [
-  | inl is ↦ subst (λ (k : Command). Spells k (w ∷ [])) (some_is Batch c is.1) (ap (λ a. a ∷ []) (same_text w _ is.0))
+batch_single : (words : List Text) (c : Command) → batch_of words ≡ Some c → length words ≡ 1
+batch_single words c e = elim (if_is (length words == 1) (Some Batch) None (Some c) e) [
+  | inl is ↦ eqb-true (length words) 1 is.0
   | inr other ↦ absurd (no_some c other.1)
 ]
-batch_spelled (w ∷ o ∷ words) c e = absurd (no_some c e)
+
+batch_spelled : (words : List Text) (c : Command) → asks_for_batch words ≡ true → batch_of words ≡ Some c → Spells c words
+batch_spelled [] c asks e = absurd (let one = batch_single [] c e in omega (arith, one))
+batch_spelled (w ∷ []) c asks e =
+    subst (λ (k : Command). Spells k (w ∷ [])) (sym (only_batch (w ∷ []) c e)) (ap (λ a. a ∷ []) (same_text w _ asks))
+batch_spelled (w ∷ o ∷ words) c asks e = absurd (let one = batch_single (w ∷ o ∷ words) c e in omega (arith, one))
 
 pub spelled : (words : List Text) (c : Command) → command_of words ≡ Some c → Spells c words
 spelled words c e = elim (if_is (asks_to_execute words) _ _ _ e) [
@@ -266,7 +272,7 @@ spelled words c e = elim (if_is (asks_to_execute words) _ _ _ e) [
       let (x, given, same) = mapped Execute (execution_of words) c is.1 in
       subst (λ (k : Command). Spells k words) same (execution_spelled words x given)
   | inr is ↦ elim (if_is (asks_for_batch words) _ _ _ is.1) [
-    | inl many ↦ batch_spelled words c many.1
+    | inl many ↦ batch_spelled words c many.0 many.1
     | inr few ↦
         let (x, given, same) = mapped Read (reading_of words) c few.1 in
         subst (λ (k : Command). Spells k words) same (reading_spelled words x given)
@@ -318,17 +324,10 @@ only_reading words c still e =
 
 -- the same of words that ask for many sets
 batch_alone : (words : List Text) → asks_for_batch words ≡ true → length words ≡ 1 → batch_of words ≡ Some Batch
-batch_alone [] asks one = absurd (omega (arith, one))
-batch_alone (w ∷ []) asks one = ap (λ (b : Bool). if b then Some Batch else None) asks
-batch_alone (w ∷ o ∷ words) asks one = absurd (omega (arith, one))
+batch_alone words asks one = ap (λ (b : Bool). if b then Some Batch else None) (eq-eqb (length words) 1 one)
 
 pub batch_line : (words : List Text) → asks_for_batch words ≡ true → length words ≡ 1 → command_of words ≡ Some Batch
 batch_line words asks one = batches words asks ∙ batch_alone words asks one
-
-batch_single : (words : List Text) (c : Command) → batch_of words ≡ Some c → length words ≡ 1
-batch_single [] c is = absurd (no_some c is)
-batch_single (w ∷ []) c is = refl
-batch_single (w ∷ o ∷ words) c is = absurd (no_some c is)
 
 pub only_batching : (words : List Text) (c : Command) → asks_for_batch words ≡ true → command_of words ≡ Some c → (c ≡ Batch) × (length words ≡ 1)
 only_batching words c asks e = let is = sym (batches words asks) ∙ e in (only_batch words c is, batch_single words c is)
@@ -349,7 +348,7 @@ only_executing words c asks e =
     (y, same)
 
 -- a window that was written is from 1 to the largest one
-window_bounds : (v : Text) (n : ℕ) → window_of v ≡ Some n → (1 ≤ n) × (n ≤ window_limit)
+window_bounds : (v : Text) (n : ℕ) → number_in 1 window_limit v ≡ Some n → (1 ≤ n) × (n ≤ window_limit)
 window_bounds v n e = search (rules, tests)
 
 exec_window : (window : ℕ) (words : List Text) → SpellsExec window words → (1 ≤ window) × (window ≤ window_limit)

@@ -1,13 +1,13 @@
 -- Which command the words are, by what the first of them asks for.
 use Rattle.std.proofs.Common.{◌≡◌, ◌≢◌, ◌↔◌, ℕ, if◌then◌else◌, Bool, true, false, ◌||◌, ◌⊎◌, inl, inr, List, [], ◌∷◌, length, map, get_or, codes, Option, Some, None, refl, sym, ◌∙◌, ap, ap₂, arith, rules, tests}
-use Rattle.std.specs.Prelude.{option_map, option_and_then, slice_get}
+use Rattle.std.specs.Prelude.{option_map, option_and_then, slice_get, ◌==◌}
 use Rattle.std.specs.Str.{bytes_eq}
 use Rattle.command_words.specs.declared.command.Command.{Command}
 use Rattle.command_words.specs.declared.command.Command.TheVariants.{Read, Batch, Execute}
 use Rattle.command_words.specs.declared.command.Reading.{Reading}
 use Rattle.command_words.specs.declared.command.Execution.{Execution}
 use Rattle.command_words.specs.Words.{reading_by, reading_with, reading_with_value, execution_named, execution_with}
-use Rattle.command_words.specs.Words.{command_of, reading_of, reading_named, execution_of, batch_of, asks_to_execute, asks_for_batch, asks_for_threads}
+use Rattle.command_words.specs.Words.{command_of, reading_of, reading_named, execution_of, asks_to_execute, asks_for_batch, asks_for_threads}
 
 pub some_is : {A : Type 0} (a b : A) → Some a ≡ Some b → a ≡ b
 some_is a b e = cc
@@ -48,6 +48,10 @@ none_named w rate tree trace table check follow =
     if_other w (codes "rate") _ _ _ rate (if_other w (codes "tree") _ _ _ tree (if_other w (codes "trace") _ _ _ trace
     (if_other w (codes "table") _ _ _ table (if_other w (codes "check") _ _ _ check (if_other w (codes "follow") _ _ _ follow refl)))))
 
+-- words that ask for many sets are `batch` where they are one word
+abbrev pub batch_of : List (List ℕ) → Option Command
+batch_of words = if length words == 1 then Some Batch else None
+
 -- the command that words are which ask for no execution
 abbrev pub unexecuted : Bool → List (List ℕ) → Option Command
 unexecuted batch words = if batch then batch_of words else option_map Read (reading_of words)
@@ -81,12 +85,10 @@ only_execute None c e = absurd (let h : ◌≡◌ {A = Option Command} None (Som
 only_execute (Some x) c e = (x, let h : Some (Execute x) ≡ Some c = e in cc)
 
 pub only_batch : (words : List (List ℕ)) (c : Command) → batch_of words ≡ Some c → c ≡ Batch
-only_batch [] c e = absurd (let h : ◌≡◌ {A = Option Command} None (Some c) = e in cc)
-only_batch (word ∷ []) c e = elim (if_is (bytes_eq word (codes "batch")) (Some Batch) None (Some c) e) [
+only_batch words c e = elim (if_is (length words == 1) (Some Batch) None (Some c) e) [
   | inl is ↦ let h : Some Batch ≡ Some c = is.1 in cc
   | inr other ↦ absurd (let h : ◌≡◌ {A = Option Command} None (Some c) = other.1 in cc)
 ]
-only_batch (word ∷ other ∷ words) c e = absurd (let h : ◌≡◌ {A = Option Command} None (Some c) = e in cc)
 
 unexecuted_runs_none : (b : Bool) (words : List (List ℕ)) (x : Execution) → unexecuted b words ≡ Some (Execute x) → ⊥
 unexecuted_runs_none true words x e = let h : Execute x ≡ Batch = only_batch words (Execute x) e in cc

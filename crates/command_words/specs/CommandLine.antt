@@ -1,5 +1,5 @@
 -- Command lines, as `clap` reads them.
-use Rattle.std.specs.Prelude.{◌≡◌, ◌⊎◌, ℕ, true, List, [], ◌∷◌, ◌++◌, Option, Some, None, codes}
+use Rattle.std.specs.Prelude.{◌≡◌, ◌⊎◌, ℕ, ◌-◌, ◌^◌, true, List, [], ◌∷◌, ◌++◌, Option, Some, None, codes}
 use Rattle.clap.specs.Words.{AddsSubcommand, App, Rule, app_of, new_app, new_rule, with_rule, with_subcommand}
 use Rattle.clap.specs.Simple.{on_top}
 use Rattle.command_words.specs.declared.asking.Asked.{Asked}
@@ -9,18 +9,19 @@ use Rattle.command_words.specs.declared.command.Command.{Command}
 use Rattle.command_words.specs.declared.command.Command.TheVariants.{Read, Batch, Execute}
 use Rattle.command_words.specs.declared.command.Reading.TheVariants.{Rate, Tree, Trace, TraceMet, TraceWrap, TraceRepeat, Table, TableRepeat, Check, Follow, Draw}
 use Rattle.command_words.specs.declared.command.Execution.TheVariants.{Exec, ExecMet, Drill, Jobs, Modes}
-use Rattle.command_words.specs.Words.{drawn, window_of, drill_of}
+use Rattle.sched_base.specs.Limits.{window_limit}
+use Rattle.command_words.specs.Words.{drawn, number_in}
 
 -- the words are `exec` with a window: the usual one where none is written, as a value of its own or behind `=`
 abbrev pub SpellsExec : ℕ → List (List ℕ) → Type 0
 SpellsExec window words =
     ((window ≡ 32) × (words ≡ codes "exec" ∷ []))
-    ⊎ ((value : List ℕ) × (window_of value ≡ Some window)
+    ⊎ ((value : List ℕ) × (number_in 1 window_limit value ≡ Some window)
     × ((words ≡ codes "exec" ∷ codes "--window" ∷ value ∷ []) ⊎ (words ≡ codes "exec" ∷ (codes "--window=" ++ value) ∷ [])))
 
 -- the words are `drill` and a word that writes this number
 abbrev pub SpellsDrill : ℕ → List (List ℕ) → Type 0
-SpellsDrill number words = (value : List ℕ) × (drill_of value ≡ Some number) × (words ≡ codes "drill" ∷ value ∷ [])
+SpellsDrill number words = (value : List ℕ) × (number_in 0 (2 ^ 64 - 1) value ≡ Some number) × (words ≡ codes "drill" ∷ value ∷ [])
 
 -- the words are `trace` by wrapping, told by a word of its own or behind `=`
 abbrev pub SpellsWrap : List (List ℕ) → Type 0

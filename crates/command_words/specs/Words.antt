@@ -1,9 +1,9 @@
 -- Command lines.
-use Rattle.std.specs.Prelude.{ℕ, ◌≤◌, ◌^◌, ◌&&◌, ◌||◌, nat_le, nat_lt, if◌then◌else◌, Bool, false, List, [], ◌∷◌}
+use Rattle.std.specs.Prelude.{ℕ, ◌-◌, ◌≤◌, ◌==◌, ◌^◌, ◌&&◌, ◌||◌, nat_le, if◌then◌else◌, Bool, false, List, [], ◌∷◌}
 use Rattle.std.specs.Prelude.{length, take, drop, Option}
 use Rattle.std.specs.Prelude.{Some, None, IfSome, option_map, option_and_then, codes}
 use Rattle.std.specs.Str.{bytes_eq}
-use Rattle.sched_base.specs.Limits.{window_limit}
+use Rattle.sched_base.specs.Limits.{unit_limit, window_limit}
 use Rattle.text_words.specs.Words.{number_of}
 use Rattle.command_words.specs.declared.command.Command.{Command}
 use Rattle.command_words.specs.declared.command.Command.TheVariants.{Read, Batch, Execute}
@@ -33,25 +33,21 @@ front name [] = (None, [])
 front name (word ∷ []) = met_at (value_in name word) word []
 front name (word ∷ next ∷ rest) = if bytes_eq word name then (Some next, rest) else met_at (value_in name word) word (next ∷ rest)
 
+-- the number from `low` to `high` that a word writes: in decimal digits, without a leading zero
+abbrev pub number_in : ℕ → ℕ → List ℕ → Option ℕ
+number_in low high word = option_and_then (λ n. if nat_le low n && nat_le n high then Some n else None) (number_of word)
+
 -- ---- pictures
-
--- the unit that a word writes: a number in decimal digits, without a leading zero
-abbrev pub unit_of : List ℕ → Option ℕ
-unit_of word = option_and_then (λ n. if nat_lt n (2 ^ 32) then Some n else None) (number_of word)
-
--- how many units a word writes: a number in decimal digits, without a leading zero
-abbrev pub units_of : List ℕ → Option ℕ
-units_of word = option_and_then (λ n. if nat_le 1 n && nat_lt n (2 ^ 32) then Some n else None) (number_of word)
 
 -- the first unit that is asked for by the value of `--from`: 0 where there is none
 abbrev pub asked_from : Option (List ℕ) → Option ℕ
 asked_from None = Some 0
-asked_from (Some word) = unit_of word
+asked_from (Some word) = number_in 0 unit_limit word
 
 -- how many units are asked for by the value of `--units`: as many as are easily looked at where there is none
 abbrev pub asked_units : Option (List ℕ) → Option (Option ℕ)
 asked_units None = Some None
-asked_units (Some word) = option_map (λ n. Some n) (units_of word)
+asked_units (Some word) = option_map (λ n. Some n) (number_in 1 unit_limit word)
 
 -- `draw` with the values of its options, where they stand there
 abbrev pub drawn : Option (List ℕ) → Option (List ℕ) → Option Reading
@@ -62,13 +58,12 @@ abbrev pub draw_at_end : Option (List ℕ) → Option (List ℕ) → List (List 
 draw_at_end from units [] = drawn from units
 draw_at_end from units (word ∷ rest) = None
 
--- `draw` with the value of `--from` and the words behind it
-abbrev pub draw_behind : Option (List ℕ) → Option (List ℕ) × List (List ℕ) → Option Reading
-draw_behind from p = draw_at_end from p.0 p.1
-
 -- `draw` with these options: `--from` stands before `--units`
 abbrev pub draw_of : List (List ℕ) → Option Reading
-draw_of words = draw_behind (front (codes "--from") words).0 (front (codes "--units") (front (codes "--from") words).1)
+draw_of words =
+    let from = front (codes "--from") words in
+    let units = front (codes "--units") from.1 in
+    draw_at_end from.0 units.0 units.1
 
 -- a picture shows one unit at least, where their number is asked for
 abbrev pub DrawsSomeUnit : Reading → Type 0
@@ -117,21 +112,9 @@ reading_of (word ∷ options) = if bytes_eq word (codes "draw") then draw_of opt
 
 -- ---- commands that execute
 
--- the window that a word writes: a number in decimal digits, without a leading zero
-abbrev pub window_of : List ℕ → Option ℕ
-window_of word = option_and_then (λ n. if nat_le 1 n && nat_le n window_limit then Some n else None) (number_of word)
-
 -- `exec` with the window that a word writes
 abbrev pub exec_with : List ℕ → Option Execution
-exec_with word = option_map (λ window. Exec window) (window_of word)
-
--- the number of a drill that a word writes, in decimal digits, without a leading zero
-abbrev pub drill_of : List ℕ → Option ℕ
-drill_of word = option_and_then (λ n. if nat_lt n (2 ^ 64) then Some n else None) (number_of word)
-
--- `drill` with the number that a word writes
-abbrev pub drill_with : List ℕ → Option Execution
-drill_with word = option_map (λ number. Drill number) (drill_of word)
+exec_with word = option_map (λ window. Exec window) (number_in 1 window_limit word)
 
 -- `exec` with this option
 abbrev pub exec_by : List ℕ → Option Execution
@@ -149,7 +132,7 @@ execution_named word =
 abbrev pub execution_with : List ℕ → List ℕ → Option Execution
 execution_with word option =
     if bytes_eq word (codes "exec") then exec_by option
-    else if bytes_eq word (codes "drill") then drill_with option
+    else if bytes_eq word (codes "drill") then option_map (λ number. Drill number) (number_in 0 (2 ^ 64 - 1) option)
     else None
 
 -- the command of this name with this option and its value, if there is one
@@ -187,14 +170,9 @@ asks_for_batch (word ∷ words) = bytes_eq word (codes "batch")
 abbrev pub asks_for_threads : List (List ℕ) → Bool
 asks_for_threads words = asks_to_execute words || asks_for_batch words
 
--- `batch`, which stands alone
-abbrev pub batch_of : List (List ℕ) → Option Command
-batch_of (word ∷ []) = if bytes_eq word (codes "batch") then Some Batch else None
-batch_of _ = None
-
--- the command that these words are, if they are one
+-- the command that these words are, if they are one; `batch` stands alone
 abbrev pub command_of : List (List ℕ) → Option Command
 command_of words =
     if asks_to_execute words then option_map Execute (execution_of words)
-    else if asks_for_batch words then batch_of words
+    else if asks_for_batch words then (if length words == 1 then Some Batch else None)
     else option_map Read (reading_of words)

@@ -1,14 +1,14 @@
 //! Command lines, as `clap` reads them.
-ghost use Rattle.std.specs.Prelude.{◌≡◌, ℕ, List, map, string_bytes, codes, Some, None, IfOk, option_map};
+ghost use Rattle.std.specs.Prelude.{◌≡◌, ℕ, ◌-◌, ◌^◌, List, map, string_bytes, codes, Some, None, IfOk, option_map};
 ghost use Rattle.std.specs.Result.{IsErr};
 ghost use Rattle.clap.specs.declared.error.kind.ErrorKind.TheVariants.{OutOfMemory};
 ghost use Rattle.clap.specs.Words.{kind_of, subcommand_of, subcommand_rows_of, first_of, found_of, one_of, rows_of};
-ghost use Rattle.command_words.specs.Words.{command_of, drawn, exec_with, drill_with};
+ghost use Rattle.command_words.specs.Words.{command_of, drawn, exec_with, number_in};
 ghost use Rattle.command_words.specs.CommandLine.{Spells, parser};
 ghost use Rattle.command_words.specs.declared.command.Command.{Command};
 ghost use Rattle.command_words.specs.declared.command.Command.TheVariants.{Read, Execute};
 ghost use Rattle.command_words.specs.declared.command.Reading.TheVariants.{Trace, TraceMet, TraceWrap, TraceRepeat, Table, TableRepeat};
-ghost use Rattle.command_words.specs.declared.command.Execution.TheVariants.{Exec, ExecMet};
+ghost use Rattle.command_words.specs.declared.command.Execution.TheVariants.{Exec, ExecMet, Drill};
 
 use crate::command::{Command, Execution, Reading};
 use crate::parser::parser;
@@ -152,7 +152,8 @@ fn executed(execution: Option<Execution>) -> Option<Command>
 
 // `drill` with its number.
 fn drill_in(options: &ArgMatches<'_>) -> Option<Execution>
-    ensures { (value : List ℕ) → first_of (codes "number") (rows_of (found_of options.now)) ≡ Some value → result ≡ drill_with value }
+    ensures { (value : List ℕ) → first_of (codes "number") (rows_of (found_of options.now)) ≡ Some value → result
+        ≡ option_map (λ number. Drill number) (number_in 0 (2 ^ 64 - 1) value) }
 {
     match options.get_str("number") {
         Some(value) => drill_with(value.as_bytes()),

@@ -1,10 +1,11 @@
 //! Command lines.
-ghost use Rattle.std.specs.Prelude.{◌≡◌, ◌↔◌, true, false, [], ◌∷◌, map, string_bytes, Some, None, IfOk, IfSome, IsTrue, option_map};
+ghost use Rattle.std.specs.Prelude.{◌≡◌, ◌↔◌, ◌-◌, ◌^◌, true, false, [], ◌∷◌, map, string_bytes, Some, None, IfOk, IfSome, IsTrue, option_map};
 ghost use Rattle.command_words.specs.declared.command.Command.TheVariants.{Read, Batch, Execute};
 ghost use Rattle.command_words.specs.declared.command.Execution.TheVariants.{Exec, Drill};
-ghost use Rattle.command_words.specs.Words.{window_of, exec_with, exec_by, drill_of, drill_with, HasWindow};
+ghost use Rattle.sched_base.specs.Limits.{window_limit};
+ghost use Rattle.command_words.specs.Words.{number_in, exec_with, exec_by, HasWindow};
 ghost use Rattle.command_words.specs.Words.{reading_of, reading_by, reading_named, reading_with, reading_with_value};
-ghost use Rattle.command_words.specs.Words.{value_in, front, unit_of, units_of, asked_from, asked_units, drawn, draw_of, DrawsSomeUnit};
+ghost use Rattle.command_words.specs.Words.{value_in, front, asked_from, asked_units, drawn, draw_of, DrawsSomeUnit};
 ghost use Rattle.command_words.specs.Words.{execution_of, execution_named, execution_with, execution_with_value};
 ghost use Rattle.command_words.specs.Words.{asks_to_execute, asks_for_batch, asks_for_threads, command_of};
 
@@ -17,9 +18,6 @@ use text_words::read_number;
 
 /// Where no window is asked for, a lane may run up to that many rounds ahead.
 pub const USUAL_WINDOW: u32 = 32;
-
-/// The largest number of a drill.
-const DRILL_LIMIT: u128 = 18_446_744_073_709_551_615;
 
 /// The command that reads that these words are, the words after the program's name; none where they are no command line. The words
 /// don't ask for what takes threads. The only error is want of memory.
@@ -205,7 +203,7 @@ fn asked_from(word: Option<&[u8]>) -> Option<u64>
     ensures { result ≡ asked_from (option_map (λ w. w.now) word.entry) }
 {
     match word {
-        Some(word) => unit_of(word),
+        Some(word) => number_in(word, 0, u64::from(UNIT_LIMIT)),
         None => Some(0),
     }
 }
@@ -215,27 +213,19 @@ fn asked_units(word: Option<&[u8]>) -> Option<Option<u64>>
     ensures { result ≡ asked_units (option_map (λ w. w.now) word.entry) }
 {
     match word {
-        Some(word) => units_of(word).map(Some),
+        Some(word) => number_in(word, 1, u64::from(UNIT_LIMIT)).map(Some),
         None => Some(None),
     }
 }
 
-// The unit that a word writes.
-fn unit_of(word: &[u8]) -> Option<u64>
-    ensures { result ≡ unit_of word.now }
+// The number from `low` to `high` that a word writes.
+fn number_in(word: &[u8], low: u64, high: u64) -> Option<u64>
+    ensures { result ≡ number_in low high word.now }
 {
     match read_number(word) {
-        Some(number) if number <= u128::from(UNIT_LIMIT) => Some(number as u64),
-        _ => None,
-    }
-}
-
-// The number of units that a word writes.
-fn units_of(word: &[u8]) -> Option<u64>
-    ensures { result ≡ units_of word.now }
-{
-    match read_number(word) {
-        Some(number) if 1 <= number && number <= u128::from(UNIT_LIMIT) => Some(number as u64),
+        Some(number) if u128::from(low) <= number && number <= u128::from(high) => {
+            Some(number as u64)
+        }
         _ => None,
     }
 }
@@ -281,7 +271,7 @@ fn is_execution_with(execution: Execution, word: &str, option: &str) -> bool
         Execution::Exec { window } => word == "exec" && is_window_option(option, window),
         Execution::ExecMet => word == "exec" && option == "--met",
         Execution::Drill { number } => {
-            word == "drill" && drill_of(option.as_bytes()) == Some(number)
+            word == "drill" && number_in(option.as_bytes(), 0, u64::MAX) == Some(number)
         }
         Execution::Jobs | Execution::Modes => false,
     }
@@ -318,7 +308,7 @@ pub(crate) fn exec_with(word: &[u8]) -> Option<Execution>
 
 // The window that a word writes.
 fn window_of(word: &[u8]) -> Option<u32>
-    ensures { result ≡ window_of word.now }
+    ensures { result ≡ number_in 1 window_limit word.now }
 {
     match read_number(word) {
         Some(number) if 1 <= number && number <= u128::from(WINDOW_LIMIT) => Some(number as u32),
@@ -328,21 +318,9 @@ fn window_of(word: &[u8]) -> Option<u32>
 
 /// `drill` with the number that a word writes.
 pub(crate) fn drill_with(word: &[u8]) -> Option<Execution>
-    ensures { result ≡ drill_with word.now }
+    ensures { result ≡ option_map (λ number. Drill number) (number_in 0 (2 ^ 64 - 1) word.now) }
 {
-    drill_of(word).map(|number| Execution::Drill { number })
-}
-
-// The number of a drill that a word writes.
-fn drill_of(word: &[u8]) -> Option<u64>
-    ensures { result ≡ drill_of word.now }
-{
-    let number = read_number(word)?;
-    if number <= DRILL_LIMIT {
-        Some(number as u64)
-    } else {
-        None
-    }
+    number_in(word, 0, u64::MAX).map(|number| Execution::Drill { number })
 }
 
 /// Whether the words ask for an execution, by the first of them.

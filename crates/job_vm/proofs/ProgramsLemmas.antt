@@ -8,7 +8,14 @@ use Rattle.text_words.specs.Words.{lines_of}
 use Rattle.job_vm.specs.Faults.{NamesBadLine, NamesUnreadLine}
 use Rattle.job_vm.specs.declared.faults.JobTextFault.{JobTextFault}
 use Rattle.job_vm.specs.declared.faults.JobTextFault.TheVariants.{BadProgram, NoMemory}
-use Rattle.job_vm.specs.Programs.{Program, Progress, is_tasks, lengthened, line_read, programs_from, programs_of, behind_lines, job_text, reading}
+use Rattle.job_vm.specs.Programs.{Program, Progress, is_tasks, lengthened, line_read, programs_from, programs_of, JobTextHeld, behind_lines, reading}
+
+-- what the text says, by its programs and the number of its line `tasks`
+abbrev job_text : List ℕ → Result (List Program × ℕ) ℕ → Result JobTextHeld ℕ
+job_text text found = elim found [
+  | Ok read ↦ Ok (record { programs = read.0; set_start = length text - length (behind_lines read.1 text) })
+  | Err line ↦ Err line
+]
 
 -- the line `tasks` ends the reading
 tasks_end : (at : ℕ) (done : Progress) (lines more : List (List ℕ)) (line : List ℕ) → lines ≡ line ∷ more → is_tasks line ≡ true → programs_from at done lines ≡ Ok (done.programs, at)

@@ -1,11 +1,12 @@
 -- Looking for the first item of a kind, from place to place.
 use Rattle.std.proofs.Common.{ℕ, zero, suc, ◌<◌, ◌≤◌, ◌≡◌, Bool, true, false, List, [], ◌∷◌, length, get_or, drop, Some, None, sym, refl, ap, ◌∙◌, arith}
-use Rattle.std.specs.List.{find}
+use Rattle.std.specs.List.{find, list_any}
+use Rattle.std.specs.Str.{bytes_eq}
 use Rattle.std.proofs.lemmas.Bool.{cond-true, cond-false}
 use Rattle.std.specs.Prelude.{not, option_map}
 use Rattle.sched_base.specs.declared.sets.Task.{Task}
 use Rattle.job_vm.specs.Programs.{Program}
-use Rattle.job_vm.specs.Strays.{names_task, first_stray}
+use Rattle.job_vm.specs.Strays.{first_stray}
 
 -- it is at this place
 pub find_here : {X : Type 0} (p : X → Bool) (xs : List X) (i : ℕ) (x : X) → i < length xs → x ≡ get_or xs i x → p x ≡ true → find p (drop i xs) ≡ Some x
@@ -28,10 +29,10 @@ find_none p (y ∷ xs) (suc i) past = find_none p xs i (omega arith)
 
 -- a program of no task
 abbrev pub is_stray : List Task → Program → Bool
-is_stray tasks p = not (names_task tasks p.name)
+is_stray tasks p = not (list_any (λ t. bytes_eq t.name p.name) tasks)
 
 pub stray_here : (tasks : List Task) (programs : List Program) (i line : ℕ) (p : Program) → find (is_stray tasks) programs ≡ find (is_stray tasks) (drop i programs)
-    → i < length programs → p ≡ get_or programs i p → names_task tasks p.name ≡ false → line ≡ p.line → Some line ≡ first_stray tasks programs
+    → i < length programs → p ≡ get_or programs i p → list_any (λ t. bytes_eq t.name p.name) tasks ≡ false → line ≡ p.line → Some line ≡ first_stray tasks programs
 unfolding first_stray
 stray_here tasks programs i line p before within at fails is =
     ap Some is ∙ sym (ap (option_map (λ (q : Program). q.line)) (before ∙ find_here (is_stray tasks) programs i p within at (ap not fails)))

@@ -24,13 +24,10 @@ pub record JobTextHeld : Type 0 where
 abbrev pub is_tasks : List ℕ → Bool
 is_tasks line = bytes_eq line (codes "tasks")
 
--- whether a program ends before this line: another one begins there, by `program` and a space, or the set
-abbrev pub ends_program : List ℕ → Bool
-ends_program line = is_some (after_word (codes "program") line) || is_tasks line
-
--- the number of instructions of a program before these lines: of whatever form they are, up to the one that ends it
+-- the number of instructions of a program before these lines: of whatever form they are, up to where another one begins, by `program`
+-- and a space, or the set
 abbrev pub instructions : List (List ℕ) → ℕ
-instructions lines = position_or_len ends_program lines
+instructions lines = position_or_len (λ line. is_some (after_word (codes "program") line) || is_tasks line) lines
 
 -- none of these programs has the name
 abbrev pub is_new : List Program → List ℕ → Bool
@@ -71,11 +68,6 @@ abbrev pub behind_lines : ℕ → List ℕ → List ℕ
 behind_lines zero text = text
 behind_lines (suc n) text = after_first (λ b. b == line_feed) (behind_lines n text)
 
--- what the text says, by its programs and the number of its line `tasks`
-abbrev pub job_text : List ℕ → Result (List Program × ℕ) ℕ → Result JobTextHeld ℕ
-job_text text (Ok (programs, line)) = Ok (record { programs = programs; set_start = length text - length (behind_lines line text) })
-job_text text (Err line) = Err line
-
 -- the programs of a job text's lines, and the number of its line `tasks`; or the least line at fault
 abbrev pub programs_of : List (List ℕ) → Result (List Program × ℕ) ℕ
 programs_of [] = Err 1
@@ -84,4 +76,8 @@ programs_of (first ∷ lines) =
 
 -- what a job text says, or its least line at fault
 unfoldable pub reading : List ℕ → Result JobTextHeld ℕ
-reading text = job_text text (programs_of (lines_of text))
+reading text =
+    elim (programs_of (lines_of text)) [
+      | Ok read ↦ Ok (record { programs = read.0; set_start = length text - length (behind_lines read.1 text) })
+      | Err line ↦ Err line
+    ]

@@ -1,10 +1,10 @@
 //! The programs of a job text, line by line.
-ghost use Rattle.std.specs.Prelude.{◌≡◌, ◌<◌, ◌^◌, ◌++◌, ◌∷◌, [], ◌==◌, length, Some, OnOk, IfOk, IfErr};
+ghost use Rattle.std.specs.Prelude.{◌≡◌, ◌<◌, ◌^◌, ◌++◌, ◌∷◌, [], ◌==◌, ◌||◌, codes, is_some, length, Some, OnOk, IfOk, IfErr};
 ghost use Rattle.std.specs.List.{after_first};
 ghost use Rattle.sched_base.specs.Bytes.{line_feed};
-ghost use Rattle.text_words.specs.Words.{lines_of};
+ghost use Rattle.text_words.specs.Words.{after_word, lines_of};
 ghost use Rattle.job_vm.specs.Faults.{NamesUnreadLine};
-ghost use Rattle.job_vm.specs.Programs.{is_tasks, ends_program, instructions, is_new, begun, lengthened, line_read};
+ghost use Rattle.job_vm.specs.Programs.{is_tasks, instructions, is_new, begun, lengthened, line_read};
 
 use crate::faults::JobTextFault;
 use crate::instructions::instruction_of;
@@ -195,8 +195,9 @@ pub(crate) fn read_line(
     }
 }
 
+// Whether a program ends before this line: another one begins there, or the set.
 fn ends_program(line: &[u8]) -> bool
-    ensures { result ≡ ends_program line.now }
+    ensures { result ≡ (is_some (after_word (codes "program") line.now) || is_tasks line.now) }
 {
     after_word(b"program", line).is_some() || is_tasks(line)
 }

@@ -1,6 +1,8 @@
 //! Programs that name no task of a set.
 ghost use Rattle.std.specs.Prelude.{◌≡◌};
-ghost use Rattle.job_vm.specs.Strays.{names_task, first_stray};
+ghost use Rattle.std.specs.List.{list_any};
+ghost use Rattle.std.specs.Str.{bytes_eq};
+ghost use Rattle.job_vm.specs.Strays.{first_stray};
 
 use crate::job_text::JobText;
 use sched_base::TaskSet;
@@ -19,7 +21,7 @@ pub fn first_stray(text: &JobText, set: &TaskSet) -> Option<u64>
 
 // Whether a task of the set has this name.
 fn names_task(set: &TaskSet, name: &[u8]) -> bool
-    ensures { result ≡ names_task set.now.tasks name.now }
+    ensures { result ≡ list_any (λ t. bytes_eq t.name name.now) set.now.tasks }
 {
     set.tasks().iter().any(|task| task.name.as_slice() == name)
 }

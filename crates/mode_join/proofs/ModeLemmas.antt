@@ -22,8 +22,16 @@ use Rattle.mode_join.specs.declared.faults.ModeKind.TheVariants as kind
 use Rattle.mode_join.specs.declared.faults.ModeFault.{ModeFault}
 use Rattle.mode_join.specs.declared.faults.ModeFault.TheVariants as fault
 use Rattle.mode_join.specs.Joining.{CanJoin, IsPlanOf, Has, HasAt, IsFirstOf, IsRefused, CanBeJoined, SaysOf, RefusesAs, IsOverloadOf, IsTooLongAfter, processors_of, rank, rows_of}
-use Rattle.mode_join.specs.Modes.{ModesContents, IsMode, AreModes, PeriodsEndIn, sets_of, units_of, all_rows_of}
+use Rattle.mode_join.specs.Modes.{ModesContents, IsMode, AreModes, PeriodsEndIn, sets_of}
 use Rattle.mode_join.proofs.JoinLemmas.{by_number, after_overload, overload_first, too_long_first}
+
+-- the horizons of modes, all together: how many units they last
+abbrev pub units_of : List Mode → ℕ
+units_of modes = sum_by (λ (m : Mode). m.plan.set.horizon) modes
+
+-- the rows of the modes' schedules, all together
+abbrev pub all_rows_of : List Mode → ℕ
+all_rows_of modes = sum_by (λ (m : Mode). rows_of m.plan) modes
 
 -- ---- lists
 

@@ -1,7 +1,6 @@
 -- Modes that are joined.
 use Rattle.std.specs.Prelude.{ℕ, ◌+◌, ◌*◌, ◌<◌, ◌≤◌, ◌≡◌, List, Some, length, map, slice_get, take}
 use Rattle.std.specs.List.{AllByRecursion, sum_by}
-use Rattle.sched_base.specs.declared.sets.Task.{Task}
 use Rattle.sched_base.specs.Sets.{SetContents, task_at}
 use Rattle.sched_base.specs.Scale.{Fits}
 use Rattle.sched_base.specs.Tables.{row_limit}
@@ -18,14 +17,6 @@ pub record ModesContents : Type 0 where
 abbrev pub sets_of : List Mode → List SetContents
 sets_of modes = map (λ m. m.plan.set) modes
 
--- the horizons of modes, all together: how many units they last
-abbrev pub units_of : List Mode → ℕ
-units_of modes = sum_by (λ m. m.plan.set.horizon) modes
-
--- the rows of the modes' schedules, all together
-abbrev pub all_rows_of : List Mode → ℕ
-all_rows_of modes = sum_by (λ m. rows_of m.plan) modes
-
 -- a mode: its set may be one and fits, its plan is the compiled one, and its rounds are counted
 pub record IsMode (processors : ℕ) (m : Mode) : Type 0 where
   pub can_join : CanJoin processors m.plan.set
@@ -35,23 +26,18 @@ pub record IsMode (processors : ℕ) (m : Mode) : Type 0 where
   pub rounds : m.rounds ≡ rounds_of m.plan
   pub some_rounds : 1 ≤ m.rounds
 
--- modes that follow each other: each starts at the sum of the horizons before it, and all rows together are within the limit
+-- modes that follow each other: each starts at the sum of the horizons before it, in units, and the rows of all schedules together are
+-- within the limit
 pub record AreModes (m : ModesContents) : Type 0 where
   pub some_processors : 1 ≤ m.processors
   pub few_processors : m.processors ≤ 32
   pub each : AllByRecursion (IsMode m.processors) m.modes
-  pub starts : (j : ℕ) (mode : Mode) → slice_get m.modes j ≡ Some mode → mode.start ≡ units_of (take j m.modes)
-  pub few_rows : all_rows_of m.modes ≤ row_limit
+  pub starts : (j : ℕ) (mode : Mode) → slice_get m.modes j ≡ Some mode → mode.start ≡ sum_by (λ x. x.plan.set.horizon) (take j m.modes)
+  pub few_rows : sum_by (λ x. rows_of x.plan) m.modes ≤ row_limit
 
--- the unit at which period k of a task of a mode begins
-abbrev pub period_begin : Mode → Task → ℕ → ℕ
-period_begin m t k = m.start + t.offset + k * t.period
-
--- the unit at which a mode ends
-abbrev pub mode_end : Mode → ℕ
-mode_end m = m.start + m.plan.set.horizon
-
--- each period that begins in the mode ends by the mode's end, so none crosses a joint
+-- each period of a task that begins in the mode ends by the mode's end, so none crosses a joint; in units
 abbrev pub PeriodsEndIn : Mode → Type 0
-PeriodsEndIn m = (i k : ℕ) → i < length m.plan.set.tasks → period_begin m (task_at m.plan.set.tasks i) k < mode_end m →
-    period_begin m (task_at m.plan.set.tasks i) (k + 1) ≤ mode_end m
+PeriodsEndIn m = (i k : ℕ) → i < length m.plan.set.tasks →
+    let t = task_at m.plan.set.tasks i in
+    let ends = m.start + m.plan.set.horizon in
+    m.start + t.offset + k * t.period < ends → m.start + t.offset + (k + 1) * t.period ≤ ends

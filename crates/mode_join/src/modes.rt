@@ -1,10 +1,10 @@
 //! Modes that are joined.
 ghost use Rattle.std.specs.Prelude.{◌≡◌, ◌≤◌, ◌<◌, ◌+◌, [], ◌∷◌, ◌++◌, length, slice_get, take};
 ghost use Rattle.std.specs.Prelude.{option_map, Some, IfOk, IfErr, OnOk, OnErr};
-ghost use Rattle.std.specs.List.{AllByRecursion};
+ghost use Rattle.std.specs.List.{AllByRecursion, sum_by};
 ghost use Rattle.mode_join.specs.declared.mode.Mode.{Mode};
 ghost use Rattle.mode_join.specs.Joining.{CanBeJoined, IsFirstOf, RefusesAs, SaysOf, processors_of};
-ghost use Rattle.mode_join.specs.Modes.{AreModes, PeriodsEndIn, sets_of, units_of};
+ghost use Rattle.mode_join.specs.Modes.{AreModes, PeriodsEndIn, sets_of};
 
 use crate::faults::ModeFault;
 use crate::joins::{plan_of, rounds_after, unfit};
@@ -38,14 +38,16 @@ impl Drop for Modes {
 
 impl Model for Modes {
     ghost use Rattle.std.specs.Prelude.{◌≡◌};
-    ghost use Rattle.mode_join.specs.Modes.{ModesContents, AreModes, all_rows_of, units_of};
+    ghost use Rattle.std.specs.List.{sum_by};
+    ghost use Rattle.mode_join.specs.Joining.{rows_of};
+    ghost use Rattle.mode_join.specs.Modes.{ModesContents, AreModes};
 
     ghost Value = { ModesContents };
 
     ghost view = { λ m. record { processors = m.processors; modes = m.modes.items } };
 
     ghost invariant = { λ m. AreModes (record { processors = m.processors; modes = m.modes.items })
-        × (m.rows ≡ all_rows_of m.modes.items) × (m.end ≡ units_of m.modes.items) };
+        × (m.rows ≡ sum_by (λ x. rows_of x.plan) m.modes.items) × (m.end ≡ sum_by (λ x. x.plan.set.horizon) m.modes.items) };
 }
 
 impl Modes {
@@ -146,7 +148,7 @@ impl Modes {
     pub fn start(&self, j: u32) -> u64
         requires { j < length self.now.modes }
         ensures value { option_map (λ m. m.start) (slice_get self.now.modes j) ≡ Some result }
-        ensures sum { result ≡ units_of (take j self.now.modes) }
+        ensures sum { result ≡ sum_by (λ m. m.plan.set.horizon) (take j self.now.modes) }
         ensures lawful { AreModes self.now }
     {
         self.modes[j as usize].start

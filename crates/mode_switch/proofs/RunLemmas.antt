@@ -20,7 +20,8 @@ use Rattle.mode_join.specs.declared.mode.Mode.{Mode}
 use Rattle.mode_switch.specs.declared.answers.ModesFault.{ModesFault}
 use Rattle.mode_switch.specs.declared.answers.ModesFault.TheVariants as fault
 use Rattle.mode_join.specs.Joining.{rows_of}
-use Rattle.mode_join.specs.Modes.{ModesContents, AreModes, IsMode, all_rows_of}
+use Rattle.mode_join.specs.Modes.{ModesContents, AreModes, IsMode}
+use Rattle.mode_join.proofs.ModeLemmas.{all_rows_of}
 use Rattle.mode_switch.specs.Runs.{CrewHeld, HaveOwnJobs, RanMode, RanModes, StopsIn, ModesOutcome, GatesGrewThrough, GatesGrewFirst, IsRunOf, JobsUsedLast}
 use Rattle.mode_switch.specs.Runs.{AreBack, NamesRisen, fault_in, rows_through, used_after}
 use Rattle.mode_switch.proofs.CrewHeldLemmas.{back_same, back_on, back_mode, mode_gates, mode_jobs, mode_run, mode_first, gate_risen, job_risen, risen_later}

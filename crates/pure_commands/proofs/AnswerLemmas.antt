@@ -21,7 +21,7 @@ use Rattle.pure_commands.specs.declared.refusal.Refusal.TheVariants as why
 use Rattle.exit_status.specs.declared.Status.{Status}
 use Rattle.exit_status.specs.declared.Status.TheVariants.{Done, Invalid, NoMemory, BadInput, TooLong, TooWide}
 use Rattle.pure_commands.specs.Commands.{SetText, rates, server_tree, schedule_rows, wrapped_rows, c_table, repeating, Output, of_set, of_trace, of_picture, of_tree, of_batch}
-use Rattle.pure_commands.specs.Commands.{output_of, limit_of, plan_of, rows_of, HasRoom, WritesSet, RefusesText}
+use Rattle.pure_commands.specs.Commands.{output_of, limit_of, plan_of, rows_of, HasRoom, RefusesText}
 use Rattle.pure_commands.specs.Commands.{Writes, CallsFor, Refuses}
 use Rattle.pure_commands.specs.SetTexts.{IsSchedulable, IsUnfit, IsTooLongSet, IsTooWideSet, IsUnrepeated, LacksRepeat, LacksText, Repeats}
 use Rattle.pure_commands.specs.Checks.{TellsTrace, Judges, RefusesTrace}
@@ -234,7 +234,7 @@ as_text what bytes (why.BadSet q) refuses = inl (q, refl, refuses)
 as_text what bytes _ refuses = inr refuses
 
 -- no text of a set is written for bytes that are refused where it is wanted
-pub set_writes_or_refuses : (what : SetText) (bytes text : List ℕ) (status : Status) (r : Refusal) → WritesSet what bytes status text
+pub set_writes_or_refuses : (what : SetText) (bytes text : List ℕ) (status : Status) (r : Refusal) → Writes (of_set what) bytes status text
     → RefusesText what bytes r → ⊥
 set_writes_or_refuses what bytes text status r writes refuses =
     let (s, scale, reads, fits, room, is_text) = writes.1 in

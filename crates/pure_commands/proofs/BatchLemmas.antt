@@ -9,12 +9,18 @@ use Rattle.sched_edges.specs.declared.read.TakeFault.TheVariants as take_fault
 use Rattle.task_reader.specs.Pieces.{pieces_of}
 use Rattle.batch_compile.specs.Answers.{IsAnswer}
 use Rattle.batch_compile.specs.declared.answers.Answer.{Answer}
-use Rattle.pure_commands.specs.Batch.{batch_text}
+use Rattle.std.specs.Prelude.{codes}
+use Rattle.pure_commands.specs.Batch.{answer_line}
+use Rattle.pure_commands.specs.Numbered.{several}
 use Rattle.pure_commands.specs.Commands.{of_batch, set_limit}
 use Rattle.pure_commands.specs.Ends.{Streams, IsDone, Stops}
 use Rattle.pure_commands.specs.Faults.{of_take}
 use Rattle.pure_commands.specs.declared.refusal.Refusal.TheVariants as why
 use Rattle.exit_status.specs.declared.Status.TheVariants.{Done}
+
+-- the text of these answers
+abbrev batch_text : List Answer → List ℕ
+batch_text answers = several (codes "run-batch") (codes "sets") answer_line answers
 
 module _ (old new : Streams) where
   -- the source wasn't read to its end

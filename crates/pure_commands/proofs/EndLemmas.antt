@@ -19,7 +19,7 @@ use Rattle.exit_status.specs.declared.Status.TheVariants.{Done, Invalid, Usage}
 use Rattle.pure_commands.specs.Checks.{TellsTrace}
 use Rattle.pure_commands.specs.Commands.{Output, of_set, of_trace, of_picture, of_tree, of_batch, output_of, Writes}
 use Rattle.pure_commands.specs.Ends.{Streams, ErrorStream, IsQuiet, IsUnread, IsDone, Stops, Ends, IsAnswered}
-use Rattle.pure_commands.specs.Refusals.{set_status, kind_status, mode_status, status_of}
+use Rattle.pure_commands.specs.Refusals.{set_status, mode_status, status_of}
 use Rattle.pure_commands.specs.Refuse.{IsRefused}
 
 pub keeps_same : (o : Option (List ℕ)) → Keeps o o
@@ -47,7 +47,7 @@ set_fault : (q : ReadSet) → is_fault (set_status q) ≡ true
 set_fault set.NoMemory = refl
 set_fault _ = refl
 
-kind_fault : (k : ModeKind) → is_fault (kind_status k) ≡ true
+kind_fault : (k : ModeKind) → is_fault (mode_status (mode.NotJoined k)) ≡ true
 kind_fault kind.Processors = refl
 kind_fault (kind.Offset task) = refl
 kind_fault (kind.Period task) = refl

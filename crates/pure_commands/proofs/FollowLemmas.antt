@@ -1,5 +1,5 @@
 -- What `follow` tells of a tree text, and that it tells nothing of one that it refuses.
-use Rattle.std.proofs.Common.{◌≡◌, ◌⊎◌, inl, inr, ℕ, ◌+◌, ◌*◌, ◌/◌, ◌<◌, List, Result, Ok, Err, Option, Some, None, refl, sym, ap, ap₂, subst, arith, ◌∙◌}
+use Rattle.std.proofs.Common.{◌≡◌, ◌⊎◌, inl, inr, ℕ, ◌+◌, ◌*◌, ◌/◌, ◌<◌, List, Result, Ok, Err, Option, Some, None, refl, sym, ap, subst, arith, ◌∙◌}
 use Rattle.std.specs.Io.KnownBytes.{Keeps}
 use Rattle.sched_base.specs.Lanes.{lanes_of}
 use Rattle.sched_base.specs.Sets.{SetContents, IsLawful}
@@ -33,9 +33,9 @@ use Rattle.pure_commands.specs.declared.refusal.Refusal.TheVariants as why
 use Rattle.exit_status.specs.declared.Status.{Status}
 use Rattle.exit_status.specs.declared.Status.TheVariants.{Done, BadInput, BadTree, TooLong}
 use Rattle.pure_commands.specs.Faults.{of_check_tree, of_count}
-use Rattle.pure_commands.specs.Commands.{set_limit}
+use Rattle.pure_commands.specs.Commands.{set_limit, of_tree, rows_of, schedule_text, Writes}
 use Rattle.pure_commands.specs.Ends.{Streams, IsTold, StopsAs}
-use Rattle.pure_commands.specs.Follow.{plan_told, rows_told, followed_text, TellsPlan, WritesFollow, RefusesFollow, StopsAtPlan, FollowsTrees}
+use Rattle.pure_commands.specs.Follow.{plan_told, TellsPlan, RefusesFollow, StopsAtPlan, FollowsTrees}
 use Rattle.pure_commands.specs.Follow.{GaveTree, GaveNoTree, WrotePlan}
 use Rattle.pure_commands.specs.Refusals.{status_of}
 
@@ -62,7 +62,7 @@ abbrev Why : List ℕ → Refusal → Type 0
 Why bytes r =
     ((status_of r ≡ BadInput) × ((line : ℕ) × (reading bytes ≡ Err line)))
     ⊎ (((status_of r ≡ BadTree) × ((w : Written) × (line : ℕ) × (kind : TreeKind) × (reading bytes ≡ Ok w) × IsFirstFault w line kind))
-    ⊎ ((status_of r ≡ TooLong) × ((w : Written) × (reading bytes ≡ Ok w) × IsTextOfTree w × (row_limit < rows_told w))))
+    ⊎ ((status_of r ≡ TooLong) × ((w : Written) × (reading bytes ≡ Ok w) × IsTextOfTree w × (row_limit < rows_of (plan_told w)))))
 
 why_refused : (bytes : List ℕ) (r : Refusal) → RefusesFollow bytes r → Why bytes r
 why_refused bytes (why.BadLine line) x = inl (refl, (line, x))
@@ -71,7 +71,7 @@ why_refused bytes (why.TooLong rows) x = inr (inr (refl, (x.0, x.1, x.2.0, x.2.1
 why_refused bytes _ x = absurd x.2
 
 -- nothing is told of bytes that are refused
-pub followed_or_refused : (bytes text : List ℕ) (status : Status) (r : Refusal) → WritesFollow bytes status text → RefusesFollow bytes r → ⊥
+pub followed_or_refused : (bytes text : List ℕ) (status : Status) (r : Refusal) → Writes of_tree bytes status text → RefusesFollow bytes r → ⊥
 followed_or_refused bytes text status r writes refuses =
     let (w, read, tells) = writes.1 in
     go w read tells (why_refused bytes r refuses)
@@ -82,7 +82,7 @@ followed_or_refused bytes text status r writes refuses =
     go w read tells (inr (inr long)) =
         let (v, other, is, over) = long.1 in
         let few = tells.1 in
-        let here : row_limit < rows_told w = subst (λ (x : Written). row_limit < rows_told x) (same_text bytes v w other read) over in
+        let here : row_limit < rows_of (plan_told w) = subst (λ (x : Written). row_limit < rows_of (plan_told x)) (same_text bytes v w other read) over in
         absurd (omega (arith, few, here))
 
 -- bytes are refused with one status
@@ -106,16 +106,8 @@ scale_is : (w : Written) → IsTextOfTree w → (text_tree w).scale ≡ w.scale
 scale_is w is = ap (λ (x : Written). x.scale) is.again
 
 -- its schedule has as many rows as are told
-pub rows_are : (w : Written) (p : PlanContents) → p ≡ plan_told w → IsTextOfTree w → rounds_of p * p.tree.processors ≡ rows_told w
-rows_are w p e is = ap (λ (q : PlanContents). rounds_of q * q.tree.processors) e ∙ ap (λ n. rounds_of (plan_told w) * n) is.tree.processors
-
--- the trace text of its rows
-pub text_is : (w : Written) (p : PlanContents) (lanes : List (List Row)) → p ≡ plan_told w → IsTextOfTree w → lanes ≡ lanes_of p.tree.processors (schedule_of p)
-    → trace_text One p.set p.tree.scale (merged_lanes lanes) ≡ followed_text w
-text_is w p lanes e is at =
-    ap (λ ls. trace_text One p.set p.tree.scale (merged_lanes ls)) at
-    ∙ ap (λ (q : PlanContents). trace_text One q.set q.tree.scale (merged_lanes (lanes_of q.tree.processors (schedule_of q)))) e
-    ∙ ap₂ (λ (n : ℕ) (m : ℕ). trace_text One w.set n (merged_lanes (lanes_of m (schedule_of (plan_told w))))) (scale_is w is) is.tree.processors
+pub rows_are : (w : Written) (p : PlanContents) → p ≡ plan_told w → rounds_of p * p.tree.processors ≡ rows_of (plan_told w)
+rows_are w p e = ap rows_of e
 
 keeps_same : (o : Option (List ℕ)) → Keeps o o
 keeps_same None = tt
@@ -129,7 +121,7 @@ refused_tree w out faults refused.NoMemory is = keeps_same out
 -- a schedule that isn't counted
 pub uncounted : (w : Written) (p : PlanContents) (out : Option (List ℕ)) (faults : ℕ) (e : CountFault) → p ≡ plan_told w → IsTextOfTree w → IsCountFault p e → StopsAtPlan out out faults faults w (of_count e)
 uncounted w p out faults (count.TooLong rows) e is long =
-    let many : row_limit < rows_told w = subst (λ n. row_limit < n) (rows_are w p e is) long.0 in
+    let many : row_limit < rows_of (plan_told w) = subst (λ n. row_limit < n) (rows_are w p e) long.0 in
     let processors : p.tree.processors ≡ w.set.processors = ap (λ (q : PlanContents). q.tree.processors) e ∙ is.tree.processors in
     ((is, (many, long.1 ∙ ap (λ n. (row_limit / n + 1) * n) processors)), keeps_same out)
 uncounted w p out faults count.NoMemory e is long = keeps_same out
@@ -148,17 +140,17 @@ follows_trees valid bytes w reads =
 
 -- the text of its merged rows, of a set and a scale that are those of the text
 pub followed_is : (w : Written) (p : PlanContents) (s : SetContents) (n : ℕ) (lanes : List (List Row)) → s ≡ w.set → n ≡ p.tree.scale
-    → p ≡ plan_told w → IsTextOfTree w → AreMergedOf p lanes → trace_text One s n (all_rows lanes) ≡ followed_text w
-followed_is w p s n lanes set scale e is merged =
+    → p ≡ plan_told w → AreMergedOf p lanes → trace_text One s n (all_rows lanes) ≡ schedule_text One (plan_told w)
+followed_is w p s n lanes set scale e merged =
     let own = lanes_of p.tree.processors (schedule_of p) in
     let same : s ≡ p.set = set ∙ sym (ap (λ (q : PlanContents). q.set) e) in
-    ap (trace_text One s n) (ap all_rows merged ∙ all_merged own) ∙ (λ i. trace_text One (same i) (scale i) (merged_lanes own)) ∙ text_is w p own e is refl
+    ap (trace_text One s n) (ap all_rows merged ∙ all_merged own) ∙ (λ i. trace_text One (same i) (scale i) (merged_lanes own)) ∙ ap (schedule_text One) e
 
 -- ---- of the bytes
 
 -- the schedule of a text that was read was told
 pub told_tree : (old new : Streams) (w : Written) → GaveTree old.left new.left set_limit w → WrotePlan old.out new.out w
-    → IsTold set_limit WritesFollow Done old new
+    → IsTold set_limit (Writes of_tree) Done old new
 told_tree old new w gave wrote =
     let (bytes, all, read) = gave.gave in
     let (text, tells, took) = wrote in
@@ -166,7 +158,7 @@ told_tree old new w gave wrote =
 
 -- why it wasn't
 pub stopped_tree : (old new : Streams) (w : Written) (r : Refusal) → GaveTree old.left new.left set_limit w
-    → StopsAtPlan old.out new.out old.out_faults new.out_faults w r → StopsAs set_limit WritesFollow RefusesFollow old new r
+    → StopsAtPlan old.out new.out old.out_faults new.out_faults w r → StopsAs set_limit (Writes of_tree) RefusesFollow old new r
 stopped_tree old new w why.WriteFault gave stops =
     let (bytes, all, read) = gave.gave in
     let (text, tells, took, rose) = stops in
@@ -182,7 +174,7 @@ stopped_tree old new w _ gave stops = absurd stops.0
 
 -- why no text was read
 pub unread_tree : (old new : Streams) (r : Refusal) → GaveNoTree old.left new.left old.read_faults new.read_faults set_limit r
-    → Keeps old.out new.out → StopsAs set_limit WritesFollow RefusesFollow old new r
+    → Keeps old.out new.out → StopsAs set_limit (Writes of_tree) RefusesFollow old new r
 unread_tree old new why.ReadFault none keeps = (none.0, none.1, keeps)
 unread_tree old new why.NoMemory none keeps = keeps
 unread_tree old new (why.InputTooLong count) none keeps = (none.0, none.1, keeps)

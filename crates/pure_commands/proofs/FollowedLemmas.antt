@@ -16,8 +16,8 @@ use Rattle.trace_format.specs.declared.versions.Version.TheVariants.{One, Two}
 use Rattle.tree_check.specs.Written.{Written, written_of}
 use Rattle.tree_check.specs.TextTree.{text_tree}
 use Rattle.tree_text_laws.specs.Again.{IsReadAgain}
-use Rattle.pure_commands.specs.Commands.{plan_of, some_late, schedule_text}
-use Rattle.pure_commands.specs.Follow.{plan_told, rows_told, followed_text}
+use Rattle.pure_commands.specs.Commands.{plan_of, rows_of, some_late, version_of, schedule_text}
+use Rattle.pure_commands.specs.Follow.{plan_told}
 use Rattle.pure_commands.specs.Followed.{FollowsAsTraced}
 
 none_late : (tasks : List declared.Task) → AreOnTime tasks → some_late tasks ≡ false
@@ -38,13 +38,16 @@ module _ (p : PlanContents) (on_time : AreOnTime p.set.tasks) (h : IsReadAgain p
   count_same : rounds_of (plan_told w) ≡ rounds_of p
   count_same = ap (λ n. rounds p.set.tasks (text_tree w) (p.set.horizon * n)) scale_same ∙ h.rounds_same (p.set.horizon * p.tree.scale)
 
-  pub text_same : p.set.processors ≡ p.tree.processors → schedule_text false p ≡ followed_text w
-  text_same processors =
-      ap (λ late. trace_text (cond late Two One) p.set p.tree.scale (merged_lanes (lanes_of p.tree.processors (schedule_of p)))) (none_late p.set.tasks on_time)
-      ∙ sym (ap₂ (λ m rows. trace_text One p.set p.tree.scale (merged_lanes (lanes_of m rows))) processors rows_same)
+  width_same : p.set.processors ≡ p.tree.processors → (text_tree w).processors ≡ p.tree.processors
+  width_same processors = h.is_text.tree.processors ∙ processors
 
-  pub rows_told_same : p.set.processors ≡ p.tree.processors → rows_told w ≡ rounds_of p * p.tree.processors
-  rows_told_same processors = ap₂ (λ a b. a * b) count_same processors
+  pub text_same : p.set.processors ≡ p.tree.processors → schedule_text (version_of false p.set.tasks) p ≡ schedule_text One (plan_told w)
+  text_same processors =
+      ap (λ late. schedule_text (cond late Two One) p) (none_late p.set.tasks on_time)
+      ∙ sym (λ i. trace_text One p.set (scale_same i) (merged_lanes (lanes_of (width_same processors i) (rows_same i))))
+
+  pub rows_told_same : p.set.processors ≡ p.tree.processors → rows_of (plan_told w) ≡ rows_of p
+  rows_told_same processors = ap₂ (λ a b. a * b) count_same (width_same processors)
 
 pub follows_as_traced : ((bytes : List ℕ) (s : SetContents) → set_read_from bytes ≡ Ok s → IsLawful s)
     → ((s : SetContents) (scale : ℕ) → IsLawful s → AreOnTime s.tasks → IsScale s.tasks scale → scale ≤ 2 ^ 94 → Fits scale s → IsReadAgain (record { set = s; tree = tree_of scale s }))
@@ -55,5 +58,5 @@ follows_as_traced lawful again processors bytes s scale reads fits on_time few =
     let p = plan_of s scale in
     let h = again s scale l on_time reads.is_scale reads.within fits in
     let same = processors s scale l reads.is_scale fits in
-    let room : rows_told (written_of p) ≤ row_limit = subst (λ n. n ≤ row_limit) (sym (rows_told_same p on_time h same)) few in
+    let room : rows_of (plan_told (written_of p)) ≤ row_limit = subst (λ n. n ≤ row_limit) (sym (rows_told_same p on_time h same)) few in
     (refl, (written_of p, h.read, (h.is_text, room, text_same p on_time h same)))

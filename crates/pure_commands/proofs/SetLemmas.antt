@@ -12,13 +12,13 @@ use Rattle.pure_commands.specs.Faults.{of_load}
 use Rattle.pure_commands.specs.declared.refusal.Refusal.{Refusal}
 use Rattle.pure_commands.specs.declared.refusal.Refusal.TheVariants as why
 use Rattle.exit_status.specs.declared.Status.TheVariants.{Done}
-use Rattle.pure_commands.specs.Commands.{SetText, set_limit, text_of, ReadsSet, WritesSet, RefusesText}
+use Rattle.pure_commands.specs.Commands.{SetText, of_set, set_limit, text_of, ReadsSet, Writes, RefusesText}
 use Rattle.pure_commands.specs.Ends.{Streams, IsTold, StopsAs}
 use Rattle.pure_commands.specs.Input.{GaveSet, GaveNoSet, IsRefusedSet, IsSchedulable, StopsAtSet, WroteSet}
 use Rattle.pure_commands.proofs.EndLemmas.{keeps_same}
 
 told_is : (what : SetText) (old new : Streams) (s : SetContents) → GaveSet old.left new.left set_limit s → WroteSet what old.out new.out s
-    → IsTold set_limit (WritesSet what) Done old new
+    → IsTold set_limit (Writes (of_set what)) Done old new
 told_is what old new s gave wrote =
     let (bytes, all, read) = gave.gave in
     let (scale, run, room, took) = wrote in
@@ -26,7 +26,7 @@ told_is what old new s gave wrote =
     record { told = (bytes, text_of what s scale, all, (refl, (s, scale, reads, run.fits, room, refl)), took) }
 
 stopped_is : (what : SetText) (old new : Streams) (s : SetContents) (r : Refusal) → GaveSet old.left new.left set_limit s
-    → StopsAtSet what old.out new.out old.out_faults new.out_faults s r → StopsAs set_limit (WritesSet what) (RefusesText what) old new r
+    → StopsAtSet what old.out new.out old.out_faults new.out_faults s r → StopsAs set_limit (Writes (of_set what)) (RefusesText what) old new r
 stopped_is what old new s why.WriteFault gave stops =
     let (bytes, all, read) = gave.gave in
     let (scale, run, room, took, rose) = stops in
@@ -41,18 +41,18 @@ stopped_is what old new s _ gave stops = let (bytes, all, read) = gave.gave in (
 
 -- the text of a set that was read was told
 pub set_told : {T E : Type 0} (what : SetText) (old new : Streams) (s : SetContents) (r : Result T E) → GaveSet old.left new.left set_limit s
-    → OnOk r (WroteSet what old.out new.out s) → OnOk r (IsTold set_limit (WritesSet what) Done old new)
+    → OnOk r (WroteSet what old.out new.out s) → OnOk r (IsTold set_limit (Writes (of_set what)) Done old new)
 set_told what old new s r gave wrote = on_ok_weaker r (λ w. told_is what old new s gave w) wrote
 
 -- why it wasn't
 pub set_stopped : {T : Type 0} (what : SetText) (old new : Streams) (s : SetContents) (r : Result T Refusal) → GaveSet old.left new.left set_limit s
     → IfErr r (StopsAtSet what old.out new.out old.out_faults new.out_faults s)
-    → IfErr r (StopsAs set_limit (WritesSet what) (RefusesText what) old new)
+    → IfErr r (StopsAs set_limit (Writes (of_set what)) (RefusesText what) old new)
 set_stopped what old new s r gave stops = IfErr-weaker r _ _ (λ q h. stopped_is what old new s q gave h) stops
 
 -- why no set was read
 pub set_unread : (what : SetText) (old new : Streams) (r : Refusal) → GaveNoSet old.left new.left old.read_faults new.read_faults set_limit r
-    → Keeps old.out new.out → StopsAs set_limit (WritesSet what) (RefusesText what) old new r
+    → Keeps old.out new.out → StopsAs set_limit (Writes (of_set what)) (RefusesText what) old new r
 set_unread what old new why.ReadFault none keeps = (none.0, none.1, keeps)
 set_unread what old new why.NoMemory none keeps = keeps
 set_unread what old new (why.InputTooLong count) none keeps = (none.0, none.1, keeps)

@@ -1,5 +1,5 @@
 -- What the rows of a plan are, as its trace text asks for.
-use Rattle.std.proofs.Common.{◌≡◌, ◌||◌, ℕ, not, eqb, Bool, true, false, List, [], ◌∷◌, ap, sym, ◌∙◌, inl, inr}
+use Rattle.std.proofs.Common.{◌≡◌, ◌||◌, not, eqb, Bool, true, false, List, [], ◌∷◌, ap, sym, ◌∙◌, inl, inr}
 use Rattle.std.proofs.lemmas.Bool.{cases_Bool, eqb-true}
 use Rattle.sched_base.specs.declared.rows.Row.{Row}
 use Rattle.sched_base.specs.declared.sets.Task as declared
@@ -28,6 +28,6 @@ on_time_unless false tasks e = on_time tasks e
 
 -- the text of merged rows
 pub merged_text : (met : Bool) (p : PlanContents) (lanes : List (List Row)) → AreMergedOf p lanes
-    → trace_text (version_of met p.set.tasks) p.set p.tree.scale (all_rows lanes) ≡ schedule_text met p
+    → trace_text (version_of met p.set.tasks) p.set p.tree.scale (all_rows lanes) ≡ schedule_text (version_of met p.set.tasks) p
 merged_text met p lanes is =
     ap (trace_text (version_of met p.set.tasks) p.set p.tree.scale) (ap all_rows is ∙ all_merged (lanes_of p.tree.processors (schedule_of p)))

@@ -17,21 +17,15 @@ use Rattle.pure_commands.specs.declared.refusal.Refusal.TheVariants.{BadLine, Wr
 use Rattle.exit_status.specs.declared.Status.{Status}
 use Rattle.exit_status.specs.declared.Status.TheVariants.{Done, Invalid}
 
--- the line that tells the first fault of a trace: where it is, and of which kind
-unfoldable pub invalid_line : ℕ → FaultKind → List ℕ
-invalid_line line kind = line_of (codes "invalid") (codes "line" ∷ decimal line ∷ kind_text kind ∷ [])
-
--- this text is written of a trace, with this status: the report of a valid one, the first fault of another
+-- this text is written of a trace, with this status: the report of a valid one, of another the line that tells where its first fault is,
+-- and of which kind
 abbrev pub TellsTrace : Trace → Status → List ℕ → Type 0
 TellsTrace t Done text = IsValidTrace t × (text ≡ report_text t.set t.scale t.rows)
 TellsTrace t Invalid text =
     ¬ (IsValidTrace t)
-    × ((line : ℕ) × (kind : FaultKind) × IsVerdict t.set t.scale t.rows (Fault line kind) × (text ≡ invalid_line line kind))
+    × ((line : ℕ) × (kind : FaultKind) × IsVerdict t.set t.scale t.rows (Fault line kind)
+    × (text ≡ line_of (codes "invalid") (codes "line" ∷ decimal line ∷ kind_text kind ∷ [])))
 TellsTrace t _ text = ⊥
-
--- `check` writes this text for these bytes, and ends with this status
-abbrev pub WritesVerdict : List ℕ → Status → List ℕ → Type 0
-WritesVerdict bytes status text = (t : Trace) × (reading bytes ≡ Ok t) × TellsTrace t status text
 
 -- the bytes are a trace whose rows are a valid schedule of its set, or are not
 abbrev pub Judges : List ℕ → Status → Type 0

@@ -1,24 +1,21 @@
 -- What `follow` writes of a tree text, and which bytes it refuses and why.
-use Rattle.std.specs.Prelude.{◌≡◌, ℕ, ◌+◌, ◌*◌, ◌/◌, ◌≤◌, ◌<◌, List, Ok, Err}
+use Rattle.std.specs.Prelude.{◌≡◌, ℕ, ◌+◌, ◌*◌, ◌≤◌, List, Ok, Err}
 use Rattle.std.specs.declared.option.Option.{Option}
 use Rattle.std.specs.Io.KnownBytes.{Appends, Keeps}
-use Rattle.sched_base.specs.Lanes.{lanes_of}
 use Rattle.sched_base.specs.Tables.{row_limit}
 use Rattle.sched_base.specs.Valid.{IsValid}
 use Rattle.sched_edges.specs.Causes.{Rose}
 use Rattle.sched_edges.specs.Streams.{GaveAll, GaveAtMost, GaveCount, TookPart}
-use Rattle.run_tree.specs.Plans.{PlanContents, schedule_of, rounds_of}
+use Rattle.run_tree.specs.Plans.{PlanContents, schedule_of}
 use Rattle.run_tree.specs.TreeOfSet.{IsTreeOf}
 use Rattle.trace_format.specs.declared.versions.Version.TheVariants.{One}
-use Rattle.merged_rows.specs.Merging.{merged_lanes}
-use Rattle.trace_format.specs.Text.{trace_text}
 use Rattle.tree_check.specs.Written.{Written}
 use Rattle.tree_check.specs.Faults.{IsFirstFault}
 use Rattle.tree_check.specs.TextTree.{text_tree, IsTextOfTree}
 use Rattle.tree_reader.specs.Reading.{reading}
 use Rattle.pure_commands.specs.declared.refusal.Refusal.{Refusal}
 use Rattle.pure_commands.specs.declared.refusal.Refusal.TheVariants.{ReadFault, WriteFault, NoMemory, BadLine, BadTree, TooLong, InputTooLong}
-use Rattle.pure_commands.specs.SetTexts.{HasTooMany}
+use Rattle.pure_commands.specs.SetTexts.{HasTooMany, rows_of, schedule_text}
 use Rattle.exit_status.specs.declared.Status.{Status}
 use Rattle.exit_status.specs.declared.Status.TheVariants.{Done}
 
@@ -28,33 +25,21 @@ use Rattle.exit_status.specs.declared.Status.TheVariants.{Done}
 abbrev pub plan_told : Written → PlanContents
 plan_told w = record { set = w.set; tree = text_tree w }
 
--- how many rows its schedule has, one for each processor and round
-abbrev pub rows_told : Written → ℕ
-rows_told w = rounds_of (plan_told w) * w.set.processors
-
 -- the bytes are this text, which is that of a reduction tree of its set
 pub record ReadsTree (bytes : List ℕ) (w : Written) : Type 0 where
   pub read : reading bytes ≡ Ok w
   pub is_text : IsTextOfTree w
 
--- the trace text of the schedule, each processor's rows merged; no task of a tree text is released late
-abbrev pub followed_text : Written → List ℕ
-followed_text w = trace_text One w.set w.scale (merged_lanes (lanes_of w.set.processors (schedule_of (plan_told w))))
-
--- a schedule that is told has at most 2,097,152 rows
+-- the text of the schedule of a tree text, which is that of a reduction tree: it has at most 2,097,152 rows, and no task is released late
 abbrev pub TellsPlan : Written → List ℕ → Type 0
-TellsPlan w text = IsTextOfTree w × (rows_told w ≤ row_limit) × (text ≡ followed_text w)
-
--- `follow` writes this text for these bytes; the status is always `Done`
-abbrev pub WritesFollow : List ℕ → Status → List ℕ → Type 0
-WritesFollow bytes status text = (status ≡ Done) × ((w : Written) × (reading bytes ≡ Ok w) × TellsPlan w text)
+TellsPlan w text = IsTextOfTree w × (rows_of (plan_told w) ≤ row_limit) × (text ≡ schedule_text One (plan_told w))
 
 -- ---- what is refused
 
 -- why a text that is read isn't followed: this is its first fault, or it is that of a tree, and the schedule is too long
 abbrev pub RefusesPlan : Written → Refusal → Type 0
 RefusesPlan w (BadTree line kind) = IsFirstFault w line kind
-RefusesPlan w (TooLong rows) = IsTextOfTree w × HasTooMany (rows_told w) w.set.processors rows
+RefusesPlan w (TooLong rows) = IsTextOfTree w × HasTooMany (rows_of (plan_told w)) w.set.processors rows
 RefusesPlan w _ = ⊥
 
 -- these bytes are refused: they are no tree text, and this line is the first at fault, or their text isn't followed

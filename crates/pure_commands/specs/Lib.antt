@@ -2,7 +2,6 @@ pub mod Refusals
 pub mod RateText
 pub mod Faults
 pub mod Checks
-pub mod Draws
 pub mod Numbered
 pub mod Batch
 pub mod Follow

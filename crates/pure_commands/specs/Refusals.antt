@@ -9,7 +9,6 @@ use Rattle.task_reader.specs.declared.refusals.Place.TheVariants as place
 use Rattle.task_reader.specs.declared.refusals.ReadSet.{ReadSet}
 use Rattle.task_reader.specs.declared.refusals.ReadSet.TheVariants as set
 use Rattle.task_reader.specs.Keys.{key_text}
-use Rattle.mode_join.specs.declared.faults.ModeKind.{ModeKind}
 use Rattle.mode_join.specs.declared.faults.ModeKind.TheVariants as kind
 use Rattle.tree_check.specs.declared.faults.TreeKind.{TreeKind}
 use Rattle.tree_check.specs.declared.faults.TreeKind.TheVariants.{Total, Unplaced, Member, Rate, Pair, Unfinished}
@@ -28,18 +27,12 @@ abbrev pub set_status : ReadSet → Status
 set_status set.NoMemory = status.NoMemory
 set_status _ = status.BadInput
 
--- the status where a set can't be a mode
-abbrev pub kind_status : ModeKind → Status
-kind_status kind.Processors = status.ModeFault
-kind_status (kind.Offset task) = status.ModeFault
-kind_status (kind.Period task) = status.ModeFault
-kind_status (kind.Overload total room) = status.Overload
-kind_status (kind.TooLong rows) = status.TooLong
-
 -- the status with which the refusal of a mode ends the call
 abbrev pub mode_status : ModeRefusal → Status
 mode_status (mode.BadSet refusal) = set_status refusal
-mode_status (mode.NotJoined k) = kind_status k
+mode_status (mode.NotJoined (kind.Overload total room)) = status.Overload
+mode_status (mode.NotJoined (kind.TooLong rows)) = status.TooLong
+mode_status (mode.NotJoined _) = status.ModeFault
 mode_status (mode.GateFault row name) = status.GateFault
 mode_status (mode.JobFault row name) = status.JobFault
 

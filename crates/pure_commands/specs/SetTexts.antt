@@ -56,14 +56,9 @@ some_late tasks = list_any (λ t. not (nat_eq t.offset 0)) tasks
 abbrev pub version_of : Bool → List Task → Version
 version_of met tasks = if met || some_late tasks then Two else One
 
--- the trace text of the schedule of a plan, each processor's rows merged
-abbrev pub schedule_text : Bool → PlanContents → List ℕ
-schedule_text met p =
-    trace_text (version_of met p.set.tasks) p.set p.tree.scale (merged_lanes (lanes_of p.tree.processors (schedule_of p)))
-
--- the trace text of the wrapped schedule of a set with this scale, each processor's rows merged
-abbrev pub wrapped_text : SetContents → ℕ → List ℕ
-wrapped_text s scale = trace_text (version_of false s.tasks) s scale (merged_lanes (lanes_of s.processors (wrapped scale s)))
+-- the trace text of the schedule of a plan in this version, each processor's rows merged
+abbrev pub schedule_text : Version → PlanContents → List ℕ
+schedule_text version p = trace_text version p.set p.tree.scale (merged_lanes (lanes_of p.tree.processors (schedule_of p)))
 
 -- the schedule of a set with this scale repeats: no task has an offset, and the scale is the horizon of a set, in units
 pub record Repeats (s : SetContents) (scale : ℕ) : Type 0 where
@@ -78,12 +73,12 @@ plan_lanes p = map merged (lanes_of p.tree.processors (schedule_of p))
 abbrev pub plan_table : PlanContents → List ℕ
 plan_table p = table_text p.set p.tree.scale (plan_lanes p) (repeat_unit p.set p.tree.scale (all_rows (plan_lanes p)))
 
--- the text of a set that fits, with this scale
+-- the text of a set that fits, with this scale; the rows of each processor are merged in the wrapped schedule too
 abbrev pub text_of : SetText → SetContents → ℕ → List ℕ
 text_of rates s scale = rate_text scale s
 text_of server_tree s scale = tree_text (plan_of s scale)
-text_of (schedule_rows met) s scale = schedule_text met (plan_of s scale)
-text_of wrapped_rows s scale = wrapped_text s scale
+text_of (schedule_rows met) s scale = schedule_text (version_of met s.tasks) (plan_of s scale)
+text_of wrapped_rows s scale = trace_text (version_of false s.tasks) s scale (merged_lanes (lanes_of s.processors (wrapped scale s)))
 text_of c_table s scale = plan_table (plan_of s scale)
 text_of (repeating what) s scale = text_of what (up_to scale s) scale
 
@@ -104,12 +99,6 @@ HasRoom (schedule_rows met) s scale = rows_of (plan_of s scale) ≤ row_limit
 HasRoom wrapped_rows s scale = wrapped_rounds scale s * s.processors ≤ row_limit
 HasRoom c_table s scale = (stop_of (plan_of s scale) < 2 ^ 64) × (rows_of (plan_of s scale) ≤ row_limit)
 HasRoom (repeating what) s scale = Repeats s scale × HasRoom what (up_to scale s) scale
-
--- this text is written for these bytes, which are a set that fits; the status is always `Done`
-abbrev pub WritesSet : SetText → List ℕ → Status → List ℕ → Type 0
-WritesSet what bytes status text =
-    (status ≡ Done) × ((s : SetContents) × (scale : ℕ) × ReadsSet bytes s scale × Fits scale s × HasRoom what s scale
-    × (text ≡ text_of what s scale))
 
 -- the rows of the table of a set that fits, with this scale
 abbrev pub table_rows : SetContents → ℕ → List Row
@@ -132,7 +121,7 @@ IsSound wrapped_rows s scale = IsValid s scale (s.horizon * scale) (s.horizon * 
 IsSound c_table s scale = IsSoundTable s scale
 IsSound (repeating what) s scale = CanRepeat (up_to scale s) × IsSound what (up_to scale s) scale
 
--- the same text is written, and what it tells of the set is sound
+-- the text of a set that fits is written for these bytes, and what it tells of the set is sound
 abbrev pub WritesSoundly : SetText → List ℕ → Status → List ℕ → Type 0
 WritesSoundly what bytes status text =
     (status ≡ Done) × ((s : SetContents) × (scale : ℕ) × ReadsSet bytes s scale × Fits scale s × HasRoom what s scale

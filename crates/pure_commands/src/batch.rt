@@ -7,8 +7,8 @@ ghost use Rattle.sched_edges.specs.Streams.{Wrote};
 ghost use Rattle.task_reader.specs.Pieces.{pieces_of};
 ghost use Rattle.batch_compile.specs.declared.answers.Answer.TheVariants.{Fits};
 ghost use Rattle.batch_compile.specs.Answers.{IsAnswer};
-ghost use Rattle.pure_commands.specs.Batch.{answer_text, answer_line, batch_text};
-ghost use Rattle.pure_commands.specs.Numbered.{numbered};
+ghost use Rattle.pure_commands.specs.Batch.{answer_text, answer_line};
+ghost use Rattle.pure_commands.specs.Numbered.{numbered, several};
 ghost use Rattle.command_words.specs.Words.{command_of, asks_for_batch};
 ghost use Rattle.pure_commands.specs.Commands.{of_batch};
 ghost use Rattle.pure_commands.specs.Ends.{streams_of, error_of, IsDone, IsUsage, Stops, Ends, IsAnswered};
@@ -92,7 +92,7 @@ fn answers_in<X: Threads + Sync>(rt: &X, alloc: Global, bytes: &[u8]) -> Result<
 
 // Writes the text of the answers.
 fn write_answers<W: Sink>(answers: &Answers, out: &mut W) -> Result<(), Failed>
-    ensures wrote { Wrote (W.taken out.old) (W.taken out.new) (batch_text answers.now) result }
+    ensures wrote { Wrote (W.taken out.old) (W.taken out.new) (several (codes "run-batch") (codes "sets") answer_line answers.now) result }
     ensures cause { HasCause (W.faults out.old) (W.faults out.new) result }
 {
     write_head(answers.count(), out)?;

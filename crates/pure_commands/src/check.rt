@@ -1,8 +1,10 @@
 //! The command `check`.
-ghost use Rattle.std.specs.Prelude.{ℕ, List, ◌≡◌, IfOk, IfErr};
+ghost use Rattle.std.specs.Prelude.{ℕ, List, [], ◌∷◌, ◌≡◌, codes, decimal, IfOk, IfErr};
 ghost use Rattle.std.specs.Io.KnownBytes.{Appends};
-ghost use Rattle.pure_commands.specs.Commands.{trace_limit};
-ghost use Rattle.pure_commands.specs.Checks.{invalid_line, TellsTrace, WritesVerdict, RefusesTrace, StopsAtTrace};
+ghost use Rattle.sched_edges.specs.Lines.{line_of};
+ghost use Rattle.trace_draw.specs.Head.{kind_text};
+ghost use Rattle.pure_commands.specs.Commands.{trace_limit, of_trace, Writes};
+ghost use Rattle.pure_commands.specs.Checks.{TellsTrace, RefusesTrace, StopsAtTrace};
 ghost use Rattle.pure_commands.specs.Ends.{streams_of, IsTold, StopsAs};
 
 use crate::input::TRACE_LIMIT;
@@ -21,9 +23,9 @@ pub(crate) fn check<R: Source, W: Sink>(
     source: &mut R,
     out: &mut W,
 ) -> Result<Status, Refusal>
-    ensures told { IfOk result (λ status. IsTold trace_limit WritesVerdict status
+    ensures told { IfOk result (λ status. IsTold trace_limit (Writes of_trace) status
         (streams_of R.Source W.Sink source.old out.old) (streams_of R.Source W.Sink source.new out.new)) }
-    ensures stops { IfErr result (StopsAs trace_limit WritesVerdict RefusesTrace
+    ensures stops { IfErr result (StopsAs trace_limit (Writes of_trace) RefusesTrace
         (streams_of R.Source W.Sink source.old out.old) (streams_of R.Source W.Sink source.new out.new)) }
 {
     let trace = read_checked_source(alloc, source, TRACE_LIMIT)?;
@@ -49,9 +51,9 @@ fn write_verdict<W: Sink>(trace: &CheckedTrace, out: &mut W) -> Result<Status, R
 }
 
 // The line that tells the first fault of a trace.
-#[tactic(auto, unfolding(crate::specs::Checks::invalid_line, sched_edges::specs::Lines::line_of))]
+#[tactic(auto, unfolding(sched_edges::specs::Lines::line_of))]
 fn invalid_line(line: u64, kind: FaultKind) -> Line
-    ensures { result ≡ invalid_line line kind }
+    ensures { result ≡ line_of (codes "invalid") (codes "line" ∷ decimal line ∷ kind_text kind ∷ []) }
 {
     let mut told = Line::new();
     told.text(b"invalid");

@@ -1,8 +1,7 @@
 //! The command `draw`.
 ghost use Rattle.std.specs.Prelude.{◌≤◌, IfErr, IfSome, OnOk};
-ghost use Rattle.pure_commands.specs.Commands.{trace_limit};
+ghost use Rattle.pure_commands.specs.Commands.{trace_limit, of_picture, Writes};
 ghost use Rattle.pure_commands.specs.Checks.{RefusesTrace};
-ghost use Rattle.pure_commands.specs.Draws.{WritesPicture};
 ghost use Rattle.pure_commands.specs.Ends.{streams_of, IsTold, StopsAs};
 ghost use Rattle.exit_status.specs.declared.Status.TheVariants.{Done};
 
@@ -22,9 +21,9 @@ pub(crate) fn draw<R: Source, W: Sink>(
     out: &mut W,
 ) -> Result<(), Refusal>
     requires some { IfSome asked.units (λ n. 1 ≤ n) }
-    ensures done { OnOk result (IsTold trace_limit (WritesPicture asked) Done
+    ensures done { OnOk result (IsTold trace_limit (Writes (of_picture asked)) Done
         (streams_of R.Source W.Sink source.old out.old) (streams_of R.Source W.Sink source.new out.new)) }
-    ensures stops { IfErr result (StopsAs trace_limit (WritesPicture asked) RefusesTrace
+    ensures stops { IfErr result (StopsAs trace_limit (Writes (of_picture asked)) RefusesTrace
         (streams_of R.Source W.Sink source.old out.old) (streams_of R.Source W.Sink source.new out.new)) }
 {
     let trace = read_trace_source(alloc, source, TRACE_LIMIT)?;

@@ -6,9 +6,9 @@ ghost use Rattle.merged_rows.specs.Lawful.{AreLawful};
 ghost use Rattle.merged_rounds.specs.Passes.{AreMergedOf};
 ghost use Rattle.tree_check.specs.TextTree.{IsTextOfTree};
 ghost use Rattle.trace_format.specs.Conditions.{AreOnTime};
-ghost use Rattle.pure_commands.specs.Commands.{set_limit};
+ghost use Rattle.pure_commands.specs.Commands.{set_limit, of_tree, rows_of, Writes};
 ghost use Rattle.pure_commands.specs.Ends.{streams_of, IsTold, StopsAs};
-ghost use Rattle.pure_commands.specs.Follow.{WritesFollow, RefusesFollow, GaveTree, GaveNoTree, WrotePlan, StopsAtPlan, plan_told, rows_told};
+ghost use Rattle.pure_commands.specs.Follow.{RefusesFollow, GaveTree, GaveNoTree, WrotePlan, StopsAtPlan, plan_told};
 ghost use Rattle.exit_status.specs.declared.Status.TheVariants.{Done};
 
 use crate::refusal::Refusal;
@@ -30,9 +30,9 @@ pub(crate) fn follow<R: Source, W: Sink>(
     source: &mut R,
     out: &mut W,
 ) -> Result<(), Refusal>
-    ensures done { OnOk result (IsTold set_limit WritesFollow Done
+    ensures done { OnOk result (IsTold set_limit (Writes of_tree) Done
         (streams_of R.Source W.Sink source.old out.old) (streams_of R.Source W.Sink source.new out.new)) }
-    ensures stops { IfErr result (StopsAs set_limit WritesFollow RefusesFollow
+    ensures stops { IfErr result (StopsAs set_limit (Writes of_tree) RefusesFollow
         (streams_of R.Source W.Sink source.old out.old) (streams_of R.Source W.Sink source.new out.new)) }
 {
     form_law();
@@ -90,7 +90,7 @@ fn write_plan_rows<W: Sink>(
     requires on_time { AreOnTime tree.now.set.tasks }
     requires text { IsTextOfTree tree.now }
     requires plan { plan.now ≡ plan_told tree.now }
-    requires room { rows_told tree.now ≤ row_limit }
+    requires room { rows_of (plan_told tree.now) ≤ row_limit }
     requires rows { AreMergedOf plan.now rows.now.lanes }
     requires lawful { AreLawful plan.now.set rows.now.lanes }
     requires totals { totals.now ≡ totals_of (length plan.now.set.tasks) rows.now.lanes }

@@ -1,6 +1,7 @@
 //! Refusals of one mode of several.
 ghost use Rattle.std.specs.Prelude.{◌≡◌};
-ghost use Rattle.pure_commands.specs.Refusals.{kind_status, mode_status};
+ghost use Rattle.pure_commands.specs.Refusals.{mode_status};
+ghost use Rattle.pure_commands.specs.declared.mode_refusal.ModeRefusal.TheVariants.{NotJoined};
 
 use exit_status::Status;
 use mode_join::ModeKind;
@@ -38,7 +39,7 @@ impl ModeRefusal {
 
 // The status where a set can't be a mode.
 fn kind_status(kind: ModeKind) -> Status
-    ensures { result ≡ kind_status kind }
+    ensures { result ≡ mode_status (NotJoined kind) }
 {
     match kind {
         ModeKind::Processors | ModeKind::Offset { .. } | ModeKind::Period { .. } => {

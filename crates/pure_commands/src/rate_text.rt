@@ -1,10 +1,11 @@
 //! The text of the command `rate`.
-ghost use Rattle.std.specs.Prelude.{◌≡◌, ◌≤◌, ◌^◌};
+ghost use Rattle.std.specs.Prelude.{◌≡◌, ◌≤◌, ◌^◌, ◌++◌, codes, length};
 ghost use Rattle.std.specs.List.{flat_map};
-ghost use Rattle.sched_base.specs.Scale.{IsScale, total_of, room_of};
+ghost use Rattle.sched_base.specs.Scale.{IsScale, rate_of, total_of, room_of};
 ghost use Rattle.sched_edges.specs.Causes.{HasCause};
+ghost use Rattle.sched_edges.specs.Lines.{number_line, named_line, word_line};
 ghost use Rattle.sched_edges.specs.Streams.{Wrote};
-ghost use Rattle.pure_commands.specs.RateText.{head_text, rate_line, end_text, rate_text};
+ghost use Rattle.pure_commands.specs.RateText.{rate_text};
 
 use rate_scale::rate;
 use sched_base::TaskSet;
@@ -31,7 +32,9 @@ pub fn write_rate<W: Sink>(
 }
 
 fn write_head<W: Sink>(set: &TaskSet, scale: u128, out: &mut W) -> Result<(), Failed>
-    ensures wrote { Wrote (W.taken out.old) (W.taken out.new) (head_text scale set.now) result }
+    ensures wrote { Wrote (W.taken out.old) (W.taken out.new) (number_line (codes "processors") set.now.processors
+        ++ (number_line (codes "horizon") set.now.horizon ++ (number_line (codes "tasks") (length set.now.tasks)
+        ++ number_line (codes "scale") scale))) result }
     ensures cause { HasCause (W.faults out.old) (W.faults out.new) result }
 {
     let lines = [
@@ -47,7 +50,7 @@ fn write_rates<W: Sink>(set: &TaskSet, scale: u128, out: &mut W) -> Result<(), F
     requires scale { IsScale set.now.tasks scale }
     requires scale_fits { scale ≤ 2 ^ 94 }
     ensures wrote { Wrote (W.taken out.old) (W.taken out.new)
-        (flat_map (rate_line scale) set.now.tasks) result }
+        (flat_map (λ t. named_line (codes "rate") t.name (rate_of scale t)) set.now.tasks) result }
     ensures cause { HasCause (W.faults out.old) (W.faults out.new) result }
 {
     for task in set.tasks() {
@@ -61,7 +64,8 @@ fn write_rates<W: Sink>(set: &TaskSet, scale: u128, out: &mut W) -> Result<(), F
 }
 
 fn write_end<W: Sink>(total: u128, room: u128, out: &mut W) -> Result<(), Failed>
-    ensures wrote { Wrote (W.taken out.old) (W.taken out.new) (end_text total room) result }
+    ensures wrote { Wrote (W.taken out.old) (W.taken out.new)
+        (number_line (codes "total") total ++ (number_line (codes "room") room ++ word_line (codes "verdict fits"))) result }
     ensures cause { HasCause (W.faults out.old) (W.faults out.new) result }
 {
     let lines = [

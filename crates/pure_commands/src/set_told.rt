@@ -1,6 +1,6 @@
 //! The commands that tell of a set: its rates, its tree, its schedules.
 ghost use Rattle.std.specs.Prelude.{OnOk, IfErr};
-ghost use Rattle.pure_commands.specs.Commands.{set_limit, WritesSet, RefusesText};
+ghost use Rattle.pure_commands.specs.Commands.{set_limit, of_set, Writes, RefusesText};
 ghost use Rattle.pure_commands.specs.Ends.{streams_of, IsTold, StopsAs};
 ghost use Rattle.pure_commands.specs.Input.{WroteSet, StopsAtSet};
 ghost use Rattle.pure_commands.specs.SetTold.{text_told};
@@ -44,9 +44,9 @@ pub(crate) fn tell_set<R: Source, W: Sink>(
     source: &mut R,
     out: &mut W,
 ) -> Result<(), Refusal>
-    ensures done { OnOk result (IsTold set_limit (WritesSet (text_told told)) Done
+    ensures done { OnOk result (IsTold set_limit (Writes (of_set (text_told told))) Done
         (streams_of R.Source W.Sink source.old out.old) (streams_of R.Source W.Sink source.new out.new)) }
-    ensures stops { IfErr result (StopsAs set_limit (WritesSet (text_told told)) (RefusesText (text_told told))
+    ensures stops { IfErr result (StopsAs set_limit (Writes (of_set (text_told told))) (RefusesText (text_told told))
         (streams_of R.Source W.Sink source.old out.old) (streams_of R.Source W.Sink source.new out.new)) }
 {
     let set = read_input(alloc, source)?;

@@ -100,7 +100,7 @@ fn write_plan_rows<W: Sink>(
     requires lawful { AreLawful plan.now.set rows.now.lanes }
     requires totals { totals.now ≡ totals_of (length plan.now.set.tasks) rows.now.lanes }
     requires room { HaveRoomIf (met || some_late plan.now.set.tasks) plan.now.set finishes.old }
-    ensures wrote { Wrote (W.taken out.old) (W.taken out.new) (schedule_text met plan.now) result }
+    ensures wrote { Wrote (W.taken out.old) (W.taken out.new) (schedule_text (version_of met plan.now.set.tasks) plan.now) result }
     ensures cause { HasCause (W.faults out.old) (W.faults out.new) result }
 {
     write_merged_rows(plan.set(), plan.scale(), rows, totals, met, finishes, out)
@@ -144,7 +144,7 @@ pub fn write_rows<W: Sink>(
     requires few { length table.now.lanes * rounds_in table.now.lanes ≤ row_limit }
     requires totals { totals.now ≡ totals_of (length plan.now.set.tasks) table.now.lanes }
     requires room { HaveRoomIf (met || some_late plan.now.set.tasks) plan.now.set finishes.old }
-    ensures wrote { Wrote (W.taken out.old) (W.taken out.new) (schedule_text met plan.now) result }
+    ensures wrote { Wrote (W.taken out.old) (W.taken out.new) (schedule_text (version_of met plan.now.set.tasks) plan.now) result }
     ensures cause { HasCause (W.faults out.old) (W.faults out.new) result }
 {
     table_law();

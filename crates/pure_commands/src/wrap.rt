@@ -8,7 +8,7 @@ ghost use Rattle.merged_rows.specs.Lawful.{AreLawful};
 ghost use Rattle.trace_writer.specs.Finishes.{HaveRoomIf};
 ghost use Rattle.wrap_sched.specs.Merged.{AreMergedOf};
 ghost use Rattle.wrap_sched.specs.Wrapped.{wrapped_rounds};
-ghost use Rattle.pure_commands.specs.Commands.{some_late, wrapped_rows, wrapped_text};
+ghost use Rattle.pure_commands.specs.Commands.{some_late, text_of, wrapped_rows};
 ghost use Rattle.pure_commands.specs.Input.{IsSchedulable, IsRefusedSet, WroteSet, StopsAtSet};
 
 use crate::refusal::Refusal;
@@ -91,7 +91,7 @@ fn write_wrapped_rows<W: Sink>(
     requires lawful { AreLawful set.now rows.now.lanes }
     requires totals { totals.now ≡ totals_of (length set.now.tasks) rows.now.lanes }
     requires room { HaveRoomIf (some_late set.now.tasks) set.now finishes.old }
-    ensures wrote { Wrote (W.taken out.old) (W.taken out.new) (wrapped_text set.now scale) result }
+    ensures wrote { Wrote (W.taken out.old) (W.taken out.new) (text_of wrapped_rows set.now scale) result }
     ensures cause { HasCause (W.faults out.old) (W.faults out.new) result }
 {
     write_merged_rows(set, scale, rows, totals, false, finishes, out)

@@ -1,6 +1,6 @@
 -- Gates and jobs whose programs were loaded, and what is told of them after a run.
 use Rattle.std.proofs.Common.{ℕ, zero, suc, ◌+◌, ◌/◌, ◌<◌, ◌≤◌, ◌≡◌, List, [], ◌∷◌, ◌++◌, length, Option, Some, None, option_map, refl, sym, ap, ◌∙◌, subst, arith}
-use Rattle.std.specs.Prelude.{codes}
+use Rattle.std.specs.Prelude.{codes, option_and_then, slice_get}
 use Rattle.sched_edges.specs.Lines.{word_line}
 use Rattle.std.specs.List.{flat_map, range_with_len}
 use Rattle.sched_base.specs.declared.rows.Row.{Row}
@@ -16,7 +16,7 @@ use Rattle.job_vm.specs.Programs.{Program, JobTextHeld}
 use Rattle.job_vm.specs.Loading.{code_of, anew, loaded}
 use Rattle.job_vm.specs.Results.{Told, told_at, told_of, job_line, jobs_text}
 use Rattle.job_vm.proofs.ResultsLemmas.{jobs_text_is}
-use Rattle.run_tool.specs.JobPrograms.{made_at, told_of_task, result_text}
+use Rattle.run_tool.specs.JobPrograms.{told_of_task, result_text}
 use Rattle.run_tool.specs.Executions.{GateSeen, JobSeen, Crew, gates_of, jobs_of, Holds, IsFreshCrew, AreBack, RanAll, JobRose}
 use Rattle.run_tool.proofs.CrewMade.{crew}
 use Rattle.run_tool.proofs.CrewLemmas.{job_in_place}
@@ -155,6 +155,11 @@ told_held scale (place ∷ jobs) zero j at =
     let here : place ≡ Some j = cc in
     ap (λ (p : Option JobSeen). told_at scale (p ∷ jobs) zero) here
 told_held scale (place ∷ jobs) (suc i) j at = told_held scale jobs i j at
+
+-- what the job in place i is made of, where it has a program
+abbrev made_at : List (Option JobSeen) → ℕ → Made
+made_at jobs i =
+    option_and_then (λ (job : JobSeen). job.made) (option_and_then (λ (place : Option JobSeen). place) (slice_get jobs i))
 
 made_held : (jobs : List (Option JobSeen)) (i : ℕ) (j : JobSeen) → Holds jobs i j → made_at jobs i ≡ j.made
 made_held [] i j at = absurd (let bad : ◌≡◌ {A = Option (Option JobSeen)} None (Some (Some j)) = at in cc)

@@ -1,7 +1,7 @@
 -- How `modes` ends, part by part: reading the sets, running them, and writing their text.
 use Rattle.std.proofs.Common.{◌≡◌, inl, inr, ℕ, zero, suc, ◌+◌, ◌<◌, ◌≤◌, List, [], ◌∷◌, ◌++◌, Option, Some, None, Ok, Err, option_map, map, length, take}
 use Rattle.std.proofs.Common.{true, false, get_or, refl, sym, ◌∙◌, ap, subst, arith, add-one}
-use Rattle.std.specs.Prelude.{slice_get}
+use Rattle.std.specs.Prelude.{slice_get, codes}
 use Rattle.std.specs.Io.KnownBytes.{Appends, Keeps}
 use Rattle.std.specs.List.{All, AllByRecursion, AllZip}
 use Rattle.std.proofs.lemmas.List.{take_all, length-map}
@@ -32,7 +32,8 @@ use Rattle.pure_commands.specs.Faults.{of_take, of_join}
 use Rattle.pure_commands.specs.Refusals.{status_of}
 use Rattle.run_tool.specs.ModeInput.{RefusesPiece, RefusesPieces, GaveModes, GaveNoModes}
 use Rattle.run_tool.specs.ModeRuns.{RanThrough, StopsInModes}
-use Rattle.run_tool.specs.ModeTexts.{ReadsSets, IsFirstBad, modes_text}
+use Rattle.pure_commands.specs.Numbered.{several}
+use Rattle.run_tool.specs.ModeTexts.{ReadsSets, IsFirstBad, mode_part}
 use Rattle.run_tool.proofs.ModeTextLemmas.{read_at}
 
 -- ---- the pieces
@@ -171,6 +172,10 @@ modes_read left left' limit bytes sets m all reads same can lawful ends = record
 }
 
 -- ---- the whole
+
+-- the text of modes
+abbrev modes_text : List Mode → List ℕ
+modes_text modes = several (codes "run-modes") (codes "modes") mode_part modes
 
 pub modes_done : (old new : Streams) (b n : Crew) (m : ModesContents) → GaveModes old.left new.left set_limit m → RanThrough m.modes b n
     → Appends old.out new.out (modes_text m.modes) → ToldRun Modes old new b n

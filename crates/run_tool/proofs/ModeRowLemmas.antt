@@ -1,6 +1,6 @@
 -- One mode of several and its run: what holds of it where it is written.
 use Rattle.std.proofs.Common.{◌≡◌, ℕ, zero, suc, ◌*◌, ◌≤◌, List, [], ◌∷◌, ◌++◌, length, Option, Some, None, option_map, refl, sym, ◌∙◌, ap, subst}
-use Rattle.std.specs.Prelude.{slice_get}
+use Rattle.std.specs.Prelude.{slice_get, codes, decimal}
 use Rattle.std.specs.List.{AllZip}
 use Rattle.sched_base.specs.Tables.{Table, row_limit}
 use Rattle.run_tree.specs.Plans.{PlanContents, rounds_of}
@@ -12,7 +12,14 @@ use Rattle.mode_switch.specs.Runs.{IsRunOf}
 use Rattle.mode_switch.proofs.RunLemmas.{IsNext, next_mode}
 use Rattle.trace_format.specs.Conditions.{AreOnTime}
 use Rattle.row_totals.specs.Sums.{totals_of}
-use Rattle.run_tool.specs.ModeTexts.{mode_head, mode_text, mode_part}
+use Rattle.sched_edges.specs.Lines.{line_of}
+use Rattle.trace_format.specs.declared.versions.Version.TheVariants.{One}
+use Rattle.pure_commands.specs.SetTexts.{schedule_text}
+use Rattle.run_tool.specs.ModeTexts.{mode_part}
+
+-- the number of a mode, and its start and its horizon in units
+abbrev mode_head : ℕ → ℕ → ℕ → List ℕ
+mode_head j start horizon = line_of (codes "mode") (decimal j ∷ decimal start ∷ decimal horizon ∷ [])
 
 -- what is told of an item tells that there is one
 held : {A B : Type 0} (f : A → B) (o : Option A) (y : B) → option_map f o ≡ Some y → (x : A) × (o ≡ Some x) × (f x ≡ y)
@@ -63,7 +70,7 @@ module _ (modes : ModesContents) (are : AreModes modes) (j : ℕ) (p : PlanConte
 
   -- the head and the rows are the mode's text
   pub mode_texts : (start horizon : ℕ) (head : List ℕ) → option_map (λ (x : Mode). x.start) (slice_get modes.modes j) ≡ Some start → horizon ≡ p.set.horizon
-      → head ≡ mode_head j start horizon → (m : Mode) → slice_get modes.modes j ≡ Some m → head ++ mode_text p ≡ mode_part j m
+      → head ≡ mode_head j start horizon → (m : Mode) → slice_get modes.modes j ≡ Some m → head ++ schedule_text One p ≡ mode_part j m
   mode_texts start horizon head begins lasts is m at =
       let of_plan : Some p ≡ Some m.plan = sym plan ∙ ap (option_map (λ (x : Mode). x.plan)) at in
       let one : p ≡ m.plan = cc in
@@ -71,4 +78,4 @@ module _ (modes : ModesContents) (are : AreModes modes) (j : ℕ) (p : PlanConte
       let first : start ≡ m.start = cc in
       let long : horizon ≡ m.plan.set.horizon = lasts ∙ ap (λ (q : PlanContents). q.set.horizon) one in
       let start_of : head ≡ mode_head j m.start m.plan.set.horizon = is ∙ (λ i. mode_head j (first i) (long i)) in
-      λ i. start_of i ++ mode_text (one i)
+      λ i. start_of i ++ schedule_text One (one i)

@@ -17,8 +17,8 @@ use Rattle.pure_commands.specs.declared.refusal.Refusal.{Refusal}
 use Rattle.pure_commands.specs.declared.refusal.Refusal.TheVariants as why
 use Rattle.exit_status.specs.declared.Status.{Status}
 use Rattle.exit_status.specs.declared.Status.TheVariants as status
-use Rattle.run_tool.specs.ModeTexts.{ReadsSets, ReadsModes, IsFirstBad, RefusesMode, RefusesModes}
-use Rattle.pure_commands.specs.Refusals.{status_of, set_status, kind_status}
+use Rattle.run_tool.specs.ModeTexts.{ReadsSets, ReadsModes, IsFirstBad, RefusesModes}
+use Rattle.pure_commands.specs.Refusals.{status_of, set_status, mode_status}
 
 -- ---- pieces that are sets
 
@@ -94,14 +94,14 @@ status_at (suc (suc zero)) = status.ModeFault
 status_at (suc (suc (suc zero))) = status.Overload
 status_at (suc (suc (suc (suc n)))) = status.TooLong
 
-kind_at : (k : ModeKind) → kind_status k ≡ status_at (rank k)
+kind_at : (k : ModeKind) → mode_status (mode.NotJoined k) ≡ status_at (rank k)
 kind_at kind.Processors = refl
 kind_at (kind.Offset task) = refl
 kind_at (kind.Period task) = refl
 kind_at (kind.Overload total room) = refl
 kind_at (kind.TooLong rows) = refl
 
-one_kind : (sets : List SetContents) (i j : ℕ) (k l : ModeKind) → IsRefused sets i k → IsRefused sets j l → kind_status k ≡ kind_status l
+one_kind : (sets : List SetContents) (i j : ℕ) (k l : ModeKind) → IsRefused sets i k → IsRefused sets j l → mode_status (mode.NotJoined k) ≡ mode_status (mode.NotJoined l)
 one_kind sets i j k l a b =
     let same = one_number i j (λ below. b.lowest i k below a.has) (λ below. a.lowest j l below b.has) in
     let b' : IsRefused sets i l = subst (λ n. IsRefused sets n l) (sym same) b in
@@ -116,9 +116,9 @@ one_kind sets i j k l a b =
 abbrev Why : List ℕ → Refusal → Type 0
 Why bytes r =
     ((j : ℕ) × (q : ReadSet) × IsFirstBad bytes j q × (status_of r ≡ set_status q))
-    ⊎ ((j : ℕ) × (k : ModeKind) × (sets : List SetContents) × ReadsSets bytes sets × IsRefused sets j k × (status_of r ≡ kind_status k))
+    ⊎ ((j : ℕ) × (k : ModeKind) × (sets : List SetContents) × ReadsSets bytes sets × IsRefused sets j k × (status_of r ≡ mode_status (mode.NotJoined k)))
 
-why_mode : (bytes : List ℕ) (j : ℕ) (r : ModeRefusal) → RefusesMode bytes j r → Why bytes (why.OfMode j r)
+why_mode : (bytes : List ℕ) (j : ℕ) (r : ModeRefusal) → RefusesModes bytes (why.OfMode j r) → Why bytes (why.OfMode j r)
 why_mode bytes j (mode.BadSet q) refuses = inl (j, q, refuses, refl)
 why_mode bytes j (mode.NotJoined k) refuses = inr (j, k, refuses.0, refuses.1, refuses.2, refl)
 why_mode bytes j _ refuses = absurd refuses

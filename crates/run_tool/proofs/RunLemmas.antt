@@ -15,7 +15,7 @@ use Rattle.exit_status.specs.declared.Status.{Status}
 use Rattle.exit_status.specs.declared.Status.TheVariants.{Done, NoMemory}
 use Rattle.command_words.specs.Words.{command_of, reading_of, execution_of, asks_to_execute, asks_for_batch, asks_for_threads}
 use Rattle.pure_commands.specs.Commands.{schedule_rows, of_batch, output_of, set_limit, RefusesText}
-use Rattle.pure_commands.specs.Refusals.{status_of, set_status, kind_status, mode_status}
+use Rattle.pure_commands.specs.Refusals.{status_of, set_status, mode_status}
 use Rattle.pure_commands.specs.Refuse.{IsRefused}
 use Rattle.pure_commands.proofs.EndLemmas.{keeps_same, is_fault}
 use Rattle.task_reader.specs.declared.refusals.ReadSet.{ReadSet}
@@ -202,7 +202,7 @@ set_fault : (q : ReadSet) → is_fault (set_status q) ≡ true
 set_fault set.NoMemory = refl
 set_fault _ = refl
 
-kind_fault : (k : ModeKind) → is_fault (kind_status k) ≡ true
+kind_fault : (k : ModeKind) → is_fault (mode_status (mode.NotJoined k)) ≡ true
 kind_fault kind.Processors = refl
 kind_fault (kind.Offset task) = refl
 kind_fault (kind.Period task) = refl

@@ -14,7 +14,7 @@ use Rattle.event_core.specs.Counts.{IsCountFault}
 use Rattle.pure_commands.specs.declared.refusal.Refusal.{Refusal}
 use Rattle.pure_commands.specs.declared.refusal.Refusal.TheVariants as why
 use Rattle.exit_status.specs.declared.Status.TheVariants.{Done}
-use Rattle.pure_commands.specs.Commands.{set_limit, schedule_rows, schedule_text, plan_of, rows_of, text_of, HasRoom}
+use Rattle.pure_commands.specs.Commands.{set_limit, schedule_rows, schedule_text, version_of, plan_of, rows_of, text_of, HasRoom}
 use Rattle.pure_commands.specs.Ends.{Streams, IsTold, StopsAs}
 use Rattle.pure_commands.specs.Faults.{of_count}
 use Rattle.pure_commands.specs.Input.{GaveSet, GaveNoSet, IsSchedulable, IsRefusedSet, IsTooLongSet}
@@ -67,24 +67,24 @@ module _ (s : SetContents) (p : PlanContents) (set : p.set ≡ s) (tree : p.tree
 
   -- all was run and written
   pub run_written : (met : Bool) (out out' : Option (List ℕ)) (count : ℕ) (old new : Crew) → IsSchedulable s p.tree.scale → count ≡ rounds_of p
-      → count * p.tree.processors ≤ row_limit → RanAll p old new → Appends out out' (schedule_text met p) → RanSet met out out' old new s
+      → count * p.tree.processors ≤ row_limit → RanAll p old new → Appends out out' (schedule_text (version_of met p.set.tasks) p) → RanSet met out out' old new s
   run_written met out out' count old new run is few ran took = (
     p.tree.scale,
     run,
     room count is few,
-    subst (λ (q : PlanContents). Appends out out' (schedule_text met q)) same_plan took,
+    subst (λ (q : PlanContents). Appends out out' (schedule_text (version_of met q.set.tasks) q)) same_plan took,
     subst (λ (q : PlanContents). RanAll q old new) same_plan ran,
   )
 
   -- all was run, and not all was written
   pub run_unwritten : (window : ℕ) (met : Bool) (out out' : Option (List ℕ)) (faults faults' count : ℕ) (old new : Crew) → IsSchedulable s p.tree.scale
-      → count ≡ rounds_of p → count * p.tree.processors ≤ row_limit → RanAll p old new → TookPart out out' (schedule_text met p) → Rose faults faults'
+      → count ≡ rounds_of p → count * p.tree.processors ≤ row_limit → RanAll p old new → TookPart out out' (schedule_text (version_of met p.set.tasks) p) → Rose faults faults'
       → StopsAtRun window met out out' faults faults' old new s why.WriteFault
   run_unwritten window met out out' faults faults' count old new run is few ran took rose = (
     p.tree.scale,
     run,
     room count is few,
-    subst (λ (q : PlanContents). TookPart out out' (schedule_text met q)) same_plan took,
+    subst (λ (q : PlanContents). TookPart out out' (schedule_text (version_of met q.set.tasks) q)) same_plan took,
     rose,
     subst (λ (q : PlanContents). RanAll q old new) same_plan ran,
   )

@@ -33,17 +33,13 @@ pub record IsJobsToRun (bytes : List ℕ) (text : JobTextHeld) (s : SetContents)
   pub fits : Fits scale s
   pub room : HasRoom (schedule_rows false) s scale
 
--- what the job in place i is made of, where it has a program
-abbrev pub made_at : List (Option JobSeen) → ℕ → Option (ℕ × List ℕ)
-made_at jobs i =
-    option_and_then (λ (job : JobSeen). job.made) (option_and_then (λ (place : Option JobSeen). place) (slice_get jobs i))
-
 -- the job in place i has worked the ticks of task i's rows, and has computed in them what its task's program computes alone in as
 -- many whole units. Where it has no program, it tells zeros
 abbrev pub told_of_task : List Program → PlanContents → List (Option JobSeen) → ℕ → Told
 told_of_task programs p jobs i =
     let ticks = ticks_in i (all_rows (plan_rows p)) in
-    let made = reloaded (made_at jobs i) p.tree.scale (code_of programs (task_at p.set.tasks i).name) in
+    let job = option_and_then (λ (place : Option JobSeen). place) (slice_get jobs i) in
+    let made = reloaded (option_and_then (λ (j : JobSeen). j.made) job) p.tree.scale (code_of programs (task_at p.set.tasks i).name) in
     record { units = ticks / p.tree.scale; numbers = computed made ticks }
 
 -- the text of a plan, where the jobs were these before

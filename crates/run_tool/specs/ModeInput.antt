@@ -8,7 +8,7 @@ use Rattle.mode_join.specs.Modes.{ModesContents}
 use Rattle.pure_commands.specs.declared.mode_refusal.ModeRefusal.TheVariants as mode
 use Rattle.pure_commands.specs.declared.refusal.Refusal.{Refusal}
 use Rattle.pure_commands.specs.declared.refusal.Refusal.TheVariants as why
-use Rattle.run_tool.specs.ModeTexts.{ReadsModes, RefusesMode, IsFirstBad}
+use Rattle.run_tool.specs.ModeTexts.{ReadsModes, RefusesModes, IsFirstBad}
 
 -- the bytes of piece j are no set, or memory was refused
 abbrev pub RefusesPiece : ℕ → List ℕ → Refusal → Type 0
@@ -31,5 +31,6 @@ abbrev pub GaveNoModes : Option (List ℕ) → Option (List ℕ) → ℕ → ℕ
 GaveNoModes left left' faults faults' limit why.ReadFault = Rose faults faults' × GaveAtMost left left' limit
 GaveNoModes left left' faults faults' limit why.NoMemory = Unit {0}
 GaveNoModes left left' faults faults' limit (why.InputTooLong count) = (count ≡ limit + 1) × GaveCount left left' count
-GaveNoModes left left' faults faults' limit (why.OfMode j refusal) = (bytes : List ℕ) × GaveAll left left' limit bytes × RefusesMode bytes j refusal
+GaveNoModes left left' faults faults' limit (why.OfMode j refusal) =
+    (bytes : List ℕ) × GaveAll left left' limit bytes × RefusesModes bytes (why.OfMode j refusal)
 GaveNoModes left left' faults faults' limit _ = ⊥

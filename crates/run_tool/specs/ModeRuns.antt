@@ -1,5 +1,5 @@
 -- What `modes` does with the gates and the jobs, what it writes then, and why it stops.
-use Rattle.std.specs.Prelude.{ℕ, ◌≡◌, ◌⊎◌, nat_lt, if◌then◌else◌, List, [], ◌∷◌, Option, Some, length, slice_get, take}
+use Rattle.std.specs.Prelude.{ℕ, ◌≡◌, ◌⊎◌, nat_lt, if◌then◌else◌, List, [], ◌∷◌, Option, Some, length, slice_get, take, codes}
 use Rattle.std.specs.List.{AllByRecursion}
 use Rattle.sched_base.specs.declared.rows.Leaf.TheVariants.{Task as OfTask}
 use Rattle.sched_base.specs.declared.rows.TaskId.{TaskId}
@@ -22,7 +22,8 @@ use Rattle.exit_status.specs.declared.Status.TheVariants.{Done}
 use Rattle.pure_commands.specs.Commands.{set_limit}
 use Rattle.pure_commands.specs.Ends.{Streams}
 use Rattle.run_tool.specs.Executions.{GateSeen, JobSeen, Crew, Holds, loaded_crew, GateStopped, JobStopped, GateRose, JobRose, name_at}
-use Rattle.run_tool.specs.ModeTexts.{ReadsModes, RefusesModes, modes_text}
+use Rattle.pure_commands.specs.Numbered.{several}
+use Rattle.run_tool.specs.ModeTexts.{ReadsModes, RefusesModes, mode_part}
 
 -- what a job is made of after the modes: of the empty program, in units of one tick, where one has its task
 abbrev pub made_after : List Mode → ℕ → Option (ℕ × List ℕ) → Option (ℕ × List ℕ)
@@ -78,7 +79,8 @@ StopsInModes modes old new _ = ⊥
 -- this text is written for these bytes once the gates and the jobs have run the whole schedules of their modes
 abbrev pub WritesModesRun : Crew → Crew → List ℕ → Status → List ℕ → Type 0
 WritesModesRun old new bytes status text =
-    (status ≡ Done) × ((m : ModesContents) × ReadsModes bytes m × (text ≡ modes_text m.modes) × RanThrough m.modes old new)
+    (status ≡ Done) × ((m : ModesContents) × ReadsModes bytes m × (text ≡ several (codes "run-modes") (codes "modes") mode_part m.modes)
+    × RanThrough m.modes old new)
 
 -- why no text is written for these bytes: a gate or a job failed in a mode, or they are refused
 abbrev pub RefusesModesRun : Crew → Crew → List ℕ → Refusal → Type 0

@@ -1,10 +1,8 @@
 -- What `modes` writes, and which bytes it refuses and why.
 use Rattle.std.specs.Prelude.{ℕ, ◌≡◌, ◌<◌, List, [], ◌∷◌, ◌++◌, Some, Ok, Err, codes, decimal, slice_get}
 use Rattle.std.specs.List.{AllByRecursion, AllZip}
-use Rattle.sched_base.specs.Lanes.{lanes_of}
 use Rattle.sched_base.specs.Sets.{SetContents}
 use Rattle.sched_edges.specs.Lines.{line_of}
-use Rattle.run_tree.specs.Plans.{PlanContents, schedule_of}
 use Rattle.task_reader.specs.declared.refusals.ReadSet.{ReadSet}
 use Rattle.task_reader.specs.Pieces.{pieces_of}
 use Rattle.task_reader.specs.Reading.{set_read_from}
@@ -12,13 +10,10 @@ use Rattle.mode_join.specs.declared.mode.Mode.{Mode}
 use Rattle.mode_join.specs.Joining.{CanBeJoined, IsRefused}
 use Rattle.mode_join.specs.Modes.{ModesContents, AreModes, PeriodsEndIn, sets_of}
 use Rattle.trace_format.specs.declared.versions.Version.TheVariants.{One}
-use Rattle.merged_rows.specs.Merging.{merged_lanes}
-use Rattle.trace_format.specs.Text.{trace_text}
-use Rattle.pure_commands.specs.declared.mode_refusal.ModeRefusal.{ModeRefusal}
 use Rattle.pure_commands.specs.declared.mode_refusal.ModeRefusal.TheVariants as mode
 use Rattle.pure_commands.specs.declared.refusal.Refusal.{Refusal}
 use Rattle.pure_commands.specs.declared.refusal.Refusal.TheVariants.{OfMode}
-use Rattle.pure_commands.specs.Numbered.{several}
+use Rattle.pure_commands.specs.SetTexts.{schedule_text}
 
 -- ---- what is read
 
@@ -35,21 +30,10 @@ pub record ReadsModes (bytes : List ℕ) (m : ModesContents) : Type 0 where
 
 -- ---- what is written
 
--- the trace text of a mode, whose tasks are all released at its start
-abbrev pub mode_text : PlanContents → List ℕ
-mode_text p = trace_text One p.set p.tree.scale (merged_lanes (lanes_of p.tree.processors (schedule_of p)))
-
--- the number of a mode, and its start and its horizon in units
-abbrev pub mode_head : ℕ → ℕ → ℕ → List ℕ
-mode_head j start horizon = line_of (codes "mode") (decimal j ∷ decimal start ∷ decimal horizon ∷ [])
-
--- what is written of mode j
+-- what is written of mode j: its number, its start and its horizon in units, and the trace text of its schedule, whose tasks are all
+-- released at its start
 abbrev pub mode_part : ℕ → Mode → List ℕ
-mode_part j m = mode_head j m.start m.plan.set.horizon ++ mode_text m.plan
-
--- the text of modes
-abbrev pub modes_text : List Mode → List ℕ
-modes_text modes = several (codes "run-modes") (codes "modes") mode_part modes
+mode_part j m = line_of (codes "mode") (decimal j ∷ decimal m.start ∷ decimal m.plan.set.horizon ∷ []) ++ schedule_text One m.plan
 
 -- ---- what is refused
 
@@ -58,13 +42,9 @@ pub record IsFirstBad (bytes : List ℕ) (j : ℕ) (refusal : ReadSet) : Type 0 
   pub bad : (piece : List ℕ) × (slice_get (pieces_of bytes) j ≡ Some piece) × (set_read_from piece ≡ Err refusal)
   pub lowest : (i : ℕ) (piece : List ℕ) → i < j → slice_get (pieces_of bytes) i ≡ Some piece → (s : SetContents) × (set_read_from piece ≡ Ok s)
 
--- piece j is refused: it is the first that is no set; or all are sets, and that one is the first that can't be a mode
-abbrev pub RefusesMode : List ℕ → ℕ → ModeRefusal → Type 0
-RefusesMode bytes j (mode.BadSet refusal) = IsFirstBad bytes j refusal
-RefusesMode bytes j (mode.NotJoined kind) = (sets : List SetContents) × ReadsSets bytes sets × IsRefused sets j kind
-RefusesMode bytes j _ = ⊥
-
--- these bytes are refused where sets are wanted that can be modes
+-- these bytes are refused where sets are wanted that can be modes: piece j is the first that is no set; or all are sets, and that one is
+-- the first that can't be a mode
 abbrev pub RefusesModes : List ℕ → Refusal → Type 0
-RefusesModes bytes (OfMode j refusal) = RefusesMode bytes j refusal
+RefusesModes bytes (OfMode j (mode.BadSet refusal)) = IsFirstBad bytes j refusal
+RefusesModes bytes (OfMode j (mode.NotJoined kind)) = (sets : List SetContents) × ReadsSets bytes sets × IsRefused sets j kind
 RefusesModes bytes _ = ⊥

@@ -1,5 +1,5 @@
 //! The text of modes that were run.
-ghost use Rattle.std.specs.Prelude.{◌≡◌, ◌≤◌, ◌<◌, ◌*◌, ◌++◌, length, codes, slice_get, Some};
+ghost use Rattle.std.specs.Prelude.{◌≡◌, ◌≤◌, ◌<◌, ◌*◌, ◌++◌, ◌∷◌, [], length, codes, decimal, slice_get, Some};
 ghost use Rattle.std.specs.List.{AllZip};
 ghost use Rattle.sched_base.specs.Tables.{row_limit};
 ghost use Rattle.sched_edges.specs.Causes.{HasCause};
@@ -11,8 +11,10 @@ ghost use Rattle.mode_switch.specs.Runs.{IsRunOf};
 ghost use Rattle.run_tree.specs.Plans.{rounds_of};
 ghost use Rattle.trace_format.specs.Conditions.{AreOnTime};
 ghost use Rattle.row_totals.specs.Sums.{totals_of};
-ghost use Rattle.pure_commands.specs.Numbered.{numbered};
-ghost use Rattle.run_tool.specs.ModeTexts.{mode_head, mode_text, mode_part, modes_text};
+ghost use Rattle.pure_commands.specs.Numbered.{numbered, several};
+ghost use Rattle.pure_commands.specs.SetTexts.{schedule_text};
+ghost use Rattle.trace_format.specs.declared.versions.Version.TheVariants.{One};
+ghost use Rattle.run_tool.specs.ModeTexts.{mode_part};
 
 use mode_switch::{Modes, ModesRun};
 use round_table::table_law;
@@ -27,7 +29,7 @@ const VERSION: u128 = 1;
 /// Writes modes that were run: how many there are, and of each when it starts, how long it lasts, and its rows.
 pub(crate) fn write_modes<W: Sink>(modes: &Modes, run: &ModesRun, out: &mut W) -> Result<(), Failed>
     requires { AllZip IsRunOf modes.now.modes run.now }
-    ensures wrote { Wrote (W.taken out.old) (W.taken out.new) (modes_text modes.now.modes) result }
+    ensures wrote { Wrote (W.taken out.old) (W.taken out.new) (several (codes "run-modes") (codes "modes") mode_part modes.now.modes) result }
     ensures cause { HasCause (W.faults out.old) (W.faults out.new) result }
 {
     write_head(modes.count(), out)?;
@@ -85,7 +87,7 @@ fn write_rows<W: Sink>(
     requires few { rounds_of plan.now * plan.now.tree.processors ≤ row_limit }
     requires lanes { table.now.lanes ≡ plan_rows plan.now }
     requires totals { totals.now ≡ totals_of (length plan.now.set.tasks) (plan_rows plan.now) }
-    ensures wrote { Wrote (W.taken out.old) (W.taken out.new) (mode_text plan.now) result }
+    ensures wrote { Wrote (W.taken out.old) (W.taken out.new) (schedule_text One plan.now) result }
     ensures cause { HasCause (W.faults out.old) (W.faults out.new) result }
 {
     table_law();
@@ -95,7 +97,7 @@ fn write_rows<W: Sink>(
 // The number of a mode, and its start and its horizon in units.
 #[tactic(auto, unfolding(sched_edges::specs::Lines::line_of))]
 fn mode_head(j: u32, start: u64, horizon: u64) -> Line
-    ensures { result ≡ mode_head j start horizon }
+    ensures { result ≡ line_of (codes "mode") (decimal j ∷ decimal start ∷ decimal horizon ∷ []) }
 {
     let mut line = Line::new();
     line.text(b"mode");

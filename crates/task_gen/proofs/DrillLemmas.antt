@@ -12,7 +12,7 @@ use Rattle.sched_base.specs.declared.sets.Task.{Task}
 use Rattle.sched_base.specs.Sets.{SetContents, IsLawful, IsLawfulTask, IsFree}
 use Rattle.sched_base.specs.Scale.{PeriodsDivide, IsScale, Fits, rate_of, total_of}
 use Rattle.sched_base.proofs.SetLemmas.{AllByRecursion-push, IsLawful-push}
-use Rattle.task_gen.specs.Drill.{periods, period_by, work_by, name_of_number, task_by, with_fitting, drawn_onto}
+use Rattle.task_gen.specs.Drill.{period_by, name_of_number, task_by, with_fitting, drawn_onto}
 use Rattle.task_gen.proofs.NameLemmas.{name_lawful, names_apart}
 
 -- a period that a word may choose
@@ -30,6 +30,10 @@ AllByRecursion-at P (x ∷ xs) (suc k) within h = AllByRecursion-at P xs k (omeg
 period_of_60 : (period : ℕ) → 1 ≤ period → period ≤ 30 → 60 % period ≡ 0 → IsPeriod period
 period_of_60 period some small rest = record { some = some; small = small; divides = dvd_of_mod-eq-zero period rest }
 
+-- the periods that a word chooses from
+abbrev periods : List ℕ
+periods = 4 ∷ 5 ∷ 6 ∷ 10 ∷ 12 ∷ 15 ∷ 20 ∷ 30 ∷ []
+
 each_period : AllByRecursion (λ p. (1 ≤ p) × (p ≤ 30) × (60 % p ≡ 0)) periods
 each_period = search (arith)
 
@@ -45,7 +49,7 @@ pub record AreChosen (work period : ℕ) : Type 0 where
   pub some_period : 1 ≤ period
   pub small_period : period ≤ 30
 
-pub are_chosen : (w v work period : ℕ) → work ≡ work_by v period → period ≡ period_by w → AreChosen work period
+pub are_chosen : (w v work period : ℕ) → work ≡ 1 + v % period → period ≡ period_by w → AreChosen work period
 are_chosen w v work period work_is of_word =
     let p = subst IsPeriod (sym of_word) (period_is w) in
     let some = p.some in
@@ -101,7 +105,7 @@ next_is_free tasks h =
     AllByRecursion-by _ _ tasks (λ t named same. names_apart named.0 (length tasks) (omega (arith, named.1)) (omega arith) (omega (arith, named.1)) (sym named.2 ∙ same)) h.numbered
 
 -- a work that a word chooses is within its period
-pub work_within : (v period : ℕ) → 1 ≤ period → work_by v period ≤ period
+pub work_within : (v period : ℕ) → 1 ≤ period → 1 + v % period ≤ period
 work_within v period some = omega arith
 
 pub task_lawful : (k w v : ℕ) → k < 2 ^ 64 → IsLawfulTask (task_by k w v)
@@ -279,8 +283,8 @@ HasDrawn-all words j set load all h =
 
 -- a task of these parts is the one that the pair chooses
 pub same_task : (words : List ℕ) (j : ℕ) (tasks : List Task) (name : List ℕ) (work period : ℕ) → name ≡ name_of_number (length tasks)
-    → work ≡ work_by (get_or words (2 * j + 1) 0) period → period ≡ period_by (get_or words (2 * j) 0) → record { name = name; work = work; period = period; offset = 0 } ≡ task_at_pair words j tasks
+    → work ≡ 1 + get_or words (2 * j + 1) 0 % period → period ≡ period_by (get_or words (2 * j) 0) → record { name = name; work = work; period = period; offset = 0 } ≡ task_at_pair words j tasks
 same_task words j tasks name work period name_is work_is period_is =
     ap (λ n. record { name = n; work = work; period = period; offset = 0 }) name_is
     ∙ ap (λ n. record { name = name_of_number (length tasks); work = n; period = period; offset = 0 }) work_is
-    ∙ ap (λ n. record { name = name_of_number (length tasks); work = work_by (get_or words (2 * j + 1) 0) n; period = n; offset = 0 }) period_is
+    ∙ ap (λ n. record { name = name_of_number (length tasks); work = 1 + get_or words (2 * j + 1) 0 % n; period = n; offset = 0 }) period_is

@@ -4,25 +4,17 @@ use Rattle.sched_base.specs.declared.sets.Task.{Task}
 use Rattle.sched_base.specs.Sets.{SetContents}
 use Rattle.sched_base.specs.Scale.{rate_of, total_of}
 
--- the periods that a word chooses from, in units
-abbrev pub periods : List ℕ
-periods = 4 ∷ 5 ∷ 6 ∷ 10 ∷ 12 ∷ 15 ∷ 20 ∷ 30 ∷ []
-
--- the period that a word chooses
+-- the period that a word chooses, in units
 abbrev pub period_by : ℕ → ℕ
-period_by w = slice_index periods (w % 8)
-
--- the work that a word chooses for a task of this period
-abbrev pub work_by : ℕ → ℕ → ℕ
-work_by v period = 1 + v % period
+period_by w = slice_index (4 ∷ 5 ∷ 6 ∷ 10 ∷ 12 ∷ 15 ∷ 20 ∷ 30 ∷ []) (w % 8)
 
 -- `t` followed by the number
 abbrev pub name_of_number : ℕ → List ℕ
 name_of_number k = 116 ∷ decimal k
 
--- the k-th task, counted from 0, if it is the one that two words choose
+-- the k-th task, counted from 0, if it is the one that two words choose: the first its period, the second its work
 abbrev pub task_by : ℕ → ℕ → ℕ → Task
-task_by k w v = record { name = name_of_number k; work = work_by v (period_by w); period = period_by w; offset = 0 }
+task_by k w v = record { name = name_of_number k; work = 1 + v % period_by w; period = period_by w; offset = 0 }
 
 -- a task's weight is its rate at 60 ticks per unit; the weights may sum to 240
 abbrev pub with_fitting : List Task → Task → List Task

@@ -1,9 +1,9 @@
 //! The set that words draw.
-ghost use Rattle.std.specs.Prelude.{◌≡◌, ◌≤◌, ◌<◌, ◌^◌, ◌*◌, ℕ, List, length, IfOk};
+ghost use Rattle.std.specs.Prelude.{◌≡◌, ◌≤◌, ◌<◌, ◌^◌, ◌*◌, ◌+◌, ◌%◌, ℕ, List, length, IfOk};
 ghost use Rattle.std.specs.Int.{◌∣◌};
 ghost use Rattle.sched_base.specs.Sets.{IsLawful};
 ghost use Rattle.sched_base.specs.Scale.{IsScale, Fits};
-ghost use Rattle.task_gen.specs.Drill.{period_by, work_by, name_of_number, made_from};
+ghost use Rattle.task_gen.specs.Drill.{period_by, name_of_number, made_from};
 
 use itoa::Buffer;
 use sched_base::{Name, NoMemory, TaskSet};
@@ -60,7 +60,7 @@ fn period_by(word: u32) -> u64
 fn work_by(word: u32, period: u64) -> u64
     requires some { 1 ≤ period }
     requires fits { period < 2 ^ 32 }
-    ensures { result ≡ work_by word period }
+    ensures { result ≡ 1 + word % period }
 {
     1 + u64::from(word) % period
 }

@@ -1,5 +1,5 @@
 use Rattle.std.proofs.lemmas.Result.{err_from_is_err_and, IfErr-weaker, IfOk-weaker}
-use Rattle.pure_commands.specs.Checks.{WritesVerdict}
+use Rattle.pure_commands.specs.Commands.{of_trace, Writes}
 use Rattle.pure_commands.specs.Ends.{streams_of}
 use Rattle.pure_commands.proofs.EndLemmas.{keeps_same}
 use Rattle.pure_commands.proofs.InputLemmas.{no_trace_given}
@@ -11,7 +11,7 @@ returns-in_err-trace-clause-stops g c =
     let old = streams_of g.R.Source g.W.Sink c.args.source.now c.args.out.now in
     let new = streams_of g.R.Source g.W.Sink c.read_checked_source.new.source c.args.out.now in
     let why = err_from_is_err_and c.from_residual.result c.from_residual.ensures.1 in
-    rw (why.1, why.2) (trace_unread WritesVerdict old new _ (no_trace_given _ _ _ _ _ _ c.in_err-trace.ensures.fault) (keeps_same _))
+    rw (why.1, why.2) (trace_unread (Writes of_trace) old new _ (no_trace_given _ _ _ _ _ _ c.in_err-trace.ensures.fault) (keeps_same _))
 
 pub returns-clause-told : goal.returns-clause-told
 returns-clause-told g c =

@@ -11,7 +11,7 @@ returns-in_err-rows-clause-stops g c =
 
 pub write_plan_rows-requires-clause-room : goal.write_plan_rows-requires-clause-room
 write_plan_rows-requires-clause-room g c =
-    subst (λ (n : ℕ). n ≤ row_limit) (rows_are c.args.tree.now c.args.plan.now c.requires.plan c.requires.text) c.in_ok-rows.ensures.few
+    subst (λ (n : ℕ). n ≤ row_limit) (rows_are c.args.tree.now c.args.plan.now c.requires.plan) c.in_ok-rows.ensures.few
 
 pub write_plan_rows-requires-clause-rows : goal.write_plan_rows-requires-clause-rows
 write_plan_rows-requires-clause-rows g c = c.in_ok-rows.ensures.rows

@@ -1,7 +1,9 @@
-use Rattle.std.proofs.Common.{sym, ◌∙◌, ap, length, refl}
+use Rattle.std.proofs.Common.{sym, ◌∙◌, ap, refl}
 use Rattle.sched_base.specs.Sets.{SetContents}
 use Rattle.run_tree.specs.Plans.{PlanContents}
-use Rattle.pure_commands.specs.Follow.{followed_text}
+use Rattle.trace_format.specs.declared.versions.Version.TheVariants.{One}
+use Rattle.pure_commands.specs.Commands.{schedule_text}
+use Rattle.pure_commands.specs.Follow.{plan_told}
 use Rattle.pure_commands.proofs.LineLemmas.{appends_as, took_as}
 use Rattle.pure_commands.proofs.FollowLemmas.{followed_is}
 use Rattle.pure_commands.proofs.WrittenLemmas.{on_written, if_unwritten}
@@ -29,16 +31,16 @@ write_merged-requires-clause-totals g c =
 
 pub returns-clause-done : goal.returns-clause-done
 returns-clause-done g c =
-    let is = followed_is c.args.tree.now c.args.plan.now _ _ _ c.set.ensures.value c.scale.ensures.value c.requires.plan c.requires.text c.requires.rows in
+    let is = followed_is c.args.tree.now c.args.plan.now _ _ _ c.set.ensures.value c.scale.ensures.value c.requires.plan c.requires.rows in
     on_written c.write_merged.result c.written.result c.written.ensures _ _ c.write_merged.ensures.wrote.ok
-    (λ took. (followed_text c.args.tree.now, (c.requires.text, c.requires.room, refl), appends_as _ _ _ _ is took))
+    (λ took. (schedule_text One (plan_told c.args.tree.now), (c.requires.text, c.requires.room, refl), appends_as _ _ _ _ is took))
 
 pub returns-clause-stops : goal.returns-clause-stops
 returns-clause-stops g c =
-    let is = followed_is c.args.tree.now c.args.plan.now _ _ _ c.set.ensures.value c.scale.ensures.value c.requires.plan c.requires.text c.requires.rows in
+    let is = followed_is c.args.tree.now c.args.plan.now _ _ _ c.set.ensures.value c.scale.ensures.value c.requires.plan c.requires.rows in
     if_unwritten c.write_merged.result c.written.result c.written.ensures _ _ _ c.write_merged.ensures.wrote.err c.write_merged.ensures.cause.failed
     (λ took rose. (
-      followed_text c.args.tree.now,
+      schedule_text One (plan_told c.args.tree.now),
       (c.requires.text, c.requires.room, refl),
       took_as _ _ _ _ is took,
       rose,

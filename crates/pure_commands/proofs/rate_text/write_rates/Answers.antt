@@ -1,4 +1,4 @@
-use Rattle.std.proofs.Common.{Err, sym, subst, ◌∙◌, arith}
+use Rattle.std.proofs.Common.{ℕ, List, Err, sym, subst, ◌∙◌, arith}
 use Rattle.std.specs.Io.KnownBytes.{Appends}
 use Rattle.std.specs.Int.{◌∣◌}
 use Rattle.std.proofs.lemmas.List.{get_or_default}
@@ -9,8 +9,14 @@ use Rattle.sched_edges.specs.Streams.{Wrote}
 use Rattle.sched_edges.proofs.CauseLemmas.{cause_cut}
 use Rattle.sched_edges.proofs.Wrote.{item_written, wrote_item}
 use Rattle.run_tree.proofs.SetBoundaryLemmas.{each_lawful}
-use Rattle.pure_commands.specs.RateText.{rate_line}
+use Rattle.std.specs.Prelude.{codes}
+use Rattle.sched_base.specs.Scale.{rate_of}
+use Rattle.sched_edges.specs.Lines.{named_line}
 use Rattle.pure_commands.proofs.rate_text.write_rates.Goals as goal
+
+-- the line of a task
+abbrev rate_line : ℕ → Task → List ℕ
+rate_line scale t = named_line (codes "rate") t.name (rate_of scale t)
 
 pub rate-rate-requires-clause-divides : goal.rate-rate-requires-clause-divides
 rate-rate-requires-clause-divides g c =

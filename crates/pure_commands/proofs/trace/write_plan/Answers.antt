@@ -1,6 +1,6 @@
 use Rattle.std.proofs.Common.{ap}
 use Rattle.std.proofs.lemmas.Result.{IfOk-from_err, err_from_is_err_and}
-use Rattle.pure_commands.specs.Commands.{schedule_text}
+use Rattle.pure_commands.specs.Commands.{schedule_text, version_of}
 use Rattle.pure_commands.proofs.CountedLemmas.{plan_is, uncounted, has_room}
 use Rattle.pure_commands.proofs.EndLemmas.{keeps_same}
 use Rattle.pure_commands.proofs.LineLemmas.{appends_as, took_as}
@@ -37,7 +37,7 @@ returns-clause-stops g c =
       p.tree.scale,
       c.requires.run,
       has_room p c.requires.tree c.in_ok-rows.ensures.few,
-      took_as _ _ _ _ (ap (schedule_text c.args.met) (plan_is p c.requires.tree)) took,
+      took_as _ _ _ _ (ap (schedule_text (version_of c.args.met p.set.tasks)) (plan_is p c.requires.tree)) took,
       rose,
     ))
 
@@ -48,5 +48,5 @@ returns-clause-done g c =
       p.tree.scale,
       c.requires.run,
       has_room p c.requires.tree c.in_ok-rows.ensures.few,
-      appends_as _ _ _ _ (ap (schedule_text c.args.met) (plan_is p c.requires.tree)) took,
+      appends_as _ _ _ _ (ap (schedule_text (version_of c.args.met p.set.tasks)) (plan_is p c.requires.tree)) took,
     ))

@@ -5,7 +5,8 @@ use Rattle.sched_base.specs.Sets.{SetContents}
 use Rattle.sched_base.specs.Tables.{row_limit}
 use Rattle.mode_join.specs.declared.mode.Mode.{Mode}
 use Rattle.mode_join.specs.Joining.{rows_of}
-use Rattle.mode_join.specs.Modes.{AreModes, IsMode, sets_of, units_of, all_rows_of}
+use Rattle.mode_join.specs.Modes.{AreModes, IsMode, sets_of}
+use Rattle.mode_join.proofs.ModeLemmas.{units_of, all_rows_of}
 use Rattle.mode_join.proofs.ModeLemmas.{few_modes, small_end, mode_made, modes_push, overload_next, too_long_next}
 use Rattle.mode_join.proofs.modes.Modes.add.Goals.{After-len-mode, In_ok-push}
 use Rattle.mode_join.proofs.modes.Modes.add.Goals as goal

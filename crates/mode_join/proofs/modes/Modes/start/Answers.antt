@@ -1,7 +1,8 @@
 use Rattle.std.proofs.Common.{◌≡◌, ◌<◌, ◌∙◌, Some, ap, length, option_map, slice_get, subst, sym, take}
 use Rattle.std.proofs.lemmas.Option.{slice_get-get_or}
 use Rattle.mode_join.specs.declared.mode.Mode.{Mode}
-use Rattle.mode_join.specs.Modes.{AreModes, ModesContents, units_of}
+use Rattle.mode_join.specs.Modes.{AreModes, ModesContents}
+use Rattle.mode_join.proofs.ModeLemmas.{units_of}
 use Rattle.mode_join.proofs.modes.Modes.start.Goals as goal
 
 pub returns-clause-value : goal.returns-clause-value
