@@ -6,42 +6,38 @@ ghost use Rattle.sched_base.specs.Tables.{row_limit};
 ghost use Rattle.sched_base.specs.declared.rows.Row.{Row as DeclaredRow};
 ghost use Rattle.merged_rows.specs.Lawful.{AreLawful};
 ghost use Rattle.wrap_sched.specs.Merged.{AreMergedOf, AreMergedUpTo};
-ghost use Rattle.wrap_sched.specs.Steps.{rates, unit_rounds};
+ghost use Rattle.wrap_sched.specs.Slices.{AreSlices};
 ghost use Rattle.wrap_sched.specs.Wrapped.{slice_rows, wrapped_rounds};
 
 use crate::points::next_point;
 use crate::tables::write_rows;
-use crate::units::{UnitRound, pattern_of};
+use crate::units::{Slices, pattern_of};
 use merged_rows::MergedRows;
 use sched_base::{NoMemory, Row, TaskSet, blank_rows};
 use std::alloc::Global;
 
 // Merges the rounds of the slice from unit x up to unit y onto those before it.
 fn merge_slice(
-    set: &TaskSet,
-    scale: u128,
-    pattern: &[UnitRound],
+    slices: &Slices,
     x: u64,
     y: u64,
     rows: &mut [Row],
     before: MergedRows,
 ) -> Result<MergedRows, NoMemory>
-    requires scale { IsScale set.now.tasks scale }
-    requires scale_fits { scale ≤ 2 ^ 94 }
-    requires fits { Fits scale set.now }
-    requires pattern { pattern.now ≡ unit_rounds set.now.processors scale (rates scale set.now.tasks) }
+    requires slices { AreSlices slices.now }
     requires forward { x < y }
-    requires early { y ≤ set.now.horizon }
-    requires rows { length rows.old ≡ set.now.processors }
-    requires before { (done : List DeclaredRow) × (count : ℕ) × AreMergedUpTo set.now.processors (x * scale) count done before }
-    ensures { IfOk result (λ now. let m = set.now.processors in (done : List DeclaredRow) (count : ℕ)
-        → AreMergedUpTo m (x * scale) count done before → AreMergedUpTo m (y * scale) (count + length pattern.now)
-        (done ++ slice_rows scale set.now.tasks m (record { begin = x; end = y })) now) }
+    requires early { y ≤ slices.now.set.now.horizon }
+    requires rows { length rows.old ≡ slices.now.set.now.processors }
+    requires before { (done : List DeclaredRow) × (count : ℕ) × AreMergedUpTo slices.now.set.now.processors (x * slices.now.scale) count done before }
+    ensures { IfOk result (λ now. let m = slices.now.set.now.processors in (done : List DeclaredRow) (count : ℕ)
+        → AreMergedUpTo m (x * slices.now.scale) count done before → AreMergedUpTo m (y * slices.now.scale) (count + length slices.now.pattern.now)
+        (done ++ slice_rows slices.now.scale slices.now.set.now.tasks m (record { begin = x; end = y })) now) }
 {
+    let set = slices.set;
     set.know_lawful();
-    let start = u128::from(x) * scale;
+    let start = u128::from(x) * slices.scale;
     let mut merged = before;
-    for round in pattern {
+    for round in slices.pattern {
         write_rows(set, x, y, start, round, rows);
         merged = merged.with_rows(rows)?;
     }
@@ -49,30 +45,22 @@ fn merge_slice(
 }
 
 // Merges the rounds of all slices.
-fn merge_slices(
-    set: &TaskSet,
-    scale: u128,
-    pattern: &[UnitRound],
-    rows: &mut [Row],
-    none: MergedRows,
-) -> Result<MergedRows, NoMemory>
-    requires scale { IsScale set.now.tasks scale }
-    requires scale_fits { scale ≤ 2 ^ 94 }
-    requires fits { Fits scale set.now }
-    requires pattern { pattern.now ≡ unit_rounds set.now.processors scale (rates scale set.now.tasks) }
-    requires rows { length rows.old ≡ set.now.processors }
-    requires few { wrapped_rounds scale set.now * set.now.processors ≤ row_limit }
-    requires none { none.lanes ≡ replicate set.now.processors [] }
+fn merge_slices(slices: &Slices, rows: &mut [Row], none: MergedRows) -> Result<MergedRows, NoMemory>
+    requires slices { AreSlices slices.now }
+    requires rows { length rows.old ≡ slices.now.set.now.processors }
+    requires few { wrapped_rounds slices.now.scale slices.now.set.now * slices.now.set.now.processors ≤ row_limit }
+    requires none { none.lanes ≡ replicate slices.now.set.now.processors [] }
     requires start { none.end ≡ 0 }
-    ensures rows { IfOk result (λ merged. AreMergedOf scale set.now merged.lanes) }
-    ensures lawful { IfOk result (λ merged. AreLawful set.now merged.lanes) }
+    ensures rows { IfOk result (λ merged. AreMergedOf slices.now.scale slices.now.set.now merged.lanes) }
+    ensures lawful { IfOk result (λ merged. AreLawful slices.now.set.now merged.lanes) }
 {
+    let set = slices.set;
     set.know_lawful();
     let mut merged = none;
     let mut x: u64 = 0;
     'slices: while x < set.horizon() {
         let y = next_point(set, x);
-        merged = merge_slice(set, scale, pattern, x, y, rows, merged)?;
+        merged = merge_slice(slices, x, y, rows, merged)?;
         x = y;
     }
     Ok(merged)
@@ -91,6 +79,11 @@ pub fn merged_wrap(alloc: Global, set: &TaskSet, scale: u128) -> Result<MergedRo
     let processors = set.processors();
     let mut rows = blank_rows(alloc, processors)?;
     let pattern = pattern_of(alloc, set, scale)?;
+    let slices = Slices {
+        set,
+        scale,
+        pattern: &pattern,
+    };
     let none = MergedRows::new(alloc, processors)?;
-    merge_slices(set, scale, &pattern, &mut rows, none)
+    merge_slices(&slices, &mut rows, none)
 }

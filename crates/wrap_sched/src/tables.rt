@@ -6,11 +6,12 @@ ghost use Rattle.sched_base.specs.Tables.{all_rows, end_of, rounds_in};
 ghost use Rattle.sched_base.specs.Valid.{IsValid};
 ghost use Rattle.sched_base.specs.declared.rows.Row.{Row as DeclaredRow};
 ghost use Rattle.sched_base.specs.Lanes.{lanes_of};
-ghost use Rattle.wrap_sched.specs.Steps.{rates, stretched_rows, unit_rounds};
+ghost use Rattle.wrap_sched.specs.Slices.{AreSlices};
+ghost use Rattle.wrap_sched.specs.Steps.{stretched_rows};
 ghost use Rattle.wrap_sched.specs.Wrapped.{leaf_of, slice_rows, wrapped, wrapped_rounds};
 
 use crate::points::next_point;
-use crate::units::{UnitRound, pattern_of};
+use crate::units::{Slices, UnitRound, pattern_of};
 use sched_base::{Leaf, NoMemory, Row, RowTable, TaskId, TaskSet, blank_rows};
 use std::alloc::Global;
 
@@ -62,64 +63,46 @@ pub(crate) fn write_rows(
 }
 
 // Appends the rounds of the slice from unit x up to unit y.
-fn push_slice(
-    set: &TaskSet,
-    scale: u128,
-    pattern: &[UnitRound],
-    x: u64,
-    y: u64,
-    rows: &mut [Row],
-    table: &mut RowTable,
-)
-    requires scale { IsScale set.now.tasks scale }
-    requires scale_fits { scale ≤ 2 ^ 94 }
-    requires fits { Fits scale set.now }
-    requires pattern { pattern.now ≡ unit_rounds set.now.processors scale (rates scale set.now.tasks) }
+fn push_slice(slices: &Slices, x: u64, y: u64, rows: &mut [Row], table: &mut RowTable)
+    requires slices { AreSlices slices.now }
     requires forward { x < y }
-    requires early { y ≤ set.now.horizon }
-    requires rows { length rows.old ≡ set.now.processors }
-    requires whole { length table.old.lanes ≡ set.now.processors }
-    requires start { end_of table.old.lanes ≡ x * scale }
-    requires room { length pattern.now ≤ table.old.room }
-    ensures lanes { let m = set.now.processors in (done : List DeclaredRow) → table.old.lanes ≡ lanes_of m done →
-        table.new.lanes ≡ lanes_of m (done ++ slice_rows scale set.now.tasks m (record { begin = x; end = y })) }
-    ensures end { end_of table.new.lanes ≡ y * scale }
-    ensures whole { length table.new.lanes ≡ set.now.processors }
-    ensures count { rounds_in table.new.lanes ≡ rounds_in table.old.lanes + length pattern.now }
-    ensures room { table.new.room + length pattern.now ≡ table.old.room }
+    requires early { y ≤ slices.now.set.now.horizon }
+    requires rows { length rows.old ≡ slices.now.set.now.processors }
+    requires whole { length table.old.lanes ≡ slices.now.set.now.processors }
+    requires start { end_of table.old.lanes ≡ x * slices.now.scale }
+    requires room { length slices.now.pattern.now ≤ table.old.room }
+    ensures lanes { let m = slices.now.set.now.processors in (done : List DeclaredRow) → table.old.lanes ≡ lanes_of m done →
+        table.new.lanes ≡ lanes_of m (done ++ slice_rows slices.now.scale slices.now.set.now.tasks m (record { begin = x; end = y })) }
+    ensures end { end_of table.new.lanes ≡ y * slices.now.scale }
+    ensures whole { length table.new.lanes ≡ slices.now.set.now.processors }
+    ensures count { rounds_in table.new.lanes ≡ rounds_in table.old.lanes + length slices.now.pattern.now }
+    ensures room { table.new.room + length slices.now.pattern.now ≡ table.old.room }
 {
+    let set = slices.set;
     set.know_lawful();
-    let start = u128::from(x) * scale;
-    for round in pattern {
+    let start = u128::from(x) * slices.scale;
+    for round in slices.pattern {
         write_rows(set, x, y, start, round, rows);
         table.push_round(rows);
     }
 }
 
 // Appends the rounds of all slices.
-fn push_slices(
-    set: &TaskSet,
-    scale: u128,
-    pattern: &[UnitRound],
-    rows: &mut [Row],
-    table: &mut RowTable,
-)
-    requires scale { IsScale set.now.tasks scale }
-    requires scale_fits { scale ≤ 2 ^ 94 }
-    requires fits { Fits scale set.now }
-    requires pattern { pattern.now ≡ unit_rounds set.now.processors scale (rates scale set.now.tasks) }
-    requires rows { length rows.old ≡ set.now.processors }
-    requires none { table.old.lanes ≡ replicate set.now.processors [] }
-    requires room { table.old.room ≡ wrapped_rounds scale set.now }
-    ensures lanes { table.new.lanes ≡ lanes_of set.now.processors (wrapped scale set.now) }
-    ensures count { rounds_in table.new.lanes ≡ wrapped_rounds scale set.now }
+fn push_slices(slices: &Slices, rows: &mut [Row], table: &mut RowTable)
+    requires slices { AreSlices slices.now }
+    requires rows { length rows.old ≡ slices.now.set.now.processors }
+    requires none { table.old.lanes ≡ replicate slices.now.set.now.processors [] }
+    requires room { table.old.room ≡ wrapped_rounds slices.now.scale slices.now.set.now }
+    ensures lanes { table.new.lanes ≡ lanes_of slices.now.set.now.processors (wrapped slices.now.scale slices.now.set.now) }
+    ensures count { rounds_in table.new.lanes ≡ wrapped_rounds slices.now.scale slices.now.set.now }
     ensures full { table.new.room ≡ 0 }
 {
+    let set = slices.set;
     set.know_lawful();
     let mut x: u64 = 0;
     'slices: while x < set.horizon() {
         let y = next_point(set, x);
-        push_slice(set, scale, pattern, x, y, rows, table);
+        push_slice(slices, x, y, rows, table);
         x = y;
     }
 }
@@ -139,8 +122,13 @@ pub fn wrap(alloc: Global, set: &TaskSet, scale: u128, rounds: u64) -> Result<Ro
     let processors = set.processors();
     let mut rows = blank_rows(alloc, processors)?;
     let pattern = pattern_of(alloc, set, scale)?;
+    let slices = Slices {
+        set,
+        scale,
+        pattern: &pattern,
+    };
     let mut table = RowTable::new(alloc, processors, rounds)?;
-    push_slices(set, scale, &pattern, &mut rows, &mut table);
+    push_slices(&slices, &mut rows, &mut table);
     table.know_whole();
     Ok(table)
 }

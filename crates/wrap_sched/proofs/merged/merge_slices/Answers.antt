@@ -6,9 +6,9 @@ use Rattle.wrap_sched.proofs.merged.merge_slices.Goals as goal
 
 pub slices-init : goal.slices-init
 slices-init c = record {
-  at = λ l. point_at_zero c.args.set.now.tasks;
+  at = λ l. point_at_zero c.args.slices.now.set.now.tasks;
   within = omega arith;
-  before = none_before c.args.set.now c.args.scale c.know_lawful.ensures.lawful c.requires.scale c.args.none c.args.pattern.now c.requires.pattern c.requires.none c.requires.start;
+  before = none_before c.args.slices.now.set.now c.args.slices.now.scale c.know_lawful.ensures.lawful c.requires.slices.scale c.args.none c.args.slices.now.pattern.now c.requires.slices.pattern c.requires.none c.requires.start;
 }
 
 pub merge_slice-requires-clause-before : goal.merge_slice-requires-clause-before
@@ -18,46 +18,34 @@ merge_slice-requires-clause-before c =
 
 pub slices-preserved : goal.slices-preserved
 slices-preserved c =
-    let s = c.args.set.now in
+    let s = c.args.slices.now.set.now in
     let next = c.next_point-y.ensures in
     let early : c.slices.x < s.horizon = (let on = c.slices-test.true in let is = c.horizon.ensures.value in omega (arith, on, is)) in
     let before = c.slices.invariant.before in
     record {
       at = next.at;
       within = next.within;
-      before = next_before s c.args.scale c.know_lawful.ensures.lawful c.requires.scale (length c.args.pattern.now) c.slices.x c.next_point-y.result c.slices.merged _
+      before = next_before s c.args.slices.now.scale c.know_lawful.ensures.lawful c.requires.slices.scale (length c.args.slices.now.pattern.now) c.slices.x c.next_point-y.result c.slices.merged _
           (c.slices.invariant.at early) next before (c.in_ok-merged.ensures before.done before.count before.so_far);
     }
 
 pub returns-clause-rows : goal.returns-clause-rows
 returns-clause-rows c =
-    let s = c.args.set.now in
+    let s = c.args.slices.now.set.now in
     let past : s.horizon ≤ c.slices.x = (let off = c.slices-test.false in let is = c.horizon.ensures.value in omega (arith, off, is)) in
-    all_merged_rows s c.args.scale c.know_lawful.ensures.lawful c.requires.scale c.requires.fits (length c.args.pattern.now) c.slices.x c.slices.merged c.slices.invariant.before past
+    all_merged_rows s c.args.slices.now.scale c.know_lawful.ensures.lawful c.requires.slices.scale c.requires.slices.fits (length c.args.slices.now.pattern.now) c.slices.x c.slices.merged c.slices.invariant.before past
 
 pub returns-clause-lawful : goal.returns-clause-lawful
 returns-clause-lawful c =
-    let s = c.args.set.now in
+    let s = c.args.slices.now.set.now in
     let past : s.horizon ≤ c.slices.x = (let off = c.slices-test.false in let is = c.horizon.ensures.value in omega (arith, off, is)) in
-    all_lawful s c.args.scale c.know_lawful.ensures.lawful c.requires.scale c.requires.fits (length c.args.pattern.now) c.slices.x c.slices.merged c.slices.invariant.before past c.requires.few
+    all_lawful s c.args.slices.now.scale c.know_lawful.ensures.lawful c.requires.slices.scale c.requires.slices.fits (length c.args.slices.now.pattern.now) c.slices.x c.slices.merged c.slices.invariant.before past c.requires.few
 
 pub next_point-y-requires : goal.next_point-y-requires
 next_point-y-requires c =
     let on = c.slices-test.true in
     let is = c.horizon.ensures.value in
     omega (arith, on, is)
-
-pub merge_slice-requires-clause-scale : goal.merge_slice-requires-clause-scale
-merge_slice-requires-clause-scale c = c.requires.scale
-
-pub merge_slice-requires-clause-scale_fits : goal.merge_slice-requires-clause-scale_fits
-merge_slice-requires-clause-scale_fits c = c.requires.scale_fits
-
-pub merge_slice-requires-clause-fits : goal.merge_slice-requires-clause-fits
-merge_slice-requires-clause-fits c = c.requires.fits
-
-pub merge_slice-requires-clause-pattern : goal.merge_slice-requires-clause-pattern
-merge_slice-requires-clause-pattern c = c.requires.pattern
 
 pub merge_slice-requires-clause-forward : goal.merge_slice-requires-clause-forward
 merge_slice-requires-clause-forward c = c.next_point-y.ensures.above

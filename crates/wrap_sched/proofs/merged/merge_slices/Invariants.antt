@@ -5,10 +5,10 @@ use Rattle.wrap_sched.proofs.merged.merge_slices.Given as goal
 
 abbrev pub invariant-slices : goal.invariant-slices
 invariant-slices l = record {
-  at : l.x < l.set.horizon → is_point l.set.tasks l.x ≡ true;
-  within : l.x ≤ l.set.horizon;
-  before : AreBefore l.set l.scale (length l.pattern) l.x l.merged;
+  at : l.x < l.slices.set.now.horizon → is_point l.slices.set.now.tasks l.x ≡ true;
+  within : l.x ≤ l.slices.set.now.horizon;
+  before : AreBefore l.slices.set.now l.slices.scale (length l.slices.pattern.now) l.x l.merged;
 }
 
 abbrev pub decreases-slices : goal.decreases-slices
-decreases-slices l = l.set.horizon - l.x
+decreases-slices l = l.slices.set.now.horizon - l.x

@@ -26,15 +26,6 @@ returns-clause-rows c = c.merge_slices.ensures.rows
 pub returns-clause-lawful : goal.returns-clause-lawful
 returns-clause-lawful c = c.merge_slices.ensures.lawful
 
-pub merge_slices-requires-clause-scale : goal.merge_slices-requires-clause-scale
-merge_slices-requires-clause-scale c = c.requires.scale
-
-pub merge_slices-requires-clause-scale_fits : goal.merge_slices-requires-clause-scale_fits
-merge_slices-requires-clause-scale_fits c = c.requires.scale_fits
-
-pub merge_slices-requires-clause-fits : goal.merge_slices-requires-clause-fits
-merge_slices-requires-clause-fits c = c.requires.fits
-
 pub merge_slices-requires-clause-few : goal.merge_slices-requires-clause-few
 merge_slices-requires-clause-few c = c.requires.few
 
@@ -44,11 +35,16 @@ pattern_of-requires-clause-scale c = c.requires.scale
 pub pattern_of-requires-clause-scale_fits : goal.pattern_of-requires-clause-scale_fits
 pattern_of-requires-clause-scale_fits c = c.requires.scale_fits
 
-pub merge_slices-requires-clause-pattern : goal.merge_slices-requires-clause-pattern
-merge_slices-requires-clause-pattern c = c.deref.ensures.value ∙ c.in_ok-pattern.ensures
-
 pub merge_slices-requires-clause-none : goal.merge_slices-requires-clause-none
 merge_slices-requires-clause-none c = c.in_ok-none.ensures.none ∙ ap (λ n. replicate n []) c.processors-processors.ensures.value
 
 pub merge_slices-requires-clause-start : goal.merge_slices-requires-clause-start
 merge_slices-requires-clause-start c = c.in_ok-none.ensures.start
+
+pub merge_slices-requires-clause-slices : goal.merge_slices-requires-clause-slices
+merge_slices-requires-clause-slices c = record {
+  scale = c.requires.scale;
+  scale_fits = c.requires.scale_fits;
+  fits = c.requires.fits;
+  pattern = c.deref.ensures.value ∙ c.in_ok-pattern.ensures;
+}

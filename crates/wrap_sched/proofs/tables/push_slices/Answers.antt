@@ -14,7 +14,7 @@ use Rattle.wrap_sched.proofs.tables.push_slices.Goals as goal
 
 pub slices-init : goal.slices-init
 slices-init c =
-    let s = c.args.set.now in
+    let s = c.args.slices.now.set.now in
     let m = s.processors in
     let lawful = c.know_lawful.ensures.lawful in
     let some = lawful.some_processors in
@@ -25,31 +25,31 @@ slices-init c =
     record {
       at = λ l. point_at_zero s.tasks;
       within = omega arith;
-      rows = ([], none, wrapped_from s c.args.scale);
+      rows = ([], none, wrapped_from s c.args.slices.now.scale);
       end = omega (arith, end);
       whole = ap length none ∙ length-lanes_of m [];
-      room = c.requires.room ∙ room_from s c.args.scale lawful c.requires.scale c.args.pattern.now c.requires.pattern;
+      room = c.requires.room ∙ room_from s c.args.slices.now.scale lawful c.requires.slices.scale c.args.slices.now.pattern.now c.requires.slices.pattern;
       count = omega (arith, rounds, room);
     }
 
 pub push_slice-requires-clause-room : goal.push_slice-requires-clause-room
 push_slice-requires-clause-room c =
-    let s = c.args.set.now in
+    let s = c.args.slices.now.set.now in
     let early : c.slices.x < s.horizon = (let on = c.slices-test.true in let is = c.horizon.ensures.value in omega (arith, on, is)) in
-    let more = ap (λ xs. length c.args.pattern.now * length xs) (filter_next (is_point s.tasks) s.horizon c.slices.x c.next_point-y.result (c.slices.invariant.at early) c.next_point-y.ensures) in
+    let more = ap (λ xs. length c.args.slices.now.pattern.now * length xs) (filter_next (is_point s.tasks) s.horizon c.slices.x c.next_point-y.result (c.slices.invariant.at early) c.next_point-y.ensures) in
     let room = c.slices.invariant.room in
-    let l : length c.args.pattern.now ≤ c.slices.table.room = omega (arith, more, room) in
+    let l : length c.args.slices.now.pattern.now ≤ c.slices.table.room = omega (arith, more, room) in
     l
 
 pub slices-preserved : goal.slices-preserved
 slices-preserved c =
-    let s = c.args.set.now in
-    let f = slice_rows c.args.scale s.tasks s.processors in
+    let s = c.args.slices.now.set.now in
+    let f = slice_rows c.args.slices.now.scale s.tasks s.processors in
     let y = c.next_point-y.result in
     let next = c.next_point-y.ensures in
     let early : c.slices.x < s.horizon = (let on = c.slices-test.true in let is = c.horizon.ensures.value in omega (arith, on, is)) in
     let at = c.slices.invariant.at early in
-    let more = ap (λ xs. length c.args.pattern.now * length xs) (filter_next (is_point s.tasks) s.horizon c.slices.x y at next) in
+    let more = ap (λ xs. length c.args.slices.now.pattern.now * length xs) (filter_next (is_point s.tasks) s.horizon c.slices.x y at next) in
     let room = c.slices.invariant.room in
     let less = c.push_slice.ensures.room in
     let count = c.slices.invariant.count in
@@ -96,44 +96,32 @@ slices-smaller c =
 
 pub returns-clause-lanes : goal.returns-clause-lanes
 returns-clause-lanes c =
-    let s = c.args.set.now in
+    let s = c.args.slices.now.set.now in
     let off = c.slices-test.false in
     let is = c.horizon.ensures.value in
     let none : s.horizon - c.slices.x ≡ 0 = omega (arith, off, is) in
     let (done, are, all) = c.slices.invariant.rows in
-    let f = slice_rows c.args.scale s.tasks s.processors in
+    let f = slice_rows c.args.slices.now.scale s.tasks s.processors in
     let rest = ap (λ n. done ++ flat_map f (spans (filter (is_point s.tasks) (range_with_len c.slices.x n)) s.horizon)) none in
     are ∙ ap (lanes_of s.processors) (sym (append-nil done) ∙ sym rest ∙ all)
 
 pub returns-clause-full : goal.returns-clause-full
 returns-clause-full c =
-    let s = c.args.set.now in
+    let s = c.args.slices.now.set.now in
     let off = c.slices-test.false in
     let is = c.horizon.ensures.value in
     let none : s.horizon - c.slices.x ≡ 0 = omega (arith, off, is) in
-    let rest = ap (λ n. length c.args.pattern.now * length (filter (is_point s.tasks) (range_with_len c.slices.x n))) none in
+    let rest = ap (λ n. length c.args.slices.now.pattern.now * length (filter (is_point s.tasks) (range_with_len c.slices.x n))) none in
     let room = c.slices.invariant.room in
     omega (arith, rest, room)
 
-pub push_slice-requires-clause-scale : goal.push_slice-requires-clause-scale
-push_slice-requires-clause-scale c = c.requires.scale
-
-pub push_slice-requires-clause-scale_fits : goal.push_slice-requires-clause-scale_fits
-push_slice-requires-clause-scale_fits c = c.requires.scale_fits
-
-pub push_slice-requires-clause-fits : goal.push_slice-requires-clause-fits
-push_slice-requires-clause-fits c = c.requires.fits
-
-pub push_slice-requires-clause-pattern : goal.push_slice-requires-clause-pattern
-push_slice-requires-clause-pattern c = c.requires.pattern
-
 pub returns-clause-count : goal.returns-clause-count
 returns-clause-count c =
-    let s = c.args.set.now in
+    let s = c.args.slices.now.set.now in
     let off = c.slices-test.false in
     let is = c.horizon.ensures.value in
     let none : s.horizon - c.slices.x ≡ 0 = omega (arith, off, is) in
-    let rest = ap (λ n. length c.args.pattern.now * length (filter (is_point s.tasks) (range_with_len c.slices.x n))) none in
+    let rest = ap (λ n. length c.args.slices.now.pattern.now * length (filter (is_point s.tasks) (range_with_len c.slices.x n))) none in
     let room = c.slices.invariant.room in
     let count = c.slices.invariant.count in
     omega (arith, rest, room, count)

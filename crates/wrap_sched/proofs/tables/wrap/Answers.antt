@@ -47,23 +47,11 @@ returns-in_err-table-clause-full c = IfOk-from_err _ _ c.from_residual-in_err-ta
 pub returns-in_err-table-clause-valid : goal.returns-in_err-table-clause-valid
 returns-in_err-table-clause-valid c = IfOk-from_err _ _ c.from_residual-in_err-table.ensures.0
 
-pub push_slices-requires-clause-scale : goal.push_slices-requires-clause-scale
-push_slices-requires-clause-scale c = c.requires.scale
-
-pub push_slices-requires-clause-scale_fits : goal.push_slices-requires-clause-scale_fits
-push_slices-requires-clause-scale_fits c = c.requires.scale_fits
-
-pub push_slices-requires-clause-fits : goal.push_slices-requires-clause-fits
-push_slices-requires-clause-fits c = c.requires.fits
-
 pub pattern_of-requires-clause-scale : goal.pattern_of-requires-clause-scale
 pattern_of-requires-clause-scale c = c.requires.scale
 
 pub pattern_of-requires-clause-scale_fits : goal.pattern_of-requires-clause-scale_fits
 pattern_of-requires-clause-scale_fits c = c.requires.scale_fits
-
-pub push_slices-requires-clause-pattern : goal.push_slices-requires-clause-pattern
-push_slices-requires-clause-pattern c = c.deref.ensures.value ∙ c.in_ok-pattern.ensures
 
 pub push_slices-requires-clause-none : goal.push_slices-requires-clause-none
 push_slices-requires-clause-none c = c.in_ok-table.ensures.none ∙ ap (λ n. replicate n []) c.processors-processors.ensures.value
@@ -79,3 +67,11 @@ returns-clause-rounds c = c.push_slices.ensures.count ∙ sym c.requires.rounds
 
 pub returns-clause-full : goal.returns-clause-full
 returns-clause-full c = c.push_slices.ensures.full
+
+pub push_slices-requires-clause-slices : goal.push_slices-requires-clause-slices
+push_slices-requires-clause-slices c = record {
+  scale = c.requires.scale;
+  scale_fits = c.requires.scale_fits;
+  fits = c.requires.fits;
+  pattern = c.deref.ensures.value ∙ c.in_ok-pattern.ensures;
+}
