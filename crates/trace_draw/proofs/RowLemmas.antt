@@ -1,5 +1,5 @@
 -- Of the rows that reach into a window the first ones are drawn.
-use Rattle.std.proofs.Common.{ℕ, suc, ◌+◌, ◌<◌, ◌≤◌, ◌≡◌, Bool, true, false, cond, min, List, [], ◌∷◌, ◌++◌, take, drop, get_or, filter, length, length-append, drop-cons, sym, ap, ◌∙◌, subst, arith}
+use Rattle.std.proofs.Common.{ℕ, suc, ◌+◌, ◌<◌, ◌≤◌, ◌≡◌, Bool, true, false, cond, min, List, ◌∷◌, ◌++◌, take, drop, get_or, filter, length, length-append, drop-cons, sym, ap, ◌∙◌, subst, arith}
 use Rattle.std.proofs.lemmas.Bool.{cond-true, cond-false}
 use Rattle.std.proofs.lemmas.List.{take-append-drop, take_all, length-take, get_or-take}
 use Rattle.std.proofs.lemmas.List.Elements.{filter-append}

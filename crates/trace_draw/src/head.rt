@@ -203,29 +203,23 @@ pub(crate) fn write_head<W: Sink>(
     ensures wrote { Wrote (W.taken sink.old) (W.taken sink.new) (head_text set.now window.now verdict hint.now) result }
     ensures cause { HasCause (W.faults sink.old) (W.faults sink.new) result }
 {
-    write_opening(sink, set, window, verdict)?;
+    write_lines(sink, &opening_lines(set, window, verdict))?;
     write_style(sink)?;
-    write_caption(sink, set, window, verdict, hint)
+    write_lines(sink, &caption_lines(set, window, verdict, hint))
 }
 
-fn write_opening<W: Sink>(
-    sink: &mut W,
-    set: &TaskSet,
-    window: &ShownUnits,
-    verdict: Verdict,
-) -> Result<(), Failed>
+// The first lines, up to what a screen reader reads.
+fn opening_lines(set: &TaskSet, window: &ShownUnits, verdict: Verdict) -> [Line; 5]
     requires { AreShownUnits window.now }
-    ensures wrote { Wrote (W.taken sink.old) (W.taken sink.new) (concat (opening_lines set.now window.now verdict)) result }
-    ensures cause { HasCause (W.faults sink.old) (W.faults sink.new) result }
+    ensures { result ≡ opening_lines set.now window.now verdict }
 {
-    let lines = [
+    [
         word_line(b"<svg xmlns='http://www.w3.org/2000/svg' role='img' aria-labelledby='t d'"),
         shape_line(b" viewBox='0 0 ", 12_000, b" ", bottom(set) + 600, b"'>"),
         title_line(set),
         word_line(b"<desc id='d'>A lane for each processor, and below them one for each task;"),
         description_line(set, window, verdict),
-    ];
-    write_lines(sink, &lines)
+    ]
 }
 
 fn write_style<W: Sink>(sink: &mut W) -> Result<(), Failed>
@@ -278,22 +272,16 @@ fn sized_line(look: &[u8], size: &[u8], x: u64, text: &[u8]) -> Line
     label_line(whole.as_slice(), x, 560, text)
 }
 
-fn write_caption<W: Sink>(
-    sink: &mut W,
-    set: &TaskSet,
-    window: &ShownUnits,
-    verdict: Verdict,
-    hint: &[u8],
-) -> Result<(), Failed>
+// The paper, and the words above the plot.
+fn caption_lines(set: &TaskSet, window: &ShownUnits, verdict: Verdict, hint: &[u8]) -> [Line; 5]
     requires window { AreShownUnits window.now }
     requires hint { length hint.now ≤ 80 }
-    ensures wrote { Wrote (W.taken sink.old) (W.taken sink.new) (concat (caption_lines set.now window.now verdict hint.now)) result }
-    ensures cause { HasCause (W.faults sink.old) (W.faults sink.new) result }
+    ensures { result ≡ caption_lines set.now window.now verdict hint.now }
 {
     let shown = shown_text(set, window, hint);
     let scale = scale_text(window.scale);
     let size = grown(shown.as_slice().len() + scale.as_slice().len(), 11300);
-    let lines = [
+    [
         paper_line(set),
         label_line(b"h", 250, 330, size_text(set).as_slice()),
         sized_line(b"n", size, 250, shown.as_slice()),
@@ -304,8 +292,7 @@ fn write_caption<W: Sink>(
             330,
             verdict_text(verdict).as_slice(),
         ),
-    ];
-    write_lines(sink, &lines)
+    ]
 }
 
 // The lane of a processor, with nothing on it.

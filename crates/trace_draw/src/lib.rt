@@ -7,6 +7,7 @@ mod head;
 mod periods;
 mod picture;
 mod rows;
+mod scene;
 mod served;
 mod shapes;
 mod shown_units;

@@ -10,6 +10,7 @@ ghost use Rattle.trace_draw.specs.Periods.{begun_before, first_shown, count_show
 ghost use Rattle.trace_draw.specs.Periods.{title_look, title_lines, task_text};
 
 use crate::rows::task_of;
+use crate::scene::Scene;
 use crate::served::{Served, served_between};
 use crate::shapes::{add_number, box_line, line_if, roomy_line, shape_line, task_top};
 use crate::shown_units::{ShownUnits, WIDTH};
@@ -111,53 +112,42 @@ fn period_lines(window: &ShownUnits, y: u64, period: &Period, served: &Served) -
 }
 
 // Writes what is drawn of period k of a task.
-fn write_period<W: Sink>(
-    sink: &mut W,
-    trace: &ReadTrace,
-    window: &ShownUnits,
-    task: u32,
-    k: u64,
-) -> Result<(), Failed>
-    requires window { AreShownUnits window.now }
-    requires task { task < length trace.now.set.tasks }
+fn write_period<W: Sink>(sink: &mut W, scene: &Scene, task: u32, k: u64) -> Result<(), Failed>
+    requires window { AreShownUnits scene.now.window.now }
+    requires task { task < length scene.now.trace.now.set.tasks }
     requires k { k ≤ 2 ^ 32 }
-    requires begun { (task_at trace.now.set.tasks task).offset + k * (task_at trace.now.set.tasks task).period < 2 ^ 32 }
-    ensures wrote { Wrote (W.taken sink.old) (W.taken sink.new) (period_text trace.now window.now task k) result }
+    requires begun { (task_at scene.now.trace.now.set.tasks task).offset + k * (task_at scene.now.trace.now.set.tasks task).period < 2 ^ 32 }
+    ensures wrote { Wrote (W.taken sink.old) (W.taken sink.new) (period_text scene.now.trace.now scene.now.window.now task k) result }
     ensures cause { HasCause (W.faults sink.old) (W.faults sink.new) result }
 {
-    let scale = trace.scale();
-    let set = trace.set();
+    let scale = scene.trace.scale();
+    let set = scene.trace.set();
     let of_set = task_of(set, task);
-    let _rows = trace.rows();
+    let _rows = scene.trace.rows();
     let period = Period {
         begin: period_start(of_set, scale, k),
         end: period_start(of_set, scale, k + 1),
         due: u128::from(of_set.work) * scale,
         horizon: u128::from(set.horizon()) * scale,
     };
-    let served = served_between(trace, task, period.begin, period.end);
+    let served = served_between(scene.trace, task, period.begin, period.end);
     let y = task_top(set.processors(), task) + 300;
-    write_lines(sink, &period_lines(window, y, &period, &served))
+    write_lines(sink, &period_lines(scene.window, y, &period, &served))
 }
 
 // Writes the marks of the periods of a task.
-fn write_marks<W: Sink>(
-    sink: &mut W,
-    trace: &ReadTrace,
-    window: &ShownUnits,
-    task: u32,
-) -> Result<(), Failed>
-    requires window { AreShownUnits window.now }
-    requires task { task < length trace.now.set.tasks }
+fn write_marks<W: Sink>(sink: &mut W, scene: &Scene, task: u32) -> Result<(), Failed>
+    requires window { AreShownUnits scene.now.window.now }
+    requires task { task < length scene.now.trace.now.set.tasks }
     ensures wrote { Wrote (W.taken sink.old) (W.taken sink.new)
-        (flat_map (λ i. period_text trace.now window.now task (first_shown window.now (task_at trace.now.set.tasks task) + i))
-        (range_with_len 0 (count_shown window.now (task_at trace.now.set.tasks task)))) result }
+        (flat_map (λ i. period_text scene.now.trace.now scene.now.window.now task (first_shown scene.now.window.now (task_at scene.now.trace.now.set.tasks task) + i))
+        (range_with_len 0 (count_shown scene.now.window.now (task_at scene.now.trace.now.set.tasks task)))) result }
     ensures cause { HasCause (W.faults sink.old) (W.faults sink.new) result }
 {
-    let of_set = task_of(trace.set(), task);
-    let first = first_shown(window, of_set);
-    for i in 0..count_shown(window, of_set) {
-        write_period(sink, trace, window, task, first + i)?;
+    let of_set = task_of(scene.trace.set(), task);
+    let first = first_shown(scene.window, of_set);
+    for i in 0..count_shown(scene.window, of_set) {
+        write_period(sink, scene, task, first + i)?;
     }
     Ok(())
 }
@@ -220,37 +210,26 @@ fn title_lines(trace: &ReadTrace, verdict: Verdict, task: u32, top: u64) -> [Lin
 }
 
 // Writes the lane of a task.
-fn write_task<W: Sink>(
-    sink: &mut W,
-    trace: &ReadTrace,
-    window: &ShownUnits,
-    verdict: Verdict,
-    task: u32,
-) -> Result<(), Failed>
-    requires window { AreShownUnits window.now }
-    requires task { task < length trace.now.set.tasks }
-    ensures wrote { Wrote (W.taken sink.old) (W.taken sink.new) (task_text trace.now window.now verdict task) result }
+fn write_task<W: Sink>(sink: &mut W, scene: &Scene, task: u32) -> Result<(), Failed>
+    requires window { AreShownUnits scene.now.window.now }
+    requires task { task < length scene.now.trace.now.set.tasks }
+    ensures wrote { Wrote (W.taken sink.old) (W.taken sink.new) (task_text scene.now.trace.now scene.now.window.now scene.now.verdict task) result }
     ensures cause { HasCause (W.faults sink.old) (W.faults sink.new) result }
 {
-    let top = task_top(trace.set().processors(), task);
-    write_lines(sink, &title_lines(trace, verdict, task, top))?;
-    write_marks(sink, trace, window, task)
+    let top = task_top(scene.trace.set().processors(), task);
+    write_lines(sink, &title_lines(scene.trace, scene.verdict, task, top))?;
+    write_marks(sink, scene, task)
 }
 
 /// Writes the lanes of the tasks.
-pub(crate) fn write_tasks<W: Sink>(
-    sink: &mut W,
-    trace: &ReadTrace,
-    window: &ShownUnits,
-    verdict: Verdict,
-) -> Result<(), Failed>
-    requires window { AreShownUnits window.now }
+pub(crate) fn write_tasks<W: Sink>(sink: &mut W, scene: &Scene) -> Result<(), Failed>
+    requires window { AreShownUnits scene.now.window.now }
     ensures wrote { Wrote (W.taken sink.old) (W.taken sink.new)
-        (flat_map (task_text trace.now window.now verdict) (range_with_len 0 (length trace.now.set.tasks))) result }
+        (flat_map (task_text scene.now.trace.now scene.now.window.now scene.now.verdict) (range_with_len 0 (length scene.now.trace.now.set.tasks))) result }
     ensures cause { HasCause (W.faults sink.old) (W.faults sink.new) result }
 {
-    for task in 0..trace.set().count() {
-        write_task(sink, trace, window, verdict, task)?;
+    for task in 0..scene.trace.set().count() {
+        write_task(sink, scene, task)?;
     }
     Ok(())
 }

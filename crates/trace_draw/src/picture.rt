@@ -12,6 +12,7 @@ ghost use Rattle.trace_draw.specs.Picture.{framed_row, fault_text, closing_lines
 use crate::head::{bottom, write_axis, write_head, write_lanes};
 use crate::periods::write_tasks;
 use crate::rows::{Part, frame_lines, write_rows};
+use crate::scene::Scene;
 use crate::shapes::{add_number, roomy_line};
 use crate::shown_units::{MOST_DRAWN, ShownUnits};
 use sched_base::TaskSet;
@@ -34,10 +35,15 @@ pub fn write_picture<W: Sink>(
     ensures wrote { Wrote (W.taken sink.old) (W.taken sink.new) (picture trace.now window.now verdict) result }
     ensures cause { HasCause (W.faults sink.old) (W.faults sink.new) result }
 {
-    write_base(sink, trace, window, verdict)?;
+    let scene = Scene {
+        trace,
+        window,
+        verdict,
+    };
+    write_base(sink, &scene)?;
     write_rows(sink, Part::Boxes, trace.set(), window, trace.rows())?;
-    write_tasks(sink, trace, window, verdict)?;
-    write_end(sink, trace, window, verdict)
+    write_tasks(sink, &scene)?;
+    write_end(sink, &scene)
 }
 
 // What the head says of what isn't shown.
@@ -66,65 +72,50 @@ fn hint_text(trace: &ReadTrace, window: &ShownUnits) -> Line
 }
 
 // Writes what lies below the rows.
-fn write_base<W: Sink>(
-    sink: &mut W,
-    trace: &ReadTrace,
-    window: &ShownUnits,
-    verdict: Verdict,
-) -> Result<(), Failed>
-    requires { AreShownUnits window.now }
+fn write_base<W: Sink>(sink: &mut W, scene: &Scene) -> Result<(), Failed>
+    requires window { AreShownUnits scene.now.window.now }
     ensures wrote { Wrote (W.taken sink.old) (W.taken sink.new)
-        (head_text trace.now.set window.now verdict (hint_text trace.now window.now)
-        ++ (lanes_text trace.now.set ++ axis_text trace.now.set window.now)) result }
+        (head_text scene.now.trace.now.set scene.now.window.now scene.now.verdict (hint_text scene.now.trace.now scene.now.window.now)
+        ++ (lanes_text scene.now.trace.now.set ++ axis_text scene.now.trace.now.set scene.now.window.now)) result }
     ensures cause { HasCause (W.faults sink.old) (W.faults sink.new) result }
 {
-    let set = trace.set();
-    let hint = hint_text(trace, window);
-    write_head(sink, set, window, verdict, hint.as_slice())?;
+    let set = scene.trace.set();
+    let hint = hint_text(scene.trace, scene.window);
+    write_head(sink, set, scene.window, scene.verdict, hint.as_slice())?;
     write_lanes(sink, set)?;
-    write_axis(sink, set, window)
+    write_axis(sink, set, scene.window)
 }
 
 // Writes the frames of row i, where there is such a row.
-fn write_frames<W: Sink>(
-    sink: &mut W,
-    trace: &ReadTrace,
-    window: &ShownUnits,
-    i: u64,
-) -> Result<(), Failed>
-    requires { AreShownUnits window.now }
-    ensures wrote { Wrote (W.taken sink.old) (W.taken sink.new) (framed_row trace.now window.now i) result }
+fn write_frames<W: Sink>(sink: &mut W, scene: &Scene, i: u64) -> Result<(), Failed>
+    requires window { AreShownUnits scene.now.window.now }
+    ensures wrote { Wrote (W.taken sink.old) (W.taken sink.new) (framed_row scene.now.trace.now scene.now.window.now i) result }
     ensures cause { HasCause (W.faults sink.old) (W.faults sink.new) result }
 {
-    let rows = trace.rows();
+    let rows = scene.trace.rows();
     if i >= rows.len() as u64 {
         return Ok(());
     }
     let row = &rows[i as usize];
-    if !window.reaches(row) {
+    if !scene.window.reaches(row) {
         return Ok(());
     }
-    let x = window.place(row.start);
-    let width = window.span(row.start, row.end);
-    write_lines(sink, &frame_lines(trace.set(), row, x, width))
+    let x = scene.window.place(row.start);
+    let width = scene.window.span(row.start, row.end);
+    write_lines(sink, &frame_lines(scene.trace.set(), row, x, width))
 }
 
 // Writes the frames of the row at fault.
-fn write_fault<W: Sink>(
-    sink: &mut W,
-    trace: &ReadTrace,
-    window: &ShownUnits,
-    verdict: Verdict,
-) -> Result<(), Failed>
-    requires { AreShownUnits window.now }
-    ensures wrote { Wrote (W.taken sink.old) (W.taken sink.new) (fault_text trace.now window.now verdict) result }
+fn write_fault<W: Sink>(sink: &mut W, scene: &Scene) -> Result<(), Failed>
+    requires window { AreShownUnits scene.now.window.now }
+    ensures wrote { Wrote (W.taken sink.old) (W.taken sink.new) (fault_text scene.now.trace.now scene.now.window.now scene.now.verdict) result }
     ensures cause { HasCause (W.faults sink.old) (W.faults sink.new) result }
 {
-    let first = FIRST_TASK_LINE + u64::from(trace.set().count());
-    match verdict {
+    let first = FIRST_TASK_LINE + u64::from(scene.trace.set().count());
+    match scene.verdict {
         Verdict::Valid => Ok(()),
         Verdict::Fault { line, kind: _ } => match line.checked_sub(first) {
-            Some(i) => write_frames(sink, trace, window, i),
+            Some(i) => write_frames(sink, scene, i),
             None => Ok(()),
         },
     }
@@ -156,18 +147,19 @@ fn write_closing<W: Sink>(sink: &mut W, set: &TaskSet) -> Result<(), Failed>
 }
 
 // Writes what comes last.
-fn write_end<W: Sink>(
-    sink: &mut W,
-    trace: &ReadTrace,
-    window: &ShownUnits,
-    verdict: Verdict,
-) -> Result<(), Failed>
-    requires { AreShownUnits window.now }
+fn write_end<W: Sink>(sink: &mut W, scene: &Scene) -> Result<(), Failed>
+    requires window { AreShownUnits scene.now.window.now }
     ensures wrote { Wrote (W.taken sink.old) (W.taken sink.new)
-        (fault_text trace.now window.now verdict ++ (rows_text Words trace.now.set window.now trace.now.rows ++ concat (closing_lines trace.now.set))) result }
+        (fault_text scene.now.trace.now scene.now.window.now scene.now.verdict ++ (rows_text Words scene.now.trace.now.set scene.now.window.now scene.now.trace.now.rows ++ concat (closing_lines scene.now.trace.now.set))) result }
     ensures cause { HasCause (W.faults sink.old) (W.faults sink.new) result }
 {
-    write_fault(sink, trace, window, verdict)?;
-    write_rows(sink, Part::Words, trace.set(), window, trace.rows())?;
-    write_closing(sink, trace.set())
+    write_fault(sink, scene)?;
+    write_rows(
+        sink,
+        Part::Words,
+        scene.trace.set(),
+        scene.window,
+        scene.trace.rows(),
+    )?;
+    write_closing(sink, scene.trace.set())
 }

@@ -47,7 +47,7 @@ returns-clause-cause g c = c.write_lines.ensures.cause
 
 pub returns-clause-wrote : goal.returns-clause-wrote
 returns-clause-wrote g c =
-    let tr = c.args.trace.now in
+    let tr = c.args.scene.now.trace.now in
     let s = tr.set in
     let t = task_at s.tasks c.args.task in
     let k = c.args.k in
@@ -59,7 +59,7 @@ returns-clause-wrote g c =
     let top = c.task_top-y.ensures.value ∙ ap (λ n. task_top n c.args.task) (c.processors.ensures.value ∙ ap (λ (x : SetContents). x.processors) set) in
     let begin : c.period_start.result ≡ period_start tr.scale t k = c.period_start.ensures ∙ start_is c.scale-scale.result tr.scale c.task_of-of_set.result.now t k scale task in
     let end : c.period_start-2.result ≡ period_start tr.scale t (k + 1) = c.period_start-2.ensures ∙ start_is c.scale-scale.result tr.scale c.task_of-of_set.result.now t (k + 1) scale task in
-    let lines = c.period_lines.ensures ∙ lines_are c.args.window.now (c.from-2.result * c.scale-scale.result) (s.horizon * tr.scale) (c.task_top-y.result + 300) (task_top s.processors c.args.task + 300)
+    let lines = c.period_lines.ensures ∙ lines_are c.args.scene.now.window.now (c.from-2.result * c.scale-scale.result) (s.horizon * tr.scale) (c.task_top-y.result + 300) (task_top s.processors c.args.task + 300)
     c.period_start.result (period_start tr.scale t k) c.period_start-2.result (period_start tr.scale t (k + 1)) (c.from.result * c.scale-scale.result) (t.work * tr.scale)
     c.served_between-served.result.given (served tr.scale s tr.rows c.args.task k) c.served_between-served.result.done (finish tr.scale s tr.rows c.args.task k)
     (ticks_are c.from-2.result s.horizon c.scale-scale.result tr.scale horizon scale) (ap (λ n. n + 300) top) begin end (ticks_are c.from.result t.work c.scale-scale.result tr.scale (c.from.ensures ∙ ap (λ (x : Task). x.work) task) scale)

@@ -12,7 +12,7 @@ offset_fits i rows a b = omega arith
 pub returns-then-i-rows-clause-wrote : goal.returns-then-i-rows-clause-wrote
 returns-then-i-rows-clause-wrote g c =
     let past = subst (λ rows. length rows ≤ c.args.i) c.rows-rows.ensures.value c.if-i-rows.true in
-    rw (framed_past c.args.trace.now c.args.window.now c.args.i past) (wrote_none _ _)
+    rw (framed_past c.args.scene.now.trace.now c.args.scene.now.window.now c.args.i past) (wrote_none _ _)
 
 pub returns-then-i-rows-clause-cause : goal.returns-then-i-rows-clause-cause
 returns-then-i-rows-clause-cause g c = record { later = le_refl _; failed = tt }
@@ -24,29 +24,29 @@ pub returns-clause-cause : goal.returns-clause-cause
 returns-clause-cause g c = c.write_lines.ensures.cause
 
 pub reaches-requires : goal.reaches-requires
-reaches-requires g c = c.requires
+reaches-requires g c = c.requires.window
 
 pub place-x-requires : goal.place-x-requires
-place-x-requires g c = c.requires
+place-x-requires g c = c.requires.window
 
 pub span-width-requires : goal.span-width-requires
-span-width-requires g c = c.requires
+span-width-requires g c = c.requires.window
 
 pub offset_bounds-rows-i : goal.offset_bounds-rows-i
 offset_bounds-rows-i g c =
-    offset_fits c.args.i (length c.args.trace.now.rows) (subst (λ (rows : List Row). c.args.i < length rows) c.rows-rows.ensures.value c.if-i-rows.false) c.rows-rows.ensures.lawful.few
+    offset_fits c.args.i (length c.args.scene.now.trace.now.rows) (subst (λ (rows : List Row). c.args.i < length rows) c.rows-rows.ensures.value c.if-i-rows.false) c.rows-rows.ensures.lawful.few
 
 pub bounds-rows-i : goal.bounds-rows-i
 bounds-rows-i g c = c.if-i-rows.false
 
 pub returns-then-not-reaches-clause-wrote : goal.returns-then-not-reaches-clause-wrote
 returns-then-not-reaches-clause-wrote g c =
-    rw (framed_apart c.args.trace.now c.args.window.now c.rows-rows.result.now c.args.i c.reaches.result c.rows-rows.ensures.value c.reaches.ensures c.if-not-reaches.true) (wrote_none _ _)
+    rw (framed_apart c.args.scene.now.trace.now c.args.scene.now.window.now c.rows-rows.result.now c.args.i c.reaches.result c.rows-rows.ensures.value c.reaches.ensures c.if-not-reaches.true) (wrote_none _ _)
 
 pub returns-clause-wrote : goal.returns-clause-wrote
 returns-clause-wrote g c =
-    let t = c.args.trace.now in
-    let w = c.args.window.now in
+    let t = c.args.scene.now.trace.now in
+    let w = c.args.scene.now.window.now in
     let i = c.args.i in
     let value = c.rows-rows.ensures.value in
     let within = subst (λ (rows : List Row). i < length rows) value c.if-i-rows.false in

@@ -1,4 +1,4 @@
-use Rattle.std.proofs.Common.{◌≡◌, ◌∙◌, sym, refl, le_refl, le_trans}
+use Rattle.std.proofs.Common.{◌∙◌, sym, refl, le_refl, le_trans}
 use Rattle.std.proofs.lemmas.List.{get_or_default}
 use Rattle.sched_base.specs.declared.rows.Leaf.TheVariants as leaves
 use Rattle.sched_edges.proofs.Wrote.{item_written, wrote_item}

@@ -1,9 +1,9 @@
-use Rattle.std.proofs.Common.{length-append}
+use Rattle.std.proofs.Common.{refl, length-append}
 use Rattle.trace_draw.specs.Head.{units_text}
-use Rattle.trace_draw.proofs.head.write_caption.Goals as goal
+use Rattle.trace_draw.proofs.head.caption_lines.Goals as goal
 
-pub returns-clause-wrote : goal.returns-clause-wrote
-returns-clause-wrote g c =
+pub returns : goal.returns
+returns c =
     rw (
       c.paper_line.ensures,
       c.label_line.ensures,
@@ -23,10 +23,7 @@ returns-clause-wrote g c =
       c.verdict_look.ensures.look,
       c.verdict_text.ensures.text,
       length-append (units_text c.args.set.now c.args.window.now) c.args.hint.now,
-    ) at c.write_lines.ensures.wrote
-
-pub returns-clause-cause : goal.returns-clause-cause
-returns-clause-cause g c = c.write_lines.ensures.cause
+    ) refl
 
 pub shown_text-shown-requires-clause-window : goal.shown_text-shown-requires-clause-window
-shown_text-shown-requires-clause-window g c = c.requires.window
+shown_text-shown-requires-clause-window c = c.requires.window
