@@ -9,4 +9,4 @@ pub record AreSlices (s : Slices) : Type 0 where
   pub scale : IsScale s.set.now.tasks s.scale
   pub scale_fits : s.scale ≤ 2 ^ 94
   pub fits : Fits s.scale s.set.now
-  pub pattern : s.pattern.now ≡ unit_rounds s.set.now.processors s.scale (rates s.scale s.set.now.tasks)
+  pub pattern : s.pattern.items ≡ unit_rounds s.set.now.processors s.scale (rates s.scale s.set.now.tasks)

@@ -11,7 +11,7 @@ ghost use Rattle.wrap_sched.specs.Wrapped.{slice_rows, wrapped_rounds};
 
 use crate::points::next_point;
 use crate::tables::write_rows;
-use crate::units::{Slices, pattern_of};
+use crate::units::Slices;
 use merged_rows::MergedRows;
 use sched_base::{NoMemory, Row, TaskSet, blank_rows};
 use std::alloc::Global;
@@ -30,14 +30,14 @@ fn merge_slice(
     requires rows { length rows.old ≡ slices.now.set.now.processors }
     requires before { (done : List DeclaredRow) × (count : ℕ) × AreMergedUpTo slices.now.set.now.processors (x * slices.now.scale) count done before }
     ensures { IfOk result (λ now. let m = slices.now.set.now.processors in (done : List DeclaredRow) (count : ℕ)
-        → AreMergedUpTo m (x * slices.now.scale) count done before → AreMergedUpTo m (y * slices.now.scale) (count + length slices.now.pattern.now)
+        → AreMergedUpTo m (x * slices.now.scale) count done before → AreMergedUpTo m (y * slices.now.scale) (count + length slices.now.pattern.items)
         (done ++ slice_rows slices.now.scale slices.now.set.now.tasks m (record { begin = x; end = y })) now) }
 {
     let set = slices.set;
     set.know_lawful();
     let start = u128::from(x) * slices.scale;
     let mut merged = before;
-    for round in slices.pattern {
+    for round in &slices.pattern {
         write_rows(set, x, y, start, round, rows);
         merged = merged.with_rows(rows)?;
     }
@@ -78,12 +78,7 @@ pub fn merged_wrap(alloc: Global, set: &TaskSet, scale: u128) -> Result<MergedRo
 {
     let processors = set.processors();
     let mut rows = blank_rows(alloc, processors)?;
-    let pattern = pattern_of(alloc, set, scale)?;
-    let slices = Slices {
-        set,
-        scale,
-        pattern: &pattern,
-    };
+    let slices = Slices::of(alloc, set, scale)?;
     let none = MergedRows::new(alloc, processors)?;
     merge_slices(&slices, &mut rows, none)
 }

@@ -11,7 +11,7 @@ ghost use Rattle.wrap_sched.specs.Steps.{stretched_rows};
 ghost use Rattle.wrap_sched.specs.Wrapped.{leaf_of, slice_rows, wrapped, wrapped_rounds};
 
 use crate::points::next_point;
-use crate::units::{Slices, UnitRound, pattern_of};
+use crate::units::{Slices, UnitRound};
 use sched_base::{Leaf, NoMemory, Row, RowTable, TaskId, TaskSet, blank_rows};
 use std::alloc::Global;
 
@@ -70,18 +70,18 @@ fn push_slice(slices: &Slices, x: u64, y: u64, rows: &mut [Row], table: &mut Row
     requires rows { length rows.old ≡ slices.now.set.now.processors }
     requires whole { length table.old.lanes ≡ slices.now.set.now.processors }
     requires start { end_of table.old.lanes ≡ x * slices.now.scale }
-    requires room { length slices.now.pattern.now ≤ table.old.room }
+    requires room { length slices.now.pattern.items ≤ table.old.room }
     ensures lanes { let m = slices.now.set.now.processors in (done : List DeclaredRow) → table.old.lanes ≡ lanes_of m done →
         table.new.lanes ≡ lanes_of m (done ++ slice_rows slices.now.scale slices.now.set.now.tasks m (record { begin = x; end = y })) }
     ensures end { end_of table.new.lanes ≡ y * slices.now.scale }
     ensures whole { length table.new.lanes ≡ slices.now.set.now.processors }
-    ensures count { rounds_in table.new.lanes ≡ rounds_in table.old.lanes + length slices.now.pattern.now }
-    ensures room { table.new.room + length slices.now.pattern.now ≡ table.old.room }
+    ensures count { rounds_in table.new.lanes ≡ rounds_in table.old.lanes + length slices.now.pattern.items }
+    ensures room { table.new.room + length slices.now.pattern.items ≡ table.old.room }
 {
     let set = slices.set;
     set.know_lawful();
     let start = u128::from(x) * slices.scale;
-    for round in slices.pattern {
+    for round in &slices.pattern {
         write_rows(set, x, y, start, round, rows);
         table.push_round(rows);
     }
@@ -121,12 +121,7 @@ pub fn wrap(alloc: Global, set: &TaskSet, scale: u128, rounds: u64) -> Result<Ro
 {
     let processors = set.processors();
     let mut rows = blank_rows(alloc, processors)?;
-    let pattern = pattern_of(alloc, set, scale)?;
-    let slices = Slices {
-        set,
-        scale,
-        pattern: &pattern,
-    };
+    let slices = Slices::of(alloc, set, scale)?;
     let mut table = RowTable::new(alloc, processors, rounds)?;
     push_slices(&slices, &mut rows, &mut table);
     table.know_whole();

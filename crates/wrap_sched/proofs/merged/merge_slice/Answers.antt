@@ -16,7 +16,7 @@ pub write_rows-requires : goal.write_rows-requires
 write_rows-requires c =
     let s = c.args.slices.now.set.now in
     let lawful = c.know_lawful.ensures.lawful in
-    let it = item_at s.processors c.args.slices.now.scale (rates c.args.slices.now.scale s.tasks) c.args.slices.now.pattern.now c.loop-round.round-index c.round-item.result c.requires.slices.pattern c.loop-round-test.true c.round-item.is in
+    let it = item_at s.processors c.args.slices.now.scale (rates c.args.slices.now.scale s.tasks) c.deref-round-items.result.now c.loop-round.round-index c.round-item.result (c.deref-round-items.ensures.value ∙ c.requires.slices.pattern) c.loop-round-test.true c.round-item.is in
     let (done, count, up) = c.requires.before in
     let part = c.loop-round.invariant done count up in
     let b = item_bounds s c.args.slices.now.scale lawful c.requires.slices.scale c.args.x c.args.y c.requires.forward (lanes_of s.processors (done ++ rows_up_to s c.args.slices.now.scale c.args.x c.args.y c.loop-round.round-index)) c.loop-round.round-index part.reached c.round-item.result it in
@@ -33,7 +33,7 @@ pub with_rows-requires-clause-whole : goal.with_rows-requires-clause-whole
 with_rows-requires-clause-whole c =
     let s = c.args.slices.now.set.now in
     let lawful = c.know_lawful.ensures.lawful in
-    let it = item_at s.processors c.args.slices.now.scale (rates c.args.slices.now.scale s.tasks) c.args.slices.now.pattern.now c.loop-round.round-index c.round-item.result c.requires.slices.pattern c.loop-round-test.true c.round-item.is in
+    let it = item_at s.processors c.args.slices.now.scale (rates c.args.slices.now.scale s.tasks) c.deref-round-items.result.now c.loop-round.round-index c.round-item.result (c.deref-round-items.ensures.value ∙ c.requires.slices.pattern) c.loop-round-test.true c.round-item.is in
     let (done, count, up) = c.requires.before in
     let rows_are = c.write_rows.ensures ∙ written_rows s c.args.slices.now.scale lawful c.requires.slices.scale c.args.x c.args.y c.requires.forward c.loop-round.round-index c.round-item.result it _ (ap (λ n. n * c.args.slices.now.scale) c.from.ensures) in
     ap length rows_are
@@ -44,7 +44,7 @@ pub with_rows-requires-clause-round : goal.with_rows-requires-clause-round
 with_rows-requires-clause-round c =
     let s = c.args.slices.now.set.now in
     let lawful = c.know_lawful.ensures.lawful in
-    let it = item_at s.processors c.args.slices.now.scale (rates c.args.slices.now.scale s.tasks) c.args.slices.now.pattern.now c.loop-round.round-index c.round-item.result c.requires.slices.pattern c.loop-round-test.true c.round-item.is in
+    let it = item_at s.processors c.args.slices.now.scale (rates c.args.slices.now.scale s.tasks) c.deref-round-items.result.now c.loop-round.round-index c.round-item.result (c.deref-round-items.ensures.value ∙ c.requires.slices.pattern) c.loop-round-test.true c.round-item.is in
     let (done, count, up) = c.requires.before in
     let rows_are = c.write_rows.ensures ∙ written_rows s c.args.slices.now.scale lawful c.requires.slices.scale c.args.x c.args.y c.requires.forward c.loop-round.round-index c.round-item.result it _ (ap (λ n. n * c.args.slices.now.scale) c.from.ensures) in
     subst (λ (rows : List Row). IsRound c.loop-round.merged.end rows) (sym rows_are)
@@ -56,7 +56,7 @@ loop-round-preserved c = λ done count up.
     let s = c.args.slices.now.set.now in
     let lawful = c.know_lawful.ensures.lawful in
     let i = c.loop-round.round-index in
-    let it = item_at s.processors c.args.slices.now.scale (rates c.args.slices.now.scale s.tasks) c.args.slices.now.pattern.now i c.round-item.result c.requires.slices.pattern c.loop-round-test.true c.round-item.is in
+    let it = item_at s.processors c.args.slices.now.scale (rates c.args.slices.now.scale s.tasks) c.deref-round-items.result.now i c.round-item.result (c.deref-round-items.ensures.value ∙ c.requires.slices.pattern) c.loop-round-test.true c.round-item.is in
     let so_far = done ++ rows_up_to s c.args.slices.now.scale c.args.x c.args.y i in
     let part = c.loop-round.invariant done count up in
     let rows_are = c.write_rows.ensures ∙ written_rows s c.args.slices.now.scale lawful c.requires.slices.scale c.args.x c.args.y c.requires.forward i c.round-item.result it _ (ap (λ n. n * c.args.slices.now.scale) c.from.ensures) in
@@ -69,4 +69,4 @@ loop-round-preserved c = λ done count up.
 pub returns : goal.returns
 returns c = λ done count up.
     last_part c.args.slices.now.set.now c.args.slices.now.scale c.know_lawful.ensures.lawful c.requires.slices.scale c.args.x c.args.y c.requires.forward count c.loop-round.round-index done c.loop-round.merged
-    c.args.slices.now.pattern.now c.requires.slices.pattern (omega arith) (c.loop-round.invariant done count up)
+    c.args.slices.now.pattern.items c.requires.slices.pattern (omega arith) (c.loop-round.invariant done count up)

@@ -7,7 +7,7 @@ abbrev pub invariant-slices : goal.invariant-slices
 invariant-slices l = record {
   at : l.x < l.slices.set.now.horizon → is_point l.slices.set.now.tasks l.x ≡ true;
   within : l.x ≤ l.slices.set.now.horizon;
-  before : AreBefore l.slices.set.now l.slices.scale (length l.slices.pattern.now) l.x l.merged;
+  before : AreBefore l.slices.set.now l.slices.scale (length l.slices.pattern.items) l.x l.merged;
 }
 
 abbrev pub decreases-slices : goal.decreases-slices

@@ -24,7 +24,7 @@ pub write_rows-requires : goal.write_rows-requires
 write_rows-requires c =
     let s = c.args.slices.now.set.now in
     let lawful = c.know_lawful.ensures.lawful in
-    let it = item_at s.processors c.args.slices.now.scale (rates c.args.slices.now.scale s.tasks) c.args.slices.now.pattern.now c.loop-round.round-index c.round-item.result c.requires.slices.pattern c.loop-round-test.true c.round-item.is in
+    let it = item_at s.processors c.args.slices.now.scale (rates c.args.slices.now.scale s.tasks) c.deref-round-items.result.now c.loop-round.round-index c.round-item.result (c.deref-round-items.ensures.value ∙ c.requires.slices.pattern) c.loop-round-test.true c.round-item.is in
     let b = item_bounds s c.args.slices.now.scale lawful c.requires.slices.scale c.args.x c.args.y c.requires.forward c.loop-round.table.lanes c.loop-round.round-index c.loop-round.invariant.reached c.round-item.result it in
     let at = ap (λ n. n * c.args.slices.now.scale) c.from.ensures in
     record {
@@ -39,7 +39,7 @@ pub push_round-requires-clause-round : goal.push_round-requires-clause-round
 push_round-requires-clause-round c =
     let s = c.args.slices.now.set.now in
     let lawful = c.know_lawful.ensures.lawful in
-    let it = item_at c.args.slices.now.set.now.processors c.args.slices.now.scale (rates c.args.slices.now.scale c.args.slices.now.set.now.tasks) c.args.slices.now.pattern.now c.loop-round.round-index c.round-item.result c.requires.slices.pattern c.loop-round-test.true c.round-item.is in
+    let it = item_at c.args.slices.now.set.now.processors c.args.slices.now.scale (rates c.args.slices.now.scale c.args.slices.now.set.now.tasks) c.deref-round-items.result.now c.loop-round.round-index c.round-item.result (c.deref-round-items.ensures.value ∙ c.requires.slices.pattern) c.loop-round-test.true c.round-item.is in
     let rows_are = c.write_rows.ensures ∙ written_rows s c.args.slices.now.scale lawful c.requires.slices.scale c.args.x c.args.y c.requires.forward c.loop-round.round-index c.round-item.result it _ (ap (λ n. n * c.args.slices.now.scale) c.from.ensures) in
     let F : List Row → Type 0 = λ rows. IsRound (end_of c.loop-round.table.lanes) rows in
     subst F (sym rows_are) (item_whole s c.args.slices.now.scale lawful c.requires.slices.scale c.args.x c.args.y c.requires.forward c.loop-round.table.lanes c.loop-round.round-index c.loop-round.invariant.reached c.round-item.result it c.requires.slices.fits c.requires.early c.requires.slices.scale_fits)
@@ -50,7 +50,7 @@ loop-round-preserved c =
     let lawful = c.know_lawful.ensures.lawful in
     let lanes = c.loop-round.table.lanes in
     let reached = c.loop-round.invariant.reached in
-    let it = item_at c.args.slices.now.set.now.processors c.args.slices.now.scale (rates c.args.slices.now.scale c.args.slices.now.set.now.tasks) c.args.slices.now.pattern.now c.loop-round.round-index c.round-item.result c.requires.slices.pattern c.loop-round-test.true c.round-item.is in
+    let it = item_at c.args.slices.now.set.now.processors c.args.slices.now.scale (rates c.args.slices.now.scale c.args.slices.now.set.now.tasks) c.deref-round-items.result.now c.loop-round.round-index c.round-item.result (c.deref-round-items.ensures.value ∙ c.requires.slices.pattern) c.loop-round-test.true c.round-item.is in
     let slice = slice_of c.args.x c.args.y in
     let round = round_rows c.args.slices.now.scale s.tasks s.processors slice (stretch (c.args.y - c.args.x) it.round) in
     let rows_are = c.write_rows.ensures ∙ written_rows s c.args.slices.now.scale lawful c.requires.slices.scale c.args.x c.args.y c.requires.forward c.loop-round.round-index c.round-item.result it _ (ap (λ n. n * c.args.slices.now.scale) c.from.ensures) in

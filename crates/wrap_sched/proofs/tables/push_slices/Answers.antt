@@ -28,7 +28,7 @@ slices-init c =
       rows = ([], none, wrapped_from s c.args.slices.now.scale);
       end = omega (arith, end);
       whole = ap length none ∙ length-lanes_of m [];
-      room = c.requires.room ∙ room_from s c.args.slices.now.scale lawful c.requires.slices.scale c.args.slices.now.pattern.now c.requires.slices.pattern;
+      room = c.requires.room ∙ room_from s c.args.slices.now.scale lawful c.requires.slices.scale c.args.slices.now.pattern.items c.requires.slices.pattern;
       count = omega (arith, rounds, room);
     }
 
@@ -36,9 +36,9 @@ pub push_slice-requires-clause-room : goal.push_slice-requires-clause-room
 push_slice-requires-clause-room c =
     let s = c.args.slices.now.set.now in
     let early : c.slices.x < s.horizon = (let on = c.slices-test.true in let is = c.horizon.ensures.value in omega (arith, on, is)) in
-    let more = ap (λ xs. length c.args.slices.now.pattern.now * length xs) (filter_next (is_point s.tasks) s.horizon c.slices.x c.next_point-y.result (c.slices.invariant.at early) c.next_point-y.ensures) in
+    let more = ap (λ xs. length c.args.slices.now.pattern.items * length xs) (filter_next (is_point s.tasks) s.horizon c.slices.x c.next_point-y.result (c.slices.invariant.at early) c.next_point-y.ensures) in
     let room = c.slices.invariant.room in
-    let l : length c.args.slices.now.pattern.now ≤ c.slices.table.room = omega (arith, more, room) in
+    let l : length c.args.slices.now.pattern.items ≤ c.slices.table.room = omega (arith, more, room) in
     l
 
 pub slices-preserved : goal.slices-preserved
@@ -49,7 +49,7 @@ slices-preserved c =
     let next = c.next_point-y.ensures in
     let early : c.slices.x < s.horizon = (let on = c.slices-test.true in let is = c.horizon.ensures.value in omega (arith, on, is)) in
     let at = c.slices.invariant.at early in
-    let more = ap (λ xs. length c.args.slices.now.pattern.now * length xs) (filter_next (is_point s.tasks) s.horizon c.slices.x y at next) in
+    let more = ap (λ xs. length c.args.slices.now.pattern.items * length xs) (filter_next (is_point s.tasks) s.horizon c.slices.x y at next) in
     let room = c.slices.invariant.room in
     let less = c.push_slice.ensures.room in
     let count = c.slices.invariant.count in
@@ -111,7 +111,7 @@ returns-clause-full c =
     let off = c.slices-test.false in
     let is = c.horizon.ensures.value in
     let none : s.horizon - c.slices.x ≡ 0 = omega (arith, off, is) in
-    let rest = ap (λ n. length c.args.slices.now.pattern.now * length (filter (is_point s.tasks) (range_with_len c.slices.x n))) none in
+    let rest = ap (λ n. length c.args.slices.now.pattern.items * length (filter (is_point s.tasks) (range_with_len c.slices.x n))) none in
     let room = c.slices.invariant.room in
     omega (arith, rest, room)
 
@@ -121,7 +121,7 @@ returns-clause-count c =
     let off = c.slices-test.false in
     let is = c.horizon.ensures.value in
     let none : s.horizon - c.slices.x ≡ 0 = omega (arith, off, is) in
-    let rest = ap (λ n. length c.args.slices.now.pattern.now * length (filter (is_point s.tasks) (range_with_len c.slices.x n))) none in
+    let rest = ap (λ n. length c.args.slices.now.pattern.items * length (filter (is_point s.tasks) (range_with_len c.slices.x n))) none in
     let room = c.slices.invariant.room in
     let count = c.slices.invariant.count in
     omega (arith, rest, room, count)

@@ -15,7 +15,7 @@ invariant-slices l = record {
       × (done ++ flat_map (slice_rows l.slices.scale l.slices.set.now.tasks l.slices.set.now.processors) (spans (filter (is_point l.slices.set.now.tasks) (range_with_len l.x (l.slices.set.now.horizon - l.x))) l.slices.set.now.horizon) ≡ wrapped l.slices.scale l.set);
   end : end_of l.table.lanes ≡ l.x * l.slices.scale;
   whole : length l.table.lanes ≡ l.slices.set.now.processors;
-  room : l.table.room ≡ length l.slices.pattern.now * length (filter (is_point l.slices.set.now.tasks) (range_with_len l.x (l.slices.set.now.horizon - l.x)));
+  room : l.table.room ≡ length l.slices.pattern.items * length (filter (is_point l.slices.set.now.tasks) (range_with_len l.x (l.slices.set.now.horizon - l.x)));
   count : rounds_in l.table.lanes + l.table.room ≡ wrapped_rounds l.slices.scale l.set;
 }
 

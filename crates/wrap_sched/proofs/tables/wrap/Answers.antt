@@ -9,19 +9,19 @@ pub returns-clause-valid : goal.returns-clause-valid
 returns-clause-valid c =
     let s = c.args.set.now in
     let stop = s.horizon * c.args.scale in
-    lanes_valid s c.args.scale stop stop (wrapped c.args.scale s) (wrapped_valid s c.args.scale c.processors-processors.ensures.lawful c.requires.scale c.requires.fits) c.push_slices.new.table.lanes c.push_slices.ensures.lanes c.know_whole.ensures.lawful
+    lanes_valid s c.args.scale stop stop (wrapped c.args.scale s) (wrapped_valid s c.args.scale c.processors-processors.ensures.lawful c.requires.scale c.requires.fits) c.push_slices.new.table.lanes (rw (c.in_ok-slices.ensures.of.0, c.in_ok-slices.ensures.of.1) at c.push_slices.ensures.lanes) c.know_whole.ensures.lawful
 
-pub returns-in_err-pattern-clause-lanes : goal.returns-in_err-pattern-clause-lanes
-returns-in_err-pattern-clause-lanes c = IfOk-from_err _ _ c.from_residual-in_err-pattern.ensures.0
+pub returns-in_err-slices-clause-lanes : goal.returns-in_err-slices-clause-lanes
+returns-in_err-slices-clause-lanes c = IfOk-from_err _ _ c.from_residual-in_err-slices.ensures.0
 
-pub returns-in_err-pattern-clause-rounds : goal.returns-in_err-pattern-clause-rounds
-returns-in_err-pattern-clause-rounds c = IfOk-from_err _ _ c.from_residual-in_err-pattern.ensures.0
+pub returns-in_err-slices-clause-rounds : goal.returns-in_err-slices-clause-rounds
+returns-in_err-slices-clause-rounds c = IfOk-from_err _ _ c.from_residual-in_err-slices.ensures.0
 
-pub returns-in_err-pattern-clause-full : goal.returns-in_err-pattern-clause-full
-returns-in_err-pattern-clause-full c = IfOk-from_err _ _ c.from_residual-in_err-pattern.ensures.0
+pub returns-in_err-slices-clause-full : goal.returns-in_err-slices-clause-full
+returns-in_err-slices-clause-full c = IfOk-from_err _ _ c.from_residual-in_err-slices.ensures.0
 
-pub returns-in_err-pattern-clause-valid : goal.returns-in_err-pattern-clause-valid
-returns-in_err-pattern-clause-valid c = IfOk-from_err _ _ c.from_residual-in_err-pattern.ensures.0
+pub returns-in_err-slices-clause-valid : goal.returns-in_err-slices-clause-valid
+returns-in_err-slices-clause-valid c = IfOk-from_err _ _ c.from_residual-in_err-slices.ensures.0
 
 pub returns-in_err-rows-clause-lanes : goal.returns-in_err-rows-clause-lanes
 returns-in_err-rows-clause-lanes c = IfOk-from_err _ _ c.from_residual.ensures.0
@@ -47,31 +47,26 @@ returns-in_err-table-clause-full c = IfOk-from_err _ _ c.from_residual-in_err-ta
 pub returns-in_err-table-clause-valid : goal.returns-in_err-table-clause-valid
 returns-in_err-table-clause-valid c = IfOk-from_err _ _ c.from_residual-in_err-table.ensures.0
 
-pub pattern_of-requires-clause-scale : goal.pattern_of-requires-clause-scale
-pattern_of-requires-clause-scale c = c.requires.scale
+pub of-requires-clause-scale : goal.of-requires-clause-scale
+of-requires-clause-scale c = c.requires.scale
 
-pub pattern_of-requires-clause-scale_fits : goal.pattern_of-requires-clause-scale_fits
-pattern_of-requires-clause-scale_fits c = c.requires.scale_fits
+pub of-requires-clause-scale_fits : goal.of-requires-clause-scale_fits
+of-requires-clause-scale_fits c = c.requires.scale_fits
 
 pub push_slices-requires-clause-none : goal.push_slices-requires-clause-none
-push_slices-requires-clause-none c = c.in_ok-table.ensures.none ∙ ap (λ n. replicate n []) c.processors-processors.ensures.value
+push_slices-requires-clause-none c = rw c.in_ok-slices.ensures.of.0 (c.in_ok-table.ensures.none ∙ ap (λ n. replicate n []) c.processors-processors.ensures.value)
 
 pub push_slices-requires-clause-room : goal.push_slices-requires-clause-room
-push_slices-requires-clause-room c = c.in_ok-table.ensures.room ∙ c.requires.rounds
+push_slices-requires-clause-room c = rw (c.in_ok-slices.ensures.of.0, c.in_ok-slices.ensures.of.1) (c.in_ok-table.ensures.room ∙ c.requires.rounds)
 
 pub returns-clause-lanes : goal.returns-clause-lanes
-returns-clause-lanes c = c.push_slices.ensures.lanes
+returns-clause-lanes c = rw (c.in_ok-slices.ensures.of.0, c.in_ok-slices.ensures.of.1) at c.push_slices.ensures.lanes
 
 pub returns-clause-rounds : goal.returns-clause-rounds
-returns-clause-rounds c = c.push_slices.ensures.count ∙ sym c.requires.rounds
+returns-clause-rounds c = rw (c.in_ok-slices.ensures.of.0, c.in_ok-slices.ensures.of.1) at c.push_slices.ensures.count ∙ sym c.requires.rounds
 
 pub returns-clause-full : goal.returns-clause-full
 returns-clause-full c = c.push_slices.ensures.full
 
 pub push_slices-requires-clause-slices : goal.push_slices-requires-clause-slices
-push_slices-requires-clause-slices c = record {
-  scale = c.requires.scale;
-  scale_fits = c.requires.scale_fits;
-  fits = c.requires.fits;
-  pattern = c.deref.ensures.value ∙ c.in_ok-pattern.ensures;
-}
+push_slices-requires-clause-slices c = c.in_ok-slices.ensures.slices
