@@ -4,6 +4,8 @@ use Rattle.std.specs.Option.{option_or}
 use Rattle.std.specs.Ordering.{nat_cmp, is_lt}
 use Rattle.std.specs.Cmp.Lexicographic.{slice_cmp}
 use Rattle.toml.specs.Data.{Data, table, Members, no_members, member, get_member}
+use Rattle.task_reader.specs.declared.members.KeyFlaw.{KeyFlaw}
+use Rattle.task_reader.specs.declared.members.KeyFlaw.TheVariants as flaw
 use Rattle.task_reader.specs.declared.refusals.Key.{Key}
 use Rattle.task_reader.specs.declared.refusals.Key.TheVariants as key
 use Rattle.task_reader.specs.declared.refusals.Place.{Place}
@@ -50,6 +52,11 @@ wrong_key p ms k = option_and_then (λ d. if has_kind k d then None else Some (W
 abbrev pub wrong_at : Place → Data → Option ReadSet
 wrong_at p (table ms) = first_refusal (wrong_key p ms) (keys_of p)
 wrong_at p _ = Some (WrongKind p key.Task)
+
+-- a key with this flaw
+abbrev pub flawed_at : KeyFlaw → Place → Data → Option ReadSet
+flawed_at flaw.Missing = missing_at
+flawed_at flaw.WrongKind = wrong_at
 
 -- the first such refusal of what should be a table of the document: of the top table first, then of the tasks in order
 abbrev pub in_tables : (Place → Data → Option ReadSet) → Members → Option ReadSet

@@ -36,11 +36,7 @@ pub(crate) fn bad_processors(top: &Table) -> Option<ReadSet>
     ensures { result ≡ bad_processors (number_at Key.Processors (table_view top.now)) }
 {
     let value = number_at(top, Key::Processors);
-    if is_within(value, MOST_PROCESSORS) {
-        None
-    } else {
-        Some(ReadSet::BadProcessors { value })
-    }
+    (!is_within(value, MOST_PROCESSORS)).then_some(ReadSet::BadProcessors { value })
 }
 
 /// The refusal of the horizon, if any.
@@ -48,11 +44,7 @@ pub(crate) fn bad_horizon(top: &Table) -> Option<ReadSet>
     ensures { result ≡ bad_horizon (number_at Key.Horizon (table_view top.now)) }
 {
     let value = number_at(top, Key::Horizon);
-    if is_within(value, MOST_UNITS) {
-        None
-    } else {
-        Some(ReadSet::BadHorizon { value })
-    }
+    (!is_within(value, MOST_UNITS)).then_some(ReadSet::BadHorizon { value })
 }
 
 /// The refusal of that many tasks, if any.

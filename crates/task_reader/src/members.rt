@@ -3,7 +3,7 @@ ghost use Rattle.std.specs.Prelude.{◌≡◌, option_map, IfOk};
 ghost use Rattle.toml.specs.Data.{table as as_table};
 ghost use Rattle.toml.specs.View.{view, table_view, items_view};
 ghost use Rattle.task_reader.specs.Tree.{Placed, placed_from};
-ghost use Rattle.task_reader.specs.Members.{first_refusal, least_unknown, unknown_at, missing_key, missing_at, wrong_key, wrong_at, in_tables};
+ghost use Rattle.task_reader.specs.Members.{first_refusal, least_unknown, unknown_at, missing_key, missing_at, wrong_key, wrong_at, flawed_at, in_tables};
 
 use crate::keys::{has_kind, is_known, keys_of, needed_keys_of};
 use crate::refusals::{Key, KeyText, Place, ReadSet};
@@ -95,27 +95,6 @@ fn missing_at(place: Place, value: &Value) -> Option<ReadSet>
     }
 }
 
-fn missing_in_tasks(tasks: &[Value]) -> Option<ReadSet>
-    ensures { result ≡ first_refusal (λ (v : Placed). missing_at v.place v.value) (placed_from 0 (items_view tasks.now)) }
-{
-    for (i, value) in tasks.iter().enumerate() {
-        if let Some(refusal) = missing_at(task_place(i), value) {
-            return Some(refusal);
-        }
-    }
-    None
-}
-
-/// The first key that is missing.
-pub(crate) fn missing(top: &Table) -> Option<ReadSet>
-    ensures { result ≡ in_tables missing_at (table_view top.now) }
-{
-    match missing_in(Place::Top, top) {
-        Some(refusal) => Some(refusal),
-        None => missing_in_tasks(tasks_of(top)),
-    }
-}
-
 fn wrong_key(place: Place, table: &Table, key: Key) -> Option<ReadSet>
     ensures { result ≡ wrong_key place (table_view table.now) key }
 {
@@ -154,23 +133,50 @@ fn wrong_at(place: Place, value: &Value) -> Option<ReadSet>
     }
 }
 
-fn wrong_in_tasks(tasks: &[Value]) -> Option<ReadSet>
-    ensures { result ≡ first_refusal (λ (v : Placed). wrong_at v.place v.value) (placed_from 0 (items_view tasks.now)) }
+/// What may be wrong with a key of the format.
+#[derive(Clone, Copy)]
+pub(crate) enum KeyFlaw {
+    Missing,
+    WrongKind,
+}
+
+impl KeyFlaw {
+    fn refusal_in(self, place: Place, table: &Table) -> Option<ReadSet>
+        ensures { result ≡ flawed_at self place (as_table (table_view table.now)) }
+    {
+        match self {
+            KeyFlaw::Missing => missing_in(place, table),
+            KeyFlaw::WrongKind => wrong_in(place, table),
+        }
+    }
+
+    fn refusal_at(self, place: Place, value: &Value) -> Option<ReadSet>
+        ensures { result ≡ flawed_at self place (view value.now) }
+    {
+        match self {
+            KeyFlaw::Missing => missing_at(place, value),
+            KeyFlaw::WrongKind => wrong_at(place, value),
+        }
+    }
+}
+
+fn flawed_in_tasks(tasks: &[Value], flaw: KeyFlaw) -> Option<ReadSet>
+    ensures { result ≡ first_refusal (λ (v : Placed). flawed_at flaw v.place v.value) (placed_from 0 (items_view tasks.now)) }
 {
     for (i, value) in tasks.iter().enumerate() {
-        if let Some(refusal) = wrong_at(task_place(i), value) {
+        if let Some(refusal) = flaw.refusal_at(task_place(i), value) {
             return Some(refusal);
         }
     }
     None
 }
 
-/// The first value of a wrong kind.
-pub(crate) fn wrong(top: &Table) -> Option<ReadSet>
-    ensures { result ≡ in_tables wrong_at (table_view top.now) }
+/// The first key that has this flaw.
+pub(crate) fn first_flawed(top: &Table, flaw: KeyFlaw) -> Option<ReadSet>
+    ensures { result ≡ in_tables (flawed_at flaw) (table_view top.now) }
 {
-    match wrong_in(Place::Top, top) {
+    match flaw.refusal_in(Place::Top, top) {
         Some(refusal) => Some(refusal),
-        None => wrong_in_tasks(tasks_of(top)),
+        None => flawed_in_tasks(tasks_of(top), flaw),
     }
 }

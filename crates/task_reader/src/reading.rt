@@ -14,7 +14,7 @@ ghost use Rattle.task_reader.specs.Members.{first_refusal};
 ghost use Rattle.task_reader.specs.Writes.{Writes};
 
 use crate::limits::{Flaw, bad_horizon, bad_processors, first_flaw, same_name, too_many};
-use crate::members::{missing, unknown, wrong};
+use crate::members::{KeyFlaw, first_flawed, unknown};
 use crate::refusals::{Key, ReadSet};
 use crate::tree::{number_at, tasks_of};
 use crate::written::{WrittenTask, natural, written_tasks};
@@ -65,10 +65,10 @@ fn read_document(alloc: Global, top: &Table) -> Result<TaskSet, ReadSet>
 fn top_refusal(top: &Table) -> Option<ReadSet>
     ensures { result ≡ first_refusal (λ refusal. refusal) (top_refusals (table_view top.now)) }
 {
-    if let Some(refusal) = missing(top) {
+    if let Some(refusal) = first_flawed(top, KeyFlaw::Missing) {
         return Some(refusal);
     }
-    if let Some(refusal) = wrong(top) {
+    if let Some(refusal) = first_flawed(top, KeyFlaw::WrongKind) {
         return Some(refusal);
     }
     if let Some(refusal) = bad_processors(top) {

@@ -27,15 +27,9 @@ pub enum Place {
 }
 
 /// The text of a key that the format doesn't have.
-#[derive(Debug)]
+#[derive(Debug, Drop)]
 pub struct KeyText {
     bytes: Vec<u8>,
-}
-
-impl Drop for KeyText {
-    fn drop(self) {
-        let Self { bytes: _bytes } = self;
-    }
 }
 
 impl Model for KeyText {
