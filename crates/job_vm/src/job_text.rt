@@ -9,18 +9,10 @@ use std::alloc::Global;
 use std::marker::Model;
 
 /// The programs of a job text, in the order of their lines, and where its set begins.
+#[derive(Drop)]
 pub struct JobText {
     programs: Vec<ReadProgram>,
     set_start: usize,
-}
-
-impl Drop for JobText {
-    fn drop(self) {
-        let Self {
-            programs: _programs,
-            set_start: _,
-        } = self;
-    }
 }
 
 impl Model for JobText {
