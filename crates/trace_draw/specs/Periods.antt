@@ -57,7 +57,8 @@ is_at_fault t (Fault line kind) j = line == first_task_line + length t.set.tasks
 
 -- the look of a task's name: bold and red where its total is at fault, small where it is long
 abbrev pub title_look : Bool → ℕ → List ℕ
-title_look fault letters = (if fault then codes "e" else codes "l") ++ (if nat_le letters 24 then [] else (if nat_le letters 34 then codes " q" else codes " j"))
+title_look fault letters =
+    (if fault then codes "e" else codes "l") ++ (if nat_le letters 24 then [] else (if nat_le letters 34 then codes " q" else codes " j"))
 
 -- the words of the lane of task j, and the line under it
 abbrev pub title_lines : Trace → Verdict → ℕ → ℕ → List (List ℕ)

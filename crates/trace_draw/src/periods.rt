@@ -139,9 +139,11 @@ fn write_period<W: Sink>(sink: &mut W, scene: &Scene, task: u32, k: u64) -> Resu
 fn write_marks<W: Sink>(sink: &mut W, scene: &Scene, task: u32) -> Result<(), Failed>
     requires window { AreShownUnits scene.now.window.now }
     requires task { task < length scene.now.trace.now.set.tasks }
-    ensures wrote { Wrote (W.taken sink.old) (W.taken sink.new)
-        (flat_map (λ i. period_text scene.now.trace.now scene.now.window.now task (first_shown scene.now.window.now (task_at scene.now.trace.now.set.tasks task) + i))
-        (range_with_len 0 (count_shown scene.now.window.now (task_at scene.now.trace.now.set.tasks task)))) result }
+    ensures wrote { let t = scene.now.trace.now in
+        let w = scene.now.window.now in
+        let of_set = task_at t.set.tasks task in
+        Wrote (W.taken sink.old) (W.taken sink.new)
+        (flat_map (λ i. period_text t w task (first_shown w of_set + i)) (range_with_len 0 (count_shown w of_set))) result }
     ensures cause { HasCause (W.faults sink.old) (W.faults sink.new) result }
 {
     let of_set = task_of(scene.trace.set(), task);

@@ -74,9 +74,10 @@ fn hint_text(trace: &ReadTrace, window: &ShownUnits) -> Line
 // Writes what lies below the rows.
 fn write_base<W: Sink>(sink: &mut W, scene: &Scene) -> Result<(), Failed>
     requires window { AreShownUnits scene.now.window.now }
-    ensures wrote { Wrote (W.taken sink.old) (W.taken sink.new)
-        (head_text scene.now.trace.now.set scene.now.window.now scene.now.verdict (hint_text scene.now.trace.now scene.now.window.now)
-        ++ (lanes_text scene.now.trace.now.set ++ axis_text scene.now.trace.now.set scene.now.window.now)) result }
+    ensures wrote { let t = scene.now.trace.now in
+        let w = scene.now.window.now in
+        Wrote (W.taken sink.old) (W.taken sink.new)
+        (head_text t.set w scene.now.verdict (hint_text t w) ++ (lanes_text t.set ++ axis_text t.set w)) result }
     ensures cause { HasCause (W.faults sink.old) (W.faults sink.new) result }
 {
     let set = scene.trace.set();
@@ -149,8 +150,10 @@ fn write_closing<W: Sink>(sink: &mut W, set: &TaskSet) -> Result<(), Failed>
 // Writes what comes last.
 fn write_end<W: Sink>(sink: &mut W, scene: &Scene) -> Result<(), Failed>
     requires window { AreShownUnits scene.now.window.now }
-    ensures wrote { Wrote (W.taken sink.old) (W.taken sink.new)
-        (fault_text scene.now.trace.now scene.now.window.now scene.now.verdict ++ (rows_text Words scene.now.trace.now.set scene.now.window.now scene.now.trace.now.rows ++ concat (closing_lines scene.now.trace.now.set))) result }
+    ensures wrote { let t = scene.now.trace.now in
+        let w = scene.now.window.now in
+        Wrote (W.taken sink.old) (W.taken sink.new)
+        (fault_text t w scene.now.verdict ++ (rows_text Words t.set w t.rows ++ concat (closing_lines t.set))) result }
     ensures cause { HasCause (W.faults sink.old) (W.faults sink.new) result }
 {
     write_fault(sink, scene)?;
