@@ -28,28 +28,12 @@ pub fn repeat_unit(
     if can_repeat(set) {
         return Ok(0);
     }
-    if ends_again(alloc, set, scale, rows)? {
-        return Ok(set.horizon() - scale as u64);
+    // The rows may stand at the horizon as a scale's number of units before it.
+    let horizon = u128::from(set.horizon());
+    if scale <= horizon && stands_again(alloc, set, scale, horizon - scale, rows)? {
+        return Ok((horizon - scale) as u64);
     }
     Ok(set.horizon())
-}
-
-// Whether the rows stand at the horizon as a scale's number of units before it.
-fn ends_again(
-    alloc: Global,
-    set: &TaskSet,
-    scale: u128,
-    rows: &MergedRows,
-) -> Result<bool, NoMemory>
-    requires fits { set.now.horizon * scale < 2 ^ 64 }
-    requires lawful { AreLawful set.now rows.now.lanes }
-    ensures { IfOk result (λ ends. ends ≡ ends_again set.now scale (all_rows rows.now.lanes)) }
-{
-    let horizon = u128::from(set.horizon());
-    if scale > horizon {
-        return Ok(false);
-    }
-    stands_again(alloc, set, scale, horizon - scale, rows)
 }
 
 // Whether the rows have given each task as much of its open period a scale's number of units after unit `from` as at it.
