@@ -10,14 +10,9 @@ use std::marker::Model;
 use thiserror::Error;
 
 /// Modes that were run to the end of the last one.
+#[derive(Drop)]
 pub struct ModesRun {
     pub(crate) runs: Vec<Executed>,
-}
-
-impl Drop for ModesRun {
-    fn drop(self) {
-        let Self { runs: _runs } = self;
-    }
 }
 
 impl Model for ModesRun {
