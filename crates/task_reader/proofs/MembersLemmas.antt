@@ -13,14 +13,16 @@ use Rattle.std.specs.Option.{option_or}
 use Rattle.std.specs.Ordering.{is_lt, match_ordering}
 use Rattle.std.specs.Str.{bytes_eq}
 use Rattle.std.specs.String.{string_cmp}
-use Rattle.toml.specs.Data.{Data, Members, no_members, member, get_member}
+use Rattle.toml.specs.Data.{Data, table, Members, no_members, member, get_member}
 use Rattle.toml.specs.View.{view, items_view, members_view}
 use Rattle.toml.specs.declared.value.Value.{Value}
 use Rattle.task_reader.specs.declared.refusals.Place.{Place}
 use Rattle.task_reader.specs.declared.refusals.ReadSet.{ReadSet}
 use Rattle.task_reader.specs.Keys.{is_known}
 use Rattle.task_reader.specs.Tree.{Placed, placed_from, task_place}
-use Rattle.task_reader.specs.Members.{first_refusal, lesser, least_unknown}
+use Rattle.task_reader.specs.Members.{first_refusal, flawed_keys, flawed_key, flawed_at, lesser, least_unknown}
+use Rattle.task_reader.specs.declared.members.KeyFlaw.{KeyFlaw}
+use Rattle.task_reader.specs.declared.members.KeyFlaw.TheVariants as flaw
 use Rattle.task_reader.specs.Writes.{HasOnlyKnown}
 
 -- where the first has no refusal, it is that of the others
@@ -129,3 +131,8 @@ task_more at vs i v p found within here place is none =
 
 pub task_past : (at : Place → Data → Option ReadSet) (vs : List Value) (i : ℕ) → length vs ≤ i → from_task (λ (w : Placed). at w.place w.value) i (drop i vs) ≡ None
 task_past at vs i past = at_drop_all (from_task (λ (w : Placed). at w.place w.value) i) vs i past
+
+-- what a table has of a flaw is that of its keys, in their order
+pub flawed_in : (f : KeyFlaw) (p : Place) (ms : Members) → first_refusal (flawed_key f p ms) (flawed_keys f p) ≡ flawed_at f p (table ms)
+flawed_in flaw.Missing p ms = refl
+flawed_in flaw.WrongKind p ms = refl

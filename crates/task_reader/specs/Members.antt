@@ -53,7 +53,17 @@ abbrev pub wrong_at : Place → Data → Option ReadSet
 wrong_at p (table ms) = first_refusal (wrong_key p ms) (keys_of p)
 wrong_at p _ = Some (WrongKind p key.Task)
 
--- a key with this flaw
+-- the keys of a table that may have this flaw
+abbrev pub flawed_keys : KeyFlaw → Place → List Key
+flawed_keys flaw.Missing = needed_keys_of
+flawed_keys flaw.WrongKind = keys_of
+
+-- the key, if it has this flaw
+abbrev pub flawed_key : KeyFlaw → Place → Members → Key → Option ReadSet
+flawed_key flaw.Missing = missing_key
+flawed_key flaw.WrongKind = wrong_key
+
+-- a key of what should be a table that has this flaw
 abbrev pub flawed_at : KeyFlaw → Place → Data → Option ReadSet
 flawed_at flaw.Missing = missing_at
 flawed_at flaw.WrongKind = wrong_at

@@ -3,7 +3,7 @@ ghost use Rattle.std.specs.Prelude.{◌≡◌, option_map, IfOk};
 ghost use Rattle.toml.specs.Data.{table as as_table};
 ghost use Rattle.toml.specs.View.{view, table_view, items_view};
 ghost use Rattle.task_reader.specs.Tree.{Placed, placed_from};
-ghost use Rattle.task_reader.specs.Members.{first_refusal, least_unknown, unknown_at, missing_key, missing_at, wrong_key, wrong_at, flawed_at, in_tables};
+ghost use Rattle.task_reader.specs.Members.{first_refusal, least_unknown, unknown_at, missing_key, wrong_key, flawed_keys, flawed_key, flawed_at, in_tables};
 
 use crate::keys::{has_kind, is_known, keys_of, needed_keys_of};
 use crate::refusals::{Key, KeyText, Place, ReadSet};
@@ -75,26 +75,6 @@ fn missing_key(place: Place, table: &Table, key: Key) -> Option<ReadSet>
     }
 }
 
-fn missing_in(place: Place, table: &Table) -> Option<ReadSet>
-    ensures { result ≡ missing_at place (as_table (table_view table.now)) }
-{
-    for key in needed_keys_of(place) {
-        if let Some(refusal) = missing_key(place, table, *key) {
-            return Some(refusal);
-        }
-    }
-    None
-}
-
-fn missing_at(place: Place, value: &Value) -> Option<ReadSet>
-    ensures { result ≡ missing_at place (view value.now) }
-{
-    match value.as_table() {
-        Some(table) => missing_in(place, table),
-        None => None,
-    }
-}
-
 fn wrong_key(place: Place, table: &Table, key: Key) -> Option<ReadSet>
     ensures { result ≡ wrong_key place (table_view table.now) key }
 {
@@ -110,29 +90,6 @@ fn wrong_key(place: Place, table: &Table, key: Key) -> Option<ReadSet>
     }
 }
 
-fn wrong_in(place: Place, table: &Table) -> Option<ReadSet>
-    ensures { result ≡ wrong_at place (as_table (table_view table.now)) }
-{
-    for key in keys_of(place) {
-        if let Some(refusal) = wrong_key(place, table, *key) {
-            return Some(refusal);
-        }
-    }
-    None
-}
-
-fn wrong_at(place: Place, value: &Value) -> Option<ReadSet>
-    ensures { result ≡ wrong_at place (view value.now) }
-{
-    match value.as_table() {
-        Some(table) => wrong_in(place, table),
-        None => Some(ReadSet::WrongKind {
-            place,
-            key: Key::Task,
-        }),
-    }
-}
-
 /// What may be wrong with a key of the format.
 #[derive(Clone, Copy)]
 pub(crate) enum KeyFlaw {
@@ -141,21 +98,49 @@ pub(crate) enum KeyFlaw {
 }
 
 impl KeyFlaw {
-    fn refusal_in(self, place: Place, table: &Table) -> Option<ReadSet>
-        ensures { result ≡ flawed_at self place (as_table (table_view table.now)) }
+    // The keys of a table that may have it, in their order.
+    fn keys_of(self, place: Place) -> &'static [Key]
+        ensures { result.now ≡ flawed_keys self place }
     {
         match self {
-            KeyFlaw::Missing => missing_in(place, table),
-            KeyFlaw::WrongKind => wrong_in(place, table),
+            KeyFlaw::Missing => needed_keys_of(place),
+            KeyFlaw::WrongKind => keys_of(place),
         }
     }
 
+    fn refusal_of(self, place: Place, table: &Table, key: Key) -> Option<ReadSet>
+        ensures { result ≡ flawed_key self place (table_view table.now) key }
+    {
+        match self {
+            KeyFlaw::Missing => missing_key(place, table, key),
+            KeyFlaw::WrongKind => wrong_key(place, table, key),
+        }
+    }
+
+    fn refusal_in(self, place: Place, table: &Table) -> Option<ReadSet>
+        ensures { result ≡ flawed_at self place (as_table (table_view table.now)) }
+    {
+        for key in self.keys_of(place) {
+            if let Some(refusal) = self.refusal_of(place, table, *key) {
+                return Some(refusal);
+            }
+        }
+        None
+    }
+
+    // What should be a table and isn't lacks no key.
     fn refusal_at(self, place: Place, value: &Value) -> Option<ReadSet>
         ensures { result ≡ flawed_at self place (view value.now) }
     {
-        match self {
-            KeyFlaw::Missing => missing_at(place, value),
-            KeyFlaw::WrongKind => wrong_at(place, value),
+        match value.as_table() {
+            Some(table) => self.refusal_in(place, table),
+            None => match self {
+                KeyFlaw::Missing => None,
+                KeyFlaw::WrongKind => Some(ReadSet::WrongKind {
+                    place,
+                    key: Key::Task,
+                }),
+            },
         }
     }
 }
