@@ -1,5 +1,6 @@
 -- What the type of a book keeps of its rows and of its log.
 use Rattle.std.specs.Prelude.{ℕ, ◌≡◌, ◌<◌, ◌≤◌, ◌+◌, ◌*◌, List, Option, IfSome, length}
+use Rattle.sched_base.specs.Limits.{window_limit}
 use Rattle.sched_base.specs.declared.rows.Row.{Row}
 use Rattle.sched_base.specs.declared.rows.ProcId.{ProcId}
 use Rattle.sched_base.specs.Tables.{rounds_in, row_limit, ticks_of}
@@ -30,7 +31,7 @@ pub record RowsPart (p : PlanContents) (count window : ℕ) (s : State) (rounds 
   pub all : count ≡ rounds_of p
   pub few : rounds_of p * p.tree.processors ≤ row_limit
   pub some_window : 1 ≤ window
-  pub small_window : window ≤ 1024
+  pub small_window : window ≤ window_limit
   pub kept : IfSome rounds (λ r. RowsKept p window s r)
 
 -- the log: it leads to the state over the schedule's rows, and has room for two events of each row
