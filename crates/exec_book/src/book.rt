@@ -1,6 +1,7 @@
 //! The book, how it begins, and what it tells.
 ghost use Rattle.std.specs.Prelude.{◌≡◌, ◌<◌, ◌≤◌, ◌+◌, ◌*◌, ◌↔◌, ℕ, [], Some, length, replicate, IfOk};
 ghost use Rattle.std.specs.Prelude.{IfErr, IsTrue, true};
+ghost use Rattle.sched_base.specs.Limits.{window_limit};
 ghost use Rattle.sched_base.specs.declared.rows.Row.{Row};
 ghost use Rattle.sched_base.specs.Rows.{is_of_task};
 ghost use Rattle.sched_base.specs.Tables.{rounds_in};
@@ -105,7 +106,7 @@ impl<Q: PostLedger, J: Job> Book<Q, J> {
         requires rounds { rounds ≡ rounds_of plan }
         requires few { rounds * plan.tree.processors ≤ row_limit }
         requires some_window { 1 ≤ window }
-        requires small_window { window ≤ 1024 }
+        requires small_window { window ≤ window_limit }
         requires side { side ≡ 0 }
         requires jobs { AllAtHome J.id J.used J.made Q.made (length plan.set.tasks) (λ t. 0) jobs.places }
         ensures book { IfOk result (λ b. b ≡ record {
@@ -161,7 +162,7 @@ impl<Q: PostLedger, J: Job> Book<Q, J> {
     pub fn window(&self) -> u32
         ensures value { result ≡ self.now.window }
         ensures some { 1 ≤ result }
-        ensures small { result ≤ 1024 }
+        ensures small { result ≤ window_limit }
     {
         self.window
     }

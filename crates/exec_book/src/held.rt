@@ -1,5 +1,6 @@
 //! What a book holds until it is dismissed. Each call changes it where it lies.
 ghost use Rattle.std.specs.Prelude.{◌≡◌, ◌≤◌, ◌<◌, ◌+◌, None, Some, length, slice_get};
+ghost use Rattle.sched_base.specs.Limits.{window_limit};
 ghost use Rattle.sched_base.specs.declared.rows.Row.{Row};
 ghost use Rattle.sched_base.specs.declared.rows.Leaf.TheVariants.{Task};
 ghost use Rattle.sched_base.specs.declared.rows.TaskId.{TaskId};
@@ -50,7 +51,7 @@ impl<Q: PostLedger, J: Job> Held<Q, J> {
     ) -> (Row, Option<J>)
         requires lanes { length state.old.lanes ≡ length self.old.rounds.table.lanes }
         requires some_window { 1 ≤ window }
-        requires small_window { window ≤ 1024 }
+        requires small_window { window ≤ window_limit }
         requires lane { p < length self.old.rounds.table.lanes }
         requires round { posted_at state.old p < rounds_in self.old.rounds.table.lanes }
         requires legal { IsLegal self.old.rounds.table.lanes window state.old (Take (processor p)) }
@@ -81,7 +82,7 @@ impl<Q: PostLedger, J: Job> Held<Q, J> {
     )
         requires lanes { length state.old.lanes ≡ length self.old.rounds.table.lanes }
         requires some_window { 1 ≤ window }
-        requires small_window { window ≤ 1024 }
+        requires small_window { window ≤ window_limit }
         requires lane { p < length self.old.rounds.table.lanes }
         requires round { posted_at state.old p < rounds_in self.old.rounds.table.lanes }
         requires legal { IsLegal self.old.rounds.table.lanes window state.old event }
