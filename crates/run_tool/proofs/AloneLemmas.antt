@@ -1,5 +1,5 @@
 -- How a call of the program ends, by how the call ended that was made for it.
-use Rattle.std.proofs.Common.{◌≡◌, ◌≢◌, ◌↔◌, ◌∙◌, ℕ, true, false, List, [], Some, None, refl, sym}
+use Rattle.std.proofs.Common.{◌≡◌, ◌≢◌, ◌↔◌, ◌∙◌, ℕ, true, false, List, [], Some, None, sym}
 use Rattle.std.specs.Io.KnownBytes.{Keeps}
 use Rattle.command_words.specs.Words.{command_of, asks_to_execute}
 use Rattle.command_words.specs.declared.command.Command.{Command}
@@ -12,7 +12,7 @@ use Rattle.pure_commands.specs.Refuse.{IsRefused}
 use Rattle.pure_commands.specs.declared.refusal.Refusal.TheVariants as why
 use Rattle.exit_status.specs.declared.Status.{Status}
 use Rattle.exit_status.specs.declared.Status.TheVariants.{Done, Invalid, Usage, NoMemory}
-use Rattle.run_tool.specs.Alone.{EndsAlone, EndsWithOwn}
+use Rattle.run_tool.specs.Alone.{EndsAlone}
 use Rattle.run_tool.specs.Ends.{IsCommandDone}
 use Rattle.run_tool.specs.Executed.{EndsWith}
 use Rattle.run_tool.specs.Executions.{Crew, IsFreshCrew}

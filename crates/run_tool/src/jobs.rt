@@ -17,7 +17,7 @@ use command_words::USUAL_WINDOW;
 use exec_workers::Kit;
 use job_vm::{JobText, first_stray, load_programs, read_jobs, write_jobs};
 use merged_rounds::round_count;
-use pure_commands::{Refusal, SET_LIMIT, plan_of, written};
+use pure_commands::{Refusal, SET_LIMIT, written};
 use run_tree::Plan;
 use sched_base::TaskSet;
 use sched_edges::{BoxedJob, Gate, Job, Jobs, Sink, Source, read_all};
@@ -26,31 +26,11 @@ use std::sync::Wait;
 use std::thread::Threads;
 use task_reader::read_set;
 
-/// Reads a job text, loads each task's program into its job, has the gates and the jobs run the schedule of the set, and writes
-/// what the programs computed. A lane may run up to 32 rounds ahead of the others.
-pub(crate) fn run_jobs<R: Source, W: Sink, G: Gate + Send, X: Threads + Wait + Sync>(
-    rt: &X,
+/// Reads the source to its end, as a job text with its set.
+pub(crate) fn read_job_input<R: Source>(
     alloc: Global,
     source: &mut R,
-    out: &mut W,
-    kits: &mut Vec<Kit<G>>,
-    jobs: &mut Jobs,
-) -> Result<(), Refusal>
-    requires ready { IsFreshCrew (crew_of G.Gate ⟦<BoxedJob as Job>⟧ kits.old jobs.old) }
-    ensures { let old = streams_of R.Source W.Sink source.old out.old in
-        let new = streams_of R.Source W.Sink source.new out.new in
-        let before = crew_of G.Gate ⟦<BoxedJob as Job>⟧ kits.old jobs.old in
-        let now = crew_of G.Gate ⟦<BoxedJob as Job>⟧ kits.new jobs.new in
-        EndsExecution Jobs old new before now
-        ((kits.new.items ≡ kits.old.items) × (jobs.new.places ≡ jobs.old.places)) result }
-{
-    let (text, set) = read_job_input(alloc, source)?;
-    let plan = plan_of(alloc, set)?;
-    load_and_run(rt, alloc, &text, &plan, out, kits, jobs)
-}
-
-// Reads the source to its end, as a job text with its set.
-fn read_job_input<R: Source>(alloc: Global, source: &mut R) -> Result<(JobText, TaskSet), Refusal>
+) -> Result<(JobText, TaskSet), Refusal>
     ensures read { IfOk result (λ read. GaveJobs (R.left source.old) (R.left source.new) SET_LIMIT read.0 read.1) }
     ensures refusal { IfErr result (GaveNoJobs (R.left source.old) (R.left source.new)
         (R.faults source.old) (R.faults source.new) SET_LIMIT) }
@@ -85,8 +65,9 @@ fn read_job_set(alloc: Global, bytes: &[u8], text: &JobText) -> Result<TaskSet, 
     }
 }
 
-// Loads the programs of a text, runs the schedule of the set that fits, by its plan, and writes what they computed.
-fn load_and_run<W: Sink, G: Gate + Send, X: Threads + Wait + Sync>(
+/// Loads each task's program into its job, has the gates and the jobs run the schedule of the set that fits, by its plan, and writes
+/// what the programs computed. A lane may run up to 32 rounds ahead of the others.
+pub(crate) fn load_and_run<W: Sink, G: Gate + Send, X: Threads + Wait + Sync>(
     rt: &X,
     alloc: Global,
     text: &JobText,

@@ -27,31 +27,8 @@ use std::sync::Wait;
 use std::thread::Threads;
 use task_reader::{Pieces, ReadSet, cut, pieces_law, read_set};
 
-/// Reads task sets, has the gates and the jobs run their schedules as modes, one after the other, and writes them. In each mode a
-/// lane may run up to 32 rounds ahead of the others.
-pub(crate) fn modes<R: Source, W: Sink, G: Gate + Send, X: Threads + Wait + Sync>(
-    rt: &X,
-    alloc: Global,
-    source: &mut R,
-    out: &mut W,
-    kits: &mut Vec<Kit<G>>,
-    jobs: &mut Jobs,
-) -> Result<(), Refusal>
-    requires ready { IsFreshCrew (crew_of G.Gate ⟦<BoxedJob as Job>⟧ kits.old jobs.old) }
-    ensures { let old = streams_of R.Source W.Sink source.old out.old in
-        let new = streams_of R.Source W.Sink source.new out.new in
-        let before = crew_of G.Gate ⟦<BoxedJob as Job>⟧ kits.old jobs.old in
-        let now = crew_of G.Gate ⟦<BoxedJob as Job>⟧ kits.new jobs.new in
-        EndsExecution TheModes old new before now
-        ((kits.new.items ≡ kits.old.items) × (jobs.new.places ≡ jobs.old.places)) result }
-{
-    let modes = read_modes(alloc, source)?;
-    let run = run_all(rt, alloc, &modes, kits, jobs)?;
-    written(write_modes(&modes, &run, out))
-}
-
-// Reads the source to its end, as sets that can be modes.
-fn read_modes<R: Source>(alloc: Global, source: &mut R) -> Result<Modes, Refusal>
+/// Reads the source to its end, as sets that can be modes.
+pub(crate) fn read_modes<R: Source>(alloc: Global, source: &mut R) -> Result<Modes, Refusal>
     ensures read { IfOk result (GaveModes (R.left source.old) (R.left source.new) SET_LIMIT) }
     ensures refusal { IfErr result (GaveNoModes (R.left source.old) (R.left source.new)
         (R.faults source.old) (R.faults source.new) SET_LIMIT) }
@@ -123,8 +100,9 @@ fn read_piece(alloc: Global, j: u32, piece: &[u8]) -> Result<TaskSet, Refusal>
     }
 }
 
-// Has the gates and the jobs run the schedules of modes.
-fn run_all<G: Gate + Send, X: Threads + Wait + Sync>(
+/// Has the gates and the jobs run the schedules of modes, one after the other. In each mode a lane may run up to 32 rounds ahead of
+/// the others.
+pub(crate) fn run_all<G: Gate + Send, X: Threads + Wait + Sync>(
     rt: &X,
     alloc: Global,
     modes: &Modes,

@@ -14,12 +14,13 @@ ghost use Rattle.exit_status.specs.declared.Status.TheVariants.{Done, Invalid};
 
 use crate::drill::drill;
 use crate::exec::exec;
-use crate::jobs::run_jobs;
-use crate::modes::modes;
+use crate::jobs::{load_and_run, read_job_input};
+use crate::mode_text::write_modes;
+use crate::modes::{read_modes, run_all};
 use command_words::{Execution, USUAL_WINDOW, asks_for_batch, asks_to_execute, execution_of};
 use exec_workers::Kit;
 use exit_status::Status;
-use pure_commands::{Refusal, refuse, run_batch, run_still};
+use pure_commands::{Refusal, plan_of, refuse, run_batch, run_still, written};
 use sched_edges::{BoxedJob, Gate, Job, Jobs, Sink, Source};
 use std::alloc::Global;
 use std::sync::Wait;
@@ -185,7 +186,15 @@ fn perform<R: Source, W: Sink, G: Gate + Send, X: Threads + Wait + Sync>(
         Execution::Exec { window } => exec(rt, alloc, source, window, false, out, kits, jobs),
         Execution::ExecMet => exec(rt, alloc, source, USUAL_WINDOW, true, out, kits, jobs),
         Execution::Drill { number } => drill(rt, alloc, number, out, kits, jobs),
-        Execution::Jobs => run_jobs(rt, alloc, source, out, kits, jobs),
-        Execution::Modes => modes(rt, alloc, source, out, kits, jobs),
+        Execution::Jobs => {
+            let (text, set) = read_job_input(alloc, source)?;
+            let plan = plan_of(alloc, set)?;
+            load_and_run(rt, alloc, &text, &plan, out, kits, jobs)
+        }
+        Execution::Modes => {
+            let modes = read_modes(alloc, source)?;
+            let run = run_all(rt, alloc, &modes, kits, jobs)?;
+            written(write_modes(&modes, &run, out))
+        }
     }
 }

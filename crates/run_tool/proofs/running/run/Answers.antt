@@ -1,4 +1,4 @@
-use Rattle.std.proofs.Common.{◌≡◌, ◌∙◌, refl, sym}
+use Rattle.std.proofs.Common.{◌∙◌, refl, sym}
 use Rattle.exec_lanes.proofs.ErrorLemmas.{untrue}
 use Rattle.run_tool.proofs.RunLemmas.{back_same}
 use Rattle.run_tool.proofs.running.run.Goals as goal

@@ -1,7 +1,6 @@
 use Rattle.std.proofs.Common.{◌≡◌, ◌∙◌, ℕ, List, true, false, ◌||◌, map, string_bytes, sym}
 use Rattle.command_words.specs.Words.{asks_to_execute, asks_for_batch, asks_for_threads}
 use Rattle.command_words.specs.declared.command.Command.TheVariants.{Read, Batch}
-use Rattle.command_words.proofs.WordLemmas.{batch_runs_none}
 use Rattle.run_tool.proofs.ExecutionAnswerLemmas.{still_answered}
 use Rattle.run_tool.proofs.RunLemmas.{ends_reading, ends_batch}
 use Rattle.run_tool.proofs.running.run_without_crew.Goals as goal
