@@ -27,24 +27,6 @@ pub fn write_jobs<W: Sink, J: Job>(
     ensures same { jobs.new ≡ jobs.old }
 {
     write_all(out, word_line(b"run-jobs 1").as_slice())?;
-    write_tasks(out, set, scale, jobs)
-}
-
-// The lines of the tasks.
-fn write_tasks<W: Sink, J: Job>(
-    out: &mut W,
-    set: &TaskSet,
-    scale: u128,
-    jobs: &mut JobList<J>,
-) -> Result<(), Failed>
-    requires scale { 1 ≤ scale }
-    requires jobs { (i : ℕ) → i < length set.now.tasks → (job : J) × JobAt jobs.old.places i job }
-    ensures wrote { Wrote (W.taken out.old) (W.taken out.new)
-        (flat_map (λ i. job_line (task_at set.now.tasks i).name (told_at scale (seen J.Job jobs.old.places) i))
-        (range_with_len 0 (length set.now.tasks))) result }
-    ensures cause { HasCause (W.faults out.old) (W.faults out.new) result }
-    ensures same { jobs.new ≡ jobs.old }
-{
     for i in 0..set.count() {
         let task = &set.tasks()[i as usize];
         let (units, numbers) = told_at(jobs, i, scale);
