@@ -1,5 +1,6 @@
 -- What a contract sees of a book of steps, and what its type keeps.
 use Rattle.std.specs.Prelude.{ℕ, ◌≡◌, ◌<◌, ◌≤◌, ◌+◌, ◌*◌, ◌^◌, List, [], Option, Some, None, false, true, length, replicate, slice_get, slice_index}
+use Rattle.sched_base.specs.Limits.{window_limit}
 use Rattle.sched_base.specs.Tables.{Table, rounds_in}
 use Rattle.run_tree.specs.Plans.{PlanContents, rounds_of}
 use Rattle.book_machine.specs.declared.events.Event.{Event}
@@ -52,7 +53,7 @@ pub record AreFaults (s : State) (rounds : ℕ) (faults : List (Option ℕ)) : T
 pub record BookKept (p : PlanContents) (window : ℕ) (s : State) (r : PendingContents) (ticks : List ℕ) (whys : List (Option ℕ)) : Type 0 where
   pub compiled : IsCompiled p
   pub some_window : 1 ≤ window
-  pub small_window : window ≤ 1024
+  pub small_window : window ≤ window_limit
   pub pending : PendingKept p window s r
   pub led : IsLed p window s
   pub totals : AreTotals p s ticks

@@ -1,5 +1,6 @@
 //! The book, how it begins, and what holds of it.
 ghost use Rattle.std.specs.Prelude.{◌≡◌, ◌≤◌, ◌*◌, [], None, length, replicate, IfOk, IfErr};
+ghost use Rattle.sched_base.specs.Limits.{window_limit};
 ghost use Rattle.circular_buffer.specs.Buffer.{buffer};
 ghost use Rattle.event_core.specs.Cores.{IsCoreOf};
 ghost use Rattle.book_machine.specs.Machine.{start};
@@ -58,7 +59,7 @@ struct Parts {
 
 impl Parts {
     fn new(alloc: Global, plan: &Plan, window: u32) -> Result<Parts, NoMemory>
-        requires { window ≤ 1024 }
+        requires { window ≤ window_limit }
         ensures core { IfOk result (λ q. IsCoreOf plan.now q.pending.core) }
         ensures start { IfOk result (λ q. q.pending.core.tick ≡ 0) }
         ensures width { IfOk result (λ q. q.pending.width ≡ plan.now.tree.processors) }
@@ -85,7 +86,7 @@ impl StepBook {
     /// The book of a task set, written as a TOML document, before the first event. All memory is taken here.
     pub fn open(alloc: Global, bytes: &[u8], window: u32) -> Result<StepBook, BookFault>
         requires some_window { 1 ≤ window }
-        requires small_window { window ≤ 1024 }
+        requires small_window { window ≤ window_limit }
         ensures book { IfOk result (IsBookOf bytes.now window) }
         ensures refused { IfErr result (IsNotBooked bytes.now) }
     {
@@ -97,7 +98,7 @@ impl StepBook {
     pub fn begin(alloc: Global, plan: Plan, window: u32) -> Result<StepBook, NoMemory>
         requires compiled { IsCompiled plan }
         requires some_window { 1 ≤ window }
-        requires small_window { window ≤ 1024 }
+        requires small_window { window ≤ window_limit }
         ensures { IfOk result (λ b. b ≡ begun plan window) }
     {
         plan.know_lawful();

@@ -1,6 +1,7 @@
 //! The rows that are computed and not yet let go, and what computes the next ones.
 ghost use Rattle.std.specs.Prelude.{◌≡◌, ◌≢◌, ◌≤◌, ◌<◌, ◌+◌, ◌-◌, ◌*◌, ◌^◌, ◌++◌, ℕ, [], Some, drop, length, map};
 ghost use Rattle.std.specs.Prelude.{replicate, slice_get, slice_index, true, false, IfOk};
+ghost use Rattle.sched_base.specs.Limits.{window_limit};
 ghost use Rattle.sched_base.specs.declared.rows.Leaf.TheVariants.{Task};
 ghost use Rattle.sched_base.specs.declared.rows.TaskId.{TaskId as DeclaredTaskId};
 ghost use Rattle.run_tree.specs.Plans.{stop_of};
@@ -44,7 +45,7 @@ impl Model for Pending {
 impl Pending {
     /// No row yet, with a place for each row of a window. All memory is taken here.
     pub(crate) fn new(alloc: Global, plan: &Plan, window: u32) -> Result<Pending, NoMemory>
-        requires { window ≤ 1024 }
+        requires { window ≤ window_limit }
         ensures core { IfOk result (λ r. IsCoreOf plan.now r.core) }
         ensures start { IfOk result (λ r. r.core.tick ≡ 0) }
         ensures width { IfOk result (λ r. r.width ≡ plan.now.tree.processors) }
