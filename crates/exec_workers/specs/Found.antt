@@ -41,7 +41,7 @@ pub record IsOutAt {J : Type 0} (p : PlanContents) (b : BookContents J) (seat : 
   pub count : posted_at b.state seat.lane ≡ seat.posted
   pub out : OutRow (plan_rows b.plan) b.state seat.lane row
 
--- the same, and the job is that of the row, having worked that many ticks for it
+-- a row is out on the seat's lane, and the job is that of the row, having worked that many ticks for it
 pub record IsOutWith {J : Type 0} (id used : J → ℕ) (made : J → Made) (all_made : List Made) (p : PlanContents) (b : BookContents J)
     (seat : Seat) (row : Row) (job : Option J) (ticks : ℕ) : Type 0 where
   pub found : IsOutAt p b seat row
@@ -54,7 +54,7 @@ pub record IsWholeAt {J : Type 0} (p : PlanContents) (b : BookContents J) (poste
   pub none_out : (q : ℕ) → ¬ (IsOut b.state q)
   pub counts : counts_of b.state.lanes ≡ posted
 
--- the same, and its jobs have failed as often as is given
+-- no row of the book is out, and its jobs have failed as often as is given
 pub record IsClosable {J : Type 0} (faults : J → ℕ) (p : PlanContents) (b : BookContents J) (posted counts : List ℕ) : Type 0 where
   pub whole : IsWholeAt p b posted
   pub told : FaultsAre faults b.jobs.places counts

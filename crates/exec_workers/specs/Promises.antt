@@ -30,7 +30,7 @@ pub record IsNext {J : Type 0} (id used : J → ℕ) (made : J → Made) (faults
   pub own : IsJobOf id used made all_made (λ t. ticks_before t seat.posted (plan_rows p)) row.leaf job
   pub as_given : FailedAsGiven faults counts row.leaf job
 
--- the same, where nothing is said of the job's count of faults
+-- the next row of the seat's lane, and the job its task's, of whose count of faults nothing is said
 pub record IsNextRow {J : Type 0} (id used : J → ℕ) (made : J → Made) (all_made : List Made) (p : PlanContents) (seat : Seat) (row : Row)
     (job : Option J) : Type 0 where
   pub at : RowAt (plan_rows p) seat.lane seat.posted row
