@@ -1,6 +1,7 @@
 -- Modes that are joined.
 use Rattle.std.specs.Prelude.{ℕ, ◌+◌, ◌*◌, ◌<◌, ◌≤◌, ◌≡◌, List, Some, length, map, slice_get, take}
 use Rattle.std.specs.List.{AllByRecursion, sum_by}
+use Rattle.sched_base.specs.Limits.{processor_limit}
 use Rattle.sched_base.specs.Sets.{SetContents, task_at}
 use Rattle.sched_base.specs.Scale.{Fits}
 use Rattle.sched_base.specs.Tables.{row_limit}
@@ -30,7 +31,7 @@ pub record IsMode (processors : ℕ) (m : Mode) : Type 0 where
 -- within the limit
 pub record AreModes (m : ModesContents) : Type 0 where
   pub some_processors : 1 ≤ m.processors
-  pub few_processors : m.processors ≤ 32
+  pub few_processors : m.processors ≤ processor_limit
   pub each : AllByRecursion (IsMode m.processors) m.modes
   pub starts : (j : ℕ) (mode : Mode) → slice_get m.modes j ≡ Some mode → mode.start ≡ sum_by (λ x. x.plan.set.horizon) (take j m.modes)
   pub few_rows : sum_by (λ x. rows_of x.plan) m.modes ≤ row_limit

@@ -2,6 +2,7 @@
 ghost use Rattle.std.specs.Prelude.{◌≡◌, ◌≤◌, ◌<◌, ◌+◌, [], ◌∷◌, ◌++◌, length, slice_get, take};
 ghost use Rattle.std.specs.Prelude.{option_map, Some, IfOk, IfErr, OnOk, OnErr};
 ghost use Rattle.std.specs.List.{AllByRecursion, sum_by};
+ghost use Rattle.sched_base.specs.Limits.{processor_limit};
 ghost use Rattle.mode_join.specs.declared.mode.Mode.{Mode};
 ghost use Rattle.mode_join.specs.Joining.{CanBeJoined, IsFirstOf, RefusesAs, SaysOf, processors_of};
 ghost use Rattle.mode_join.specs.Modes.{AreModes, PeriodsEndIn, sets_of};
@@ -72,7 +73,7 @@ impl Modes {
     /// No mode yet, on so many processors.
     fn none(alloc: Global, processors: u32) -> Modes
         requires some { 1 ≤ processors }
-        requires few { processors ≤ 32 }
+        requires few { processors ≤ processor_limit }
         ensures value { result ≡ record { processors = processors; modes = [] } }
         ensures lawful { AreModes result }
     {
