@@ -1,6 +1,7 @@
 //! Running modes, one after the other.
 ghost use Rattle.std.specs.Prelude.{◌≡◌, ◌≤◌, ◌<◌, ℕ, [], Some, length, slice_set, IfOk, IfErr, OnOk};
 ghost use Rattle.std.specs.List.{AllByRecursion, AllZip};
+ghost use Rattle.sched_base.specs.Limits.{window_limit};
 ghost use Rattle.sched_edges.specs.Jobs.{JobAt};
 ghost use Rattle.job_vm.specs.Seen.{job_seen, seen};
 ghost use Rattle.job_vm.specs.Loading.{anew, loaded};
@@ -35,7 +36,7 @@ pub fn run_modes<G: Gate + Send, X: Threads + Wait + Sync>(
     jobs: &mut Jobs,
 ) -> Result<ModesRun, ModesFault>
     requires some_window { 1 ≤ window }
-    requires small_window { window ≤ 1024 }
+    requires small_window { window ≤ window_limit }
     requires kits { AreFilled modes.now.processors kits.old.items }
     requires jobs { AllByRecursion (λ m. HaveOwnJobs ⟦<BoxedJob as Job>⟧.id (length m.plan.set.tasks) jobs.old.places) modes.now.modes }
     ensures outcome { ModesOutcome G.Gate ⟦<BoxedJob as Job>⟧ modes.now.modes (crew_held kits.old jobs.old) (crew_held kits.new jobs.new) result }
