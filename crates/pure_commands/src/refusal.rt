@@ -84,9 +84,9 @@ impl Refusal {
             Refusal::WriteFault => Status::WriteFault,
             Refusal::NoMemory => Status::NoMemory,
             Refusal::BadSet(ReadSet::NoMemory) => Status::NoMemory,
-            Refusal::BadSet(_) => Status::BadInput,
-            Refusal::BadLine { .. } => Status::BadInput,
-            Refusal::BadProgram { .. } => Status::BadInput,
+            Refusal::BadSet(_) | Refusal::BadLine { .. } | Refusal::BadProgram { .. } => {
+                Status::BadInput
+            }
             Refusal::Overload { .. } => Status::Overload,
             Refusal::ScaleTooLarge { .. } => Status::ScaleTooLarge,
             Refusal::TooLong { .. } => Status::TooLong,
@@ -94,9 +94,9 @@ impl Refusal {
             Refusal::JobFault { .. } => Status::JobFault,
             Refusal::InputTooLong { .. } => Status::InputTooLong,
             Refusal::BadTree { .. } => Status::BadTree,
-            Refusal::TooWide { .. } => Status::TooWide,
-            Refusal::NoRepeat { .. } => Status::TooWide,
-            Refusal::WideRepeat { .. } => Status::TooWide,
+            Refusal::TooWide { .. } | Refusal::NoRepeat { .. } | Refusal::WideRepeat { .. } => {
+                Status::TooWide
+            }
             Refusal::OfMode { mode: _, refusal } => refusal.status(),
         }
     }

@@ -21,19 +21,19 @@ use std::alloc::Global;
 /// What is told of a set that fits.
 #[derive(Clone, Copy)]
 pub(crate) enum SetTold {
-    /// Its scale and its tasks' rates.
+    /// The scale of the set and its tasks' rates.
     Rates,
-    /// Its compiled tree.
+    /// The compiled tree.
     Tree,
-    /// Its schedule; in version 2 where `met` is asked for or some task is released late.
+    /// The schedule; in version 2 where `met` is asked for or some task is released late.
     Trace { met: bool },
-    /// Its wrapped schedule.
+    /// The wrapped schedule.
     TraceWrap,
-    /// Its schedule up to the least horizon at which it repeats, whatever the set's horizon is.
+    /// The schedule up to the least horizon at which it repeats, whatever the set's horizon is.
     TraceRepeat,
-    /// Its schedule as C source.
+    /// The schedule as C source.
     Table,
-    /// Its schedule as C source, up to the least horizon at which it repeats.
+    /// The schedule as C source, up to the least horizon at which it repeats.
     TableRepeat,
 }
 
