@@ -4,6 +4,7 @@
 
 ghost use Rattle.std.specs.Prelude.{◌≡◌, ◌≢◌, ◌↔◌, [], None, Some, map, drop, string_bytes, IfOk, OnErr};
 ghost use Rattle.command_words.specs.Words.{command_of};
+ghost use Rattle.sched_base.specs.Limits.{processor_limit};
 ghost use Rattle.sched_edges.specs.StdStreams.{kept_back};
 ghost use Rattle.pure_commands.specs.Ends.{streams_of, error_of, IsUsage};
 ghost use Rattle.run_tool.specs.Alone.{EndsAlone, IsDoneWithOwn};
@@ -15,7 +16,7 @@ use exec_workers::Kit;
 use exit_status::Status;
 use job_vm::VmJob;
 use run_tool::{Refusal, close_run, refuse, run, run_without_crew};
-use sched_base::NoMemory;
+use sched_base::{NoMemory, PROCESSOR_LIMIT, TASK_LIMIT};
 use sched_edges::{Jobs, Sink, Source, StdSink, StdSource, SureGate};
 use std::alloc::Global;
 use std::io::{BufWriter, Write};
@@ -26,12 +27,6 @@ use std::{env, io};
 
 /// The bytes of a text that standard output keeps back, so that a line costs no call of the system.
 const BUFFER: usize = 65_536;
-
-/// How many processors a set may have, each of which has a gate.
-const GATES: u32 = 32;
-
-/// How many tasks a set may have, each of which has a job.
-const JOBS: u32 = 256;
 
 // The words that the process was called with: the program's name, and those behind it.
 fn called_with(rt: &HostRuntime) -> Result<Vec<String>, NoMemory> {
@@ -56,18 +51,18 @@ fn behind_name(words: &[String]) -> &[String]
     &words[words.len().min(1)..]
 }
 
-// A kit with a gate for each processor.
+// A kit with a gate for each processor that a set may have.
 fn all_kits(alloc: Global) -> Result<Vec<Kit<SureGate>>, NoMemory>
-    ensures { IfOk result (λ kits. AreFirstGates 32 (gates_of (λ _. None) (λ _. 0) kits.items)) }
+    ensures { IfOk result (λ kits. AreFirstGates processor_limit (gates_of (λ _. None) (λ _. 0) kits.items)) }
 {
     let mut kits = Vec::new(alloc);
-    for _ in 0..GATES {
+    for _ in 0..PROCESSOR_LIMIT {
         kits.push(Kit::new(SureGate::new()))?;
     }
     Ok(kits)
 }
 
-// Does what the words ask for, with gates and jobs that are made for it.
+// Does what the words ask for, with gates and jobs that are made for it: a job for each task that a set may have.
 fn run_with_crew<R: Source, W: Sink, E: Sink, X: Threads + Wait + Sync>(
     rt: &X,
     alloc: Global,
@@ -85,8 +80,8 @@ fn run_with_crew<R: Source, W: Sink, E: Sink, X: Threads + Wait + Sync>(
     ensures same { OnErr result ((source.new ≡ source.old) × (out.new ≡ out.old) × (err.new ≡ err.old)) }
 {
     let mut kits = all_kits(alloc)?;
-    let mut jobs = Jobs::with_room(alloc, JOBS)?;
-    for id in 0..JOBS {
+    let mut jobs = Jobs::with_room(alloc, TASK_LIMIT)?;
+    for id in 0..TASK_LIMIT {
         jobs.add(Box::new(alloc, VmJob::new(alloc, id))?);
     }
     Ok(run(rt, alloc, words, source, out, err, &mut kits, &mut jobs))
