@@ -1,5 +1,6 @@
 //! The book of a task set, for an executive in C that brings its own threads, gates and jobs.
 ghost use Rattle.std.specs.Prelude.{◌≡◌, ◌≢◌, ◌≤◌, ◌⊎◌, None, length, IfOk, IfErr};
+ghost use Rattle.sched_base.specs.Limits.{window_limit};
 ghost use Rattle.book_steps.specs.Books.{IsBookOf};
 ghost use Rattle.book_steps.specs.Refusals.{IsNotBooked};
 ghost use Rattle.book_steps.specs.Turns.{Posts, Halts, Waits};
@@ -11,6 +12,7 @@ use crate::numbers::{HALTED, OVER, WAIT, WRONG_CALL};
 use book_steps::{BookFault, StepBook, Turn};
 use c_handles::BookHandle;
 use round_steps::{Halves, NO_TASK, halves_of, task_shown};
+use sched_base::WINDOW_LIMIT;
 use std::alloc::Global;
 
 /// What a book is about: the ticks of a unit, the tick at which the last round ends, the numbers of processors and tasks, and 1 where the schedule
@@ -70,7 +72,7 @@ pub extern "C" fn furnacelime_exec_open(
     ensures opened { result ≡ 0 → IsBookOpened set.now window book.new.book about.new }
     ensures refused { result ≢ 0 → IsBookNotOpened set.now window book.new.book result }
 {
-    if window < 1 || 1024 < window {
+    if window < 1 || WINDOW_LIMIT < window {
         return WRONG_CALL;
     }
     match open_boxed(alloc, set, window) {
@@ -229,7 +231,7 @@ pub extern "C" fn furnacelime_exec_close(alloc: Global, book: BookHandle)
 // The book of a set, in a block of its own.
 fn open_boxed(alloc: Global, set: &[u8], window: u32) -> Result<Box<StepBook>, BookFault>
     requires some_window { 1 ≤ window }
-    requires small_window { window ≤ 1024 }
+    requires small_window { window ≤ window_limit }
     ensures opened { IfOk result (λ opened. IsBookOf set.now window opened.value) }
     ensures refused { IfErr result (IsNotBooked set.now) }
 {
