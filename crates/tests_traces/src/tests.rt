@@ -1,5 +1,5 @@
-//! Rows summed, merged, wrapped and told in C, and traces written, read, judged, told and drawn. What the tests share: rows of three
-//! tasks.
+//! Rows summed, merged, wrapped and told in C, and traces written, read, judged, told and drawn. What the tests share: a trace and
+//! rows of three tasks.
 ghost use Rattle.std.specs.Prelude.{◌≡◌};
 
 mod merging;
@@ -13,6 +13,11 @@ mod wrapping;
 mod writing;
 
 use sched_base::{Leaf, Row, TaskId};
+
+// The trace of three tasks of rate 2/3 on two processors.
+const THREE_TASKS: &str =
+    "run-trace 1\nprocessors 2\nhorizon 3\nscale 3\ntasks 3\ntask a 2 3\ntask b 2 3\ntask c 2 3\nrow 0 0 3 b\nrow 0 3 9 a\n\
+        row 1 0 6 c\nrow 1 6 9 b\ntotal a 6\ntotal b 6\ntotal c 6\nrows 4\n";
 
 const A: Leaf = Leaf::Task(TaskId(0));
 

@@ -6,7 +6,7 @@ use super::cases::{
     assert_tables, joined,
 };
 use super::lanes::Did;
-use super::texts::LATE_ROWS;
+use super::texts::{LATE_ROWS, THREE_ROWS};
 use run_tool::Status;
 use std::alloc::Global;
 use std::process::Abort;
@@ -33,12 +33,7 @@ const LINES: &[&str] = &[
     "rows 4\n",
 ];
 
-/// The same as one text.
-const ROWS: &str =
-    "run-trace 1\nprocessors 2\nhorizon 3\nscale 3\ntasks 3\ntask a 2 3\ntask b 2 3\ntask c 2 3\nrow 0 0 3 b\n\
-        row 0 3 9 a\nrow 1 0 6 c\nrow 1 6 9 b\ntotal a 6\ntotal b 6\ntotal c 6\nrows 4\n";
-
-/// The same with another row.
+/// The trace of three tasks of rate 2/3 with another row.
 const INVALID_ROWS: &str =
     "run-trace 1\nprocessors 2\nhorizon 3\nscale 3\ntasks 3\ntask a 2 3\ntask b 2 3\ntask c 2 3\nrow 0 0 3 b\n\
         row 0 3 9 a\nrow 1 0 6 c\nrow 1 5 8 b\ntotal a 6\ntotal b 6\ntotal c 6\nrows 4\n";
@@ -338,8 +333,8 @@ const EARLY: &[FaultCase] = &[(
 )];
 
 const TABLES: &[Table] = &[
-    (&["check"], Cases::Replaced(ROWS, CHANGES)),
-    (&["check"], Cases::Failing(&[ROWS], FAILING)),
+    (&["check"], Cases::Replaced(THREE_ROWS, CHANGES)),
+    (&["check"], Cases::Failing(&[THREE_ROWS], FAILING)),
     (&["check"], Cases::Faults(&[INVALID_ROWS], INVALID_FAULTS)),
     (&["check"], Cases::Done(VALID)),
     (&["check"], Cases::Refused(REFUSED)),

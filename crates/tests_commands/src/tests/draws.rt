@@ -2,15 +2,10 @@
 //! were made by a plain program of its own, and looked at. The tests of pictures have some byte for byte, with the style sheet.
 
 use super::cases::{Cases, Failing, ReplacedCase, ShownCase, Table, assert_tables};
-use super::texts::LATE_ROWS;
+use super::texts::{LATE_ROWS, THREE_ROWS};
 use run_tool::Status;
 
-/// The trace of three tasks of rate 2/3.
-const ROWS: &str =
-    "run-trace 1\nprocessors 2\nhorizon 3\nscale 3\ntasks 3\ntask a 2 3\ntask b 2 3\ntask c 2 3\nrow 0 0 3 b\n\
-        row 0 3 9 a\nrow 1 0 6 c\nrow 1 6 9 b\ntotal a 6\ntotal b 6\ntotal c 6\nrows 4\n";
-
-/// The same, where the last row begins before the one before it ends.
+/// The trace of three tasks of rate 2/3, where the last row begins before the one before it ends.
 const OVERLAP_ROWS: &str =
     "run-trace 1\nprocessors 2\nhorizon 3\nscale 3\ntasks 3\ntask a 2 3\ntask b 2 3\ntask c 2 3\nrow 0 0 3 b\n\
         row 0 3 9 a\nrow 1 0 6 c\nrow 1 5 8 b\ntotal a 6\ntotal b 6\ntotal c 6\nrows 4\n";
@@ -121,7 +116,7 @@ const OVERLAP_BELOW: &str = "<g class='c1 v0'><title>b</title>
 </svg>
 ";
 
-const UNIT: &[ShownCase] = &[(&[ROWS], UNIT_ABOVE, &[], UNIT_BELOW)];
+const UNIT: &[ShownCase] = &[(&[THREE_ROWS], UNIT_ABOVE, &[], UNIT_BELOW)];
 
 /// An invalid trace is drawn too, and the command is done.
 const OVERLAP: &[ShownCase] = &[(&[OVERLAP_ROWS], OVERLAP_ABOVE, &[], OVERLAP_BELOW)];
@@ -204,8 +199,8 @@ const FAILING: &[Failing] = &[
 const TABLES: &[Table] = &[
     (&["draw", "--from", "1", "--units=1"], Cases::Shown(UNIT)),
     (&["draw"], Cases::Shown(OVERLAP)),
-    (&["draw"], Cases::Replaced(ROWS, REPLACED)),
-    (&["draw"], Cases::Failing(&[ROWS], FAILING)),
+    (&["draw"], Cases::Replaced(THREE_ROWS, REPLACED)),
+    (&["draw"], Cases::Failing(&[THREE_ROWS], FAILING)),
 ];
 
 #[test]

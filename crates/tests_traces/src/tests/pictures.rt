@@ -2,6 +2,7 @@
 //! program of its own, and looked at.
 ghost use Rattle.std.specs.Prelude.{◌≤◌, IfSome};
 
+use super::THREE_TASKS;
 use command_words::Asked;
 use sched_edges::MemSink;
 use std::alloc::Global;
@@ -122,11 +123,6 @@ const LEGEND: &str =
 ";
 
 // ---- worked pictures
-
-// Three tasks of rate 2/3 on two processors.
-const THREE_TASKS: &str =
-    "run-trace 1\nprocessors 2\nhorizon 3\nscale 3\ntasks 3\ntask a 2 3\ntask b 2 3\ntask c 2 3\nrow 0 0 3 b\n\
-        row 0 3 9 a\nrow 1 0 6 c\nrow 1 6 9 b\ntotal a 6\ntotal b 6\ntotal c 6\nrows 4\n";
 
 const THREE_TASKS_PICTURE: &[&str] = &[
     SVG,

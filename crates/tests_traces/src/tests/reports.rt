@@ -1,6 +1,7 @@
 //! Reports of worked traces, and a sink that fails.
 ghost use Rattle.stat_report.specs.Report.{IsValidTrace};
 
+use super::THREE_TASKS;
 use sched_edges::MemSink;
 use stat_report::{migrations, preemptions, response, write_report};
 use std::alloc::Global;
@@ -32,10 +33,6 @@ fn compare(rt: &impl Abort, alloc: Global, text: &str, fails: &[u64], taken: &st
     let trace = trace_of(rt, alloc, text);
     compare_report(rt, alloc, &trace, fails, taken);
 }
-
-const THREE_TASKS: &str =
-    "run-trace 1\nprocessors 2\nhorizon 3\nscale 3\ntasks 3\ntask a 2 3\ntask b 2 3\ntask c 2 3\nrow 0 0 3 b\nrow 0 3 9 a\n\
-        row 1 0 6 c\nrow 1 6 9 b\ntotal a 6\ntotal b 6\ntotal c 6\nrows 4\n";
 
 #[test]
 fn reports(rt: HostRuntime) {
