@@ -55,9 +55,11 @@ fn write_plan<W: Sink>(alloc: Global, plan: &Plan, met: bool, out: &mut W) -> Re
     ensures stops { IfErr result (StopsAtSet (schedule_rows met) (W.taken out.old) (W.taken out.new)
         (W.faults out.old) (W.faults out.new) plan.now.set) }
 {
+    let set = plan.set();
+    let scale = plan.scale();
     let (rows, totals) = merged_rows_of(alloc, plan)?;
-    let mut finishes = finishes_for(alloc, plan.set(), met)?;
-    written(write_plan_rows(plan, &rows, &totals, met, &mut finishes, out))
+    let mut finishes = finishes_for(alloc, set, met)?;
+    written(write_merged_rows(set, scale, &rows, &totals, met, &mut finishes, out))
 }
 
 /// Room for when periods were done, where a trace of the set tells it: where `met` is asked for or some task is released late.
@@ -87,25 +89,6 @@ pub(crate) fn merged_rows_of(
     Ok((rows, totals))
 }
 
-// Writes the merged rows of a plan.
-fn write_plan_rows<W: Sink>(
-    plan: &Plan,
-    rows: &MergedRows,
-    totals: &[u128],
-    met: bool,
-    finishes: &mut Finishes,
-    out: &mut W,
-) -> Result<(), Failed>
-    requires rows { AreMergedOf plan.now rows.now.lanes }
-    requires lawful { AreLawful plan.now.set rows.now.lanes }
-    requires totals { totals.now ≡ totals_of (length plan.now.set.tasks) rows.now.lanes }
-    requires room { HaveRoomIf (met || some_late plan.now.set.tasks) plan.now.set finishes.old }
-    ensures wrote { Wrote (W.taken out.old) (W.taken out.new) (schedule_text (version_of met plan.now.set.tasks) plan.now) result }
-    ensures cause { HasCause (W.faults out.old) (W.faults out.new) result }
-{
-    write_merged_rows(plan.set(), plan.scale(), rows, totals, met, finishes, out)
-}
-
 /// Writes merged rows, which name tasks of the set; in version 2 where `met` is asked for or some task is released late.
 pub(crate) fn write_merged_rows<W: Sink>(
     set: &TaskSet,
@@ -131,7 +114,8 @@ pub(crate) fn write_merged_rows<W: Sink>(
     }
 }
 
-/// Writes the rows of a plan, with room for when periods were done, where that is told.
+/// Writes the rows of a plan, with room for when periods were done, where that is told; in version 2 where `met` is asked for or some
+/// task is released late.
 pub fn write_rows<W: Sink>(
     plan: &Plan,
     table: &RowTable,
@@ -148,29 +132,8 @@ pub fn write_rows<W: Sink>(
     ensures cause { HasCause (W.faults out.old) (W.faults out.new) result }
 {
     table_law();
-    write_table(plan.set(), plan.scale(), table, totals, met, finishes, out)
-}
-
-/// Writes the rows of a table, which name tasks of the set; in version 2 where `met` is asked for or some task is released late.
-fn write_table<W: Sink>(
-    set: &TaskSet,
-    scale: u128,
-    table: &RowTable,
-    totals: &[u128],
-    met: bool,
-    finishes: &mut Finishes,
-    out: &mut W,
-) -> Result<(), Failed>
-    requires scale { scale ≤ 2 ^ 94 }
-    requires processors { length table.now.lanes ≡ set.now.processors }
-    requires names { AllByRecursion (λ rows. AllByRecursion (λ r. NamesOneOf set.now.tasks r.leaf) rows) table.now.lanes }
-    requires few { length table.now.lanes * rounds_in table.now.lanes ≤ row_limit }
-    requires totals { totals.now ≡ totals_of (length set.now.tasks) table.now.lanes }
-    requires room { HaveRoomIf (met || some_late set.now.tasks) set.now finishes.old }
-    ensures wrote { Wrote (W.taken out.old) (W.taken out.new)
-        (trace_text (version_of met set.now.tasks) set.now scale (merged_lanes table.now.lanes)) result }
-    ensures cause { HasCause (W.faults out.old) (W.faults out.new) result }
-{
+    let set = plan.set();
+    let scale = plan.scale();
     if wants_met(set, met) {
         write_met(out, set, scale, table, totals, finishes)
     } else {
