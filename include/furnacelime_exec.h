@@ -20,8 +20,8 @@
  * between two frames, and what ran stays a valid schedule. That wants a set of which no period is open where a frame begins or ends. The next
  * frame's book is opened at the end of the one before, which takes as long as fl_exec_open.
  * A gate or a job that answers another number than 0 has failed: rows that are out are finished, and nothing new is handed out. Either may
- * block; the others go on at least half a window ahead of it, at most a window, then sleep. Neither may leave by longjmp, pthread_exit or an
- * exception.
+ * block; the others go on at least a quarter of a window ahead of it, at most a window, then sleep. Neither may leave by longjmp,
+ * pthread_exit or an exception.
  *
  * Nothing is proved of the C here: that it calls the book with the lock held, runs each row that it was handed once between its take and
  * its post, and posts only what answered 0. What the book keeps is proved, whatever is called.
@@ -34,6 +34,7 @@
 #include <errno.h>
 #include <pthread.h>
 #include <sched.h>
+#include <semaphore.h>
 #include <string.h>
 #include <unistd.h>
 #include "furnacelime.h"
@@ -98,12 +99,9 @@ struct fl_execution;
 struct fl_lane {
     struct fl_execution *in;
     pthread_t thread;
-    pthread_mutex_t bed; /* it sleeps until `called` is set, which is read and written with this */
-    pthread_cond_t woken;
-    int called;
+    sem_t bed; /* it sleeps until it is called */
     uint32_t processor;
     uint32_t sleepers; /* a bit for each processor whose thread sleeps until this one posts a row without a task */
-    uint64_t posted;
     uint64_t woken_at; /* while it sleeps at the end of the window: as many rows all have posted when it is woken */
     struct fl_want want; /* while it sleeps behind an earlier row of its task: when it is woken */
     uint32_t vain;     /* for how many waits in a row looking was in vain */
@@ -113,29 +111,32 @@ struct fl_lane {
     struct fl_row row; /* what it gave */
 };
 
+/* What is read without the lock stands apart from what is written with it, with the lanes in between: else each try at the lock would fetch memory
+ * that its holder is about to write. */
 struct fl_execution {
     const struct fl_crew *crew;
     pthread_mutex_t *lock;
-    struct fl_exec exec;
-    struct fl_lane lanes[FL_PROCESSORS];
     uint32_t processors;
     uint32_t window;
-    uint32_t ready; /* how many threads are there */
-    pthread_cond_t all_ready;
-    uint32_t full;  /* a bit for each processor whose thread sleeps at the end of the window */
-    uint32_t behind[FL_TASKS];       /* a bit for each processor whose thread sleeps behind an earlier row of the task */
-    struct fl_ticks given[FL_TASKS]; /* of each task the ticks that are posted in the frame */
-    uint64_t least; /* as many rows all have posted; it is written with the lock, and looked at without it */
-    int looks;      /* FL_LOOKS, or 0 */
-    uint64_t waits;
-    int stopped; /* a thread could not be started, a row failed, or the next frame could not be opened */
-    int status;  /* that of the last opening */
+    int looks; /* FL_LOOKS, or 0 */
+    uint64_t frames;
     const void *set;
     size_t length;
-    uint64_t frames;
-    struct fl_ticks shift; /* the tick at which the frame begins; it is written where no row is out */
-    uint32_t ended;        /* how many threads are at the end of the frame */
     struct fl_ended *told;
+    struct fl_ticks shift; /* the tick at which the frame begins; it is written where no row is out */
+    struct fl_lane lanes[FL_PROCESSORS];
+    struct fl_exec exec;
+    uint64_t least; /* as many rows all have posted; it is written with the lock, and looked at without it */
+    uint64_t counts[FL_PROCESSORS];  /* of each processor the rows that it has posted in the frame */
+    uint32_t full;                   /* a bit for each processor whose thread sleeps at the end of the window */
+    uint32_t behind[FL_TASKS];       /* a bit for each processor whose thread sleeps behind an earlier row of the task */
+    struct fl_ticks given[FL_TASKS]; /* of each task the ticks that are posted in the frame */
+    uint64_t waits;
+    uint32_t ended; /* how many threads are at the end of the frame */
+    int stopped;    /* a thread could not be started, a row failed, or the next frame could not be opened */
+    int status;     /* that of the last opening */
+    uint32_t ready; /* how many threads are there */
+    pthread_cond_t all_ready;
     uint64_t posted[FL_PROCESSORS];
     struct fl_ticks ticks[FL_TASKS];
 };
@@ -168,20 +169,14 @@ static inline void fl_wake(struct fl_lane *lane, struct fl_lane *sleeper)
 /* Calls a thread that sleeps, or is about to. */
 static inline void fl_call(struct fl_lane *sleeper)
 {
-    pthread_mutex_lock(&sleeper->bed);
-    sleeper->called = 1;
-    pthread_mutex_unlock(&sleeper->bed);
-    pthread_cond_signal(&sleeper->woken);
+    sem_post(&sleeper->bed);
 }
 
 /* Sleeps until it is called. */
 static inline void fl_await_call(struct fl_lane *lane)
 {
-    pthread_mutex_lock(&lane->bed);
-    while (!lane->called)
-        pthread_cond_wait(&lane->woken, &lane->bed);
-    lane->called = 0;
-    pthread_mutex_unlock(&lane->bed);
+    while (sem_wait(&lane->bed) != 0)
+        continue;
 }
 
 /* Calls the threads that sleep no more: best without the lock, which they then find free. */
@@ -222,22 +217,38 @@ static inline void fl_pause(void)
 #endif
 }
 
-/* How often the lock is tried before a thread sleeps for it, and how many moments pass between two tries. */
-enum { FL_TRIES = 100, FL_PAUSES = 10 };
+/* A thread that finds the lock held tries it so often, each time after a pause of twice as many moments, up to so many: about as long as a sleep and its
+ * end take. Meanwhile who has it goes through some rows with the book at hand, since to fetch the book from another CPU takes as long as several
+ * rows. Then the thread tries so often after a turn that it gives to others, and then sleeps until it has the lock. */
+enum { FL_TRIES = 12, FL_PAUSE = 256, FL_TURNS = 20 };
 
-/* Takes the lock. It is held for less time than a sleep takes, so it is tried some times before that; where threads share CPUs the one that holds it
- * may be waiting for a CPU, which it gets between two tries. A thread with a priority gives its CPU to none below it, and sleeps at once. */
+/* Tries the lock for a while. Whether it was taken. */
+static inline int fl_try(pthread_mutex_t *lock)
+{
+    int tries, moments, pause = 1;
+    for (tries = FL_TRIES; tries > 0; tries--) {
+        for (moments = pause; moments > 0; moments--)
+            fl_pause();
+        pause = pause < FL_PAUSE ? 2 * pause : FL_PAUSE;
+        if (pthread_mutex_trylock(lock) == 0)
+            return 1;
+    }
+    for (tries = FL_TURNS; tries > 0; tries--) {
+        sched_yield();
+        if (pthread_mutex_trylock(lock) == 0)
+            return 1;
+    }
+    return 0;
+}
+
+/* Takes the lock. A thread with a priority gives its CPU to none below it, and sleeps at once where the lock is held. */
 static inline void fl_lock(struct fl_execution *in)
 {
-    int tries, pauses;
-    for (tries = in->crew->priority ? 0 : FL_TRIES; tries > 0; tries--) {
-        if (pthread_mutex_trylock(in->lock) == 0)
-            return;
-        for (pauses = FL_PAUSES; pauses > 0; pauses--)
-            fl_pause();
-        sched_yield();
-    }
-    pthread_mutex_lock(in->lock);
+    pthread_mutex_t *lock = in->lock;
+    if (pthread_mutex_trylock(lock) == 0)
+        return;
+    if (in->crew->priority || !fl_try(lock))
+        pthread_mutex_lock(lock);
 }
 
 /* Looks without the lock whether all have posted as many rows, for about as long as a sleep and its end take; where that was in vain for four
@@ -308,15 +319,16 @@ static inline void fl_take_for_full(struct fl_execution *in, struct fl_lane *lan
 }
 
 /* Waits until a processor that was told to wait may go on. Behind an earlier row it sleeps until that is posted; at the end of the window until
- * half of that is free, since to sleep for each row costs more than the row. Whether it is to sleep: if not, it took again. The lock is held,
+ * three quarters of that are free, since a sleep costs as much as many rows. Whether it is to sleep: if not, it took again. The lock is held,
  * but while it looks. */
 static inline int fl_is_to_sleep(struct fl_execution *in, struct fl_lane *lane)
 {
-    if (lane->posted < in->lanes[lane->row.waits_for].posted + in->window) {
+    const uint64_t posted = in->counts[lane->processor];
+    if (posted < in->counts[lane->row.waits_for] + in->window) {
         fl_mark_behind(in, lane);
         return 1;
     }
-    lane->woken_at = lane->posted - in->window / 2;
+    lane->woken_at = posted - in->window / 4;
     fl_look(in, lane, lane->woken_at);
     if (in->least < lane->woken_at && !in->stopped) {
         in->full |= (uint32_t)1 << lane->processor;
@@ -329,7 +341,7 @@ static inline int fl_is_to_sleep(struct fl_execution *in, struct fl_lane *lane)
 /* Notes that a processor has posted this row, and wakes those that waited for it. The lock is held. */
 static inline void fl_note_post(struct fl_execution *in, struct fl_lane *lane, const struct fl_row *ran)
 {
-    uint64_t least = ++lane->posted;
+    uint64_t least = ++in->counts[lane->processor];
     uint32_t p;
     if (ran->task != FL_NO_TASK)
         in->given[ran->task] = fl_later(in->given[ran->task], fl_between(ran->start, ran->end));
@@ -337,7 +349,7 @@ static inline void fl_note_post(struct fl_execution *in, struct fl_lane *lane, c
     if (least > in->least + 1)
         return;
     for (p = 0; p < in->processors; p++)
-        least = in->lanes[p].posted < least ? in->lanes[p].posted : least;
+        least = in->counts[p] < least ? in->counts[p] : least;
     if (least == in->least)
         return;
     fl_set_least(in, least);
@@ -413,8 +425,7 @@ static inline void fl_open_frame(struct fl_execution *in, struct fl_lane *lane)
     in->ended = 0;
     fl_set_least(in, 0);
     memset(in->given, 0, sizeof in->given);
-    for (p = 0; p < in->processors; p++)
-        in->lanes[p].posted = 0;
+    memset(in->counts, 0, sizeof in->counts);
     for (p = 0; p < in->processors; p++)
         if (in->lanes[p].asleep)
             fl_take_for(in, lane, &in->lanes[p]);
@@ -497,19 +508,12 @@ static inline int fl_set_attributes(pthread_attr_t *attributes, const struct fl_
 /* Makes what the thread of a processor sleeps on; an errno. */
 static inline int fl_make_bed(struct fl_lane *lane)
 {
-    int error = pthread_mutex_init(&lane->bed, NULL);
-    if (error)
-        return error;
-    error = pthread_cond_init(&lane->woken, NULL);
-    if (error)
-        pthread_mutex_destroy(&lane->bed);
-    return error;
+    return sem_init(&lane->bed, 0, 0) ? errno : 0;
 }
 
 static inline void fl_drop_bed(struct fl_lane *lane)
 {
-    pthread_cond_destroy(&lane->woken);
-    pthread_mutex_destroy(&lane->bed);
+    sem_destroy(&lane->bed);
 }
 
 /* Starts the thread of a processor; an errno. */

@@ -442,7 +442,7 @@ static void try_windows(struct crew_notes *notes)
     }
 }
 
-/* Two tasks that have a processor each: the other one goes on half a window ahead of a gate that blocks. And where a task migrates, the other
+/* Two tasks that have a processor each: the other one goes on a quarter of a window ahead of a gate that blocks. And where a task migrates, the other
    processor goes on at the post of its earlier row, while the next gate there blocks. */
 static void try_blocking(struct crew_notes *notes)
 {
@@ -455,7 +455,7 @@ static void try_blocking(struct crew_notes *notes)
             notes->blocked = p;
             notes->of = 10;
             notes->at = 9;
-            notes->ahead = window / 2;
+            notes->ahead = window / 4 + 1;
             notes->whole = 64;
             WANT(fl_execute(two, sizeof two - 1, &crew, &ended) == FL_DONE && !notes->wrong);
             WANT(ended.posted[0] == 64 && ended.posted[1] == 64 && ended.ticks[0].low == 64);
