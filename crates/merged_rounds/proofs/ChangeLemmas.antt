@@ -1,5 +1,5 @@
 -- Rounds by the processors that may show something else than before.
-use Rattle.std.proofs.Common.{◌≡◌, ◌≢◌, ℕ, ◌+◌, ◌<◌, ◌≤◌, ◌⊎◌, inl, inr, true, List, length, set, get_or, get_or-set_same, get_or-set_other, slice_get, Option, None, Some, refl, sym, ap, ◌∙◌, arith}
+use Rattle.std.proofs.Common.{◌≡◌, ◌≢◌, ℕ, ◌+◌, ◌<◌, ◌≤◌, ◌⊎◌, inl, inr, true, List, length, set, get_or, get_or-set_same, get_or-set_other, slice_get, Option, None, Some, refl, sym, ap, subst, ◌∙◌, arith}
 use Rattle.std.proofs.lemmas.Bool.{cases_eq, cases_lt}
 use Rattle.std.proofs.lemmas.Option.{slice_get-get_or}
 use Rattle.sched_base.specs.declared.rows.Leaf.{Leaf}
@@ -13,8 +13,8 @@ use Rattle.merged_rounds.specs.Replays.{IsSourceOf}
 use Rattle.event_core.specs.Rounds.{IsRoundUpTo, rows_of_round}
 use Rattle.merged_rows.specs.Columns.{AreTold, ends_showing}
 use Rattle.merged_rounds.specs.declared.sums.RoundSum.{RoundSum}
-use Rattle.merged_rounds.specs.Changes.{IsChange, IsNone, IsShowing}
-use Rattle.merged_rounds.specs.Laps.{IsSumUpTo}
+use Rattle.merged_rounds.specs.Changes.{AreAllChanged, IsChange, IsNone, IsShowing}
+use Rattle.merged_rounds.specs.Laps.{IsAllTold, IsSumUpTo}
 use Rattle.merged_rounds.specs.Passes.{leaf_at}
 use Rattle.merged_rounds.proofs.LapLemmas.{row_shows}
 
@@ -85,6 +85,50 @@ module _ (p : PlanContents) (start end : ℕ) (changed : List ℕ) where
         let same = still q r s.0 (none_of n q (get_or told q None) is (each q)) in
         ap (ends_showing (lane_of lanes q)) (s.1 ∙ same) ∙ last q r s.0;
   }
+
+-- ---- leaves that are known anew
+
+module _ (changed : List ℕ) (told leaves : List (Option Leaf)) (n : ℕ) (l : get_or changed n 0 < length leaves) where
+  abbrev here : ℕ
+  here = get_or changed n 0
+
+  pub note_each : ((k : ℕ) → k < n → get_or leaves (get_or changed k 0) None ≡ get_or told (get_or changed k 0) None) →
+      (k : ℕ) → k < n + 1 → get_or (set leaves here (get_or told here None)) (get_or changed k 0) None ≡ get_or told (get_or changed k 0) None
+  note_each each k m = elim (cases_eq (get_or changed k 0) here) [
+    | inl e ↦ ap (λ q. get_or (set leaves here (get_or told here None)) q None) e ∙ set_same leaves here (get_or told here None) None l ∙ ap (λ q. get_or told q None) (sym e)
+    | inr ne ↦ set_other leaves here (get_or changed k 0) (get_or told here None) None ne ∙ elim (cases_lt k n) [
+      | inl low ↦ each k low
+      | inr high ↦ absurd (ne (ap (λ j. get_or changed j 0) (let f : k ≡ n = omega (arith, m, high) in f)))
+    ]
+  ]
+
+  pub note_rest : (before : List (Option Leaf)) → ((q : ℕ) → IsNone changed n q → get_or leaves q None ≡ get_or before q None) →
+      (q : ℕ) → IsNone changed (n + 1) q → get_or (set leaves here (get_or told here None)) q None ≡ get_or before q None
+  note_rest before rest q none = set_other leaves here q (get_or told here None) None (λ e. none n (omega arith) (sym e)) ∙ rest q (λ k m. none k (omega (arith, m)))
+
+-- the first n of a list that has the same ones
+pub change_as : (p : PlanContents) (start end : ℕ) (seen changed : List ℕ) (n q : ℕ) (o : Option Leaf) → ((k : ℕ) → k < n → get_or seen k 0 ≡ get_or changed k 0) → IsChange p start end seen n q o → IsChange p start end changed n q o
+change_as p start end seen changed n q o same (inl (k, l, at, is)) = inl (k, l, sym (same k l) ∙ at, is)
+change_as p start end seen changed n q o same (inr (nothing, none)) = inr (nothing, λ k l e. none k l (same k l ∙ e))
+
+-- so each processor's leaf is known in the next round
+pub noted_leaf : (p : PlanContents) (start end before : ℕ) (changed : List ℕ) (n q : ℕ) (o was now : Option Leaf) (none : Row) → q < p.tree.processors → was ≡ Some (leaf_at p before start q none) →
+    (IsNone changed n q → leaf_at p start end q none ≡ leaf_at p before start q none) → ((k : ℕ) → k < n → get_or changed k 0 ≡ q → now ≡ o) → (IsNone changed n q → now ≡ was) →
+    IsChange p start end changed n q o → now ≡ Some (leaf_at p start end q none)
+noted_leaf p start end before changed n q o was now none l is still each rest (inl (k, m, at, told)) = each k m at ∙ told none
+noted_leaf p start end before changed n q o was now none l is still each rest (inr (nothing, away)) = rest away ∙ is ∙ ap (λ (x : Leaf). Some x) (sym (still away))
+
+-- of all processors
+pub all_noted : (p : PlanContents) (start end before : ℕ) (seen changed : List ℕ) (n : ℕ) (told leaves leaves' : List (Option Leaf)) → IsRoundUpTo p before start → IsAllTold p before start leaves → AreAllChanged p start end changed n →
+    ((q : ℕ) → IsChange p start end changed n q (get_or told q None)) → length seen ≡ n → ((k : ℕ) → k < n → get_or seen k 0 ≡ get_or changed k 0) → length leaves' ≡ length leaves →
+    ((k : ℕ) → k < length seen → get_or leaves' (get_or seen k 0) None ≡ get_or told (get_or seen k 0) None) → ((q : ℕ) → IsNone seen (length seen) q → get_or leaves' q None ≡ get_or leaves q None) → IsAllTold p start end leaves'
+all_noted p start end before seen changed n told leaves leaves' round all changes each many same long now rest = record {
+  long = long ∙ all.long;
+  each = λ q none l.
+      noted_leaf p start end before changed n q (get_or told q None) (get_or leaves q None) (get_or leaves' q None) none l (all.each q none l) (λ away. changes.others q before none l away round)
+      (λ k m at. subst (λ (i : ℕ). get_or leaves' i None ≡ get_or told i None) (same k m ∙ at) (now k (omega (arith, m, many))))
+      (λ away. rest q (λ k m e. away k (omega (arith, m, many)) (sym (same k (omega (arith, m, many))) ∙ e))) (each q);
+}
 
 -- ---- forgetting
 

@@ -8,4 +8,4 @@ pub mod CountLemmas
 mod ReplayLemmas
 mod ReplaySteps
 mod TurnLemmas
-mod RowLemmas
+mod EntryLemmas

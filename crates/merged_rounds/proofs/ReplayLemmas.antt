@@ -1,10 +1,8 @@
 -- Rounds of the first hyperperiod come again, whatever the places are.
-use Rattle.std.proofs.Common.{◌≡◌, ◌≢◌, ℕ, zero, suc, ◌+◌, ◌-◌, ◌*◌, ◌<◌, ◌≤◌, ◌^◌, ◌&&◌, ◌++◌, not, inl, inr, min, Bool, true, false, List, [], ◌∷◌, filter, length, length-append, get_or, slice_get, map, Option, None, Some, refl, sym, ap, ap₂, subst, ◌∙◌, arith, mul-le-mul_right, le_of_lt}
+use Rattle.std.proofs.Common.{◌≡◌, ℕ, zero, suc, ◌+◌, ◌-◌, ◌*◌, ◌<◌, ◌≤◌, ◌^◌, ◌&&◌, ◌++◌, not, inl, inr, Bool, true, false, List, [], ◌∷◌, filter, length, length-append, get_or, Option, None, Some, refl, sym, ap, ap₂, subst, ◌∙◌, arith, mul-le-mul_right, le_of_lt}
 use Rattle.std.specs.List.{range_with_len}
-use Rattle.std.proofs.lemmas.Bool.{cases_Bool, cases_eq, cases_lt, both_ways, and_parts}
-use Rattle.std.proofs.lemmas.Option.{slice_get-get_or}
+use Rattle.std.proofs.lemmas.Bool.{cases_Bool, cases_eq, cases_lt, both_ways}
 use Rattle.sched_base.specs.declared.rows.Leaf.{Leaf}
-use Rattle.sched_base.specs.declared.rows.Leaf.TheVariants.{Empty}
 use Rattle.sched_base.specs.declared.rows.Row.{Row}
 use Rattle.sched_base.specs.Counting.{bit}
 use Rattle.sched_base.specs.Places.{Placing, is_held, is_running, place}
@@ -14,9 +12,9 @@ use Rattle.sched_base.proofs.ListLemmas.{same_map}
 use Rattle.run_tree.specs.Boundaries.{set_boundary}
 use Rattle.run_tree.specs.Plans.{IsPlan, PlanContents, stop_of}
 use Rattle.run_tree.specs.Runs.{runs}
-use Rattle.run_tree.specs.Schedule.{leaf_among, leaf_on, onto_at, packs_at, packs_running, places_below, shown}
+use Rattle.run_tree.specs.Schedule.{leaf_among, leaf_on, onto_at, packs_at, packs_running}
 use Rattle.run_tree.specs.Tree.{leaf, members}
-use Rattle.run_tree.proofs.ScheduleLemmas.{length-running, once_below, onto_is}
+use Rattle.run_tree.proofs.ScheduleLemmas.{once_below, onto_is}
 use Rattle.run_tree.proofs.TreeLemmas.{first_is_pack}
 use Rattle.sched_laws.proofs.BetweenEvents.{set_runs_still}
 use Rattle.sched_laws.proofs.PlacedPacks.{held_onto}
@@ -24,7 +22,7 @@ use Rattle.hyperperiod_laws.proofs.LaterPlaces.{packs_again, shown_on_time}
 use Rattle.hyperperiod_laws.proofs.LaterRuns.{runs_again}
 use Rattle.cpu_assign.specs.Changed.{AreChanged, ChangeLists, with_pack}
 use Rattle.event_core.specs.Cores.{places_of}
-use Rattle.event_core.specs.Rounds.{IsRoundUpTo, event_at}
+use Rattle.event_core.specs.Rounds.{IsRoundUpTo}
 use Rattle.event_core.specs.Serving.{IsAmong}
 use Rattle.event_core.proofs.PlaceAgain.{place_again}
 use Rattle.event_core.proofs.QuietRounds.{plan_leaves}
@@ -127,6 +125,13 @@ module _ (p : PlanContents) (h : IsPlan p) (can : CanComeRound p) (start end q k
 
 -- ---- the packs that changed
 
+-- what a pack shows is one thing
+pub pack_once : (p : PlanContents) (n k : ℕ) (o o' : Option Leaf) → IsPackOn p n k o → IsPackOn p n k o' → o ≡ o'
+pack_once p n k None None a b = refl
+pack_once p n k None (Some l) a b = absurd (both_ways (is_held (onto_at (set_boundary p.set.tasks) p.tree n) k) (a.none refl) (b.held l refl))
+pack_once p n k (Some l) None a b = absurd (both_ways (is_held (onto_at (set_boundary p.set.tasks) p.tree n) k) (b.none refl) (a.held l refl))
+pack_once p n k (Some l) (Some m) a b = ap (λ (x : Leaf). Some x) (sym (a.leaf l refl) ∙ b.leaf m refl)
+
 get_left : (xs : List ℕ) (x k : ℕ) → k < length xs → get_or (xs ++ x ∷ []) k 0 ≡ get_or xs k 0
 get_left [] x k l = absurd (omega (arith, l))
 get_left (y ∷ xs) x zero l = refl
@@ -218,3 +223,12 @@ module _ (before now : List (Option Leaf)) where
         ∙ filter_range begins (λ i. is_running rs i && not (is_held onto i)) n 0 (λ k low high. ap₂ (λ (x y : Bool). x && not y) (sym (on k (omega (arith, high)))) (sym (held_by k (omega (arith, high)))))
         ∙ ap (λ m. filter (λ i. is_running rs i && not (is_held onto i)) (range_with_len 0 m)) (sym long);
   }
+
+-- what packs from number n on show now doesn't matter
+pub noted_by : (before now now' : List (Option Leaf)) (n : ℕ) (c : ChangeLists) → ((k : ℕ) → k < n → get_or now' k None ≡ get_or now k None) → AreNotedTo before now n c → AreNotedTo before now' n c
+noted_by before now now' n c is a = record {
+  same = λ k l no. is k l ∙ a.same k l no;
+  within = a.within;
+  stops = a.stops ∙ filter_range (stops before now) (stops before now') n 0 (λ k low high. ap (λ (o : Option Leaf). not (is_some o) && is_some (get_or before k None)) (sym (is k (omega (arith, high)))));
+  begins = a.begins ∙ filter_range (begins before now) (begins before now') n 0 (λ k low high. ap (λ (o : Option Leaf). is_some o && not (is_some (get_or before k None))) (sym (is k (omega (arith, high)))));
+}

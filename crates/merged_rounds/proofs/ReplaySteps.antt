@@ -1,39 +1,49 @@
 -- One round of a replay.
-use Rattle.std.proofs.Common.{◌≡◌, ◌≢◌, ℕ, zero, suc, ◌+◌, ◌-◌, ◌*◌, ◌<◌, ◌≤◌, ◌^◌, ◌⊎◌, ◌&&◌, ◌||◌, not, inl, inr, min, Bool, true, false, List, [], ◌∷◌, length, set, get_or, get_or-set_same, get_or-set_other, Option, None, Some, refl, sym, ap, ap₂, subst, ◌∙◌, arith}
-use Rattle.std.specs.List.{AllByRecursion, list_any}
-use Rattle.std.proofs.lemmas.Bool.{cases_Bool, cases_eq, cases_lt, both_ways, and_parts}
+use Rattle.std.proofs.Common.{◌≡◌, ◌≢◌, ℕ, zero, suc, ◌+◌, ◌-◌, ◌<◌, ◌≤◌, ◌^◌, ◌⊎◌, ◌&&◌, ◌||◌, not, inl, inr, min, Bool, true, false, List, [], ◌∷◌, length, get_or, Option, None, Some, refl, sym, ap, subst, ◌∙◌, arith}
+use Rattle.std.proofs.lemmas.Bool.{cases_Bool, both_ways}
 use Rattle.sched_base.specs.declared.rows.Leaf.{Leaf}
 use Rattle.sched_base.specs.declared.rows.Leaf.TheVariants.{Empty}
 use Rattle.sched_base.specs.declared.rows.Row.{Row}
 use Rattle.sched_base.specs.Candidates.{is_at}
 use Rattle.sched_base.specs.Places.{Placing, is_held, is_running, place, waiting}
 use Rattle.sched_base.proofs.EarliestLemmas.{is_at_some}
-use Rattle.sched_base.proofs.HeldLemmas.{held, held-zero, held_at}
+use Rattle.sched_base.proofs.HeldLemmas.{held-zero, held_at}
 use Rattle.sched_base.proofs.ListLemmas.{first_from}
 use Rattle.run_tree.specs.Boundaries.{set_boundary}
 use Rattle.run_tree.specs.Plans.{IsPlan, PlanContents, stop_of}
-use Rattle.run_tree.specs.Schedule.{leaf_on, onto_at, packs_at, packs_running, shown}
+use Rattle.run_tree.specs.Schedule.{leaf_on, onto_at, packs_running, shown}
 use Rattle.run_tree.proofs.ScheduleLemmas.{length-places, length-running}
 use Rattle.hyperperiod_laws.proofs.LaterPlaces.{shown_on_time}
 use Rattle.cpu_assign.specs.Changed.{AreChanged, ChangeLists, stopping}
 use Rattle.cpu_assign.specs.Noted.{IsNoted}
 use Rattle.cpu_assign.proofs.MovedLemmas.{moved}
-use Rattle.event_core.specs.Cores.{CoreContents, IsCoreOf, places_of}
-use Rattle.event_core.specs.Rounds.{IsRoundStart, IsRoundUpTo, event_at}
+use Rattle.event_core.specs.Cores.{places_of}
+use Rattle.event_core.specs.Rounds.{IsRoundUpTo, event_at}
 use Rattle.event_core.specs.Serving.{IsAmong}
 use Rattle.event_core.specs.Told.{AreTold, IsTold}
 use Rattle.event_core.proofs.OneRound.{length-last}
 use Rattle.event_core.proofs.PlanRounds.{stop_fits}
 use Rattle.event_core.proofs.RowsGone.{as_many, pack_within}
 use Rattle.event_core.proofs.SettledPacks.{same_start}
-use Rattle.merged_rounds.specs.declared.laps.Lap.{Lap}
 use Rattle.merged_rounds.specs.declared.replays.Replay.{Replay}
-use Rattle.merged_rounds.specs.Laps.{AreTurns, CanComeRound, lap_end, round_start}
+use Rattle.merged_rounds.specs.declared.turns.Turn.{Turn}
+use Rattle.merged_rounds.specs.Laps.{AreTurns, CanComeRound, IsAllTold, round_start}
 use Rattle.merged_rounds.specs.Passes.{leaf_at}
-use Rattle.merged_rounds.specs.Replays.{AreNotedTo, HasPlaced, IsPackOn, IsReplayOf, IsTurn, is_some, packs_of, shown_in_round}
-use Rattle.merged_rounds.proofs.ChangeLemmas.{set_other, set_same}
+use Rattle.merged_rounds.specs.Replays.{AreEntries, AreNotedTo, AreOrdered, HasPlaced, IsPackOn, IsReplayOf, IsTaken, IsTurnOf, is_some, packs_of, part_start, turn_end}
 use Rattle.merged_rounds.proofs.LapLemmas.{leaf_is, next_round_at, turns_more}
 use Rattle.merged_rounds.proofs.ReplayLemmas.{changed_by, held_runs, leaf_of, onto_end, pack_later, places_end}
+
+-- the same of other names
+pub ordered_as : (packs packs' : List ℕ) (low low' high high' many many' : ℕ) → packs' ≡ packs → low' ≡ low → high' ≡ high → many' ≡ many → AreOrdered packs low high many → AreOrdered packs' low' high' many'
+ordered_as packs packs' low low' high high' many many' a b c d o =
+    subst (λ (ns : List ℕ). AreOrdered ns low' high' many') (sym a) (subst (λ (n : ℕ). AreOrdered packs n high' many') (sym b) (subst (λ (n : ℕ). AreOrdered packs low n many') (sym c) (subst (λ (n : ℕ). AreOrdered packs low high n) (sym d) o)))
+
+pub taken_as : (packs packs' : List ℕ) (shown shown' : List (Option Leaf)) (low low' high high' : ℕ) (before before' now : List (Option Leaf)) (k : ℕ) → packs' ≡ packs → shown' ≡ shown → low' ≡ low → high' ≡ high → before' ≡ before →
+    IsTaken packs' shown' low' high' before' now k → IsTaken packs shown low high before now k
+taken_as packs packs' shown shown' low low' high high' before before' now k a b c d e t =
+    subst (λ (ns : List ℕ). IsTaken ns shown low high before now k) a
+    (subst (λ (os : List (Option Leaf)). IsTaken packs' os low high before now k) b
+    (subst (λ (n : ℕ). IsTaken packs' shown' n high before now k) c (subst (λ (n : ℕ). IsTaken packs' shown' low' n before now k) d (subst (λ (os : List (Option Leaf)). IsTaken packs' shown' low' high' os now k) e t))))
 
 -- a pack is on a processor just where something is told of it
 pub held_some : (p : PlanContents) (n k : ℕ) (o : Option Leaf) → IsPackOn p n k o → is_held (onto_at (set_boundary p.set.tasks) p.tree n) k ≡ is_some o
@@ -54,16 +64,6 @@ module _ (p : PlanContents) (h : IsPlan p) (start : ℕ) (r : Replay) (b : IsRep
   pub start_is : start ≡ round_start 0 ends r.next + r.shift
   start_is = let at = b.at in omega (arith, at, l)
 
-  -- what packs show in this round
-  pub now_on : (k : ℕ) → k < packs_of p → IsPackOn p start k (shown_in_round p r r.next k)
-  now_on k in_level =
-      let e = start_is in
-      subst (λ (n : ℕ). IsPackOn p n k (shown_in_round p r r.next k)) (sym e)
-      (pack_later p h b.can r.shift b.shift (round_start 0 ends r.next) (omega (arith, e, l)) k (shown_in_round p r r.next k) in_level (b.lap.shown r.next k b.next in_level))
-
-  pub running_now : (k : ℕ) → k < packs_of p → is_running (packs_running (set_boundary p.set.tasks) p.tree start) k ≡ is_some (shown_in_round p r r.next k)
-  running_now k in_level = sym (held_runs p h start k) ∙ held_some p start k (shown_in_round p r r.next k) (now_on k in_level)
-
   pub event_now : event_at p start ≡ true
   event_now = elim b.event [ inl e ↦ absurd (omega (arith, e, l)) | inr e ↦ e ]
 
@@ -72,7 +72,7 @@ module _ (p : PlanContents) (h : IsPlan p) (start : ℕ) (r : Replay) (b : IsRep
   round_now =
       let e = start_is in
       subst (λ (n : ℕ). IsRoundUpTo p n (min (get_or ends r.next 0 + r.shift) (stop_of p))) (sym e)
-      (next_round_at p h b.can r.shift b.shift (round_start 0 ends r.next) (get_or ends r.next 0) (subst (λ (n : ℕ). event_at p n ≡ true) e event_now) (omega (arith, e, l)) (b.lap.round r.next b.next))
+      (next_round_at p h b.can r.shift b.shift (round_start 0 ends r.next) (get_or ends r.next 0) (subst (λ (n : ℕ). event_at p n ≡ true) e event_now) (omega (arith, e, l)) (b.lap.turn.round r.next b.next))
 
   pub last_long : length r.places.last ≡ length (packs_running (set_boundary p.set.tasks) p.tree start)
   last_long = ap (λ (w : Placing). length w.last) b.places ∙ length-last p start ∙ sym (length-running (set_boundary p.set.tasks) p.tree start)
@@ -81,12 +81,12 @@ module _ (p : PlanContents) (h : IsPlan p) (start : ℕ) (r : Replay) (b : IsRep
   onto_long = ap (λ (w : Placing). length w.onto) b.places ∙ length-places (set_boundary p.set.tasks) p.tree start
 
   -- all fits
-  pub shift_fits : r.shift + lap_end 0 r.lap < 2 ^ 128
+  pub shift_fits : r.shift + turn_end r.lap < 2 ^ 128
   shift_fits =
       let e = start_is in
       let fits = stop_fits p h in
       let next = b.next in
-      let last = (b.lap.round (length ends - 1) (omega (arith, next))).below in
+      let last = (b.lap.turn.round (length ends - 1) (omega (arith, next))).below in
       let at : length ends ≡ suc (length ends - 1) = omega (arith, next) in
       let same = ap (λ i. round_start 0 ends i) at in
       omega (arith, e, l, fits, last, same)
@@ -95,59 +95,98 @@ module _ (p : PlanContents) (h : IsPlan p) (start : ℕ) (r : Replay) (b : IsRep
   end_fits =
       let e = start_is in
       let fits = stop_fits p h in
-      let end = (b.lap.round r.next b.next).below in
+      let end = (b.lap.turn.round r.next b.next).below in
       omega (arith, e, l, fits, end)
 
-  module _ (before now : List (Option Leaf)) (was : (k : ℕ) → k < packs_of p → get_or before k None ≡ shown_in_round p r r.gone k) (is : (k : ℕ) → k < packs_of p → get_or now k None ≡ shown_in_round p r r.next k)
-      (changes : ChangeLists) (noted : AreNotedTo before now (packs_of p) changes) where
-    pub changed_now : AreChanged (packs_running (set_boundary p.set.tasks) p.tree start) r.places.onto changes
-    changed_now = changed_by before now (packs_running (set_boundary p.set.tasks) p.tree start) r.places.onto (packs_of p) changes (length-running (set_boundary p.set.tasks) p.tree start)
-        (λ k m. running_now k m ∙ ap is_some (sym (is k m)))
-        (λ k m. b.held k m ∙ ap is_some (sym (was k m))) noted
+  -- the entries of the next round
+  pub low_fits : r.next ≤ length r.lap.parts.items
+  low_fits = let n = b.next in let long = b.lap.turn.long in omega (arith, n, long)
 
-    pub same_now : (k : ℕ) → k < packs_of p → (IsAmong changes.seen k → ⊥) → shown_in_round p r r.next k ≡ shown_in_round p r r.gone k
-    same_now k m away = sym (is k m) ∙ noted.same k m away ∙ was k m
+  pub high_fits : r.next + 1 ≤ length r.lap.parts.items
+  high_fits = let n = b.next in let long = b.lap.turn.long in omega (arith, n, long)
 
-  -- a round later
-  module _ (r' : Replay) (lap : r'.lap ≡ r.lap) (gone : r'.gone ≡ r.next) (placed : r'.places ≡ place (packs_running (set_boundary p.set.tasks) p.tree start) r.places)
-      (room : r'.changes.room ≡ packs_of p) (onto : length r'.onto.items ≡ p.tree.processors)
-      (next : r'.next < length ends) (at : round_start 0 ends r'.next + r'.shift ≡ get_or ends r.next 0 + r.shift) (shift : (r'.shift ≡ r.shift) ⊎ (r'.shift ≡ r.shift + lap_end 0 r.lap))
-      (end : ℕ) (end_is : end ≡ min (get_or ends r.next 0 + r.shift) (stop_of p)) where
-    round : IsRoundUpTo p start end
-    round = subst (λ (n : ℕ). IsRoundUpTo p start n) (sym end_is) round_now
+  pub high_is : part_start r.lap.parts.items (r.next + 1) ≡ get_or r.lap.parts.items r.next 0
+  high_is = let e : r.next + 1 ≡ suc r.next = omega arith in ap (part_start r.lap.parts.items) e
 
-    now_shown : (k : ℕ) → shown_in_round p r' r'.gone k ≡ shown_in_round p r r.next k
-    now_shown k = ap₂ (λ (xs : List (Option Leaf)) (i : ℕ). get_or xs (i * packs_of p + k) None) (ap (λ (z : Lap). z.told.items) lap) gone
+  pub next_entries : AreEntries p r.lap.packs.items r.lap.shown.items (part_start r.lap.parts.items r.next) (get_or r.lap.parts.items r.next 0) (round_start 0 ends r.next)
+  next_entries = b.lap.turn.entries r.next b.next
 
-    placed_end : r'.places ≡ places_of p end
-    placed_end = placed ∙ ap (place (packs_running (set_boundary p.set.tasks) p.tree start)) b.places ∙ sym (places_end p h start end round)
+  -- they are taken
+  module _ (now : List (Option Leaf)) (taken : (k : ℕ) → IsTaken r.lap.packs.items r.lap.shown.items (part_start r.lap.parts.items r.next) (get_or r.lap.parts.items r.next 0) r.shows.items now k) where
+    lap_by : (k : ℕ) → k < packs_of p → IsTaken r.lap.packs.items r.lap.shown.items (part_start r.lap.parts.items r.next) (get_or r.lap.parts.items r.next 0) r.shows.items now k →
+        IsPackOn p (round_start 0 ends r.next) k (get_or now k None)
+    lap_by k m (inl (j, above, under, at, e)) =
+        subst (λ (o : Option Leaf). IsPackOn p (round_start 0 ends r.next) k o) (sym e)
+        (subst (λ (i : ℕ). IsPackOn p (round_start 0 ends r.next) i (get_or r.lap.shown.items j None)) at (next_entries.shows j above under))
+    lap_by k m (inr (none, e)) =
+        let on = b.lap.turn.rest r.next k (get_or r.shows.items k None) b.next m none in
+        subst (λ (o : Option Leaf). IsPackOn p (round_start 0 ends r.next) k o) (sym e) (on.1 (b.gone k on.0 m))
 
-    pub replay_on : IsReplayOf p end r'
-    replay_on = record {
-      can = b.can;
-      lap = subst (λ (z : Lap). IsTurn p z.ends.items z.told.items) (sym lap) b.lap;
-      turn = subst (λ (z : Lap). AreTurns p (lap_end 0 z)) (sym lap) b.turn;
-      shift = elim shift [
-        | inl same ↦ subst (λ (n : ℕ). AreTurns p n) (sym same) b.shift
-        | inr more ↦ subst (λ (n : ℕ). AreTurns p n) (sym more) (turns_more p r.shift (lap_end 0 r.lap) b.shift b.turn)
-      ];
-      next = (let e = ap (λ (z : Lap). length z.ends.items) lap in omega (arith, e, next));
-      gone = (let e = ap (λ (z : Lap). length z.ends.items) lap in let n = b.next in omega (arith, e, gone, n));
-      at = end_is ∙ ap (λ n. min n (stop_of p)) (sym at) ∙ ap (λ (z : Lap). min (round_start 0 z.ends.items r'.next + r'.shift) (stop_of p)) (sym lap);
-      event = round.last;
-      places = placed_end;
-      shown = λ s k up in_level.
-          let e = same_start p s start end up round in
-          subst (λ (n : ℕ). IsPackOn p n k (shown_in_round p r' r'.gone k)) (sym e) (subst (λ (o : Option Leaf). IsPackOn p start k o) (sym (now_shown k)) (now_on k in_level));
-      held = λ k in_level.
-          ap (λ (w : Placing). is_held w.onto k) placed_end ∙ ap (λ os. is_held os k) (onto_end p h start end round)
-          ∙ held_some p start k (shown_in_round p r r.next k) (now_on k in_level) ∙ ap is_some (sym (now_shown k));
-      room = room;
-      onto = onto;
-    }
+    pub lap_on : (k : ℕ) → k < packs_of p → IsPackOn p (round_start 0 ends r.next) k (get_or now k None)
+    lap_on k m = lap_by k m (taken k)
 
-    pub round_on : IsRoundUpTo p start end
-    round_on = round
+    -- what packs show in this round
+    pub now_on : (k : ℕ) → k < packs_of p → IsPackOn p start k (get_or now k None)
+    now_on k m =
+        let e = start_is in
+        subst (λ (n : ℕ). IsPackOn p n k (get_or now k None)) (sym e)
+        (pack_later p h b.can r.shift b.shift (round_start 0 ends r.next) (omega (arith, e, l)) k (get_or now k None) m (lap_on k m))
+
+    running_now : (k : ℕ) → k < packs_of p → is_running (packs_running (set_boundary p.set.tasks) p.tree start) k ≡ is_some (get_or now k None)
+    running_now k m = sym (held_runs p h start k) ∙ held_some p start k (get_or now k None) (now_on k m)
+
+    pub changed_now : (changes : ChangeLists) → AreNotedTo r.shows.items now (length r.shows.items) changes → AreChanged (packs_running (set_boundary p.set.tasks) p.tree start) r.places.onto changes
+    changed_now changes noted =
+        changed_by r.shows.items now (packs_running (set_boundary p.set.tasks) p.tree start) r.places.onto (length r.shows.items) changes
+        (length-running (set_boundary p.set.tasks) p.tree start ∙ sym b.long)
+        (λ k m. running_now k (let e = b.long in omega (arith, m, e)))
+        (λ k m. b.held k (let e = b.long in omega (arith, m, e))) noted
+
+    -- a round later
+    module _ (r' : Replay) (lap : r'.lap ≡ r.lap) (shows : r'.shows.items ≡ now) (many : length now ≡ packs_of p) (placed : r'.places ≡ place (packs_running (set_boundary p.set.tasks) p.tree start) r.places)
+        (room : r'.changes.room ≡ packs_of p) (onto : length r'.onto.items ≡ p.tree.processors)
+        (next : r'.next < length ends) (at : round_start 0 ends r'.next + r'.shift ≡ get_or ends r.next 0 + r.shift) (shift : (r'.shift ≡ r.shift) ⊎ (r'.shift ≡ r.shift + turn_end r.lap))
+        (behind : (r'.next ≡ 0) ⊎ (r'.next ≡ r.next + 1))
+        (end : ℕ) (end_is : end ≡ min (get_or ends r.next 0 + r.shift) (stop_of p)) where
+      round : IsRoundUpTo p start end
+      round = subst (λ (n : ℕ). IsRoundUpTo p start n) (sym end_is) round_now
+
+      placed_end : r'.places ≡ places_of p end
+      placed_end = placed ∙ ap (place (packs_running (set_boundary p.set.tasks) p.tree start)) b.places ∙ sym (places_end p h start end round)
+
+      gone_by : (k : ℕ) → (r'.next ≡ 0) ⊎ (r'.next ≡ r.next + 1) → 0 < r'.next → k < packs_of p → IsPackOn p (round_start 0 ends (r'.next - 1)) k (get_or now k None)
+      gone_by k (inl none) some m = absurd (omega (arith, none, some))
+      gone_by k (inr one) some m = let e : r.next ≡ r'.next - 1 = omega (arith, one) in subst (λ (i : ℕ). IsPackOn p (round_start 0 ends i) k (get_or now k None)) e (lap_on k m)
+
+      pub replay_on : IsReplayOf p end r'
+      replay_on = record {
+        can = b.can;
+        lap = subst (λ (z : Turn). IsTurnOf p z) (sym lap) b.lap;
+        turn = subst (λ (z : Turn). AreTurns p (turn_end z)) (sym lap) b.turn;
+        shift = elim shift [
+          | inl same ↦ subst (λ (n : ℕ). AreTurns p n) (sym same) b.shift
+          | inr more ↦ subst (λ (n : ℕ). AreTurns p n) (sym more) (turns_more p r.shift (turn_end r.lap) b.shift b.turn)
+        ];
+        next = (let e = ap (λ (z : Turn). length z.ends.items) lap in omega (arith, e, next));
+        at = end_is ∙ ap (λ n. min n (stop_of p)) (sym at) ∙ ap (λ (z : Turn). min (round_start 0 z.ends.items r'.next + r'.shift) (stop_of p)) (sym lap);
+        event = round.last;
+        places = placed_end;
+        shown = λ s k up in_level.
+            let e = same_start p s start end up round in
+            subst (λ (n : ℕ). IsPackOn p n k (get_or r'.shows.items k None)) (sym e) (subst (λ (xs : List (Option Leaf)). IsPackOn p start k (get_or xs k None)) (sym shows) (now_on k in_level));
+        gone = λ k some in_level.
+            subst (λ (z : Turn). IsPackOn p (round_start 0 z.ends.items (r'.next - 1)) k (get_or r'.shows.items k None)) (sym lap)
+            (subst (λ (xs : List (Option Leaf)). IsPackOn p (round_start 0 ends (r'.next - 1)) k (get_or xs k None)) (sym shows) (gone_by k behind some in_level));
+        held = λ k in_level.
+            ap (λ (w : Placing). is_held w.onto k) placed_end ∙ ap (λ os. is_held os k) (onto_end p h start end round)
+            ∙ held_some p start k (get_or now k None) (now_on k in_level) ∙ ap (λ (xs : List (Option Leaf)). is_some (get_or xs k None)) (sym shows);
+        room = room;
+        onto = onto;
+        long = ap (λ (xs : List (Option Leaf)). length xs) shows ∙ many;
+      }
+
+      pub round_on : IsRoundUpTo p start end
+      round_on = round
 
 -- ---- what is told
 
@@ -232,7 +271,7 @@ module _ (p : PlanContents) (h : IsPlan p) (old_tick new_tick : ℕ) (r r' : Rep
         let is = b'.shown old_tick k round m in
         let was = b.shown start k before m in
         leaf_of p h b.can old_tick new_tick q k none l (ap (λ (os : List (Option ℕ)). get_or os q None) (sym onto_new) ∙ at)
-        ∙ leaf_same k (shown_in_round p r' r'.gone k) (shown_in_round p r r.gone k) same is was (held_there r'.places.onto q k within at)
+        ∙ leaf_same k (get_or r'.shows.items k None) (get_or r.shows.items k None) same is was (held_there r'.places.onto q k within at)
         ∙ sym (leaf_of p h b.can start old_tick q k none l (ap (λ (os : List (Option ℕ)). get_or os q None) (sym onto_old) ∙ sym stays ∙ at))
       where
         within : q < length r'.places.onto
@@ -246,50 +285,7 @@ module _ (p : PlanContents) (h : IsPlan p) (old_tick new_tick : ℕ) (r r' : Rep
     pub others_same : (none : Row) → leaf_at p old_tick new_tick q none ≡ leaf_at p start old_tick q none
     others_same none = shows_same (get_or r'.places.onto q None) none refl
 
--- ---- what packs show in a round of a core
-
--- of each pack it is told whether one of the first n processors holds it, and what it shows then
-pub record IsFilled (p : PlanContents) (start n k : ℕ) (onto : List (Option ℕ)) (o : Option Leaf) : Type 0 where
-  pub none : o ≡ None → (q : ℕ) → q < n → get_or onto q None ≢ Some k
-  pub some : (l : Leaf) → o ≡ Some l → (q : ℕ) × (q < n) × (get_or onto q None ≡ Some k) × (leaf_on (set_boundary p.set.tasks) p.tree start (Some k) ≡ l)
-
-pub filled_none : (p : PlanContents) (start k : ℕ) (onto : List (Option ℕ)) (o : Option Leaf) → o ≡ None → IsFilled p start 0 k onto o
-filled_none p start k onto None e = record { none = λ f q l. absurd (omega (arith, l)); some = λ l f. cc }
-filled_none p start k onto (Some x) e = cc
-
--- away pack on this processor
-pub filled_skip : (p : PlanContents) (start n k : ℕ) (onto : List (Option ℕ)) (o : Option Leaf) → get_or onto n None ≢ Some k → IsFilled p start n k onto o → IsFilled p start (n + 1) k onto o
-filled_skip p start n k onto o ne f = record {
-  none = λ e q l. elim (cases_lt q n) [
-    | inl low ↦ f.none e q low
-    | inr high ↦ (let same : q ≡ n = omega (arith, l, high) in λ at. ne (ap (λ j. get_or onto j None) (sym same) ∙ at))
-  ];
-  some = λ l e. let (q, m, at, is) = f.some l e in (q, omega (arith, m), at, is);
-}
-
-pub filled_here : (p : PlanContents) (start n k : ℕ) (onto : List (Option ℕ)) (leaf : Leaf) → get_or onto n None ≡ Some k → leaf_on (set_boundary p.set.tasks) p.tree start (Some k) ≡ leaf → IsFilled p start (n + 1) k onto (Some leaf)
-filled_here p start n k onto leaf at is = record {
-  none = λ e. cc;
-  some = λ l e. (n, omega arith, at, is ∙ (let f : leaf ≡ l = cc in f));
-}
-
-pub filled_step : (p : PlanContents) (start n i : ℕ) (onto : List (Option ℕ)) (shows : List (Option Leaf)) (leaf : Leaf) → i < length shows → get_or onto n None ≡ Some i → leaf_on (set_boundary p.set.tasks) p.tree start (Some i) ≡ leaf →
-    ((k : ℕ) → IsFilled p start n k onto (get_or shows k None)) → (k : ℕ) → IsFilled p start (n + 1) k onto (get_or (set shows i (Some leaf)) k None)
-filled_step p start n i onto shows leaf l at is all k = elim (cases_eq k i) [
-  | inl e ↦
-      (let f : get_or (set shows i (Some leaf)) k None ≡ Some leaf = ap (λ j. get_or (set shows i (Some leaf)) j None) e ∙ set_same shows i (Some leaf) None l in
-      subst (λ (o : Option Leaf). IsFilled p start (n + 1) k onto o) (sym f) (subst (λ (j : ℕ). IsFilled p start (n + 1) j onto (Some leaf)) (sym e) (filled_here p start n i onto leaf at is)))
-  | inr ne ↦ subst (λ (o : Option Leaf). IsFilled p start (n + 1) k onto o) (sym (set_other shows i k (Some leaf) None ne)) (filled_skip p start n k onto _ (λ e. ne (let f : Some k ≡ Some i = sym e ∙ at in cc)) (all k))
-]
-
--- where a pack is on the processor, it is told what it shows
-pub filled_next : (p : PlanContents) (start n : ℕ) (onto : List (Option ℕ)) (shows shows' : List (Option Leaf)) (leaf : Leaf) (pack : Option ℕ) → get_or onto n None ≡ pack → ((i : ℕ) → pack ≡ Some i → i < length shows) →
-    ((i : ℕ) → pack ≡ Some i → leaf_on (set_boundary p.set.tasks) p.tree start (Some i) ≡ leaf) → ((i : ℕ) → pack ≡ Some i → shows' ≡ set shows i (Some leaf)) → (pack ≡ None → shows' ≡ shows) →
-    ((k : ℕ) → IsFilled p start n k onto (get_or shows k None)) → (k : ℕ) → IsFilled p start (n + 1) k onto (get_or shows' k None)
-filled_next p start n onto shows shows' leaf None at within is some none all k =
-    subst (λ (xs : List (Option Leaf)). IsFilled p start (n + 1) k onto (get_or xs k None)) (sym (none refl)) (filled_skip p start n k onto _ (λ e. let f : None ≡ Some k = sym at ∙ e in cc) (all k))
-filled_next p start n onto shows shows' leaf (Some i) at within is some none all k =
-    subst (λ (xs : List (Option Leaf)). IsFilled p start (n + 1) k onto (get_or xs k None)) (sym (some i refl)) (filled_step p start n i onto shows leaf (within i refl) at (is i refl) all k)
+-- ---- what packs show by what processors show
 
 held_by : (os : List (Option ℕ)) (k : ℕ) → is_held os k ≡ true → (q : ℕ) × (q < length os) × (get_or os q None ≡ Some k)
 held_by [] k on = cc
@@ -298,15 +294,44 @@ held_by (o ∷ os) k on = elim (cases_Bool (is_at o k)) [
   | inr off ↦ (let (q, l, e) = held_by os k (sym (ap (λ (x : Bool). x || is_held os k) off) ∙ on) in (suc q, omega (arith, l), e))
 ]
 
-pub filled_all : (p : PlanContents) (start k : ℕ) (onto : List (Option ℕ)) (o : Option Leaf) → onto ≡ onto_at (set_boundary p.set.tasks) p.tree start → IsFilled p start (length onto) k onto o → IsPackOn p start k o
-filled_all p start k onto o e f = record {
-  none = λ none. ap (λ os. is_held os k) (sym e) ∙ elim (cases_Bool (is_held onto k)) [
-    | inl on ↦ absurd (let (q, l, at) = held_by onto k on in f.none none q l at)
-    | inr off ↦ off
-  ];
-  held = λ l is. let (q, b, at, leaf) = f.some l is in ap (λ os. is_held os k) (sym e) ∙ held_there onto q k b at;
-  leaf = λ l is. let (q, b, at, leaf) = f.some l is in leaf;
-}
+module _ (p : PlanContents) (h : IsPlan p) (can : CanComeRound p) (start end : ℕ) (onto : List (Option ℕ)) (is : onto ≡ onto_at (set_boundary p.set.tasks) p.tree start) (leaves : List (Option Leaf)) (all : IsAllTold p start end leaves)
+    (k : ℕ) (o : Option Leaf) (none : is_held onto k ≡ false → o ≡ None) (some : (q : ℕ) → get_or onto q None ≡ Some k → o ≡ get_or leaves q None) where
+  nobody : Row
+  nobody = record { processor = 0; start = 0; end = 0; leaf = Empty }
+
+  on_some : is_held onto k ≡ true → (l : Leaf) → o ≡ Some l → leaf_on (set_boundary p.set.tasks) p.tree start (Some k) ≡ l
+  on_some on l e =
+      let (q, m, at) = held_by onto k on in
+      let long = as_many p h start in
+      let same = ap (λ (os : List (Option ℕ)). length os) is in
+      let inside : q < p.tree.processors = omega (arith, m, long, same) in
+      let shows : o ≡ Some (leaf_at p start end q nobody) = some q at ∙ all.each q nobody inside in
+      let f : Some (leaf_at p start end q nobody) ≡ Some l = sym shows ∙ e in
+      let g : leaf_at p start end q nobody ≡ l = cc in
+      sym (leaf_of p h can start end q k nobody inside (ap (λ (os : List (Option ℕ)). get_or os q None) (sym is) ∙ at)) ∙ g
+
+  some_on : is_held onto k ≡ true → o ≡ None → ⊥
+  some_on on e =
+      let (q, m, at) = held_by onto k on in
+      let long = as_many p h start in
+      let same = ap (λ (os : List (Option ℕ)). length os) is in
+      let inside : q < p.tree.processors = omega (arith, m, long, same) in
+      let shows : None ≡ Some (leaf_at p start end q nobody) = sym e ∙ some q at ∙ all.each q nobody inside in
+      cc
+
+  pub pack_by : IsPackOn p start k o
+  pack_by = elim (cases_Bool (is_held onto k)) [
+    | inl on ↦ record {
+      none = λ e. absurd (some_on on e);
+      held = λ l e. ap (λ os. is_held os k) (sym is) ∙ on;
+      leaf = λ l e. on_some on l e;
+    }
+    | inr off ↦ record {
+      none = λ e. ap (λ os. is_held os k) (sym is) ∙ off;
+      held = λ l e. absurd (let f : None ≡ Some l = sym (none off) ∙ e in cc);
+      leaf = λ l e. absurd (let f : None ≡ Some l = sym (none off) ∙ e in cc);
+    }
+  ]
 
 -- ---- what a processor shows in a round that came again
 
@@ -314,10 +339,10 @@ module _ (p : PlanContents) (h : IsPlan p) (start end : ℕ) (r : Replay) (b : I
   onto_is_now : r.places.onto ≡ onto_at (set_boundary p.set.tasks) p.tree start
   onto_is_now = ap (λ (w : Placing). w.onto) b.places ∙ onto_end p h start end round
 
-  pub shown_by : (pack : Option ℕ) → get_or r.places.onto q None ≡ pack → (leaf : Leaf) → (pack ≡ None → leaf ≡ Empty) → ((k : ℕ) (x : Leaf) → pack ≡ Some k → shown_in_round p r r.gone k ≡ Some x → leaf ≡ x) →
+  pub shown_by : (pack : Option ℕ) → get_or r.places.onto q None ≡ pack → (leaf : Leaf) → (pack ≡ None → leaf ≡ Empty) → ((k : ℕ) (x : Leaf) → pack ≡ Some k → get_or r.shows.items k None ≡ Some x → leaf ≡ x) →
       leaf_at p start end q none ≡ leaf
   shown_by None at leaf empty is = nothing_shown p b.can start end q none l (ap (λ (os : List (Option ℕ)). get_or os q None) (sym onto_is_now) ∙ at) ∙ sym (empty refl)
   shown_by (Some k) at leaf empty is =
       let there = ap (λ (os : List (Option ℕ)). get_or os q None) (sym onto_is_now) ∙ at in
       let m = pack_within p h start q k l there in
-      pack_shows p h b.can start end q k (shown_in_round p r r.gone k) leaf none l there (b.shown start k round m) (λ x e. is k x refl e)
+      pack_shows p h b.can start end q k (get_or r.shows.items k None) leaf none l there (b.shown start k round m) (λ x e. is k x refl e)

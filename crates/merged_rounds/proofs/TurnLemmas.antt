@@ -1,81 +1,357 @@
 -- One round more of a hyperperiod that is kept, and the replay that begins behind it.
-use Rattle.std.proofs.Common.{◌≡◌, ℕ, suc, ◌+◌, ◌-◌, ◌*◌, ◌<◌, ◌≤◌, ◌++◌, inl, inr, min, List, [], ◌∷◌, length, length-append, get_or, Option, None, Some, refl, sym, ap, ap₂, subst, ◌∙◌, arith, mul-le-mul_right}
+use Rattle.std.proofs.Common.{◌≡◌, ◌≢◌, ℕ, suc, ◌+◌, ◌-◌, ◌*◌, ◌<◌, ◌≤◌, ◌++◌, inl, inr, List, [], ◌∷◌, length, length-append, set, get_or, Option, None, refl, sym, ap, subst, ◌∙◌, arith, mul-le-mul_right, length-set}
 use Rattle.std.proofs.Math.ListN.{get_or-append}
 use Rattle.std.proofs.Math.Seq.{get_or-append_seam}
 use Rattle.std.proofs.lemmas.Bool.{cases_lt}
-use Rattle.std.proofs.lemmas.List.{get_or-append-add}
 use Rattle.sched_base.specs.declared.rows.Leaf.{Leaf}
 use Rattle.sched_base.specs.Places.{Placing, is_held}
-use Rattle.run_tree.specs.Plans.{IsPlan, PlanContents, stop_of}
-use Rattle.event_core.specs.Cores.{CoreContents, IsCoreOf, places_of}
+use Rattle.run_tree.specs.Plans.{IsPlan, PlanContents}
+use Rattle.event_core.specs.Cores.{CoreContents, IsCoreOf}
 use Rattle.event_core.specs.Rounds.{IsRoundUpTo}
 use Rattle.event_core.proofs.SettledPacks.{same_start}
 use Rattle.merged_rounds.specs.declared.replays.Replay.{Replay}
-use Rattle.merged_rounds.specs.Laps.{AreTurns, CanComeRound, lap_end, round_start}
-use Rattle.merged_rounds.specs.Replays.{IsPackOn, IsReplayOf, IsTurn, IsTurnOf, is_some, packs_of, shown_in_round}
-use Rattle.merged_rounds.proofs.LapLemmas.{start_kept, start_next}
-use Rattle.merged_rounds.proofs.ReplayLemmas.{onto_end}
+use Rattle.merged_rounds.specs.declared.turns.Turn.{Turn}
+use Rattle.merged_rounds.specs.Laps.{AreTurns, CanComeRound, round_start}
+use Rattle.merged_rounds.specs.Replays.{AreEntries, AreKept, AreOrdered, IsNotAmong, IsPackOn, IsReplayOf, IsTurn, IsTurnOf, packs_of, part_start, turn_end}
+use Rattle.merged_rounds.proofs.ChangeLemmas.{set_other, set_same}
+use Rattle.merged_rounds.proofs.LapLemmas.{last_start, start_kept}
+use Rattle.merged_rounds.proofs.ReplayLemmas.{onto_end, pack_once}
 use Rattle.merged_rounds.proofs.ReplaySteps.{held_some}
 
-pub no_turn : (p : PlanContents) → IsTurn p [] []
-no_turn p = record { round = λ i l. absurd (omega (arith, l)); shown = λ i k l. absurd (omega (arith, l)); long = omega arith }
+-- no round yet
+pub turn_none : (p : PlanContents) (t : Turn) → t.ends.items ≡ [] → t.parts.items ≡ [] → t.packs.items ≡ [] → t.shown.items ≡ [] → length t.last.items ≡ packs_of p → IsTurnOf p t
+turn_none p t ends parts packs shown long =
+    let none = ap (λ (xs : List ℕ). length xs) ends in
+    let no_part = ap (λ (xs : List ℕ). length xs) parts in
+    let no_pack = ap (λ (xs : List ℕ). length xs) packs in
+    let no_leaf = ap (λ (xs : List (Option Leaf)). length xs) shown in
+    record {
+      turn = record {
+        round = λ i l. absurd (omega (arith, l, none));
+        long = omega (arith, none, no_part);
+        both = omega (arith, no_pack, no_leaf);
+        entries = λ i l. absurd (omega (arith, l, none));
+        rest = λ i k o l. absurd (omega (arith, l, none));
+      };
+      whole = ap (λ (xs : List ℕ). part_start xs (length xs)) parts ∙ sym no_pack;
+      last = λ k l. absurd (omega (arith, l, none));
+      long = long;
+    }
 
-module _ (p : PlanContents) (start end : ℕ) (ends : List ℕ) (all shows : List (Option Leaf)) (turn : IsTurn p ends all) (here : round_start 0 ends (length ends) ≡ start)
-    (round : IsRoundUpTo p start end) (many : length shows ≡ packs_of p) (on : (k : ℕ) → k < packs_of p → IsPackOn p start k (get_or shows k None)) where
-  long_on : length (ends ++ end ∷ []) ≡ length ends + 1
+-- ---- one entry more
+
+not_among_kept : (packs : List ℕ) (x low high k : ℕ) → high ≤ length packs → IsNotAmong (packs ++ x ∷ []) low high k → IsNotAmong packs low high k
+not_among_kept packs x low high k l none j above under at = none j above under (get_or-append packs (x ∷ []) 0 j (omega (arith, l, under)) ∙ at)
+
+module _ (packs : List ℕ) (x low high many : ℕ) (a : AreOrdered packs low high many) where
+  ordered_kept : AreOrdered (packs ++ x ∷ []) low high many
+  ordered_kept = record {
+    up = a.up;
+    within = (let w = a.within in let n = length-append packs (x ∷ []) in omega (arith, w, n));
+    level = λ j above under. (let w = a.within in let e = get_or-append packs (x ∷ []) 0 j (omega (arith, w, under)) in let f = a.level j above under in omega (arith, e, f));
+    order = λ j above under.
+        let w = a.within in
+        let e = get_or-append packs (x ∷ []) 0 j (omega (arith, w, under)) in
+        let g = get_or-append packs (x ∷ []) 0 (j + 1) (omega (arith, w, under)) in
+        let f = a.order j above under in
+        omega (arith, e, f, g);
+  }
+
+module _ (p : PlanContents) (packs : List ℕ) (shown : List (Option Leaf)) (both : length shown ≡ length packs) (x : ℕ) (y : Option Leaf) where
+  entries_kept : (low high tick : ℕ) → AreEntries p packs shown low high tick → AreEntries p (packs ++ x ∷ []) (shown ++ y ∷ []) low high tick
+  entries_kept low high tick a = record {
+    ordered = ordered_kept packs x low high (packs_of p) a.ordered;
+    shows = λ j above under.
+        let w = a.ordered.within in
+        subst (λ (k : ℕ). IsPackOn p tick k (get_or (shown ++ y ∷ []) j None)) (sym (get_or-append packs (x ∷ []) 0 j (omega (arith, w, under))))
+        (subst (λ (o : Option Leaf). IsPackOn p tick (get_or packs j 0) o) (sym (get_or-append shown (y ∷ []) None j (omega (arith, w, under, both)))) (a.shows j above under));
+  }
+
+  turn_kept : (ends parts : List ℕ) → IsTurn p ends parts packs shown → IsTurn p ends parts (packs ++ x ∷ []) (shown ++ y ∷ [])
+  turn_kept ends parts t = record {
+    round = t.round;
+    long = t.long;
+    both = (let m = length-append shown (y ∷ []) in let n = length-append packs (x ∷ []) in omega (arith, m, n, both));
+    entries = λ i l. entries_kept (part_start parts i) (get_or parts i 0) (round_start 0 ends i) (t.entries i l);
+    rest = λ i k o l m none. t.rest i k o l m (not_among_kept packs x (part_start parts i) (get_or parts i 0) k (t.entries i l).ordered.within none);
+  }
+
+-- ---- the packs of a round
+
+pub kept_none : (p : PlanContents) (start : ℕ) (t : Turn) → IsTurnOf p t → AreKept p start t t 0
+kept_none p start t a = record {
+  ends = refl;
+  parts = refl;
+  turn = a.turn;
+  long = refl;
+  entries = record {
+    ordered = record { up = omega arith; within = omega arith; level = λ j above under. absurd (omega (arith, above, under)); order = λ j above under. absurd (omega (arith, above, under)) };
+    shows = λ j above under. absurd (omega (arith, above, under));
+  };
+  below = λ j above under. absurd (omega (arith, above, under));
+  later = λ k l. refl;
+  on = λ k l. absurd (omega (arith, l));
+  rest = λ k l. absurd (omega (arith, l));
+}
+
+module _ (p : PlanContents) (start : ℕ) (before t : Turn) (n : ℕ) (a : AreKept p start before t n) (leaf : Option Leaf) (shows : IsPackOn p start n leaf) where
+  -- a pack that shows what it did
+  pub kept_skip : 0 < length before.ends.items → leaf ≡ get_or t.last.items n None → AreKept p start before t (n + 1)
+  kept_skip some same = record {
+    ends = a.ends;
+    parts = a.parts;
+    turn = a.turn;
+    long = a.long;
+    entries = a.entries;
+    below = λ j above under. (let b = a.below j above under in omega (arith, b));
+    later = λ k l. a.later k (omega (arith, l));
+    on = λ k l. elim (cases_lt k n) [
+      | inl low ↦ a.on k low
+      | inr high ↦ (let e : n ≡ k = omega (arith, l, high) in subst (λ (i : ℕ). IsPackOn p start i (get_or t.last.items i None)) e (subst (λ (o : Option Leaf). IsPackOn p start n o) same shows))
+    ];
+    rest = λ k l none. elim (cases_lt k n) [
+      | inl low ↦ a.rest k low none
+      | inr high ↦ (some, a.later k high)
+    ];
+  }
+
+  -- one with an entry
+  module _ (t' : Turn) (level : n < packs_of p) (room : n < length t.last.items) (ends : t'.ends ≡ t.ends) (parts : t'.parts ≡ t.parts) (packs : t'.packs.items ≡ t.packs.items ++ n ∷ [])
+      (shown : t'.shown.items ≡ t.shown.items ++ leaf ∷ []) (last : t'.last.items ≡ set t.last.items n leaf) where
+    abbrev low : ℕ
+    low = length before.packs.items
+
+    abbrev old : ℕ
+    old = length t.packs.items
+
+    more : length (t.packs.items ++ n ∷ []) ≡ old + 1
+    more = length-append t.packs.items (n ∷ [])
+
+    pack_old : (j : ℕ) → j < old → get_or (t.packs.items ++ n ∷ []) j 0 ≡ get_or t.packs.items j 0
+    pack_old j l = get_or-append t.packs.items (n ∷ []) 0 j l
+
+    pack_new : (j : ℕ) → old ≤ j → j < old + 1 → get_or (t.packs.items ++ n ∷ []) j 0 ≡ n
+    pack_new j above under = let e : j ≡ old = omega (arith, above, under) in ap (λ i. get_or (t.packs.items ++ n ∷ []) i 0) e ∙ get_or-append_seam t.packs.items n [] 0
+
+    leaf_new : get_or (t.shown.items ++ leaf ∷ []) old None ≡ leaf
+    leaf_new = ap (λ i. get_or (t.shown.items ++ leaf ∷ []) i None) (sym a.turn.both) ∙ get_or-append_seam t.shown.items leaf [] None
+
+    entries_on : AreEntries p (t.packs.items ++ n ∷ []) (t.shown.items ++ leaf ∷ []) low (length (t.packs.items ++ n ∷ [])) start
+    entries_on = record {
+      ordered = record {
+        up = (let u = a.entries.ordered.up in omega (arith, u, more));
+        within = omega arith;
+        level = λ j above under. elim (cases_lt j old) [
+          | inl b ↦ (let e = pack_old j b in let f = a.entries.ordered.level j above b in omega (arith, e, f))
+          | inr b ↦ (let e = pack_new j b (omega (arith, under, more)) in omega (arith, e, level))
+        ];
+        order = λ j above under. elim (cases_lt (j + 1) old) [
+          | inl b ↦ (let e = pack_old j (omega (arith, b)) in let g = pack_old (j + 1) b in let f = a.entries.ordered.order j above b in omega (arith, e, f, g))
+          | inr b ↦ (let m : j < old = omega (arith, under, more) in let e = pack_old j m in let g = pack_new (j + 1) b (omega (arith, under, more)) in let f = a.below j above m in omega (arith, e, f, g))
+        ];
+      };
+      shows = λ j above under. elim (cases_lt j old) [
+        | inl b ↦ (entries_kept p t.packs.items t.shown.items a.turn.both n leaf low old start a.entries).shows j above b
+        | inr b ↦
+            (let at : old ≡ j = omega (arith, under, more, b) in
+            subst (λ (i : ℕ). IsPackOn p start (get_or (t.packs.items ++ n ∷ []) i 0) (get_or (t.shown.items ++ leaf ∷ []) i None)) at
+            (subst (λ (k : ℕ). IsPackOn p start k (get_or (t.shown.items ++ leaf ∷ []) old None)) (sym (pack_new old (omega arith) (omega arith)))
+            (subst (λ (o : Option Leaf). IsPackOn p start n o) (sym leaf_new) shows)))
+      ];
+    }
+
+    below_on : (j : ℕ) → low ≤ j → j < length (t.packs.items ++ n ∷ []) → get_or (t.packs.items ++ n ∷ []) j 0 < n + 1
+    below_on j above under = elim (cases_lt j old) [
+      | inl b ↦ (let e = pack_old j b in let f = a.below j above b in omega (arith, e, f))
+      | inr b ↦ (let e = pack_new j b (omega (arith, under, more)) in omega (arith, e))
+    ]
+
+    last_other : (k : ℕ) → k ≢ n → get_or t'.last.items k None ≡ get_or t.last.items k None
+    last_other k ne = ap (λ (xs : List (Option Leaf)). get_or xs k None) last ∙ set_other t.last.items n k leaf None ne
+
+    last_here : get_or t'.last.items n None ≡ leaf
+    last_here = ap (λ (xs : List (Option Leaf)). get_or xs n None) last ∙ set_same t.last.items n leaf None room
+
+    rest_on : (k : ℕ) → k < n + 1 → IsNotAmong (t.packs.items ++ n ∷ []) low (length (t.packs.items ++ n ∷ [])) k → (0 < length before.ends.items) × (get_or t'.last.items k None ≡ get_or before.last.items k None)
+    rest_on k l none = elim (cases_lt k n) [
+      | inl b ↦
+          (let r = a.rest k b (not_among_kept t.packs.items n low old k (omega arith) (λ j above under. none j above (omega (arith, under, more)))) in
+          (r.0, last_other k (λ e. omega (arith, e, b)) ∙ r.1))
+      | inr b ↦ absurd (
+          let u = a.entries.ordered.up in
+          let e : n ≡ k = omega (arith, l, b) in
+          none old (omega (arith, u)) (omega (arith, more)) (pack_new old (omega arith) (omega arith) ∙ e))
+    ]
+
+    pub kept_step : AreKept p start before t' (n + 1)
+    kept_step = record {
+      ends = ends ∙ a.ends;
+      parts = parts ∙ a.parts;
+      turn =
+          let ends_are = ap (λ (v : _). v.items) ends in
+          let parts_are = ap (λ (v : _). v.items) parts in
+          subst (λ (es : List ℕ). IsTurn p es t'.parts.items t'.packs.items t'.shown.items) (sym ends_are)
+          (subst (λ (ns : List ℕ). IsTurn p t.ends.items ns t'.packs.items t'.shown.items) (sym parts_are)
+          (subst (λ (ks : List ℕ). IsTurn p t.ends.items t.parts.items ks t'.shown.items) (sym packs)
+          (subst (λ (os : List (Option Leaf)). IsTurn p t.ends.items t.parts.items (t.packs.items ++ n ∷ []) os) (sym shown)
+          (turn_kept p t.packs.items t.shown.items a.turn.both n leaf t.ends.items t.parts.items a.turn))));
+      long = ap (λ (xs : List (Option Leaf)). length xs) last ∙ length-set t.last.items n leaf ∙ a.long;
+      entries = subst (λ (ks : List ℕ). AreEntries p ks t'.shown.items low (length ks) start) (sym packs)
+          (subst (λ (os : List (Option Leaf)). AreEntries p (t.packs.items ++ n ∷ []) os low (length (t.packs.items ++ n ∷ [])) start) (sym shown) entries_on);
+      below = subst (λ (ks : List ℕ). (j : ℕ) → low ≤ j → j < length ks → get_or ks j 0 < n + 1) (sym packs) below_on;
+      later = λ k l. last_other k (λ e. omega (arith, e, l)) ∙ a.later k (omega (arith, l));
+      on = λ k l. elim (cases_lt k n) [
+        | inl b ↦ subst (λ (o : Option Leaf). IsPackOn p start k o) (sym (last_other k (λ e. omega (arith, e, b)))) (a.on k b)
+        | inr b ↦ (let e : n ≡ k = omega (arith, l, b) in subst (λ (i : ℕ). IsPackOn p start i (get_or t'.last.items i None)) e (subst (λ (o : Option Leaf). IsPackOn p start n o) (sym last_here) shows))
+      ];
+      rest = subst (λ (ks : List ℕ). (k : ℕ) → k < n + 1 → IsNotAmong ks low (length ks) k → (0 < length before.ends.items) × (get_or t'.last.items k None ≡ get_or before.last.items k None)) (sym packs) rest_on;
+    }
+
+-- ---- one round more
+
+module _ (p : PlanContents) (start end : ℕ) (before t t' : Turn) (was : IsTurnOf p before) (here : turn_end before ≡ start) (round : IsRoundUpTo p start end) (a : AreKept p start before t (packs_of p))
+    (ends_are : t'.ends.items ≡ t.ends.items ++ end ∷ []) (parts_are : t'.parts.items ≡ t.parts.items ++ length t.packs.items ∷ []) (packs_are : t'.packs ≡ t.packs) (shown_are : t'.shown ≡ t.shown)
+    (last_is : t'.last ≡ t.last) where
+  abbrev ends : List ℕ
+  ends = before.ends.items
+
+  abbrev parts : List ℕ
+  parts = before.parts.items
+
+  abbrev packs : List ℕ
+  packs = t.packs.items
+
+  abbrev ends' : List ℕ
+  ends' = ends ++ end ∷ []
+
+  abbrev parts' : List ℕ
+  parts' = parts ++ length packs ∷ []
+
+  -- what was kept, with the new entries behind
+  kept : IsTurn p ends parts packs t.shown.items
+  kept =
+      subst (λ (es : List ℕ). IsTurn p es parts packs t.shown.items) (ap (λ (v : _). v.items) a.ends)
+      (subst (λ (ns : List ℕ). IsTurn p t.ends.items ns packs t.shown.items) (ap (λ (v : _). v.items) a.parts) a.turn)
+
+  long : length parts ≡ length ends
+  long = was.turn.long
+
+  long_on : length ends' ≡ length ends + 1
   long_on = length-append ends (end ∷ [])
 
-  end_here : get_or (ends ++ end ∷ []) (length ends) 0 ≡ end
+  parts_on : length parts' ≡ length parts + 1
+  parts_on = length-append parts (length packs ∷ [])
+
+  start_old : (i : ℕ) → i ≤ length ends → round_start 0 ends' i ≡ round_start 0 ends i
+  start_old i l = start_kept 0 end i ends l
+
+  start_here : round_start 0 ends' (length ends) ≡ start
+  start_here = start_old (length ends) (omega arith) ∙ here
+
+  end_here : get_or ends' (length ends) 0 ≡ end
   end_here = get_or-append_seam ends end [] 0
 
-  start_here : round_start 0 (ends ++ end ∷ []) (length ends) ≡ start
-  start_here = start_kept 0 end (length ends) ends (omega arith) ∙ here
+  low_old : (i : ℕ) → i ≤ length ends → part_start parts' i ≡ part_start parts i
+  low_old i l = start_kept 0 (length packs) i parts (omega (arith, l, long))
 
-  shown_on : (i k : ℕ) → i < length ends + 1 → k < packs_of p → IsPackOn p (round_start 0 (ends ++ end ∷ []) i) k (get_or (all ++ shows) (i * packs_of p + k) None)
-  shown_on i k l in_level = elim (cases_lt i (length ends)) [
-    | inl low ↦
-        (let m = packs_of p in
-        let past : (i + 1) * m ≤ length ends * m = mul-le-mul_right m (omega (arith, low)) in
-        let long = turn.long in
-        subst (λ (s : ℕ). IsPackOn p s k (get_or (all ++ shows) (i * m + k) None)) (sym (start_kept 0 end i ends (omega (arith, low))))
-        (subst (λ (o : Option Leaf). IsPackOn p (round_start 0 ends i) k o) (sym (get_or-append all shows None (i * m + k) (omega (arith, past, long, in_level)))) (turn.shown i k low in_level)))
-    | inr high ↦
-        (let m = packs_of p in
-        let e : length ends ≡ i = omega (arith, l, high) in
-        let at : length all + k ≡ length ends * m + k = ap (λ n. n + k) turn.long in
-        subst (λ (j : ℕ). IsPackOn p (round_start 0 (ends ++ end ∷ []) j) k (get_or (all ++ shows) (j * m + k) None)) e
-        (subst (λ (s : ℕ). IsPackOn p s k (get_or (all ++ shows) (length ends * m + k) None)) (sym start_here)
-        (subst (λ (o : Option Leaf). IsPackOn p start k o) (sym (ap (λ n. get_or (all ++ shows) n None) (sym at) ∙ get_or-append-add all shows k None)) (on k in_level))))
-  ]
+  high_old : (i : ℕ) → i < length ends → get_or parts' i 0 ≡ get_or parts i 0
+  high_old i l = get_or-append parts (length packs ∷ []) 0 i (omega (arith, l, long))
 
-  round_on : (i : ℕ) → i < length ends + 1 → IsRoundUpTo p (round_start 0 (ends ++ end ∷ []) i) (get_or (ends ++ end ∷ []) i 0)
+  low_here : part_start parts' (length ends) ≡ length before.packs.items
+  low_here = low_old (length ends) (omega arith) ∙ ap (part_start parts) (sym long) ∙ was.whole
+
+  high_here : get_or parts' (length ends) 0 ≡ length packs
+  high_here = ap (λ i. get_or parts' i 0) (sym long) ∙ get_or-append_seam parts (length packs) [] 0
+
+  round_on : (i : ℕ) → i < length ends + 1 → IsRoundUpTo p (round_start 0 ends' i) (get_or ends' i 0)
   round_on i l = elim (cases_lt i (length ends)) [
-    | inl low ↦ subst (λ (s : ℕ). IsRoundUpTo p s (get_or (ends ++ end ∷ []) i 0)) (sym (start_kept 0 end i ends (omega (arith, low))))
-        (subst (λ (e : ℕ). IsRoundUpTo p (round_start 0 ends i) e) (sym (get_or-append ends (end ∷ []) 0 i low)) (turn.round i low))
+    | inl low ↦ subst (λ (s : ℕ). IsRoundUpTo p s (get_or ends' i 0)) (sym (start_old i (omega (arith, low))))
+        (subst (λ (e : ℕ). IsRoundUpTo p (round_start 0 ends i) e) (sym (get_or-append ends (end ∷ []) 0 i low)) (kept.round i low))
     | inr high ↦
         (let e : length ends ≡ i = omega (arith, l, high) in
-        subst (λ (k : ℕ). IsRoundUpTo p (round_start 0 (ends ++ end ∷ []) k) (get_or (ends ++ end ∷ []) k 0)) e
-        (subst (λ (s : ℕ). IsRoundUpTo p s (get_or (ends ++ end ∷ []) (length ends) 0)) (sym start_here)
-        (subst (λ (e : ℕ). IsRoundUpTo p start e) (sym end_here) round)))
+        subst (λ (k : ℕ). IsRoundUpTo p (round_start 0 ends' k) (get_or ends' k 0)) e
+        (subst (λ (s : ℕ). IsRoundUpTo p s (get_or ends' (length ends) 0)) (sym start_here) (subst (λ (e : ℕ). IsRoundUpTo p start e) (sym end_here) round)))
   ]
 
-  pub turn_on : IsTurn p (ends ++ end ∷ []) (all ++ shows)
-  turn_on = record {
+  entries_all : (i : ℕ) → i < length ends + 1 → AreEntries p packs t.shown.items (part_start parts' i) (get_or parts' i 0) (round_start 0 ends' i)
+  entries_all i l = elim (cases_lt i (length ends)) [
+    | inl low ↦
+        subst (λ (s : ℕ). AreEntries p packs t.shown.items (part_start parts' i) (get_or parts' i 0) s) (sym (start_old i (omega (arith, low))))
+        (subst (λ (n : ℕ). AreEntries p packs t.shown.items n (get_or parts' i 0) (round_start 0 ends i)) (sym (low_old i (omega (arith, low))))
+        (subst (λ (n : ℕ). AreEntries p packs t.shown.items (part_start parts i) n (round_start 0 ends i)) (sym (high_old i low)) (kept.entries i low)))
+    | inr high ↦
+        (let e : length ends ≡ i = omega (arith, l, high) in
+        subst (λ (k : ℕ). AreEntries p packs t.shown.items (part_start parts' k) (get_or parts' k 0) (round_start 0 ends' k)) e
+        (subst (λ (s : ℕ). AreEntries p packs t.shown.items (part_start parts' (length ends)) (get_or parts' (length ends) 0) s) (sym start_here)
+        (subst (λ (n : ℕ). AreEntries p packs t.shown.items n (get_or parts' (length ends) 0) start) (sym low_here)
+        (subst (λ (n : ℕ). AreEntries p packs t.shown.items (length before.packs.items) n start) (sym high_here) a.entries))))
+  ]
+
+  -- a pack without an entry in the new round
+  rest_here : (k : ℕ) (o : Option Leaf) → k < packs_of p → IsNotAmong packs (length before.packs.items) (length packs) k → (0 < length ends) × (IsPackOn p (round_start 0 ends' (length ends - 1)) k o → IsPackOn p start k o)
+  rest_here k o m none =
+      let r = a.rest k m none in
+      let some = r.0 in (
+        some,
+        λ on.
+            let on' = subst (λ (s : ℕ). IsPackOn p s k o) (start_old (length ends - 1) (omega arith)) on in
+            let e = pack_once p (round_start 0 ends (length ends - 1)) k o (get_or before.last.items k None) on' (was.last k some m) in
+            subst (λ (x : Option Leaf). IsPackOn p start k x) (r.1 ∙ sym e) (a.on k m),
+      )
+
+  rest_all : (i k : ℕ) (o : Option Leaf) → i < length ends + 1 → k < packs_of p → IsNotAmong packs (part_start parts' i) (get_or parts' i 0) k → (0 < i) × (IsPackOn p (round_start 0 ends' (i - 1)) k o → IsPackOn p (round_start 0 ends' i) k o)
+  rest_all i k o l m none = elim (cases_lt i (length ends)) [
+    | inl low ↦
+        (let r = kept.rest i k o low m (λ j above under. none j (let e = low_old i (omega (arith, low)) in omega (arith, e, above)) (let e = high_old i low in omega (arith, e, under))) in (
+          r.0,
+          λ on. subst (λ (s : ℕ). IsPackOn p s k o) (sym (start_old i (omega (arith, low)))) (r.1 (subst (λ (s : ℕ). IsPackOn p s k o) (start_old (i - 1) (omega (arith, low))) on)),
+        ))
+    | inr high ↦
+        (let e : i ≡ length ends = omega (arith, l, high) in
+        let gone = subst (λ (n : ℕ). IsNotAmong packs (part_start parts' n) (get_or parts' n 0) k) e none in
+        let r = rest_here k o m (λ j above under. gone j (let f = low_here in omega (arith, f, above)) (let f = high_here in omega (arith, f, under))) in
+        subst (λ (n : ℕ). (0 < n) × (IsPackOn p (round_start 0 ends' (n - 1)) k o → IsPackOn p (round_start 0 ends' n) k o)) (sym e)
+        (r.0, λ on. subst (λ (s : ℕ). IsPackOn p s k o) (sym start_here) (r.1 on)))
+  ]
+
+  turn_of : IsTurn p ends' parts' packs t.shown.items
+  turn_of = record {
     round = λ i l. round_on i (omega (arith, l, long_on));
-    shown = λ i k l in_level. shown_on i k (omega (arith, l, long_on)) in_level;
-    long =
-        let parts = length-append all shows in
-        let before = turn.long in
-        let m = packs_of p in
-        let all_of : length (ends ++ end ∷ []) * m ≡ (length ends + 1) * m = ap (λ n. n * m) long_on in
-        omega (arith, parts, many, before, all_of);
+    long = omega (arith, long, long_on, parts_on);
+    both = kept.both;
+    entries = λ i l. entries_all i (omega (arith, l, long_on));
+    rest = λ i k o l m none. rest_all i k o (omega (arith, l, long_on)) m none;
   }
+
+  ends_now : t'.ends.items ≡ ends'
+  ends_now = ends_are ∙ ap (λ (v : _). v.items ++ end ∷ []) a.ends
+
+  parts_now : t'.parts.items ≡ parts'
+  parts_now = parts_are ∙ ap (λ (v : _). v.items ++ length packs ∷ []) a.parts
+
+  pub turn_on : IsTurnOf p t'
+  turn_on = record {
+    turn =
+        subst (λ (es : List ℕ). IsTurn p es t'.parts.items t'.packs.items t'.shown.items) (sym ends_now)
+        (subst (λ (ns : List ℕ). IsTurn p ends' ns t'.packs.items t'.shown.items) (sym parts_now)
+        (subst (λ (v : _). IsTurn p ends' parts' v.items t'.shown.items) (sym packs_are)
+        (subst (λ (v : _). IsTurn p ends' parts' packs v.items) (sym shown_are) turn_of)));
+    whole = ap (λ (ns : List ℕ). part_start ns (length ns)) parts_now ∙ last_start 0 (length packs) parts ∙ ap (λ (v : _). length v.items) (sym packs_are);
+    last = λ k l m.
+        let e : length t'.ends.items - 1 ≡ length ends = (let f = ap (λ (es : List ℕ). length es) ends_now in omega (arith, f, long_on)) in
+        let at : round_start 0 t'.ends.items (length t'.ends.items - 1) ≡ start = ap (round_start 0 t'.ends.items) e ∙ ap (λ (es : List ℕ). round_start 0 es (length ends)) ends_now ∙ start_here in
+        subst (λ (s : ℕ). IsPackOn p s k (get_or t'.last.items k None)) (sym at) (subst (λ (v : _). IsPackOn p start k (get_or v.items k None)) (sym last_is) (a.on k m));
+    long = ap (λ (v : _). length v.items) last_is ∙ a.long ∙ was.long;
+  }
+
+  pub end_on : turn_end t' ≡ end
+  end_on = ap (λ (es : List ℕ). round_start 0 es (length es)) ends_now ∙ last_start 0 end ends
 
 -- ---- where a replay begins
 
-module _ (p : PlanContents) (h : IsPlan p) (can : CanComeRound p) (c : CoreContents) (b : IsCoreOf p c) (r : Replay) (lap : IsTurnOf p r.lap) (end : lap_end 0 r.lap ≡ c.tick) (turns : AreTurns p c.tick) where
-  abbrev ends : List ℕ
-  ends = r.lap.ends.items
+module _ (p : PlanContents) (h : IsPlan p) (can : CanComeRound p) (c : CoreContents) (b : IsCoreOf p c) (r : Replay) (lap : IsTurnOf p r.lap) (end : turn_end r.lap ≡ c.tick) (turns : AreTurns p c.tick) where
+  abbrev kept_ends : List ℕ
+  kept_ends = r.lap.ends.items
 
   positive : 0 < c.tick
   positive =
@@ -85,39 +361,40 @@ module _ (p : PlanContents) (h : IsPlan p) (can : CanComeRound p) (c : CoreConte
       let are = turns.are in
       omega (arith, scaled, least, are)
 
-  pub some_rounds : 0 < length ends
-  some_rounds = elim (cases_lt 0 (length ends)) [
+  pub some_rounds : 0 < length kept_ends
+  some_rounds = elim (cases_lt 0 (length kept_ends)) [
     | inl l ↦ l
-    | inr none ↦ absurd (let e : length ends ≡ 0 = omega (arith, none) in let f = ap (round_start 0 ends) e in let s = positive in omega (arith, f, end, s))
+    | inr none ↦ absurd (let e : length kept_ends ≡ 0 = omega (arith, none) in let f = ap (round_start 0 kept_ends) e in let s = positive in omega (arith, f, end, s))
   ]
 
-  last_round : IsRoundUpTo p (round_start 0 ends (length ends - 1)) c.tick
+  last_round : IsRoundUpTo p (round_start 0 kept_ends (length kept_ends - 1)) c.tick
   last_round =
       let s = some_rounds in
-      let e : length ends ≡ suc (length ends - 1) = omega (arith, s) in
-      subst (λ (n : ℕ). IsRoundUpTo p (round_start 0 ends (length ends - 1)) n) (sym (ap (round_start 0 ends) e) ∙ end) (lap.round (length ends - 1) (omega (arith, s)))
+      let e : length kept_ends ≡ suc (length kept_ends - 1) = omega (arith, s) in
+      subst (λ (n : ℕ). IsRoundUpTo p (round_start 0 kept_ends (length kept_ends - 1)) n) (sym (ap (round_start 0 kept_ends) e) ∙ end) (lap.turn.round (length kept_ends - 1) (omega (arith, s)))
 
-  pub begins : r.gone ≡ length ends - 1 → r.next ≡ 0 → r.shift ≡ c.tick → r.places ≡ c.places → r.changes.room ≡ packs_of p → length r.onto.items ≡ p.tree.processors → IsReplayOf p c.tick r
-  begins gone next shift places room onto =
+  pub begins : r.next ≡ 0 → r.shift ≡ c.tick → r.places ≡ c.places → r.changes.room ≡ packs_of p → length r.onto.items ≡ p.tree.processors → r.shows.items ≡ r.lap.last.items → IsReplayOf p c.tick r
+  begins next shift places room onto shows =
       let s = some_rounds in
+      let last_on : (k : ℕ) → k < packs_of p → IsPackOn p (round_start 0 kept_ends (length kept_ends - 1)) k (get_or r.shows.items k None) =
+      (λ k m. subst (λ (xs : List (Option Leaf)). IsPackOn p (round_start 0 kept_ends (length kept_ends - 1)) k (get_or xs k None)) (sym shows) (lap.last k s m)) in
       record {
         can = can;
         lap = lap;
         turn = subst (λ (n : ℕ). AreTurns p n) (sym end) turns;
         shift = subst (λ (n : ℕ). AreTurns p n) (sym shift) turns;
         next = omega (arith, next, s);
-        gone = omega (arith, gone, s);
-        at = (let f = ap (round_start 0 ends) next in let below = b.at.early in omega (arith, f, shift, below));
+        at = (let f = ap (round_start 0 kept_ends) next in let below = b.at.early in omega (arith, f, shift, below));
         event = b.at.event;
         places = places ∙ b.at.placed;
         shown = λ n k up in_level.
-            let e = same_start p n (round_start 0 ends (length ends - 1)) c.tick up last_round in
-            subst (λ (m : ℕ). IsPackOn p m k (shown_in_round p r r.gone k)) (sym e)
-            (subst (λ (i : ℕ). IsPackOn p (round_start 0 ends (length ends - 1)) k (shown_in_round p r i k)) (sym gone) (lap.shown (length ends - 1) k (omega (arith, s)) in_level));
+            let e = same_start p n (round_start 0 kept_ends (length kept_ends - 1)) c.tick up last_round in
+            subst (λ (m : ℕ). IsPackOn p m k (get_or r.shows.items k None)) (sym e) (last_on k in_level);
+        gone = λ k some. absurd (omega (arith, next, some));
         held = λ k in_level.
-            ap (λ (w : Placing). is_held w.onto k) (places ∙ b.at.placed) ∙ ap (λ os. is_held os k) (onto_end p h (round_start 0 ends (length ends - 1)) c.tick last_round)
-            ∙ held_some p (round_start 0 ends (length ends - 1)) k (shown_in_round p r (length ends - 1) k) (lap.shown (length ends - 1) k (omega (arith, s)) in_level)
-            ∙ ap (λ i. is_some (shown_in_round p r i k)) (sym gone);
+            ap (λ (w : Placing). is_held w.onto k) (places ∙ b.at.placed) ∙ ap (λ os. is_held os k) (onto_end p h (round_start 0 kept_ends (length kept_ends - 1)) c.tick last_round)
+            ∙ held_some p (round_start 0 kept_ends (length kept_ends - 1)) k (get_or r.shows.items k None) (last_on k in_level);
         room = room;
         onto = onto;
+        long = ap (λ (xs : List (Option Leaf)). length xs) shows ∙ lap.long;
       }

@@ -5,8 +5,8 @@ ghost use Rattle.run_tree.specs.Plans.{stop_of};
 ghost use Rattle.run_tree.specs.Schedule.{packs_at};
 ghost use Rattle.event_core.specs.Counts.{IsCountFault};
 ghost use Rattle.event_core.specs.Rounds.{IsRoundUpTo};
-ghost use Rattle.merged_rounds.specs.Changes.{IsChange, IsShowing};
-ghost use Rattle.merged_rounds.specs.Laps.{IsSumUpTo};
+ghost use Rattle.merged_rounds.specs.Changes.{AreAllChanged, IsChange, IsShowing};
+ghost use Rattle.merged_rounds.specs.Laps.{IsAllTold, IsSumUpTo};
 ghost use Rattle.merged_rounds.specs.Replays.{IsSourceOf};
 
 use crate::looks::{forget, look_all};
@@ -17,16 +17,16 @@ use run_tree::Plan;
 use sched_base::{Leaf, NoMemory};
 use std::alloc::Global;
 
-// Room for the processors that are told: one for each pack of level 0.
-fn room_for_told(alloc: Global, plan: &Plan) -> Result<Vec<u32>, NoMemory>
+/// Room for the processors that are told: one for each pack of level 0.
+pub(crate) fn room_for_told(alloc: Global, plan: &Plan) -> Result<Vec<u32>, NoMemory>
     ensures { IfOk result (λ v. vec_len v ≡ length (packs_at plan.now.tree 0)) }
 {
     plan.know_lawful();
     Ok(vec![in alloc; 0u32; plan.tree().packs(0) as usize]?)
 }
 
-// The first so many of these.
-fn first_of(changed: &[u32], count: usize) -> &[u32]
+/// The first so many of these.
+pub(crate) fn first_of(changed: &[u32], count: usize) -> &[u32]
     requires { count ≤ length changed.now }
     ensures long { length result.now ≡ count }
     ensures each { (k : ℕ) → k < count → slice_index result.now k ≡ slice_index changed.now k }
@@ -55,8 +55,8 @@ fn look_changed(
     }
 }
 
-// Nothing is told of any processor, where it was of these at most.
-fn forget_changed(changed: &[u32], told: &mut [Option<Leaf>])
+/// Nothing is told of any processor, where it was of these at most.
+pub(crate) fn forget_changed(changed: &[u32], told: &mut [Option<Leaf>])
     requires within { (k : ℕ) → k < length changed.now → slice_index changed.now k < length told.old }
     requires rest { (q : ℕ) → (slice_index_or told.old q None ≡ None) ⊎ ((k : ℕ) × (k < length changed.now) × (slice_index changed.now k ≡ q)) }
     ensures { (q : ℕ) → slice_index_or told.new q None ≡ None }
@@ -66,8 +66,8 @@ fn forget_changed(changed: &[u32], told: &mut [Option<Leaf>])
     }
 }
 
-// Goes on with one round, of which each processor is looked at.
-fn merge_whole(
+/// Goes on with one round, of which each processor is looked at.
+pub(crate) fn merge_whole(
     plan: &Plan,
     source: &mut Source,
     told: &mut [Option<Leaf>],
@@ -78,6 +78,8 @@ fn merge_whole(
     requires sum { IsSumUpTo plan.now source.old.tick first }
     requires told { length told.old ≡ plan.now.tree.processors }
     ensures showing { IfOk result (λ sum. IsShowing plan.now source.new sum) }
+    ensures round { IfOk result (λ _. IsRoundUpTo plan.now source.old.tick source.new.tick) }
+    ensures told { IfOk result (λ _. IsAllTold plan.now source.old.tick source.new.tick told.new) }
     ensures fault { IfErr result (λ fault. IsCountFault plan.now fault) }
 {
     let start = source.now();
@@ -88,7 +90,36 @@ fn merge_whole(
     Ok(sum)
 }
 
-// Goes on with one round, of which the processors are looked at that are told.
+/// Goes on with one round, of which the processors are looked at that are told: how many they are, and of each it is told what it shows.
+pub(crate) fn merge_telling(
+    plan: &Plan,
+    source: &mut Source,
+    told: &mut [Option<Leaf>],
+    changed: &mut [u32],
+    first: RoundSum,
+) -> Result<(RoundSum, usize), CountFault>
+    requires on_time { AllByRecursion (λ t. t.offset ≡ 0) plan.now.set.tasks }
+    requires showing { IsShowing plan.now source.old first }
+    requires early { source.old.tick < stop_of plan.now }
+    requires told { length told.old ≡ plan.now.tree.processors }
+    requires none { (q : ℕ) → slice_index_or told.old q None ≡ None }
+    requires room { length changed.old ≡ length (packs_at plan.now.tree 0) }
+    ensures showing { IfOk result (λ pair. IsShowing plan.now source.new pair.0) }
+    ensures round { IfOk result (λ _. IsRoundUpTo plan.now source.old.tick source.new.tick) }
+    ensures changed { IfOk result (λ pair. AreAllChanged plan.now source.old.tick source.new.tick changed.new pair.1) }
+    ensures told { IfOk result (λ pair. (q : ℕ) → IsChange plan.now source.old.tick source.new.tick changed.new pair.1 q (slice_index_or told.new q None)) }
+    ensures fault { IfErr result (λ fault. IsCountFault plan.now fault) }
+{
+    let start = source.now();
+    let count = source.go_telling(plan, changed);
+    let seen = first_of(changed, count);
+    look_changed(plan, source, start, seen, told);
+    let end = source.now();
+    let sum = with_changed(plan, first, start, end, seen, told)?;
+    Ok((sum, count))
+}
+
+// The same, and what was told is forgotten.
 fn merge_next(
     plan: &Plan,
     source: &mut Source,
@@ -104,16 +135,11 @@ fn merge_next(
     requires room { length changed.old ≡ length (packs_at plan.now.tree 0) }
     ensures showing { IfOk result (λ sum. IsShowing plan.now source.new sum) }
     ensures none { IfOk result (λ _. (q : ℕ) → slice_index_or told.new q None ≡ None) }
-    ensures later { source.old.tick < source.new.tick }
+    ensures later { IfOk result (λ _. source.old.tick < source.new.tick) }
     ensures fault { IfErr result (λ fault. IsCountFault plan.now fault) }
 {
-    let start = source.now();
-    let count = source.go_telling(plan, changed);
-    let seen = first_of(changed, count);
-    look_changed(plan, source, start, seen, told);
-    let end = source.now();
-    let sum = with_changed(plan, first, start, end, seen, told)?;
-    forget_changed(seen, told);
+    let (sum, count) = merge_telling(plan, source, told, changed, first)?;
+    forget_changed(first_of(changed, count), told);
     Ok(sum)
 }
 

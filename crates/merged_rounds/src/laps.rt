@@ -20,29 +20,8 @@ pub(crate) struct Lap {
     pub(crate) told: Vec<Option<Leaf>>,
 }
 
-impl Lap {
-    /// How many rounds there are.
-    pub(crate) fn rounds(&self) -> usize
-        ensures { result ≡ length self.now.ends.items }
-    {
-        self.ends.len()
-    }
-
-    /// How much is kept of them.
-    pub(crate) fn kept(&self) -> usize {
-        self.told.len()
-    }
-
-    /// Where the last one ends, where the first begins at tick 0.
-    pub(crate) fn end(&self) -> u128
-        ensures { result ≡ lap_end 0 self.now }
-    {
-        start_of(&self.ends, 0, self.ends.len())
-    }
-}
-
-/// No round yet.
-pub(crate) fn no_lap(alloc: Global) -> Lap
+// No round yet.
+fn no_lap(alloc: Global) -> Lap
     ensures ends { result.ends.items ≡ [] }
     ensures told { result.told.items ≡ [] }
 {
@@ -52,8 +31,8 @@ pub(crate) fn no_lap(alloc: Global) -> Lap
     }
 }
 
-/// One round more, up to tick `end`.
-pub(crate) fn keep_round(lap: Lap, end: u128, told: &[Option<Leaf>]) -> Result<Lap, NoMemory>
+// One round more, up to tick `end`.
+fn keep_round(lap: Lap, end: u128, told: &[Option<Leaf>]) -> Result<Lap, NoMemory>
     ensures ends { IfOk result (λ next. next.ends.items ≡ lap.ends.items ++ end ∷ []) }
     ensures told { IfOk result (λ next. next.told.items ≡ lap.told.items ++ told.now) }
 {
@@ -98,8 +77,8 @@ pub(crate) fn merge_lap(
     Ok((sum, lap))
 }
 
-/// What each of so many processors shows in round i of a lap.
-pub(crate) fn told_in(told: &[Option<Leaf>], processors: usize, i: usize) -> &[Option<Leaf>]
+// What each of so many processors shows in round i of a lap.
+fn told_in(told: &[Option<Leaf>], processors: usize, i: usize) -> &[Option<Leaf>]
     requires { (i + 1) * processors ≤ length told.now }
     ensures long { length result.now ≡ processors }
     ensures each { (q : ℕ) → q < processors → slice_index_or result.now q None ≡ slice_index_or told.now (i * processors + q) None }
@@ -108,8 +87,8 @@ pub(crate) fn told_in(told: &[Option<Leaf>], processors: usize, i: usize) -> &[O
     &told[from..from + processors]
 }
 
-// The tick at which round i of a lap begins.
-fn start_of(ends: &[u128], from: u128, i: usize) -> u128
+/// The tick at which round i of a lap begins.
+pub(crate) fn start_of(ends: &[u128], from: u128, i: usize) -> u128
     requires { i ≤ length ends.now }
     ensures { result ≡ round_start from ends.now i }
 {

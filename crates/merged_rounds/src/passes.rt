@@ -12,12 +12,12 @@ ghost use Rattle.merged_rounds.specs.Replays.{IsComputed, IsMergingFrom, IsSourc
 
 use crate::apart::comes_round;
 use crate::changed::merge_on_time;
-use crate::laps::{merge_lap, no_lap, with_laps};
+use crate::laps::{merge_lap, with_laps};
 use crate::looks::look_each;
 use crate::searches::{merge_until_again, turn_of};
-use crate::sources::{Source, source_of};
+use crate::sources::{Source, source_of, with_turn};
 use crate::sums::{RoundSum, all_rounds, no_rounds, with_round};
-use crate::turns::merge_turn;
+use crate::turns::{merge_turn, no_turn};
 use event_core::{Core, CountFault};
 use merged_rows::MergedRows;
 use repeat_laws::first_late;
@@ -204,8 +204,17 @@ fn merge_rounds(
             return merge_with_laps(alloc, plan, &mut source, kept, told, sum, turn);
         }
     }
-    let mut source = source_of(alloc, plan, core, no_lap(alloc), false)?;
+    let mut source = computed(alloc, plan, core)?;
     merge_to_end(alloc, plan, &mut source, kept, told, first)
+}
+
+// The rounds that a core computes.
+fn computed(alloc: Global, plan: &Plan, core: Core) -> Result<Source, NoMemory>
+    requires belongs { IsCoreOf plan.now core }
+    ensures belongs { IfOk result (λ source. IsSourceOf plan.now source) }
+    ensures tick { IfOk result (λ source. source.tick ≡ core.tick) }
+{
+    source_of(alloc, plan, core, no_turn(alloc, plan)?, false)
 }
 
 // Goes on for a hyperperiod of so many ticks, where there are more than a few processors, and tells where further rounds come from: by
@@ -230,12 +239,11 @@ fn merge_first(
     ensures fault { IfErr result (λ fault. IsCountFault plan.now fault) }
 {
     if plan.tree().processors() <= FEW {
-        return Ok((first, source_of(alloc, plan, core, no_lap(alloc), false)?));
+        return Ok((first, computed(alloc, plan, core)?));
     }
-    let mut core = core;
-    let (sum, lap) = merge_turn(alloc, plan, &mut core, told, first, turn)?;
-    let replays = core.now() == turn && are_turns(plan, turn, turn);
-    Ok((sum, source_of(alloc, plan, core, lap, replays)?))
+    let mut source = computed(alloc, plan, core)?;
+    let (sum, kept) = merge_turn(alloc, plan, &mut source, told, first, turn)?;
+    Ok((sum, with_turn(alloc, plan, source, kept, turn)?))
 }
 
 // Goes on up to the end of all rounds, of a plan whose schedule can come round.

@@ -1,5 +1,5 @@
 //! The rounds of the first hyperperiod as they come again: who runs is known, and packs are placed anew.
-ghost use Rattle.std.specs.Prelude.{ℕ, ◌≡◌, ◌<◌, ◌≤◌, ◌^◌, ◌+◌, ◌-◌, ◌*◌, ◌⊎◌, length, IfOk, None, Some, slice_index, slice_index_or, slice_set, replicate};
+ghost use Rattle.std.specs.Prelude.{ℕ, ◌≡◌, ◌<◌, ◌≤◌, ◌^◌, ◌+◌, ◌⊎◌, length, IfOk, None, Some, slice_index, slice_index_or, slice_set, replicate};
 ghost use Rattle.sched_base.specs.declared.rows.Leaf.{Leaf as DeclaredLeaf};
 ghost use Rattle.sched_base.specs.declared.rows.Leaf.TheVariants.{Empty as empty_leaf};
 ghost use Rattle.sched_base.specs.declared.rows.Row.{Row as DeclaredRow};
@@ -7,44 +7,29 @@ ghost use Rattle.run_tree.specs.Plans.{stop_of};
 ghost use Rattle.event_core.specs.Cores.{IsCoreOf};
 ghost use Rattle.event_core.specs.Rounds.{IsRoundUpTo};
 ghost use Rattle.event_core.specs.Told.{AreTold, IsTold};
-ghost use Rattle.merged_rounds.specs.Laps.{lap_end, round_start};
+ghost use Rattle.merged_rounds.specs.Laps.{round_start};
 ghost use Rattle.merged_rounds.specs.Passes.{leaf_at};
-ghost use Rattle.merged_rounds.specs.Replays.{AreNotedTo, BeginsAgain, HasPlaced, IsReplayOf, is_some, packs_of};
+ghost use Rattle.merged_rounds.specs.Replays.{AreNotedTo, AreOrdered, BeginsAgain, HasPlaced, IsEntryTaken, IsReplayOf, IsTaken, is_some, packs_of, turn_end};
 
-use crate::laps::{Lap, end_of, told_in};
+use crate::laps::end_of;
+use crate::turns::Turn;
 use cpu_assign::{Changes, Places};
 use event_core::Core;
 use run_tree::Plan;
 use sched_base::{Leaf, NoMemory};
 use std::alloc::Global;
 
-/// The rounds of the first hyperperiod as they come again: the one just gone and the next one by their numbers, how many ticks later that
-/// one begins, and the places.
+/// The rounds of the first hyperperiod as they come again: the next one by its number, how many ticks later it begins, the places, and
+/// what each pack shows in the round just gone.
 #[derive(Drop)]
 pub(crate) struct Replay {
-    lap: Lap,
-    gone: usize,
+    lap: Turn,
     next: usize,
     shift: u128,
     places: Places,
     changes: Changes,
     onto: Vec<Option<u32>>,
-}
-
-// The first pack from number `from` on that shows something else than before, or their number where none does.
-fn next_change(before: &[Option<Leaf>], now: &[Option<Leaf>], from: usize) -> usize
-    requires long { length before.now ≡ length now.now }
-    requires from { from ≤ length now.now }
-    ensures after { from ≤ result }
-    ensures within { result ≤ length now.now }
-    ensures same { (k : ℕ) → from ≤ k → k < result → slice_index_or now.now k None ≡ slice_index_or before.now k None }
-{
-    for k in from..now.len() {
-        if now[k] != before[k] {
-            return k;
-        }
-    }
-    now.len()
+    shows: Vec<Option<Leaf>>,
 }
 
 // Whether something is told.
@@ -57,36 +42,42 @@ fn is_told(shows: Option<Leaf>) -> bool
     }
 }
 
-// Lists pack k as one that was looked at.
-fn note_change(before: &[Option<Leaf>], now: &[Option<Leaf>], k: usize, changes: &mut Changes)
-    requires long { length before.now ≡ length now.now }
-    requires pack { k < length now.now }
-    requires few { length now.now < 2 ^ 32 }
-    requires room { changes.old.room ≡ length now.now }
-    requires seen { length changes.old.seen ≤ k }
-    requires noted { AreNotedTo before.now now.now k changes.old }
-    ensures noted { AreNotedTo before.now now.now (k + 1) changes.new }
-    ensures seen { length changes.new.seen ≤ k + 1 }
+// Pack k shows this now, and is listed where that is something else than before.
+fn take_entry(k: u32, leaf: Option<Leaf>, shows: &mut [Option<Leaf>], changes: &mut Changes)
+    requires pack { k < length shows.old }
+    requires seen { length changes.old.seen < changes.old.room }
+    requires stopped { length changes.old.stopped < changes.old.room }
+    requires begun { length changes.old.begun < changes.old.room }
+    ensures shows { shows.new ≡ slice_set shows.old k leaf }
+    ensures taken { IsEntryTaken shows.old k leaf changes.old changes.new }
     ensures room { changes.new.room ≡ changes.old.room }
 {
-    let runs = is_told(now[k]);
-    let held = is_told(before[k]);
-    changes.see(k as u32, runs, held);
+    let before = shows[k as usize];
+    shows[k as usize] = leaf;
+    if leaf != before {
+        changes.see(k, is_told(leaf), is_told(before));
+    }
 }
 
-/// Lists the packs that show something else than before, those that stop and those that begin among them.
-pub(crate) fn note_changes(before: &[Option<Leaf>], now: &[Option<Leaf>], changes: &mut Changes)
-    requires long { length before.now ≡ length now.now }
-    requires room { changes.old.room ≡ length now.now }
-    requires few { length now.now < 2 ^ 32 }
-    ensures noted { AreNotedTo before.now now.now (length now.now) changes.new }
+// Packs show what the entries from place `low` up to `high` tell, and those are listed that show something else than before.
+fn take_entries(
+    packs: &[u32],
+    shown: &[Option<Leaf>],
+    low: usize,
+    high: usize,
+    shows: &mut [Option<Leaf>],
+    changes: &mut Changes,
+)
+    requires ordered { AreOrdered packs.now low high (length shows.old) }
+    requires both { length shown.now ≡ length packs.now }
+    requires room { changes.old.room ≡ length shows.old }
+    ensures noted { AreNotedTo shows.old shows.new (length shows.old) changes.new }
+    ensures taken { (k : ℕ) → IsTaken packs.now shown.now low high shows.old shows.new k }
     ensures room { changes.new.room ≡ changes.old.room }
 {
     changes.clear();
-    let mut k = next_change(before, now, 0);
-    'others: while k < now.len() {
-        note_change(before, now, k, changes);
-        k = next_change(before, now, k + 1);
+    for j in low..high {
+        take_entry(packs[j], shown[j], shows, changes);
     }
 }
 
@@ -121,15 +112,6 @@ pub(crate) fn tell_places(places: &Places, packs: &[u32], told: &mut [u32]) -> u
     count
 }
 
-// The number of packs of level 0.
-fn pack_count(plan: &Plan) -> usize
-    ensures count { result ≡ packs_of plan.now }
-    ensures few { result < 2 ^ 32 }
-{
-    plan.know_lawful();
-    plan.tree().packs(0) as usize
-}
-
 // Room for the packs that change.
 fn room_for_changes(alloc: Global, plan: &Plan) -> Result<Changes, NoMemory>
     ensures { IfOk result (λ c. c.room ≡ packs_of plan.now) }
@@ -145,13 +127,14 @@ fn room_for_onto(alloc: Global, plan: &Plan) -> Result<Vec<Option<u32>>, NoMemor
     Ok(vec![in alloc; None; plan.tree().processors() as usize]?)
 }
 
-// The round behind round i of a lap, which begins anew behind its last one, and how many ticks later it begins.
-fn behind(lap: &Lap, i: usize, shift: u128) -> (usize, u128)
+// The round behind round i of a hyperperiod, which begins anew behind its last one, and how many ticks later it begins.
+fn behind(lap: &Turn, i: usize, shift: u128) -> (usize, u128)
     requires round { i < length lap.now.ends.items }
-    requires fits { shift + lap_end 0 lap.now < 2 ^ 128 }
+    requires fits { shift + turn_end lap.now < 2 ^ 128 }
     ensures within { result.0 < length lap.now.ends.items }
     ensures at { round_start 0 lap.now.ends.items result.0 + result.1 ≡ slice_index lap.now.ends.items i + shift }
-    ensures shift { (result.1 ≡ shift) ⊎ (result.1 ≡ shift + lap_end 0 lap.now) }
+    ensures shift { (result.1 ≡ shift) ⊎ (result.1 ≡ shift + turn_end lap.now) }
+    ensures next { (result.0 ≡ 0) ⊎ (result.0 ≡ i + 1) }
 {
     if i + 1 < lap.rounds() {
         (i + 1, shift)
@@ -160,20 +143,12 @@ fn behind(lap: &Lap, i: usize, shift: u128) -> (usize, u128)
     }
 }
 
-// The number of the last round, or 0 where there is none.
-fn last_round(lap: &Lap) -> usize
-    ensures { result ≡ length lap.now.ends.items - 1 }
-{
-    let count = lap.rounds();
-    if count == 0 { 0 } else { count - 1 }
-}
-
-/// The rounds of a lap that begin again at the core's tick.
+/// The rounds of a hyperperiod that begin again at the core's tick.
 pub(crate) fn replay_of(
     alloc: Global,
     plan: &Plan,
     core: &Core,
-    lap: Lap,
+    lap: Turn,
 ) -> Result<Replay, NoMemory>
     requires belongs { IsCoreOf plan.now core.now }
     ensures { IfOk result (λ replay. BeginsAgain plan.now core.now.tick lap → IsReplayOf plan.now core.now.tick replay) }
@@ -182,15 +157,15 @@ pub(crate) fn replay_of(
     let onto = room_for_onto(alloc, plan)?;
     let changes = room_for_changes(alloc, plan)?;
     let places = core.places().copy(alloc)?;
-    let gone = last_round(&lap);
+    let shows = Vec::from_slice(alloc, &lap.last)?;
     Ok(Replay {
         lap,
-        gone,
         next: 0,
         shift: core.now(),
         places,
         changes,
         onto,
+        shows,
     })
 }
 
@@ -212,14 +187,19 @@ impl Replay {
     {
         plan.know_lawful();
         let _start = start;
-        let count = pack_count(plan);
-        let before = told_in(&self.lap.told, count, self.gone);
-        let now = told_in(&self.lap.told, count, self.next);
-        note_changes(before, now, &mut self.changes);
+        let low = self.lap.part(self.next);
+        let high = self.lap.part(self.next + 1);
+        take_entries(
+            &self.lap.packs,
+            &self.lap.shown,
+            low,
+            high,
+            &mut self.shows,
+            &mut self.changes,
+        );
         self.places.place_changed(&self.changes, &mut self.onto);
         let end = end_of(&self.lap.ends, self.next, self.shift, plan.rounds_end());
         let (next, shift) = behind(&self.lap, self.next, self.shift);
-        self.gone = self.next;
         self.next = next;
         self.shift = shift;
         end
@@ -256,25 +236,20 @@ impl Replay {
         plan.know_lawful();
         let _start = start;
         let _end = end;
-        shown_in(
-            &self.lap.told,
-            pack_count(plan),
-            self.gone,
-            self.places.pack_on(q),
-        )
+        shown_in(&self.shows, self.places.pack_on(q))
     }
 }
 
-// What this pack shows in round i of so many packs, or nothing.
-fn shown_in(told: &[Option<Leaf>], packs: usize, i: usize, pack: Option<u32>) -> Leaf
-    requires { (k : ℕ) → pack ≡ Some k → i * packs + k < length told.now }
+// What this pack shows, or nothing.
+fn shown_in(shows: &[Option<Leaf>], pack: Option<u32>) -> Leaf
+    requires { (k : ℕ) → pack ≡ Some k → k < length shows.now }
     ensures none { pack ≡ None → result ≡ empty_leaf }
-    ensures some { (k : ℕ) (l : DeclaredLeaf) → pack ≡ Some k → slice_index_or told.now (i * packs + k) None ≡ Some l → result ≡ l }
+    ensures some { (k : ℕ) (l : DeclaredLeaf) → pack ≡ Some k → slice_index_or shows.now k None ≡ Some l → result ≡ l }
 {
     let Some(k) = pack else {
         return Leaf::Empty;
     };
-    match told[i * packs + k as usize] {
+    match shows[k as usize] {
         None => Leaf::Empty,
         Some(leaf) => leaf,
     }

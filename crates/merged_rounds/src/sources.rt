@@ -1,16 +1,18 @@
 //! Where rounds come from: a core computes them, or those of the first hyperperiod come again.
-ghost use Rattle.std.specs.Prelude.{ℕ, ◌≡◌, ◌<◌, ◌≤◌, true, false, length, IfOk, slice_index};
+ghost use Rattle.std.specs.Prelude.{ℕ, ◌≡◌, ◌<◌, ◌≤◌, ◌*◌, true, false, length, IfOk, slice_index};
 ghost use Rattle.std.specs.List.{AllByRecursion};
 ghost use Rattle.sched_base.specs.declared.rows.Row.{Row as DeclaredRow};
 ghost use Rattle.run_tree.specs.Plans.{stop_of};
 ghost use Rattle.event_core.specs.Cores.{IsCoreOf, places_of};
 ghost use Rattle.event_core.specs.Rounds.{IsRoundUpTo};
 ghost use Rattle.event_core.specs.Told.{IsTold};
+ghost use Rattle.merged_rounds.specs.Laps.{CanComeRound};
 ghost use Rattle.merged_rounds.specs.Passes.{leaf_at};
-ghost use Rattle.merged_rounds.specs.Replays.{BeginsAgain, IsComputed, IsSourceOf, packs_of};
+ghost use Rattle.merged_rounds.specs.Replays.{BeginsAgain, IsComputed, IsSourceOf, IsTurnOf, packs_of, turn_end};
 
-use crate::laps::Lap;
+use crate::passes::are_turns;
 use crate::replays::{Replay, replay_of};
+use crate::turns::Turn;
 use cpu_assign::Places;
 use event_core::Core;
 use run_tree::Plan;
@@ -26,20 +28,20 @@ pub(crate) struct Source {
     replay: Replay,
 }
 
-/// The rounds that a core computes from its tick on, or those of a lap again.
+/// The rounds that a core computes from its tick on, or those of a hyperperiod again.
 pub(crate) fn source_of(
     alloc: Global,
     plan: &Plan,
     core: Core,
-    lap: Lap,
+    turn: Turn,
     replays: bool,
 ) -> Result<Source, NoMemory>
     requires belongs { IsCoreOf plan.now core }
-    requires again { replays ≡ true → BeginsAgain plan.now core.tick lap }
+    requires again { replays ≡ true → BeginsAgain plan.now core.tick turn }
     ensures belongs { IfOk result (λ source. IsSourceOf plan.now source) }
     ensures tick { IfOk result (λ source. source.tick ≡ core.tick) }
 {
-    let replay = replay_of(alloc, plan, &core, lap)?;
+    let replay = replay_of(alloc, plan, &core, turn)?;
     let tick = core.now();
     Ok(Source {
         core,
@@ -47,6 +49,28 @@ pub(crate) fn source_of(
         replays,
         replay,
     })
+}
+
+/// The rounds of a hyperperiod of so many ticks come again, where it is over, and a core computed them.
+pub(crate) fn with_turn(
+    alloc: Global,
+    plan: &Plan,
+    source: Source,
+    kept: Turn,
+    turn: u128,
+) -> Result<Source, NoMemory>
+    requires can { CanComeRound plan.now }
+    requires belongs { IsSourceOf plan.now source }
+    requires turn { turn ≡ plan.now.tree.scale * plan.now.tree.scale }
+    requires kept { IsTurnOf plan.now kept }
+    requires end { turn_end kept ≡ source.tick }
+    ensures belongs { IfOk result (λ next. IsSourceOf plan.now next) }
+    ensures tick { IfOk result (λ next. next.tick ≡ source.tick) }
+{
+    if source.replays(plan) || source.now() != turn || !are_turns(plan, turn, turn) {
+        return Ok(source);
+    }
+    source_of(alloc, plan, source.core, kept, true)
 }
 
 impl Source {

@@ -1,123 +1,336 @@
-//! The rounds of the first hyperperiod, kept with what each pack shows.
-ghost use Rattle.std.specs.Prelude.{ℕ, ◌≡◌, ◌<◌, ◌≤◌, ◌*◌, length, IfErr, IfOk, None, Some, slice_index_or, slice_set, replicate};
-ghost use Rattle.run_tree.specs.Plans.{stop_of};
-ghost use Rattle.event_core.specs.Cores.{IsCoreOf};
+//! The rounds of the first hyperperiod, kept by the packs that show something else than in the round before.
+ghost use Rattle.std.specs.Prelude.{ℕ, ◌≡◌, ◌<◌, ◌≤◌, ◌+◌, ◌++◌, ◌∷◌, [], true, false, length, IfErr, IfOk, None, Some, slice_index, slice_index_or, replicate};
+ghost use Rattle.sched_base.specs.Places.{is_held};
+ghost use Rattle.run_tree.specs.Plans.{PlanContents, stop_of};
+ghost use Rattle.event_core.specs.Cores.{places_of};
 ghost use Rattle.event_core.specs.Counts.{IsCountFault};
 ghost use Rattle.event_core.specs.Rounds.{IsRoundUpTo};
-ghost use Rattle.merged_rounds.specs.Laps.{CanComeRound, IsAllTold, IsSumUpTo, lap_end};
-ghost use Rattle.merged_rounds.specs.Replays.{IsPackOn, IsTurnOf, packs_of};
+ghost use Rattle.merged_rounds.specs.declared.turns.Turn.{Turn as DeclaredTurn};
+ghost use Rattle.merged_rounds.specs.Changes.{IsNone, IsTurning};
+ghost use Rattle.merged_rounds.specs.Laps.{CanComeRound, IsAllTold, IsSumUpTo};
+ghost use Rattle.merged_rounds.specs.Replays.{AreKept, IsPackOn, IsSourceOf, IsTurnOf, packs_of, part_start, turn_end};
 
-use crate::laps::{Lap, keep_round, no_lap};
+use crate::changed::{first_of, forget_changed, merge_telling, merge_whole, room_for_told};
+use crate::laps::start_of;
 use crate::looks::forget;
-use crate::sums::{RoundSum, with_round};
-use event_core::{Core, CountFault};
+use crate::sources::Source;
+use crate::sums::RoundSum;
+use cpu_assign::Places;
+use event_core::CountFault;
 use run_tree::Plan;
 use sched_base::{Leaf, NoMemory};
 use std::alloc::Global;
 
-// So many leaves are kept at most, with 12 bytes each.
-const MOST_KEPT: usize = 1572864;
+// So many entries are kept at most, with 16 bytes each.
+const MOST_KEPT: usize = 1179648;
 
-// Room for what is told of the packs of level 0.
-pub(crate) fn no_packs(alloc: Global, plan: &Plan) -> Result<Vec<Option<Leaf>>, NoMemory>
+/// The rounds of the first hyperperiod: where each ends, and the packs that show something else in it than in the round before, by their
+/// numbers, with what they show. In the first round these are all packs. The entries of a round go up to its number in `parts`. And what
+/// each pack shows in the last round.
+#[derive(Drop)]
+pub(crate) struct Turn {
+    pub(crate) ends: Vec<u128>,
+    pub(crate) parts: Vec<usize>,
+    pub(crate) packs: Vec<u32>,
+    pub(crate) shown: Vec<Option<Leaf>>,
+    pub(crate) last: Vec<Option<Leaf>>,
+}
+
+impl Turn {
+    /// How many rounds there are.
+    pub(crate) fn rounds(&self) -> usize
+        ensures { result ≡ length self.now.ends.items }
+    {
+        self.ends.len()
+    }
+
+    // Whether there is none.
+    fn is_none(&self) -> bool
+        ensures { result ≡ false → 0 < length self.now.ends.items }
+    {
+        self.ends.len() == 0
+    }
+
+    /// Where the last one ends.
+    pub(crate) fn end(&self) -> u128
+        ensures { result ≡ turn_end self.now }
+    {
+        start_of(&self.ends, 0, self.ends.len())
+    }
+
+    /// The place of the first entry of round i, or behind the last one of the round before.
+    pub(crate) fn part(&self, i: usize) -> usize
+        requires { i ≤ length self.now.parts.items }
+        ensures { result ≡ part_start self.now.parts.items i }
+    {
+        if i == 0 { 0 } else { self.parts[i - 1] }
+    }
+
+    // One entry more.
+    fn keep(&mut self, pack: u32, shows: Option<Leaf>) -> Result<(), NoMemory>
+        ensures packs { IfOk result (λ _. self.new.packs.items ≡ self.old.packs.items ++ pack ∷ []) }
+        ensures shown { IfOk result (λ _. self.new.shown.items ≡ self.old.shown.items ++ shows ∷ []) }
+        ensures ends { IfOk result (λ _. self.new.ends ≡ self.old.ends) }
+        ensures parts { IfOk result (λ _. self.new.parts ≡ self.old.parts) }
+        ensures last { IfOk result (λ _. self.new.last ≡ self.old.last) }
+    {
+        self.packs.push(pack)?;
+        self.shown.push(shows)?;
+        Ok(())
+    }
+
+    // One round more, up to tick `end`, with the entries behind those of the others.
+    fn close(&mut self, end: u128) -> Result<(), NoMemory>
+        ensures ends { IfOk result (λ _. self.new.ends.items ≡ self.old.ends.items ++ end ∷ []) }
+        ensures parts { IfOk result (λ _. self.new.parts.items ≡ self.old.parts.items ++ length self.old.packs.items ∷ []) }
+        ensures packs { IfOk result (λ _. self.new.packs ≡ self.old.packs) }
+        ensures shown { IfOk result (λ _. self.new.shown ≡ self.old.shown) }
+        ensures last { IfOk result (λ _. self.new.last ≡ self.old.last) }
+    {
+        let count = self.packs.len();
+        self.ends.push(end)?;
+        self.parts.push(count)?;
+        Ok(())
+    }
+
+    // Whether pack k shows what it did, where it isn't the first round.
+    fn shows_same(&self, k: u32, leaf: Option<Leaf>, whole: bool) -> bool
+        requires { k < length self.now.last.items }
+        ensures later { result ≡ true → whole ≡ false }
+        ensures same { result ≡ true → leaf ≡ slice_index_or self.now.last.items k None }
+    {
+        if whole {
+            false
+        } else {
+            leaf == self.last[k as usize]
+        }
+    }
+
+    // Pack k shows this, and is kept where that is something else than before, or in the first round.
+    fn keep_pack(&mut self, k: u32, leaf: Option<Leaf>, whole: bool) -> Result<(), NoMemory>
+        requires { k < length self.old.last.items }
+        ensures { IfOk result (λ _. (p : PlanContents) (start : ℕ) (before : DeclaredTurn) → AreKept p start before self.old k → k < packs_of p →
+            IsPackOn p start k leaf → (whole ≡ false → 0 < length before.ends.items) → AreKept p start before self.new (k + 1)) }
+    {
+        if self.shows_same(k, leaf, whole) {
+            return Ok(());
+        }
+        self.keep(k, leaf)?;
+        self.last[k as usize] = leaf;
+        Ok(())
+    }
+
+    // Keeps the packs that show something else than before in the round just gone, from `start` up to `end`, or each of them, where it is
+    // the first round.
+    fn keep_packs(
+        &mut self,
+        plan: &Plan,
+        places: &Places,
+        start: u128,
+        end: u128,
+        leaves: &[Option<Leaf>],
+    ) -> Result<(), NoMemory>
+        requires can { CanComeRound plan.now }
+        requires places { places.now ≡ places_of plan.now end }
+        requires round { IsRoundUpTo plan.now start end }
+        requires leaves { IsAllTold plan.now start end leaves.now }
+        requires turn { IsTurnOf plan.now self.old }
+        ensures kept { IfOk result (λ _. AreKept plan.now start self.old self.new (packs_of plan.now)) }
+    {
+        plan.know_lawful();
+        let _start = start;
+        let _end = end;
+        let whole = self.is_none();
+        let count = pack_count(plan);
+        for k in 0..count {
+            let leaf = shown_by(places, leaves, k);
+            self.keep_pack(k, leaf, whole)?;
+        }
+        Ok(())
+    }
+
+    // One round more, from `start` up to `end`, of which it is known what each processor shows.
+    fn keep_round(
+        &mut self,
+        plan: &Plan,
+        places: &Places,
+        start: u128,
+        end: u128,
+        leaves: &[Option<Leaf>],
+    ) -> Result<(), NoMemory>
+        requires can { CanComeRound plan.now }
+        requires places { places.now ≡ places_of plan.now end }
+        requires round { IsRoundUpTo plan.now start end }
+        requires leaves { IsAllTold plan.now start end leaves.now }
+        requires turn { IsTurnOf plan.now self.old }
+        requires here { turn_end self.old ≡ start }
+        ensures turn { IfOk result (λ _. IsTurnOf plan.now self.new) }
+        ensures end { IfOk result (λ _. turn_end self.new ≡ end) }
+    {
+        self.keep_packs(plan, places, start, end, leaves)?;
+        self.close(end)?;
+        Ok(())
+    }
+}
+
+/// No round yet.
+pub(crate) fn no_turn(alloc: Global, plan: &Plan) -> Result<Turn, NoMemory>
+    ensures turn { IfOk result (λ turn. IsTurnOf plan.now turn) }
+    ensures none { IfOk result (λ turn. turn.ends.items ≡ []) }
+{
+    Ok(Turn {
+        ends: Vec::new(alloc),
+        parts: Vec::new(alloc),
+        packs: Vec::new(alloc),
+        shown: Vec::new(alloc),
+        last: no_packs(alloc, plan)?,
+    })
+}
+
+// The number of packs of level 0.
+fn pack_count(plan: &Plan) -> u32
+    ensures { result ≡ packs_of plan.now }
+{
+    plan.know_lawful();
+    plan.tree().packs(0)
+}
+
+// Of no pack of level 0 anything.
+fn no_packs(alloc: Global, plan: &Plan) -> Result<Vec<Option<Leaf>>, NoMemory>
     ensures { IfOk result (λ v. v.items ≡ replicate (packs_of plan.now) None) }
 {
     plan.know_lawful();
     Ok(vec![in alloc; None; plan.tree().packs(0) as usize]?)
 }
 
-// Tells of this pack, where there is one, what it shows.
-fn note_pack(shows: &mut [Option<Leaf>], pack: Option<u32>, leaf: Leaf)
-    requires { (k : ℕ) → pack ≡ Some k → k < length shows.old }
-    ensures some { (k : ℕ) → pack ≡ Some k → shows.new ≡ slice_set shows.old k (Some leaf) }
-    ensures none { pack ≡ None → shows.new ≡ shows.old }
+// A copy of what is told.
+fn copy_of(alloc: Global, told: &[Option<Leaf>]) -> Result<Vec<Option<Leaf>>, NoMemory>
+    ensures { IfOk result (λ v. v.items ≡ told.now) }
 {
-    match pack {
-        None => {},
-        Some(k) => {
-            shows[k as usize] = Some(leaf);
-        },
+    Ok(Vec::from_slice(alloc, told)?)
+}
+
+// What pack k shows by what each processor shows: that of the one that it is on.
+fn shown_by(places: &Places, leaves: &[Option<Leaf>], k: u32) -> Option<Leaf>
+    requires pack { k < length places.now.last }
+    requires long { length leaves.now ≡ length places.now.onto }
+    ensures none { is_held places.now.onto k ≡ false → result ≡ None }
+    ensures some { (q : ℕ) → slice_index_or places.now.onto q None ≡ Some k → result ≡ slice_index_or leaves.now q None }
+{
+    places.know_noted();
+    if !places.holds(k) {
+        return None;
+    }
+    match places.last_of(k) {
+        None => None,
+        Some(q) => leaves[q as usize],
     }
 }
 
-// Tells of each processor what it shows in the round just gone, which began at tick `start`, and the same of the pack on it.
-fn note_each(
-    plan: &Plan,
-    core: &Core,
-    start: u128,
-    told: &mut [Option<Leaf>],
-    shows: &mut [Option<Leaf>],
-)
-    requires can { CanComeRound plan.now }
-    requires belongs { IsCoreOf plan.now core.now }
-    requires round { IsRoundUpTo plan.now start core.now.tick }
-    requires told { length told.old ≡ plan.now.tree.processors }
-    requires shows { length shows.old ≡ packs_of plan.now }
-    requires none { (k : ℕ) → slice_index_or shows.old k None ≡ None }
-    ensures told { IsAllTold plan.now start core.now.tick told.new }
-    ensures shows { (k : ℕ) → k < packs_of plan.now → IsPackOn plan.now start k (slice_index_or shows.new k None) }
+// Each of these processors shows what is told of it.
+fn note(changed: &[u32], told: &[Option<Leaf>], leaves: &mut [Option<Leaf>])
+    requires within { (k : ℕ) → k < length changed.now → slice_index changed.now k < length leaves.old }
+    requires long { length told.now ≡ length leaves.old }
+    ensures each { (k : ℕ) → k < length changed.now → slice_index_or leaves.new (slice_index changed.now k) None ≡ slice_index_or told.now (slice_index changed.now k) None }
+    ensures rest { (q : ℕ) → IsNone changed.now (length changed.now) q → slice_index_or leaves.new q None ≡ slice_index_or leaves.old q None }
 {
-    plan.know_lawful();
-    let count = plan.tree().processors();
-    for q in 0..count {
-        let leaf = core.leaf_on(plan, start, q);
-        told[q as usize] = Some(leaf);
-        note_pack(shows, core.places().pack_on(q), leaf);
+    for k in 0..changed.len() {
+        let q = changed[k] as usize;
+        leaves[q] = told[q];
     }
 }
 
-// The same, where what was told of packs is forgotten before.
-fn note_all(
+// The first round of a turn, of which each processor is looked at; `told` is forgotten. And what each processor shows in it.
+fn begin_turn(
+    alloc: Global,
     plan: &Plan,
-    core: &Core,
-    start: u128,
+    source: &mut Source,
     told: &mut [Option<Leaf>],
-    shows: &mut [Option<Leaf>],
-)
+    first: RoundSum,
+) -> Result<(RoundSum, Turn, Vec<Option<Leaf>>), CountFault>
     requires can { CanComeRound plan.now }
-    requires belongs { IsCoreOf plan.now core.now }
-    requires round { IsRoundUpTo plan.now start core.now.tick }
+    requires belongs { IsSourceOf plan.now source.old }
+    requires first { source.old.tick ≡ 0 }
+    requires early { source.old.tick < stop_of plan.now }
+    requires sum { IsSumUpTo plan.now source.old.tick first }
     requires told { length told.old ≡ plan.now.tree.processors }
-    requires shows { length shows.old ≡ packs_of plan.now }
-    ensures told { IsAllTold plan.now start core.now.tick told.new }
-    ensures shows { (k : ℕ) → k < packs_of plan.now → IsPackOn plan.now start k (slice_index_or shows.new k None) }
+    ensures going { IfOk result (λ all. IsTurning plan.now source.new all.0 told.new all.1 all.2.items) }
+    ensures fault { IfErr result (λ fault. IsCountFault plan.now fault) }
 {
-    forget(shows);
-    note_each(plan, core, start, told, shows);
+    let start = source.now();
+    let mut turn = no_turn(alloc, plan)?;
+    let sum = merge_whole(plan, source, told, first)?;
+    let leaves = copy_of(alloc, told)?;
+    forget(told);
+    let end = source.now();
+    turn.keep_round(plan, source.places(plan), start, end, &leaves)?;
+    Ok((sum, turn, leaves))
 }
 
-/// Goes on with rounds up to the first that begins at tick `until` or later, or until so much is kept of them as there is room for, and
-/// keeps them with what each pack of level 0 shows. The list `told` is overwritten.
+// One round more of a turn.
+fn turn_next(
+    plan: &Plan,
+    source: &mut Source,
+    told: &mut [Option<Leaf>],
+    changed: &mut [u32],
+    leaves: &mut [Option<Leaf>],
+    turn: &mut Turn,
+    first: RoundSum,
+) -> Result<RoundSum, CountFault>
+    requires can { CanComeRound plan.now }
+    requires going { IsTurning plan.now source.old first told.old turn.old leaves.old }
+    requires early { source.old.tick < stop_of plan.now }
+    requires told { length told.old ≡ plan.now.tree.processors }
+    requires room { length changed.old ≡ packs_of plan.now }
+    ensures going { IfOk result (λ sum. IsTurning plan.now source.new sum told.new turn.new leaves.new) }
+    ensures later { IfOk result (λ _. IsRoundUpTo plan.now source.old.tick source.new.tick) }
+    ensures fault { IfErr result (λ fault. IsCountFault plan.now fault) }
+{
+    let start = source.now();
+    let (sum, count) = merge_telling(plan, source, told, changed, first)?;
+    let seen = first_of(changed, count);
+    note(seen, told, leaves);
+    forget_changed(seen, told);
+    let end = source.now();
+    turn.keep_round(plan, source.places(plan), start, end, leaves)?;
+    Ok(sum)
+}
+
+/// Goes on with rounds from tick 0 up to the first that begins at tick `until` or later, or until so much is kept of them as there is room
+/// for, and keeps them by the packs that show something else than before. The list `told` is overwritten.
 pub(crate) fn merge_turn(
     alloc: Global,
     plan: &Plan,
-    core: &mut Core,
+    source: &mut Source,
     told: &mut [Option<Leaf>],
     first: RoundSum,
     until: u128,
-) -> Result<(RoundSum, Lap), CountFault>
+) -> Result<(RoundSum, Turn), CountFault>
     requires can { CanComeRound plan.now }
-    requires belongs { IsCoreOf plan.now core.old }
-    requires first { core.old.tick ≡ 0 }
-    requires sum { IsSumUpTo plan.now core.old.tick first }
+    requires belongs { IsSourceOf plan.now source.old }
+    requires first { source.old.tick ≡ 0 }
+    requires early { source.old.tick < stop_of plan.now }
+    requires sum { IsSumUpTo plan.now source.old.tick first }
     requires told { length told.old ≡ plan.now.tree.processors }
     requires until { until ≤ stop_of plan.now }
-    ensures belongs { IfOk result (λ _. IsCoreOf plan.now core.new) }
-    ensures sum { IfOk result (λ pair. IsSumUpTo plan.now core.new.tick pair.0) }
-    ensures lap { IfOk result (λ pair. IsTurnOf plan.now pair.1) }
-    ensures end { IfOk result (λ pair. lap_end 0 pair.1 ≡ core.new.tick) }
+    ensures belongs { IfOk result (λ _. IsSourceOf plan.now source.new) }
+    ensures sum { IfOk result (λ pair. IsSumUpTo plan.now source.new.tick pair.0) }
+    ensures turn { IfOk result (λ pair. IsTurnOf plan.now pair.1) }
+    ensures end { IfOk result (λ pair. turn_end pair.1 ≡ source.new.tick) }
     ensures fault { IfErr result (λ fault. IsCountFault plan.now fault) }
 {
-    let mut shows = no_packs(alloc, plan)?;
-    let mut sum = first;
-    let mut lap = no_lap(alloc);
-    'rounds: while core.now() < until && lap.kept() < MOST_KEPT {
-        let start = core.now();
-        core.go(plan);
-        note_all(plan, core, start, told, &mut shows);
-        let end = core.now();
-        sum = with_round(plan, sum, start, end, told)?;
-        lap = keep_round(lap, end, &shows)?;
+    let mut changed = room_for_told(alloc, plan)?;
+    let (mut sum, mut turn, mut leaves) = begin_turn(alloc, plan, source, told, first)?;
+    'rounds: while source.now() < until && turn.packs.len() < MOST_KEPT {
+        sum = turn_next(
+            plan,
+            source,
+            told,
+            &mut changed,
+            &mut leaves,
+            &mut turn,
+            sum,
+        )?;
     }
-    Ok((sum, lap))
+    Ok((sum, turn))
 }

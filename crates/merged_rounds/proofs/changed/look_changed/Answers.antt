@@ -1,5 +1,4 @@
-use Rattle.std.proofs.Common.{ap, arith}
-use Rattle.sched_base.specs.declared.rows.Row.{Row}
+use Rattle.std.proofs.Common.{arith}
 use Rattle.merged_rounds.proofs.ChangeLemmas.{change_none, change_step}
 use Rattle.merged_rounds.proofs.changed.look_changed.Goals as goal
 

@@ -1,4 +1,4 @@
-use Rattle.std.proofs.Common.{ℕ, ◌≡◌, ◌∙◌, true, false, ◌<◌, ◌≤◌, List, Option, get_or, None, ap, subst, sym}
+use Rattle.std.proofs.Common.{ℕ, ◌≡◌, ◌∙◌, true, false, get_or, None, subst, sym}
 use Rattle.merged_rounds.specs.Laps.{IsSumUpTo}
 use Rattle.merged_rounds.specs.Passes.{IsKept}
 use Rattle.sched_base.specs.Tables.{lane_of}

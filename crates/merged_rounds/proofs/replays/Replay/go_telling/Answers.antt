@@ -1,4 +1,4 @@
-use Rattle.std.proofs.Common.{◌≡◌, ◌∙◌, ℕ, ◌<◌, ◌≤◌, List, ap, arith, length, get_or, subst, sym}
+use Rattle.std.proofs.Common.{◌∙◌, ℕ, ◌<◌, List, ap, arith, length, get_or, subst}
 use Rattle.sched_base.specs.Places.{Placing}
 use Rattle.run_tree.proofs.ScheduleLemmas.{length-places}
 use Rattle.run_tree.specs.Boundaries.{set_boundary}

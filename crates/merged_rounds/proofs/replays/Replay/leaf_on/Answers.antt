@@ -1,14 +1,11 @@
-use Rattle.std.proofs.Common.{◌≡◌, ◌∙◌, ℕ, ◌+◌, ◌*◌, ◌<◌, List, Option, None, Some, ap, arith, get_or, length, refl, sym}
+use Rattle.std.proofs.Common.{◌∙◌, ℕ, List, Option, None, ap, arith, get_or, length, sym}
 use Rattle.sched_base.specs.declared.rows.Leaf.{Leaf}
 use Rattle.sched_base.specs.Places.{Placing}
 use Rattle.run_tree.specs.Boundaries.{set_boundary}
-use Rattle.run_tree.specs.Schedule.{onto_at}
 use Rattle.run_tree.proofs.ScheduleLemmas.{length-places}
 use Rattle.event_core.proofs.RowsGone.{pack_within}
-use Rattle.merged_rounds.specs.Replays.{packs_of, shown_in_round}
 use Rattle.merged_rounds.proofs.ReplayLemmas.{onto_end}
 use Rattle.merged_rounds.proofs.ReplaySteps.{shown_by}
-use Rattle.merged_rounds.proofs.RowLemmas.{item_fits}
 use Rattle.merged_rounds.proofs.replays.Replay.leaf_on.Goals as goal
 
 pub pack_on-requires : goal.pack_on-requires
@@ -21,11 +18,12 @@ pack_on-requires c =
 pub shown_in-requires : goal.shown_in-requires
 shown_in-requires c = λ k at.
     let p = c.args.plan.now in
-    let r = c.args.self.now in
     let b = c.requires.belongs in
     let onto = ap (λ (w : Placing). w.onto) b.places ∙ onto_end p c.know_lawful.ensures.lawful c.args.start c.args.end c.requires.round in
     let w = pack_within p c.know_lawful.ensures.lawful c.args.start c.args.q k c.requires.processor (ap (λ (os : List (Option ℕ)). get_or os c.args.q None) (sym onto) ∙ sym c.pack_on.ensures ∙ at) in
-    item_fits p r.lap b.lap r.gone b.gone c.pack_count.result c.pack_count.ensures.count c.deref.result.now c.deref.ensures.value k w
+    let long = b.long in
+    let same = ap (λ (xs : List (Option Leaf)). length xs) c.deref.ensures.value in
+    omega (arith, w, long, same)
 
 pub returns : goal.returns
 returns c = λ none.
@@ -34,5 +32,4 @@ returns c = λ none.
     let b = c.requires.belongs in
     shown_by p c.know_lawful.ensures.lawful c.args.start c.args.end r b c.requires.round c.args.q c.requires.processor none c.pack_on.result (sym c.pack_on.ensures) c.shown_in.result
     c.shown_in.ensures.none
-    (λ k l at is. c.shown_in.ensures.some k l at
-    (ap (λ (xs : List (Option Leaf)). get_or xs (r.gone * c.pack_count.result + k) None) c.deref.ensures.value ∙ ap (λ n. get_or r.lap.told.items (r.gone * n + k) None) c.pack_count.ensures.count ∙ is))
+    (λ k l at is. c.shown_in.ensures.some k l at (ap (λ (xs : List (Option Leaf)). get_or xs k None) c.deref.ensures.value ∙ is))

@@ -1,11 +1,11 @@
-use Rattle.std.proofs.Common.{◌≡◌, ◌<◌, ℕ, ap, arith, get_or, length, slice_get, None, sym, subst, List, ◌∙◌}
+use Rattle.std.proofs.Common.{◌≡◌, ℕ, ap, arith, get_or, length, slice_get, None, sym, subst, List, ◌∙◌}
 use Rattle.sched_base.specs.declared.rows.Row.{Row}
 use Rattle.event_core.specs.Rounds.{rows_of_round}
 use Rattle.merged_rows.specs.Columns.{AreTold}
 use Rattle.merged_rounds.specs.Changes.{IsChange}
 use Rattle.merged_rounds.specs.Laps.{IsSumUpTo}
-use Rattle.merged_rounds.proofs.ChangeLemmas.{changed_told, showing_on}
-use Rattle.merged_rounds.proofs.changed.merge_next.Goals as goal
+use Rattle.merged_rounds.proofs.ChangeLemmas.{change_as, changed_told, showing_on}
+use Rattle.merged_rounds.proofs.changed.merge_telling.Goals as goal
 
 pub with_changed-requires-clause-told : goal.with_changed-requires-clause-told
 with_changed-requires-clause-told c =
@@ -23,16 +23,6 @@ with_changed-requires-clause-told c =
     subst (λ (n : ℕ). AreTold c.args.first.rows.lanes c.look_changed.new.told (rows_of_round p c.now-start.result n)) (sym c.now-end.ensures)
     (subst (λ (n : ℕ). AreTold c.args.first.rows.lanes c.look_changed.new.told (rows_of_round p n end)) (sym c.now-start.ensures) told)
 
-pub forget_changed-requires-clause-within : goal.forget_changed-requires-clause-within
-forget_changed-requires-clause-within c = λ k l.
-    let many = c.first_of-seen.ensures.long in
-    let m : k < c.go_telling-count.result = omega (arith, l, many) in
-    let w = c.go_telling-count.ensures.processors k m in
-    let at = c.first_of-seen.ensures.each k m in
-    let kept = c.look_changed.auto.told in
-    let long = c.requires.told in
-    omega (arith, w, at, kept, long)
-
 pub returns-clause-showing : goal.returns-clause-showing
 returns-clause-showing c =
     let p = c.args.plan.now in
@@ -42,3 +32,21 @@ returns-clause-showing c =
     ap (λ n. rows_of_round p n c.now-end.result) c.now-start.ensures ∙ ap (rows_of_round p start) c.now-end.ensures in
     showing_on p c.go_telling-count.new.self c.in_ok-sum.sum start c.go_telling-count.ensures.belongs c.go_telling-count.ensures.round (subst (λ (n : ℕ). IsSumUpTo p n c.in_ok-sum.sum) c.now-end.ensures c.in_ok-sum.ensures.sum)
     (λ q r at. c.in_ok-sum.ensures.ends q r (ap (λ (rs : List Row). slice_get rs q) rows ∙ at))
+
+pub returns-clause-changed : goal.returns-clause-changed
+returns-clause-changed c = record {
+  within = c.go_telling-count.ensures.within;
+  processors = c.go_telling-count.ensures.processors;
+  others = λ q before none l away round. c.go_telling-count.ensures.others q before none l (λ t. away t.0 t.1 t.2) c.requires.on_time round;
+}
+
+pub returns-clause-told : goal.returns-clause-told
+returns-clause-told c = λ q.
+    let p = c.args.plan.now in
+    let start = c.args.source.now.tick in
+    let end = c.go_telling-count.new.self.tick in
+    let seen = c.first_of-seen.result.now in
+    let each : IsChange p start end seen (length seen) q (get_or c.look_changed.new.told q None) =
+    subst (λ (n : ℕ). IsChange p n end seen (length seen) q (get_or c.look_changed.new.told q None)) c.now-start.ensures (c.look_changed.ensures q) in
+    let many = c.first_of-seen.ensures.long in
+    change_as p start end seen c.go_telling-count.new.told c.go_telling-count.result q (get_or c.look_changed.new.told q None) c.first_of-seen.ensures.each (subst (λ (n : ℕ). IsChange p start end seen n q (get_or c.look_changed.new.told q None)) many each)

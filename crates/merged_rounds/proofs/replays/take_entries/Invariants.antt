@@ -1,0 +1,5 @@
+use Rattle.merged_rounds.proofs.EntryLemmas.{AreTakenTo}
+use Rattle.merged_rounds.proofs.replays.take_entries.Given as goal
+
+abbrev pub invariant-loop-j : goal.invariant-loop-j
+invariant-loop-j l = AreTakenTo l.packs l.shown l.low l.high l.fn.shows l.shows l.j l.changes
