@@ -30,6 +30,7 @@ impl<'a> LastWords<'a> {
 }
 
 // Whether both have the same eight bytes from this place on.
+#[inline(always)]
 fn are_same_eight(text: &[u8], word: &[u8], at: usize) -> bool
     requires within { at + 8 ≤ length word.now }
     requires fits { length word.now ≤ length text.now }
@@ -45,7 +46,32 @@ fn are_same_eight(text: &[u8], word: &[u8], at: usize) -> bool
         & (text[at + 7] == word[at + 7])
 }
 
-// Whether the text begins with a word of less than eight bytes.
+// Whether both have the same four bytes from this place on.
+#[inline(always)]
+fn are_same_four(text: &[u8], word: &[u8], at: usize) -> bool
+    requires within { at + 4 ≤ length word.now }
+    requires fits { length word.now ≤ length text.now }
+    ensures { IsTrue result → (k : ℕ) → k < 4 → slice_index text.now (at + k) ≡ slice_index word.now (at + k) }
+{
+    (text[at] == word[at])
+        & (text[at + 1] == word[at + 1])
+        & (text[at + 2] == word[at + 2])
+        & (text[at + 3] == word[at + 3])
+}
+
+// Whether the text begins with a word of four to eight bytes. The last four may overlap those before them.
+#[inline(always)]
+fn begins_with_some(text: &[u8], word: &[u8]) -> bool
+    requires some { 4 ≤ length word.now }
+    requires most { length word.now ≤ 8 }
+    requires fits { length word.now ≤ length text.now }
+    ensures { IsTrue result → (k : ℕ) → k < length word.now → slice_index text.now k ≡ slice_index word.now k }
+{
+    are_same_four(text, word, 0) & are_same_four(text, word, word.len() - 4)
+}
+
+// Whether the text begins with a word of less than four bytes.
+#[inline(always)]
 fn begins_with_few(text: &[u8], word: &[u8]) -> bool
     requires fits { length word.now ≤ length text.now }
     ensures { IsTrue result → (k : ℕ) → k < length word.now → slice_index text.now k ≡ slice_index word.now k }
@@ -59,6 +85,7 @@ fn begins_with_few(text: &[u8], word: &[u8]) -> bool
 }
 
 // Whether the text begins with a word of at least eight bytes. The last eight may overlap those before them.
+#[inline(always)]
 fn begins_with_many(text: &[u8], word: &[u8]) -> bool
     requires many { 8 ≤ length word.now }
     requires fits { length word.now ≤ length text.now }
@@ -76,6 +103,7 @@ fn begins_with_many(text: &[u8], word: &[u8]) -> bool
 }
 
 /// Whether the text begins with the word.
+#[inline(always)]
 pub(crate) fn begins_with(text: &[u8], word: &[u8]) -> bool
     ensures within { IsTrue result → length word.now ≤ length text.now }
     ensures same { IsTrue result → take (length word.now) text.now ≡ word.now }
@@ -83,8 +111,11 @@ pub(crate) fn begins_with(text: &[u8], word: &[u8]) -> bool
     if text.len() < word.len() {
         return false;
     }
-    if word.len() < 8 {
+    if word.len() < 4 {
         return begins_with_few(text, word);
+    }
+    if word.len() < 8 {
+        return begins_with_some(text, word);
     }
     begins_with_many(text, word)
 }
@@ -99,6 +130,7 @@ impl<'a> KnownWord<'a> {
     }
 
     /// What follows the word and a space, where the text begins with them.
+    #[inline(always)]
     pub fn cut<'b>(&self, text: &'b [u8]) -> Option<&'b [u8]>
         ensures { IfSome result (λ rest. BeginsWith self.now.number text.now rest.now) }
     {
@@ -112,6 +144,7 @@ impl<'a> KnownWord<'a> {
 }
 
 /// The number at the front of a text with its word, and what follows, if they are there and the number has at most 38 digits.
+#[inline(always)]
 pub(crate) fn cut_word<'a>(text: &'a [u8]) -> Option<(KnownWord<'a>, &'a [u8])>
     ensures { IfSome result (λ p. BeginsWith p.0.number text.now p.1.now) }
 {

@@ -55,6 +55,7 @@ impl Stop {
 }
 
 // The next line, word by word.
+#[inline(never)]
 fn next_by_words<'a>(
     set: &TaskSet,
     table: &NameTable,
@@ -79,33 +80,21 @@ fn next_by_words<'a>(
     }
 }
 
-// The words of the first line, most often those of a row that goes on where the last one ends.
-fn words_of<'a>(text: &'a [u8], last: &mut LastWords<'a>) -> Option<RowWords<'a>>
-    ensures { IfSome result (SaysWholeRow text.now) }
-{
-    match next_row_words(text, last) {
-        Some(words) => Some(words),
-        None => whole_row_words(text, last),
-    }
-}
-
-// The next line. The words of the line before become its words, where it is a row line as they mostly are.
-fn next_line<'a>(
+// What the first line is, of which these are the words.
+#[inline(always)]
+fn line_of<'a>(
     set: &TaskSet,
     table: &NameTable,
     rows: &RowList,
     totals: &[u128],
-    last: &mut LastWords<'a>,
-    text: &'a [u8],
+    _text: &[u8],
+    words: &RowWords<'a>,
 ) -> NextLine<'a>
     requires totals { AreTotals rows.now totals.now }
     requires count { length totals.now ≡ length set.now.tasks }
-    ensures { NextWhole set.now.tasks rows.now text.now result }
+    requires words { SaysWholeRow _text.now words.now }
+    ensures { NextWhole set.now.tasks rows.now _text.now result }
 {
-    let words = match words_of(text, last) {
-        Some(words) => words,
-        None => return next_by_words(set, table, rows, totals, text),
-    };
     let row = row_from(
         set,
         table,
@@ -119,6 +108,46 @@ fn next_line<'a>(
     match row {
         Some(row) => NextLine::Row(row, words.later),
         None => NextLine::Fault,
+    }
+}
+
+// The next line where it doesn't go on where the last one ends.
+#[inline(never)]
+fn other_line<'a>(
+    set: &TaskSet,
+    table: &NameTable,
+    rows: &RowList,
+    totals: &[u128],
+    last: &mut LastWords<'a>,
+    text: &'a [u8],
+) -> NextLine<'a>
+    requires totals { AreTotals rows.now totals.now }
+    requires count { length totals.now ≡ length set.now.tasks }
+    ensures { NextWhole set.now.tasks rows.now text.now result }
+{
+    match whole_row_words(text, last) {
+        Some(words) => line_of(set, table, rows, totals, text, &words),
+        None => next_by_words(set, table, rows, totals, text),
+    }
+}
+
+// The next line. The words of the line before become its words, where it is a row line as they mostly are.
+#[inline(always)]
+fn next_line<'a>(
+    set: &TaskSet,
+    table: &NameTable,
+    rows: &RowList,
+    totals: &[u128],
+    last: &mut LastWords<'a>,
+    text: &'a [u8],
+) -> NextLine<'a>
+    requires totals { AreTotals rows.now totals.now }
+    requires count { length totals.now ≡ length set.now.tasks }
+    ensures { NextWhole set.now.tasks rows.now text.now result }
+{
+    match next_row_words(text, last) {
+        Some(words) => line_of(set, table, rows, totals, text, &words),
+        None => other_line(set, table, rows, totals, last, text),
     }
 }
 

@@ -47,6 +47,7 @@ fn leaf_for(number: u32) -> Leaf
 }
 
 // The number that stands for a leaf, where one does.
+#[inline(always)]
 fn number_for(leaf: Leaf) -> Option<u32>
     ensures { IfSome result (λ n. leaf_for n ≡ leaf) }
 {
@@ -58,6 +59,7 @@ fn number_for(leaf: Leaf) -> Option<u32>
 }
 
 // The short row that stands for a row, where one does.
+#[inline(always)]
 fn short_for(row: &Row) -> Option<ShortRow>
     ensures { IfSome result (λ short. row_for short ≡ row.now) }
 {
@@ -144,6 +146,7 @@ impl RowList {
     }
 
     /// Appends a row.
+    #[inline(always)]
     pub fn push(&mut self, row: &Row) -> Result<(), AllocError>
         ensures { OnOk result (self.new ≡ self.old ++ row.now ∷ []) }
     {
