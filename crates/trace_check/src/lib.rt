@@ -9,6 +9,7 @@ mod known_words;
 mod laws;
 mod met_lines;
 mod name_table;
+mod reaches;
 mod reading;
 mod row_lines;
 mod row_reader;

@@ -1,4 +1,4 @@
-use Rattle.std.proofs.Common.{ℕ, ◌≡◌, ◌+◌, ◌-◌, ◌<◌, slice_index}
+use Rattle.std.proofs.Common.{ℕ, ◌≡◌, ◌-◌, ◌<◌, slice_index}
 use Rattle.trace_check.proofs.known_words.begins_with_many.Given as goal
 
 abbrev pub invariant-loop-at : goal.invariant-loop-at

@@ -18,18 +18,18 @@ returns-in-Ok-clause-count c = c.in-Ok.ensures.few
 pub returns-clause-fault : goal.returns-clause-fault
 returns-clause-fault c = (c.in-Err.other.place, refl, rw c.in-Two.is c.in-Err.ensures.other)
 
-pub returns-in_err-entries-in-Two-clause-same : goal.returns-in_err-entries-in-Two-clause-same
-returns-in_err-entries-in-Two-clause-same c = IfOk-from_err _ _ c.from_residual.ensures.0
+pub returns-in_err-reaches-in-Two-clause-same : goal.returns-in_err-reaches-in-Two-clause-same
+returns-in_err-reaches-in-Two-clause-same c = IfOk-from_err _ _ c.from_residual.ensures.0
 
-pub returns-in_err-entries-in-Two-clause-count : goal.returns-in_err-entries-in-Two-clause-count
-returns-in_err-entries-in-Two-clause-count c = IfOk-from_err _ _ c.from_residual.ensures.0
+pub returns-in_err-reaches-in-Two-clause-count : goal.returns-in_err-reaches-in-Two-clause-count
+returns-in_err-reaches-in-Two-clause-count c = IfOk-from_err _ _ c.from_residual.ensures.0
 
-pub returns-in_err-entries-in-Two-clause-fault : goal.returns-in_err-entries-in-Two-clause-fault
-returns-in_err-entries-in-Two-clause-fault c =
+pub returns-in_err-reaches-in-Two-clause-fault : goal.returns-in_err-reaches-in-Two-clause-fault
+returns-in_err-reaches-in-Two-clause-fault c =
     let why = err_from_is_err_and c.from_residual.result c.from_residual.ensures.1 in rw (why.1, why.2) tt
 
 pub returns-in-One-clause-count : goal.returns-in-One-clause-count
 returns-in-One-clause-count _ = omega arith
 
-pub order_by_task-requires : goal.order_by_task-requires
-order_by_task-requires c = c.requires.few
+pub reaches_of-requires : goal.reaches_of-requires
+reaches_of-requires c = record { scale = c.requires.scale }

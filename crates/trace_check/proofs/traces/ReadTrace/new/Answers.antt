@@ -1,4 +1,3 @@
-use Rattle.std.proofs.lemmas.Result.{IfOk-from_err}
 use Rattle.trace_check.proofs.traces.ReadTrace.new.Goals as goal
 
 pub of-requires-clause-trace : goal.of-requires-clause-trace
