@@ -76,6 +76,7 @@ impl Near {
     }
 
     // The ticks from the period's begin to this tick, where the period ends by the end of the schedule.
+    #[inline(always)]
     fn finished(&self, stop: u128, tick: u128) -> u128
         requires { self.now.begin ≤ tick }
         ensures { result ≡ finished self.now stop tick }
@@ -168,6 +169,7 @@ impl TaskWalk {
     }
 
     // The row goes by, wherever it lies.
+    #[inline(never)]
     fn step_far(&mut self, _rows: &RowList, task: u32, place: usize, row: &Row) -> bool
         requires gone { HasGone _rows.now task self.old }
         requires begun { self.old.periods.base ≤ self.old.periods.stop }
@@ -195,6 +197,7 @@ impl TaskWalk {
     }
 
     // The period that has this tick, where it is that of the last row, or the next one and what was due is done.
+    #[inline(always)]
     fn period_of(&self, tick: u128) -> Option<Near>
         requires lawful { AreLawful self.now.periods }
         requires stands { StandsAt self.now.periods (walk_of self.now) }
@@ -223,6 +226,7 @@ impl TaskWalk {
     }
 
     // The period that a row lies in, which may end with it.
+    #[inline(always)]
     fn near(&self, row: &Row) -> Option<Near>
         requires lawful { AreLawful self.now.periods }
         requires stands { StandsAt self.now.periods (walk_of self.now) }
@@ -244,6 +248,7 @@ impl TaskWalk {
     }
 
     // What is found once a row more has gone by, which lies in this period.
+    #[inline(always)]
     fn found_with(&self, row: &Row, near: &Near) -> Findings
         requires few_preempted { self.now.found.preemptions < 2 ^ 63 }
         requires few_moved { self.now.found.migrations < 2 ^ 63 }
@@ -263,6 +268,7 @@ impl TaskWalk {
     }
 
     // The row goes by, which lies in this period.
+    #[inline(always)]
     fn step_near(&mut self, _rows: &RowList, _task: u32, _place: usize, row: &Row, near: &Near)
         requires gone { HasGone _rows.now _task self.old }
         requires some { 0 < self.old.count }
@@ -306,8 +312,14 @@ impl TaskWalk {
         if row.start < self.tick || row.end <= row.start || row.end > self.periods.stop {
             return false;
         }
+        // In the period of the last row little changes: each of both ways is compiled by itself.
         if self.count > 0 {
-            if let Some(near) = self.near(row) {
+            if row.start < self.next {
+                if let Some(near) = self.near(row) {
+                    self.step_near(_rows, task, place, row, &near);
+                    return true;
+                }
+            } else if let Some(near) = self.near(row) {
                 self.step_near(_rows, task, place, row, &near);
                 return true;
             }
