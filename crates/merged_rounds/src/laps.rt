@@ -105,6 +105,7 @@ pub(crate) fn end_of(ends: &[u128], i: usize, shift: u128, stop: u128) -> u128
 }
 
 // With round i of a lap that begins at tick `from`, so many ticks later: cut at the end of all rounds, and no round behind that.
+#[inline(always)]
 fn with_lap_round(
     plan: &Plan,
     lap: &Lap,

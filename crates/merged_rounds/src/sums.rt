@@ -35,6 +35,7 @@ pub(crate) fn no_rounds(alloc: Global, plan: &Plan) -> Result<RoundSum, NoMemory
 
 /// With the round from `start` up to tick `end`, where there is room for its rows. Of each processor it is told what it shows there,
 /// or nothing where its last row shows the same. The start is only spoken of.
+#[inline(always)]
 pub(crate) fn with_round(
     plan: &Plan,
     sum: RoundSum,
@@ -63,6 +64,7 @@ pub(crate) fn with_round(
 }
 
 /// The same, where the processors are listed of which something is told; one may stand there twice. It costs time for these.
+#[inline(always)]
 pub(crate) fn with_changed(
     plan: &Plan,
     sum: RoundSum,
