@@ -76,9 +76,9 @@ impl Flaw {
     {
         match self {
             Flaw::Name => !lawful_name(task.name()),
-            Flaw::Period => !is_within(task.period(), MOST_UNITS),
-            Flaw::Work => !is_within(task.work(), task.period()),
-            Flaw::Offset => task.offset() < 0 || MOST_UNITS < task.offset(),
+            Flaw::Period => !is_within(task.period, MOST_UNITS),
+            Flaw::Work => !is_within(task.work, task.period),
+            Flaw::Offset => task.offset < 0 || MOST_UNITS < task.offset,
         }
     }
 

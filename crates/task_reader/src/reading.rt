@@ -133,9 +133,9 @@ fn add(set: &mut TaskSet, task: &WrittenTask) -> Result<(), NoMemory>
 {
     set.add_late(
         task.name(),
-        natural(task.work()),
-        natural(task.period()),
-        natural(task.offset()),
+        natural(task.work),
+        natural(task.period),
+        natural(task.offset),
     )
 }
 

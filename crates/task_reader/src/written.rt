@@ -14,9 +14,9 @@ use toml::value::Table;
 #[derive(Drop)]
 pub(crate) struct WrittenTask {
     name: Vec<u8>,
-    work: i64,
-    period: i64,
-    offset: i64,
+    pub(crate) work: i64,
+    pub(crate) period: i64,
+    pub(crate) offset: i64,
 }
 
 impl Model for WrittenTask {
@@ -51,27 +51,6 @@ impl WrittenTask {
         ensures { result.now ≡ self.now.name }
     {
         self.name.as_slice()
-    }
-
-    /// The work, in units.
-    pub fn work(&self) -> i64
-        ensures { result ≡ self.now.work }
-    {
-        self.work
-    }
-
-    /// The period, in units.
-    pub fn period(&self) -> i64
-        ensures { result ≡ self.now.period }
-    {
-        self.period
-    }
-
-    /// The offset, in units.
-    pub fn offset(&self) -> i64
-        ensures { result ≡ self.now.offset }
-    {
-        self.offset
     }
 }
 
