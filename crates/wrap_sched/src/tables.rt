@@ -49,8 +49,8 @@ pub(crate) fn write_rows(
 {
     set.know_lawful();
     let units = u128::from(y - x);
-    let end = start + units * round.end();
-    let begin = start + units * round.begin();
+    let end = start + units * round.end;
+    let begin = start + units * round.begin;
     let holders = round.holders();
     for p in 0..rows.len() {
         rows[p] = Row {
