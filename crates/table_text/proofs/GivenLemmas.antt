@@ -1,6 +1,6 @@
 -- Sums of what rows give of the periods that are open at a unit.
-use Rattle.std.proofs.Common.{Bool, List, [], ◌∷◌, ◌++◌, length, ap, ap₂, append_assoc, append-nil, arith, drop, get_or, inl, inr, take, refl, replicate, subst, sym, true, false, zero, suc}
-use Rattle.std.proofs.Common.{ℕ, ◌+◌, ◌*◌, ◌^◌, ◌<◌, ◌∙◌, ◌≡◌, ◌≤◌, ◌&&◌, eqb, eq-eqb, add-zero}
+use Rattle.std.proofs.Common.{Bool, List, [], ◌∷◌, ◌++◌, length, ap, ap₂, append_assoc, append-nil, arith, drop, get_or, inl, inr, take, refl, replicate, sym, true, false, zero, suc}
+use Rattle.std.proofs.Common.{ℕ, ◌+◌, ◌*◌, ◌^◌, ◌<◌, ◌∙◌, ◌≡◌, ◌≤◌, ◌&&◌, eqb, add-zero}
 use Rattle.std.specs.Prelude.{nat_le, slice_get, Some}
 use Rattle.std.specs.List.{AllByRecursion, list_all, range_with_len}
 use Rattle.std.proofs.Math.Nat.{mul-le-mul_right}
@@ -9,7 +9,6 @@ use Rattle.std.proofs.lemmas.List.{get_or-replicate, length-replicate, take-appe
 use Rattle.std.proofs.lemmas.Option.{get_or_from_slice_get}
 use Rattle.sched_base.specs.declared.rows.Row.{Row}
 use Rattle.sched_base.specs.declared.sets.Task.{Task}
-use Rattle.sched_base.specs.Counting.{bit}
 use Rattle.sched_base.specs.Rows.{is_of_task, overlap, task_ticks}
 use Rattle.sched_base.specs.Sets.{SetContents, IsLawfulTask, task_at}
 use Rattle.sched_base.specs.Tables.{all_rows, lane_of, row_limit}

@@ -1,8 +1,8 @@
 -- The step of rows is their greatest common divisor.
-use Rattle.std.proofs.Common.{Bool, List, [], ◌∷◌, ◌++◌, length, ap, arith, cond, inl, inr, refl, subst, sym, true, false, zero, suc, eqb, eq-eqb}
+use Rattle.std.proofs.Common.{Bool, List, [], ◌∷◌, ◌++◌, ap, arith, inl, inr, refl, sym, true, false, zero, suc, eqb, eq-eqb}
 use Rattle.std.proofs.Common.{ℕ, ◌*◌, ◌/◌, ◌%◌, ◌<◌, ◌∙◌, ◌≡◌, ◌≤◌, ◌&&◌}
 use Rattle.std.specs.Int.{◌∣◌, IsGcd}
-use Rattle.std.specs.List.{AllByRecursion, list_all}
+use Rattle.std.specs.List.{list_all}
 use Rattle.std.proofs.Math.Nat.{div-mul_cancel, one-dvd, pos_of_dvd_of_pos}
 use Rattle.std.proofs.lemmas.Bool.{and_from, and_parts, cases_Bool, cases_lt, cond-true, cond-false, eqb-true}
 use Rattle.std.proofs.lemmas.Nat.Gcd.{dvd_of_mod-eq-zero, dvd_refl, dvd_trans, le_of_dvd, mod-eq-zero_of_dvd}

@@ -1,4 +1,4 @@
-use Rattle.std.proofs.Common.{List, ◌<◌, ◌≤◌, ◌≡◌, ◌++◌, ◌∙◌, ap, drop, length, arith, subst, take, ◌+◌}
+use Rattle.std.proofs.Common.{List, ◌<◌, ◌≤◌, ◌++◌, ◌∙◌, ap, drop, length, arith, subst, take, ◌+◌}
 use Rattle.std.proofs.lemmas.List.{take_all}
 use Rattle.sched_base.specs.declared.rows.Row.{Row}
 use Rattle.sched_base.specs.Tables.{all_rows, lane_of}

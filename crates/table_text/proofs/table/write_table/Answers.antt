@@ -1,7 +1,7 @@
-use Rattle.std.proofs.Common.{ℕ, ◌*◌, ◌∙◌, ap}
+use Rattle.std.proofs.Common.{ℕ, ◌∙◌, ap}
 use Rattle.sched_base.specs.Tables.{all_rows}
 use Rattle.table_text.specs.Steps.{step_of}
-use Rattle.table_text.specs.Table.{table_text, table_with}
+use Rattle.table_text.specs.Table.{table_text}
 use Rattle.table_text.proofs.table.write_table.Goals as goal
 
 pub returns-clause-wrote : goal.returns-clause-wrote
