@@ -328,7 +328,7 @@ static inline int fl_is_to_sleep(struct fl_execution *in, struct fl_lane *lane)
         fl_mark_behind(in, lane);
         return 1;
     }
-    lane->woken_at = posted - in->window / 4;
+    lane->woken_at = posted - (in->window + 2) / 4;
     fl_look(in, lane, lane->woken_at);
     if (in->least < lane->woken_at && !in->stopped) {
         in->full |= (uint32_t)1 << lane->processor;

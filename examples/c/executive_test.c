@@ -455,7 +455,7 @@ static void try_blocking(struct crew_notes *notes)
             notes->blocked = p;
             notes->of = 10;
             notes->at = 9;
-            notes->ahead = window / 4 + 1;
+            notes->ahead = (window + 2) / 4;
             notes->whole = 64;
             WANT(fl_execute(two, sizeof two - 1, &crew, &ended) == FL_DONE && !notes->wrong);
             WANT(ended.posted[0] == 64 && ended.posted[1] == 64 && ended.ticks[0].low == 64);
