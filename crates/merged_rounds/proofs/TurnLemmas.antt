@@ -1,5 +1,5 @@
 -- One round more of a hyperperiod that is kept, and the replay that begins behind it.
-use Rattle.std.proofs.Common.{◌≡◌, ◌≢◌, ℕ, suc, ◌+◌, ◌-◌, ◌*◌, ◌<◌, ◌≤◌, ◌++◌, inl, inr, List, [], ◌∷◌, length, length-append, set, get_or, Option, None, refl, sym, ap, subst, ◌∙◌, arith, mul-le-mul_right, length-set}
+use Rattle.std.proofs.Common.{◌≡◌, ◌≢◌, ℕ, zero, suc, ◌+◌, ◌-◌, ◌*◌, ◌<◌, ◌≤◌, ◌++◌, inl, inr, List, [], ◌∷◌, length, length-append, set, get_or, Option, None, refl, sym, ap, subst, ◌∙◌, arith, mul-le-mul_right, length-set}
 use Rattle.std.proofs.Math.ListN.{get_or-append}
 use Rattle.std.proofs.Math.Seq.{get_or-append_seam}
 use Rattle.std.proofs.lemmas.Bool.{cases_lt}
@@ -206,6 +206,21 @@ module _ (p : PlanContents) (start : ℕ) (before t : Turn) (n : ℕ) (a : AreKe
       ];
       rest = subst (λ (ks : List ℕ). (k : ℕ) → k < n + 1 → IsNotAmong ks low (length ks) k → (0 < length before.ends.items) × (get_or t'.last.items k None ≡ get_or before.last.items k None)) (sym packs) rest_on;
     }
+
+-- so many packs that show what they did
+pub kept_skips : (p : PlanContents) (start : ℕ) (before t : Turn) (n j : ℕ) → AreKept p start before t n → 0 < length before.ends.items → ((k : ℕ) → n ≤ k → k < n + j → IsPackOn p start k (get_or t.last.items k None)) → AreKept p start before t (n + j)
+kept_skips p start before t n zero a some on = let e : n ≡ n + 0 = omega arith in subst (λ (m : ℕ). AreKept p start before t m) e a
+kept_skips p start before t n (suc j) a some on =
+    let e : n + j + 1 ≡ n + suc j = omega arith in
+    subst (λ (m : ℕ). AreKept p start before t m) e
+    (kept_skip p start before t (n + j) (kept_skips p start before t n j a some (λ k low high. on k low (omega (arith, high)))) (get_or t.last.items (n + j) None) (on (n + j) (omega arith) (omega arith)) some refl)
+
+-- up to this one
+pub kept_to : (p : PlanContents) (start : ℕ) (before t : Turn) (n m : ℕ) → n ≤ m → AreKept p start before t n → (n < m → 0 < length before.ends.items) → ((k : ℕ) → n ≤ k → k < m → IsPackOn p start k (get_or t.last.items k None)) → AreKept p start before t m
+kept_to p start before t n m up a some on = elim (cases_lt n m) [
+  | inl more ↦ (let e : n + (m - n) ≡ m = omega (arith, up) in subst (λ (i : ℕ). AreKept p start before t i) e (kept_skips p start before t n (m - n) a (some more) (λ k low high. on k low (omega (arith, high, e)))))
+  | inr same ↦ (let e : n ≡ m = omega (arith, up, same) in subst (λ (i : ℕ). AreKept p start before t i) e a)
+]
 
 -- ---- one round more
 

@@ -39,7 +39,8 @@ IsChange p start end changed n q told =
     ((k : ℕ) × (k < n) × (slice_index changed k ≡ q) × ((none : Row) → told ≡ Some (leaf_at p start end q none))) ⊎ ((told ≡ None) × IsNone changed n q)
 
 -- The rounds up to the source's tick are merged and kept, nothing is told, and these are the leaves that processors show in the last one.
-pub record IsTurning (p : PlanContents) (source : Source) (so_far : RoundSum) (told : List (Option Leaf)) (kept : Turn) (by_processor : List (Option Leaf)) : Type 0 where
+pub record IsTurning (p : PlanContents) (source : Source) (so_far : RoundSum) (told : List (Option Leaf)) (kept : Turn)
+    (by_processor : List (Option Leaf)) : Type 0 where
   pub showing : IsShowing p source so_far
   pub none : (q : ℕ) → slice_index_or told q None ≡ None
   pub turn : IsTurnOf p kept

@@ -1,5 +1,6 @@
 -- The rounds of the first hyperperiod, kept, and how they come again.
-use Rattle.std.specs.Prelude.{ℕ, ◌≡◌, ◌≢◌, ◌<◌, ◌≤◌, ◌+◌, ◌-◌, ◌⊎◌, ◌&&◌, not, min, Bool, true, false, List, [], ◌∷◌, ◌++◌, filter, length, Option, None, Some, slice_index, slice_index_or}
+use Rattle.std.specs.Prelude.{ℕ, ◌≡◌, ◌≢◌, ◌<◌, ◌≤◌, ◌+◌, ◌-◌, ◌⊎◌, ◌&&◌, not, min, Bool, true, false, List, [], ◌∷◌, ◌++◌, filter, length, Option, None, Some}
+use Rattle.std.specs.Prelude.{slice_index, slice_index_or}
 use Rattle.std.specs.List.{range_with_len}
 use Rattle.sched_base.specs.declared.rows.Leaf.{Leaf}
 use Rattle.sched_base.specs.Places.{is_held, place}
@@ -69,7 +70,8 @@ turn_end t = round_start 0 t.ends.items (length t.ends.items)
 pub record IsTurnOf (p : PlanContents) (t : Turn) : Type 0 where
   pub turn : IsTurn p t.ends.items t.parts.items t.packs.items t.shown.items
   pub whole : part_start t.parts.items (length t.parts.items) ≡ length t.packs.items
-  pub last : (k : ℕ) → 0 < length t.ends.items → k < packs_of p → IsPackOn p (round_start 0 t.ends.items (length t.ends.items - 1)) k (slice_index_or t.last.items k None)
+  pub last : (k : ℕ) → 0 < length t.ends.items → k < packs_of p →
+      IsPackOn p (round_start 0 t.ends.items (length t.ends.items - 1)) k (slice_index_or t.last.items k None)
   pub long : length t.last.items ≡ packs_of p
 
 -- whether something is told

@@ -109,8 +109,9 @@ impl Turn {
     // Pack k shows this, and is kept where that is something else than before, or in the first round.
     fn keep_pack(&mut self, k: u32, leaf: Option<Leaf>, whole: bool) -> Result<(), NoMemory>
         requires { k < length self.old.last.items }
-        ensures { IfOk result (λ _. (p : PlanContents) (start : ℕ) (before : DeclaredTurn) → AreKept p start before self.old k → k < packs_of p →
+        ensures kept { IfOk result (λ _. (p : PlanContents) (start : ℕ) (before : DeclaredTurn) → AreKept p start before self.old k → k < packs_of p →
             IsPackOn p start k leaf → (whole ≡ false → 0 < length before.ends.items) → AreKept p start before self.new (k + 1)) }
+        ensures long { IfOk result (λ _. length self.new.last.items ≡ length self.old.last.items) }
     {
         if self.shows_same(k, leaf, whole) {
             return Ok(());
@@ -142,9 +143,11 @@ impl Turn {
         let _end = end;
         let whole = self.is_none();
         let count = pack_count(plan);
-        for k in 0..count {
+        let mut k = next_other(places, leaves, &self.last, 0, whole);
+        'others: while k < count {
             let leaf = shown_by(places, leaves, k);
             self.keep_pack(k, leaf, whole)?;
+            k = next_other(places, leaves, &self.last, k + 1, whole);
         }
         Ok(())
     }
@@ -227,11 +230,44 @@ fn shown_by(places: &Places, leaves: &[Option<Leaf>], k: u32) -> Option<Leaf>
     }
 }
 
+// The first pack from number `from` on that shows something else than this, or their number where none does; or that one, where it is the
+// first round.
+fn next_other(
+    places: &Places,
+    leaves: &[Option<Leaf>],
+    shows: &[Option<Leaf>],
+    from: u32,
+    whole: bool,
+) -> u32
+    requires packs { length shows.now ≡ length places.now.last }
+    requires long { length leaves.now ≡ length places.now.onto }
+    requires from { from ≤ length shows.now }
+    ensures after { from ≤ result }
+    ensures within { result ≤ length shows.now }
+    ensures later { from < result → whole ≡ false }
+    ensures none { (k : ℕ) → from ≤ k → k < result → is_held places.now.onto k ≡ false → slice_index_or shows.now k None ≡ None }
+    ensures some { (k q : ℕ) → from ≤ k → k < result → slice_index_or places.now.onto q None ≡ Some k →
+        slice_index_or shows.now k None ≡ slice_index_or leaves.now q None }
+{
+    places.know_noted();
+    if whole {
+        return from;
+    }
+    let count = shows.len() as u32;
+    for k in from..count {
+        if shown_by(places, leaves, k) != shows[k as usize] {
+            return k;
+        }
+    }
+    count
+}
+
 // Each of these processors shows what is told of it.
 fn note(changed: &[u32], told: &[Option<Leaf>], leaves: &mut [Option<Leaf>])
     requires within { (k : ℕ) → k < length changed.now → slice_index changed.now k < length leaves.old }
     requires long { length told.now ≡ length leaves.old }
-    ensures each { (k : ℕ) → k < length changed.now → slice_index_or leaves.new (slice_index changed.now k) None ≡ slice_index_or told.now (slice_index changed.now k) None }
+    ensures each { (k : ℕ) → k < length changed.now →
+        slice_index_or leaves.new (slice_index changed.now k) None ≡ slice_index_or told.now (slice_index changed.now k) None }
     ensures rest { (q : ℕ) → IsNone changed.now (length changed.now) q → slice_index_or leaves.new q None ≡ slice_index_or leaves.old q None }
 {
     for k in 0..changed.len() {
