@@ -197,7 +197,7 @@ impl Replay {
             &mut self.shows,
             &mut self.changes,
         );
-        self.places.place_changed(&self.changes, &mut self.onto);
+        self.places.place_again(&self.changes, &mut self.onto);
         let end = end_of(&self.lap.ends, self.next, self.shift, plan.rounds_end());
         let (next, shift) = behind(&self.lap, self.next, self.shift);
         self.next = next;

@@ -32,13 +32,13 @@ take_entries-requires-clause-both c =
 pub take_entries-requires-clause-room : goal.take_entries-requires-clause-room
 take_entries-requires-clause-room c = c.requires.belongs.room ∙ sym c.requires.belongs.long ∙ sym (ap (λ (xs : List (Option Leaf)). length xs) c.deref_mut.ensures.value)
 
-pub place_changed-requires-clause-processors : goal.place_changed-requires-clause-processors
-place_changed-requires-clause-processors c =
+pub place_again-requires-clause-room : goal.place_again-requires-clause-room
+place_again-requires-clause-room c =
     let b = c.requires.belongs in
     ap (λ (xs : List (Option ℕ)). length xs) c.deref_mut-2.ensures.value ∙ b.onto ∙ sym (onto_long c.args.plan.now c.know_lawful.ensures.lawful c.args.start c.args.self.now b c.requires.early)
 
-pub place_changed-requires-clause-changes : goal.place_changed-requires-clause-changes
-place_changed-requires-clause-changes c =
+pub place_again-requires-clause-changes : goal.place_again-requires-clause-changes
+place_again-requires-clause-changes c =
     let p = c.args.plan.now in
     let h = c.know_lawful.ensures.lawful in
     let r = c.args.self.now in
@@ -92,9 +92,9 @@ returns-clause-belongs c =
     r.shows.items c.deref_mut.result.now now k c.deref.ensures.value c.deref-2.ensures.value c.part-low.ensures high c.deref_mut.ensures.value (c.take_entries.ensures.taken k)) in
     let noted = subst (λ (xs : List (Option Leaf)). AreNotedTo xs now (length xs) c.take_entries.new.changes) c.deref_mut.ensures.value c.take_entries.ensures.noted in
     let changed = changed_now p h start r b l now taken c.take_entries.new.changes noted in
-    let placed = c.place_changed.ensures.places (packs_running (set_boundary p.set.tasks) p.tree start) (last_long p h start r b l) changed in
-    let onto = ap (λ (xs : List (Option ℕ)). length xs) (written r.onto c.deref_mut-2.result.now c.place_changed.new.onto c.deref_mut-2.ensures.value c.place_changed.auto.onto)
-    ∙ c.place_changed.auto.onto ∙ ap (λ (xs : List (Option ℕ)). length xs) c.deref_mut-2.ensures.value ∙ b.onto in
+    let placed = c.place_again.ensures.places (packs_running (set_boundary p.set.tasks) p.tree start) (last_long p h start r b l) changed in
+    let onto = ap (λ (xs : List (Option ℕ)). length xs) (written r.onto c.deref_mut-2.result.now c.place_again.new.room c.deref_mut-2.ensures.value c.place_again.auto.room)
+    ∙ c.place_again.auto.room ∙ ap (λ (xs : List (Option ℕ)). length xs) c.deref_mut-2.ensures.value ∙ b.onto in
     let shows = written r.shows c.deref_mut.result.now now c.deref_mut.ensures.value c.take_entries.auto.shows in
     let many = c.take_entries.auto.shows ∙ ap (λ (xs : List (Option Leaf)). length xs) c.deref_mut.ensures.value ∙ b.long in
     let end : c.end_of-end.result ≡ min (get_or r.lap.ends.items r.next 0 + r.shift) (stop_of p) =
@@ -119,7 +119,7 @@ returns-clause-placed c =
     let shows = written r.shows c.deref_mut.result.now now c.deref_mut.ensures.value c.take_entries.auto.shows in
     record {
       changed = changed;
-      placed = c.place_changed.ensures.places (packs_running (set_boundary p.set.tasks) p.tree start) (last_long p h start r b l) changed;
+      placed = c.place_again.ensures.places (packs_running (set_boundary p.set.tasks) p.tree start) (last_long p h start r b l) changed;
       same = λ k m away. ap (λ (xs : List (Option Leaf)). get_or xs k None) shows ∙ noted.same k (let e = b.long in omega (arith, m, e)) away;
       within = λ k m. (let w = noted.within k m in let e = b.long in omega (arith, w, e));
     }
