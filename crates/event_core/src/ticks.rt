@@ -231,7 +231,8 @@ fn number_all(tree: &Tree, number: &mut [u32], nodes: &mut [u32])
     requires number { number.old ≡ replicate (length tree.now.nodes) 0 }
     requires nodes { nodes.old ≡ replicate (length tree.now.nodes) 0 }
     ensures places { ArePlaces number.new nodes.new (length tree.now.nodes) }
-    ensures none { (ticks : List ℕ) → ticks ≡ replicate (length tree.now.nodes) no_tick → ticks_by number.new ticks ≡ replicate (length tree.now.nodes) no_tick }
+    ensures none { (ticks : List ℕ) → ticks ≡ replicate (length tree.now.nodes) no_tick →
+        ticks_by number.new ticks ≡ replicate (length tree.now.nodes) no_tick }
 {
     let mut front = 0;
     let mut back = tree.nodes();

@@ -21,7 +21,8 @@ use Rattle.pure_commands.specs.Checks.{TellsTrace, Judges, RefusesTrace}
 use Rattle.pure_commands.specs.Follow.{TellsPlan, RefusesFollow}
 use Rattle.exit_status.specs.declared.Status.{Status}
 use Rattle.exit_status.specs.declared.Status.TheVariants.{Done}
-pub use Rattle.pure_commands.specs.SetTexts.{SetText, rates, server_tree, schedule_rows, wrapped_rows, c_table, repeating, ReadsSet, plan_of, some_late, version_of}
+pub use Rattle.pure_commands.specs.SetTexts.{SetText, rates, server_tree, schedule_rows, wrapped_rows, c_table, repeating}
+pub use Rattle.pure_commands.specs.SetTexts.{ReadsSet, plan_of, some_late, version_of}
 pub use Rattle.pure_commands.specs.SetTexts.{schedule_text, plan_table, text_of, rows_of}
 pub use Rattle.pure_commands.specs.SetTexts.{HasRoom, IsSound, RefusesText}
 pub use Rattle.sched_base.specs.Limits.{set_limit}

@@ -35,7 +35,8 @@ GaveNoTraceText left left' faults faults' limit (BadLine line) = (bytes : List �
 -- why the rest of a source wasn't read, from the row lines on
 abbrev pub StopsInRest : Option (List ℕ) → Option (List ℕ) → ℕ → ℕ → WindowHeld → Head → List Task → SourceFault → Type 0
 StopsInRest left left' faults faults' w h tasks (Unread fault) = StopsFilling left left' faults faults' w fault
-StopsInRest left left' faults faults' w h tasks (BadLine line) = (more : List ℕ) × GaveRest left left' w more × (body h tasks (lines_of (w.ahead ++ more)) ≡ Err line)
+StopsInRest left left' faults faults' w h tasks (BadLine line) =
+    (more : List ℕ) × GaveRest left left' w more × (body h tasks (lines_of (w.ahead ++ more)) ≡ Err line)
 
 -- what a text says, before its rows are judged
 abbrev pub trace_of : Parts → Trace

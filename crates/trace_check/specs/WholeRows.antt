@@ -21,14 +21,16 @@ StopIs tasks done text stops.Cut = LacksFeed text
 -- what the first line of the text is, after the rows `done`, whatever follows the text
 abbrev pub NextWhole : List Task → List Row → List ℕ → NextLine → Type 0
 NextWhole tasks done text (nexts.Row r later) = IsRead tasks done r × ((gone : List ℕ) × (text ≡ gone ++ later.now)) × (length later.now < length text)
-    × ((first : ℕ) (more : List ℕ) → rows_from first tasks done (lines_of (text ++ more)) ≡ rows_from first tasks (done ++ r ∷ []) (lines_of (later.now ++ more)))
+    × ((first : ℕ) (more : List ℕ) → rows_from first tasks done (lines_of (text ++ more))
+    ≡ rows_from first tasks (done ++ r ∷ []) (lines_of (later.now ++ more)))
 NextWhole tasks done text nexts.Ends = StopIs tasks done text stops.Ends
 NextWhole tasks done text nexts.Fault = StopIs tasks done text stops.Fault
 NextWhole tasks done text nexts.Cut = StopIs tasks done text stops.Cut
 
 -- whatever follows: these rows stand at the front of the text, with these totals, and these bytes are still to be gone through
 pub record AreRowsOf (tasks : List Task) (text : List ℕ) (done : List Row) (sums rest : List ℕ) : Type 0 where
-  pub lines : (more : List ℕ) → rows_from (6 + length tasks) tasks [] (lines_of (text ++ more)) ≡ rows_from (6 + length tasks) tasks done (lines_of (rest ++ more))
+  pub lines : (more : List ℕ) → rows_from (6 + length tasks) tasks [] (lines_of (text ++ more))
+      ≡ rows_from (6 + length tasks) tasks done (lines_of (rest ++ more))
   pub totals : AreTotals done sums
   pub count : length sums ≡ length tasks
   pub each : AreRead tasks done
@@ -44,6 +46,7 @@ pub record AreAllRows (tasks : List Task) (text : List ℕ) (done : List Row) (s
 
 -- the rows of the text, or that the line after so many is at fault
 abbrev pub RowsEnd : List Task → List ℕ → List Row → List ℕ → List ℕ → Stop → Type 0
-RowsEnd tasks text done sums rest stops.Fault = (rows_from (6 + length tasks) tasks [] (lines_of text) ≡ Err (6 + length tasks + length done)) × (length done ≤ row_limit)
+RowsEnd tasks text done sums rest stops.Fault =
+    (rows_from (6 + length tasks) tasks [] (lines_of text) ≡ Err (6 + length tasks + length done)) × (length done ≤ row_limit)
 RowsEnd tasks text done sums rest stops.Ends = AreAllRows tasks text done sums rest
 RowsEnd tasks text done sums rest stops.Cut = AreAllRows tasks text done sums rest

@@ -71,7 +71,8 @@ impl TaskReach {
     fn seek(&mut self, tick: u128) -> u128
         requires some { 0 < self.old.span }
         requires begin { self.old.begin ≡ self.old.base + self.old.number * self.old.span }
-        ensures number { (k : ℕ) → (tick < self.old.base + (k + 1) * self.old.span → result ≤ k) × (result ≤ k → tick < self.old.base + (k + 1) * self.old.span) }
+        ensures number { (k : ℕ) → (tick < self.old.base + (k + 1) * self.old.span → result ≤ k)
+            × (result ≤ k → tick < self.old.base + (k + 1) * self.old.span) }
         ensures base { self.new.base ≡ self.old.base }
         ensures span { self.new.span ≡ self.old.span }
         ensures ends { self.new.ends ≡ self.old.ends }
