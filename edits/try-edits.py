@@ -140,15 +140,15 @@ GONE = re.compile(r"has no `|that can be named from here|has no field|is not in 
 
 
 def told_of(told, changed):
-    """What a check told of the functions that an edit changes."""
+    """What a check told of the functions that an edit changes; of all, where it changes what stands in none."""
     failed, gone, proved = [], [], False
     for path, name, begin, end in changed:
         for found in re.finditer(r"^note: (src/\S+?):(\d+):\d+: it is not proved that (.*?)(?:;.*)?$", told, re.M):
-            if found[1] == path and begin <= int(found[2]) <= end:
+            if name is None or (found[1] == path and begin <= int(found[2]) <= end):
                 failed.append(found[3])
-        for found in re.finditer(rf"^\./proofs/\S*/{name}/\S+: error: `([^`]*)`: (.*)$", told, re.M):
+        for found in re.finditer(rf"^\./proofs/\S*/{name or '[^/]+'}/\S+: error: `([^`]*)`: (.*)$", told, re.M):
             (gone if GONE.search(found[2]) else failed).append(found[1])
-        proved = proved or bool(re.search(rf"^fn \S*\b{name}: proved$", told, re.M))
+        proved = proved or bool(re.search(rf"^fn \S*\b{name}: proved$" if name else "^logic=proved", told, re.M))
     if failed:
         return "refused", "; ".join(dict.fromkeys(failed))
     if gone:
@@ -200,7 +200,8 @@ def main():
                             later.append(edit)
                         continue
                     names = {it[:2] for it in changed}
-                    if now and (alone or names & used):
+                    # what stands in no function, as a constant does, may fail any: it goes alone
+                    if now and (alone or names & used or any(name is None for _, name in names | used)):
                         later.append(edit)
                         continue
                     used |= names
