@@ -102,14 +102,17 @@ def pairs_of(text):
 
 
 def function_at(text, place):
-    """The name of the function that a place in a source is in, and its lines, counted from 1."""
+    """The name of the function that a place in a source is in, and its lines, counted from 1, with those of its attributes."""
     name, begin, count = None, 0, text[:place].count("\n") + 1
     lines = text.split("\n")
     for i, line in enumerate(lines, 1):
         if (found := re.match(r"\s*(?:pub(?:\(crate\))? )?(?:unsafe )?(?:extern \"C\" )?fn (\w+)", line)):
-            if i > count:
-                return name, begin, i - 1
-            name, begin = found[1], i
+            head = i
+            while head > 1 and lines[head - 2].lstrip().startswith(("#[", "//")):
+                head -= 1
+            if head > count:
+                return name, begin, head - 1
+            name, begin = found[1], head
     return name, begin, len(lines)
 
 
@@ -146,7 +149,7 @@ def told_of(told, changed):
         for found in re.finditer(r"^note: (src/\S+?):(\d+):\d+: it is not proved that (.*?)(?:;.*)?$", told, re.M):
             if name is None or (found[1] == path and begin <= int(found[2]) <= end):
                 failed.append(found[3])
-        for found in re.finditer(rf"^\./proofs/\S*/{name or '[^/]+'}/\S+: error: `([^`]*)`: (.*)$", told, re.M):
+        for found in re.finditer(rf"^\./proofs/(?:\S+/)?{name or '[^/]+'}/\S+: error: `([^`]*)`: (.*)$", told, re.M):
             (gone if GONE.search(found[2]) else failed).append(found[1])
         proved = proved or bool(re.search(rf"^fn \S*\b{name}: proved$" if name else "^logic=proved", told, re.M))
     if failed:
