@@ -13,6 +13,7 @@ fn are_digits(word: &[u8]) -> bool
     word.iter().all(|b| b.is_ascii_digit())
 }
 
+#[inline(always)]
 fn leads(word: &[u8]) -> bool
     ensures { result ≡ leads word.now }
 {
@@ -52,6 +53,7 @@ pub fn read_number(word: &[u8]) -> Option<u128>
 const SURE: usize = 19;
 
 // The digits at the front, at most 19 of them: how many they are, and the number that they write.
+#[inline(always)]
 fn front_digits(text: &[u8]) -> (usize, u64)
     ensures few { result.0 ≤ 19 }
     ensures within { result.0 ≤ length text.now }
@@ -63,6 +65,7 @@ fn front_digits(text: &[u8]) -> (usize, u64)
 }
 
 // The same with at most 38 digits, of which the first 19 are known.
+#[inline(never)]
 fn more_digits(text: &[u8], value: u64) -> (usize, u128)
     requires within { 19 ≤ length text.now }
     requires digits { list_all is_ascii_digit (take 19 text.now) ≡ true }
@@ -78,6 +81,7 @@ fn more_digits(text: &[u8], value: u64) -> (usize, u128)
 }
 
 // The number of these digits at the front, and what follows the space after them.
+#[inline(always)]
 fn cut_digits(text: &[u8], count: usize, value: u128) -> Option<(u128, &[u8])>
     requires within { count ≤ length text.now }
     requires digits { list_all is_ascii_digit (take count text.now) ≡ true }
@@ -92,6 +96,7 @@ fn cut_digits(text: &[u8], count: usize, value: u128) -> Option<(u128, &[u8])>
 
 /// The number at the front of a text and what follows the space after it, if they are there and the number has at most 38
 /// digits. It goes once through the digits.
+#[inline(always)]
 pub fn cut_number(text: &[u8]) -> Option<(u128, &[u8])>
     ensures { IfSome result (λ p. BeginsWith p.0 text.now p.1.now) }
 {
