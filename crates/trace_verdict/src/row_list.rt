@@ -1,4 +1,4 @@
-//! A list of rows that takes half the memory where their ticks have at most 64 bits.
+//! A list of rows that takes a third of the memory where their ticks have at most 64 bits.
 ghost use Rattle.std.specs.Prelude.{◌≡◌, ◌<◌, ◌++◌, ◌∷◌, [], length, IfSome, IfOk, OnOk};
 ghost use Rattle.trace_verdict.specs.Faults.{row_at};
 ghost use Rattle.trace_verdict.specs.RowLists.{leaf_for, row_for};
@@ -8,34 +8,50 @@ use std::alloc::{AllocError, Global};
 use std::marker::Model;
 
 /// The number that stands for the idle leaf 0.
-const IDLE: u32 = u32::MAX;
+const IDLE: u32 = 511;
 
-/// The greatest tick of a short row.
-const MOST_SHORT: u128 = u64::MAX as u128;
+/// How many numbers of leaves there are.
+const LEAVES: u32 = 512;
 
-/// A row with ticks of 64 bits, of a task or of the idle leaf 0, which are all that a text names.
+/// What the processor of a short row is below.
+const PROCESSORS: u32 = 128;
+
+/// The greatest start of a short row.
+const MOST_START: u128 = u64::MAX as u128;
+
+/// What the number of ticks of a short row is below.
+const MANY: u128 = 1 << 48;
+
+/// A row that starts at a tick of 64 bits and has ticks of 48, of a task of a small number or of the idle leaf 0, which are all
+/// that a text names.
 #[derive(Clone, Copy)]
 pub struct ShortRow {
     pub start: u64,
-    pub end: u64,
-    pub processor: u32,
-    pub task: u32,
+    /// The last 32 bits of the number of its ticks.
+    pub low: u32,
+    /// The first 16 bits of that number.
+    pub high: u16,
+    /// The processor, and behind it the number of the leaf.
+    pub owner: u16,
 }
 
 impl ShortRow {
     // The row that it stands for.
+    #[inline(always)]
     fn row(&self) -> Row
         ensures { result ≡ row_for self.now }
     {
+        let ticks = u64::from(self.high) * 4_294_967_296 + u64::from(self.low);
         Row {
-            processor: self.processor,
-            leaf: leaf_for(self.task),
+            processor: u32::from(self.owner) / LEAVES,
+            leaf: leaf_for(u32::from(self.owner) % LEAVES),
             start: u128::from(self.start),
-            end: u128::from(self.end),
+            end: u128::from(self.start) + u128::from(ticks),
         }
     }
 }
 
+#[inline(always)]
 fn leaf_for(number: u32) -> Leaf
     ensures { result ≡ leaf_for number }
 {
@@ -49,10 +65,11 @@ fn leaf_for(number: u32) -> Leaf
 // The number that stands for a leaf, where one does.
 #[inline(always)]
 fn number_for(leaf: Leaf) -> Option<u32>
-    ensures { IfSome result (λ n. leaf_for n ≡ leaf) }
+    ensures leaf { IfSome result (λ n. leaf_for n ≡ leaf) }
+    ensures small { IfSome result (λ n. n < 512) }
 {
     match leaf {
-        Leaf::Task(id) => { if id.0 == IDLE { None } else { Some(id.0) } }
+        Leaf::Task(id) => { if id.0 < IDLE { Some(id.0) } else { None } }
         Leaf::Idle(0) => Some(IDLE),
         _ => None,
     }
@@ -63,15 +80,20 @@ fn number_for(leaf: Leaf) -> Option<u32>
 fn short_for(row: &Row) -> Option<ShortRow>
     ensures { IfSome result (λ short. row_for short ≡ row.now) }
 {
-    if row.start > MOST_SHORT || row.end > MOST_SHORT {
+    if row.start > MOST_START || row.end < row.start || row.processor >= PROCESSORS {
         return None;
     }
-    let task = number_for(row.leaf)?;
+    let ticks = row.end - row.start;
+    if ticks >= MANY {
+        return None;
+    }
+    let ticks = ticks as u64;
+    let leaf = number_for(row.leaf)?;
     Some(ShortRow {
         start: row.start as u64,
-        end: row.end as u64,
-        processor: row.processor,
-        task,
+        low: (ticks % 4_294_967_296) as u32,
+        high: (ticks / 4_294_967_296) as u16,
+        owner: (row.processor * LEAVES + leaf) as u16,
     })
 }
 
@@ -122,6 +144,7 @@ impl RowList {
     }
 
     /// Row i.
+    #[inline(always)]
     pub fn get(&self, i: usize) -> Row
         requires { i < length self.now }
         ensures { result ≡ row_at self.now i }
