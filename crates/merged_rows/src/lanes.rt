@@ -8,6 +8,16 @@ use sched_base::{Leaf, NoMemory};
 use std::alloc::Global;
 use std::marker::Model;
 
+// For how many rows more there is to be room where there are so many and no room. Room that isn't used costs little, and a copy of the rows
+// more.
+fn more_rows(count: usize) -> usize {
+    match count {
+        0..=15 => 16,
+        16..=8191 => 3 * count,
+        _ => count,
+    }
+}
+
 /// The rows of one processor as they begin, each at a tick and with what it shows. A row goes on up to the next one's start.
 #[derive(Drop)]
 pub(crate) struct MergedLane {
@@ -45,6 +55,7 @@ impl MergedLane {
         if self.shows(leaf) {
             return Ok(());
         }
+        self.make_room()?;
         self.begin(start, leaf)
     }
 
@@ -60,6 +71,7 @@ impl MergedLane {
     }
 
     // Whether the last row shows what this leaf does.
+    #[inline(always)]
     fn shows(&self, leaf: Leaf) -> bool
         ensures { result ≡ shows_last self.now leaf }
     {
@@ -67,6 +79,27 @@ impl MergedLane {
             Some(last) => is_shown_alike(*last, leaf),
             None => false,
         }
+    }
+
+    // Takes room for more rows where there is none.
+    #[inline(always)]
+    fn make_room(&mut self) -> Result<(), NoMemory>
+        ensures { self.new ≡ self.old }
+    {
+        if self.leaves.len() < self.leaves.capacity() {
+            return Ok(());
+        }
+        self.grow()
+    }
+
+    // Takes room for more rows.
+    fn grow(&mut self) -> Result<(), NoMemory>
+        ensures { self.new ≡ self.old }
+    {
+        let more = more_rows(self.leaves.len());
+        self.leaves.reserve(more)?;
+        self.starts.reserve(more)?;
+        Ok(())
     }
 
     #[inline(always)]
@@ -81,6 +114,7 @@ impl MergedLane {
     }
 
     /// The number of rows.
+    #[inline(always)]
     pub(crate) fn count(&self) -> usize
         ensures { result ≡ length self.now }
     {
@@ -88,6 +122,7 @@ impl MergedLane {
     }
 
     /// Where row i begins, and what it shows.
+    #[inline(always)]
     pub(crate) fn at(&self, i: usize) -> (u128, Leaf)
         requires { i < length self.now }
         ensures { slice_get self.now i ≡ Some (record { start = result.0; leaf = result.1 }) }

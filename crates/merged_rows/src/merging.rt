@@ -113,6 +113,7 @@ impl MergedRows {
     }
 
     /// The number of merged rows of processor p.
+    #[inline(always)]
     pub fn count(&self, p: u32) -> usize
         requires { p < length self.now.lanes }
         ensures { result ≡ length (lane_of self.now.lanes p) }
@@ -121,6 +122,7 @@ impl MergedRows {
     }
 
     /// Merged row i of processor p.
+    #[inline(always)]
     pub fn row(&self, p: u32, i: usize) -> Row
         requires processor { p < length self.now.lanes }
         requires row { i < length (lane_of self.now.lanes p) }
@@ -184,6 +186,7 @@ fn end_of_round(before: u128, rows: &[Row]) -> u128
 }
 
 // Row i of processor p: up to the start of the next one, or to `end`.
+#[inline(always)]
 fn row_of(lane: &MergedLane, end: u128, p: u32, i: usize) -> Row
     requires { i < length lane.now }
     ensures { slice_get (rows_up_to p end lane.now) i ≡ Some result }

@@ -47,6 +47,18 @@ impl Starts {
         Ok(())
     }
 
+    /// Takes room for so many ticks more.
+    pub(crate) fn reserve(&mut self, more: usize) -> Result<(), NoMemory>
+        ensures { self.new ≡ self.old }
+    {
+        if self.wide.is_empty() {
+            self.narrow.reserve(more)?;
+        } else {
+            self.wide.reserve(more)?;
+        }
+        Ok(())
+    }
+
     /// Tick i.
     #[inline(always)]
     pub(crate) fn at(&self, i: usize) -> u128
