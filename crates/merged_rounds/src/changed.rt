@@ -26,6 +26,7 @@ pub(crate) fn room_for_told(alloc: Global, plan: &Plan) -> Result<Vec<u32>, NoMe
 }
 
 /// The first so many of these.
+#[inline(always)]
 pub(crate) fn first_of(changed: &[u32], count: usize) -> &[u32]
     requires { count ≤ length changed.now }
     ensures long { length result.now ≡ count }
@@ -35,6 +36,7 @@ pub(crate) fn first_of(changed: &[u32], count: usize) -> &[u32]
 }
 
 // Tells of these processors what they show in the round just gone, which began at tick `start`.
+#[inline(always)]
 fn look_changed(
     plan: &Plan,
     source: &Source,
@@ -56,6 +58,7 @@ fn look_changed(
 }
 
 /// Nothing is told of any processor, where it was of these at most.
+#[inline(always)]
 pub(crate) fn forget_changed(changed: &[u32], told: &mut [Option<Leaf>])
     requires within { (k : ℕ) → k < length changed.now → slice_index changed.now k < length told.old }
     requires rest { (q : ℕ) → (slice_index_or told.old q None ≡ None) ⊎ ((k : ℕ) × (k < length changed.now) × (slice_index changed.now k ≡ q)) }
@@ -91,6 +94,7 @@ pub(crate) fn merge_whole(
 }
 
 /// Goes on with one round, of which the processors are looked at that are told: how many they are, and of each it is told what it shows.
+#[inline(always)]
 pub(crate) fn merge_telling(
     plan: &Plan,
     source: &mut Source,
@@ -120,6 +124,7 @@ pub(crate) fn merge_telling(
 }
 
 // The same, and what was told is forgotten.
+#[inline(always)]
 fn merge_next(
     plan: &Plan,
     source: &mut Source,

@@ -15,6 +15,7 @@ use run_tree::Plan;
 use sched_base::{Leaf, NodeId};
 
 // The node, unless its task waits: only then will it show something else.
+#[inline(always)]
 fn node_to_keep(n: NodeId, leaf: Leaf) -> Option<NodeId>
     ensures node { (k : DeclaredNodeId) → result ≡ Some k → k ≡ n }
     ensures stays { (k : DeclaredNodeId) (task : DeclaredTaskId) → result ≡ Some k → leaf ≡ waiting_leaf task → ⊥ }
@@ -26,6 +27,7 @@ fn node_to_keep(n: NodeId, leaf: Leaf) -> Option<NodeId>
 }
 
 // What node n shows in a round that begins at tick `start`, and the node to keep.
+#[inline(always)]
 fn look_at(plan: &Plan, n: NodeId, start: u128) -> (Option<NodeId>, Leaf)
     requires node { n.0 < length plan.now.tree.nodes }
     ensures leaf { shown_for plan.now n.0 start ≡ result.1 }
@@ -36,6 +38,7 @@ fn look_at(plan: &Plan, n: NodeId, start: u128) -> (Option<NodeId>, Leaf)
 }
 
 // The node that runs on processor q in the round just gone, which began at tick `start`.
+#[inline(always)]
 fn node_on(plan: &Plan, core: &Core, start: u128, q: u32) -> Option<NodeId>
     requires belongs { IsCoreOf plan.now core.now }
     requires round { IsRoundUpTo plan.now start core.now.tick }
@@ -46,6 +49,7 @@ fn node_on(plan: &Plan, core: &Core, start: u128, q: u32) -> Option<NodeId>
 }
 
 // What processor q shows where this node runs on it, and the node to keep of it. The core and the processor are only spoken of.
+#[inline(always)]
 fn look(
     plan: &Plan,
     core: &Core,
@@ -65,6 +69,7 @@ fn look(
 }
 
 // Whether this node, which runs on processor q, is the one that is kept of it. All but the nodes is only spoken of.
+#[inline(always)]
 fn goes_on(
     plan: &Plan,
     core: &Core,
@@ -88,6 +93,7 @@ fn goes_on(
 
 // The first processor from number `from` on where another node runs than the one that is kept, and that node; or the number of
 // processors where there is none.
+#[inline(always)]
 fn next_other(
     plan: &Plan,
     core: &Core,
@@ -116,6 +122,7 @@ fn next_other(
 }
 
 /// Nothing is told of any processor.
+#[inline(always)]
 pub(crate) fn forget(told: &mut [Option<Leaf>])
     ensures { (q : ℕ) → slice_index_or told.new q None ≡ None }
 {
@@ -126,6 +133,7 @@ pub(crate) fn forget(told: &mut [Option<Leaf>])
 
 /// Tells of each processor what it shows in the round just gone, which began at tick `start`, or nothing where the node that is kept of
 /// it runs there again. Of each a node is kept for the next round, where what that one shows will stay the same.
+#[inline(always)]
 pub(crate) fn look_each(
     plan: &Plan,
     core: &Core,

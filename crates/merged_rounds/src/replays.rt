@@ -33,6 +33,7 @@ pub(crate) struct Replay {
 }
 
 // Whether something is told.
+#[inline(always)]
 fn is_told(shows: Option<Leaf>) -> bool
     ensures { result ≡ is_some shows }
 {
@@ -43,6 +44,7 @@ fn is_told(shows: Option<Leaf>) -> bool
 }
 
 // Pack k shows this now, and is listed where that is something else than before.
+#[inline(always)]
 fn take_entry(k: u32, leaf: Option<Leaf>, shows: &mut [Option<Leaf>], changes: &mut Changes)
     requires pack { k < length shows.old }
     requires seen { length changes.old.seen < changes.old.room }
@@ -82,6 +84,7 @@ fn take_entries(
 }
 
 // A processor, where there is one, is told behind the first `count`. How many are told then.
+#[inline(always)]
 fn tell(processor: Option<u32>, told: &mut [u32], count: usize) -> usize
     requires { count < length told.old }
     ensures some { (q : ℕ) → processor ≡ Some q → (result ≡ count + 1) × (told.new ≡ slice_set told.old count q) }
@@ -98,6 +101,7 @@ fn tell(processor: Option<u32>, told: &mut [u32], count: usize) -> usize
 
 /// Tells the processor that each of these packs holds, or held last, where there is one. How many are told; a processor may be told
 /// twice.
+#[inline(always)]
 pub(crate) fn tell_places(places: &Places, packs: &[u32], told: &mut [u32]) -> usize
     requires packs { (k : ℕ) → k < length packs.now → slice_index packs.now k < length places.now.last }
     requires room { length packs.now ≤ length told.old }
@@ -207,6 +211,7 @@ impl Replay {
 
     /// Moves to the end of the next round as `go` does, and tells the processors on which it may show something else than the one before.
     /// That end, and how many are told.
+    #[inline(always)]
     pub(crate) fn go_telling(&mut self, plan: &Plan, start: u128, told: &mut [u32]) -> (u128, usize)
         requires belongs { IsReplayOf plan.now start self.old }
         requires early { start < stop_of plan.now }
@@ -227,6 +232,7 @@ impl Replay {
     }
 
     /// What processor q shows in the round just gone, from `start` up to `end`.
+    #[inline(always)]
     pub(crate) fn leaf_on(&self, plan: &Plan, start: u128, end: u128, q: u32) -> Leaf
         requires belongs { IsReplayOf plan.now end self.now }
         requires round { IsRoundUpTo plan.now start end }
@@ -241,6 +247,7 @@ impl Replay {
 }
 
 // What this pack shows, or nothing.
+#[inline(always)]
 fn shown_in(shows: &[Option<Leaf>], pack: Option<u32>) -> Leaf
     requires { (k : ℕ) → pack ≡ Some k → k < length shows.now }
     ensures none { pack ≡ None → result ≡ empty_leaf }

@@ -75,6 +75,7 @@ pub(crate) fn with_turn(
 
 impl Source {
     /// The tick at which the next round starts, or at which the last one ended.
+    #[inline(always)]
     pub(crate) fn now(&self) -> u128
         ensures { result ≡ self.now.tick }
     {
@@ -82,6 +83,7 @@ impl Source {
     }
 
     /// Whether kept rounds come again.
+    #[inline(always)]
     pub(crate) fn replays(&self, plan: &Plan) -> bool
         requires { IsSourceOf plan.now self.now }
         ensures again { result ≡ true → AllByRecursion (λ t. t.offset ≡ 0) plan.now.set.tasks }
@@ -93,6 +95,7 @@ impl Source {
     }
 
     /// The places before the round that starts at this tick.
+    #[inline(always)]
     pub(crate) fn places(&self, plan: &Plan) -> &Places
         requires { IsSourceOf plan.now self.now }
         ensures { result.now ≡ places_of plan.now self.now.tick }
@@ -106,6 +109,7 @@ impl Source {
     }
 
     /// Moves to the end of the next round. It takes no memory.
+    #[inline(always)]
     pub(crate) fn go(&mut self, plan: &Plan)
         requires belongs { IsSourceOf plan.now self.old }
         requires early { self.old.tick < stop_of plan.now }
@@ -123,6 +127,7 @@ impl Source {
     /// Moves to the end of the next round as `go` does, and tells the processors, numbered from 0, on which that round may show something
     /// else than the one before: where no task is released late, each other one shows the same. How many are told; one may be told
     /// twice. It takes no memory.
+    #[inline(always)]
     pub(crate) fn go_telling(&mut self, plan: &Plan, told: &mut [u32]) -> usize
         requires belongs { IsSourceOf plan.now self.old }
         requires early { self.old.tick < stop_of plan.now }
@@ -148,6 +153,7 @@ impl Source {
     }
 
     /// What processor q, numbered from 0, shows in the round just gone, which began at tick `start`. It takes no memory.
+    #[inline(always)]
     pub(crate) fn leaf_on(&self, plan: &Plan, start: u128, q: u32) -> Leaf
         requires belongs { IsSourceOf plan.now self.now }
         requires round { IsRoundUpTo plan.now start self.now.tick }

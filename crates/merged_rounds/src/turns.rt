@@ -45,6 +45,7 @@ impl Turn {
     }
 
     // Whether there is none.
+    #[inline(always)]
     fn is_none(&self) -> bool
         ensures { result ≡ false → 0 < length self.now.ends.items }
     {
@@ -59,6 +60,7 @@ impl Turn {
     }
 
     /// The place of the first entry of round i, or behind the last one of the round before.
+    #[inline(always)]
     pub(crate) fn part(&self, i: usize) -> usize
         requires { i ≤ length self.now.parts.items }
         ensures { result ≡ part_start self.now.parts.items i }
@@ -67,6 +69,7 @@ impl Turn {
     }
 
     // One entry more.
+    #[inline(always)]
     fn keep(&mut self, pack: u32, shows: Option<Leaf>) -> Result<(), NoMemory>
         ensures packs { IfOk result (λ _. self.new.packs.items ≡ self.old.packs.items ++ pack ∷ []) }
         ensures shown { IfOk result (λ _. self.new.shown.items ≡ self.old.shown.items ++ shows ∷ []) }
@@ -94,6 +97,7 @@ impl Turn {
     }
 
     // Whether pack k shows what it did, where it isn't the first round.
+    #[inline(always)]
     fn shows_same(&self, k: u32, leaf: Option<Leaf>, whole: bool) -> bool
         requires { k < length self.now.last.items }
         ensures later { result ≡ true → whole ≡ false }
@@ -107,6 +111,7 @@ impl Turn {
     }
 
     // Pack k shows this, and is kept where that is something else than before, or in the first round.
+    #[inline(always)]
     fn keep_pack(&mut self, k: u32, leaf: Option<Leaf>, whole: bool) -> Result<(), NoMemory>
         requires { k < length self.old.last.items }
         ensures kept { IfOk result (λ _. (p : PlanContents) (start : ℕ) (before : DeclaredTurn) → AreKept p start before self.old k → k < packs_of p →
@@ -214,6 +219,7 @@ fn copy_of(alloc: Global, told: &[Option<Leaf>]) -> Result<Vec<Option<Leaf>>, No
 }
 
 // What pack k shows by what each processor shows: that of the one that it is on.
+#[inline(always)]
 fn shown_by(places: &Places, leaves: &[Option<Leaf>], k: u32) -> Option<Leaf>
     requires pack { k < length places.now.last }
     requires long { length leaves.now ≡ length places.now.onto }
@@ -263,6 +269,7 @@ fn next_other(
 }
 
 // Each of these processors shows what is told of it.
+#[inline(always)]
 fn note(changed: &[u32], told: &[Option<Leaf>], leaves: &mut [Option<Leaf>])
     requires within { (k : ℕ) → k < length changed.now → slice_index changed.now k < length leaves.old }
     requires long { length told.now ≡ length leaves.old }
