@@ -21,9 +21,10 @@ last_digits true low = decimal low
 last_digits false low = low_digits 8 low
 
 -- these are the digits of the number: those of the front, and the last ones
-pub record AreHeld (number base : ℕ) (front : List ℕ) (front_len : ℕ) (last : List ℕ) (last_len : ℕ) : Type 0 where
+pub record AreHeld (number base top : ℕ) (front : List ℕ) (front_len : ℕ) (last : List ℕ) (last_len : ℕ) : Type 0 where
   pub fits : number < 2 ^ 128
   pub whole : base ≡ number / 10 ^ 8 * 10 ^ 8
+  pub above : top ≡ number / 10 ^ 16 * 10 ^ 16
   pub front_fits : front_len ≤ 32
   pub last_fits : last_len ≤ 8
   pub front_is : take front_len front ≡ front_digits (number / 10 ^ 8)

@@ -5,10 +5,15 @@ ghost use Rattle.trace_writer.specs.Digits.{low_digits, worth_of_four};
 use itoa::write_digits;
 
 /// Eight digits have as many values.
-const EIGHT: u64 = 100_000_000;
+pub(crate) const EIGHT: u64 = 100_000_000;
 
 /// Sixteen digits have as many values.
-const SIXTEEN: u64 = 10_000_000_000_000_000;
+pub(crate) const SIXTEEN: u64 = 10_000_000_000_000_000;
+
+/// The digits of the numbers below a hundred, two for each.
+static PAIRS: [u8; 200] =
+    *b"0001020304050607080910111213141516171819202122232425262728293031323334353637383940414243444546474849\
+    5051525354555657585960616263646566676869707172737475767778798081828384858687888990919293949596979899";
 
 /// Writes the digits of a number from place `at` on, and says where they end.
 pub(crate) fn put_number(bytes: &mut [u8], at: usize, number: u128) -> usize
@@ -36,6 +41,7 @@ fn put_wide(bytes: &mut [u8], at: usize, number: u128) -> usize
 }
 
 /// What is in front of a number's last sixteen digits, and these.
+#[inline(always)]
 pub(crate) fn cut(number: u128) -> (u128, u64)
     ensures high { result.0 ≡ number / 10 ^ 16 }
     ensures low { result.1 ≡ number % 10 ^ 16 }
@@ -72,6 +78,7 @@ fn put_highest(bytes: &mut [u8], at: usize, high: u128) -> usize
 }
 
 /// Writes the digits of a number within 64 bits from place `at` on, and says where they end.
+#[inline(always)]
 pub(crate) fn put_short(bytes: &mut [u8], at: usize, number: u64) -> usize
     requires room { at + length (decimal number) ≤ length bytes.old }
     ensures end { result ≡ at + length (decimal number) }
@@ -87,6 +94,7 @@ pub(crate) fn put_short(bytes: &mut [u8], at: usize, number: u64) -> usize
 }
 
 // So of a number with nine digits or more, and sixteen at most.
+#[inline(always)]
 fn put_middle(bytes: &mut [u8], at: usize, number: u64) -> usize
     requires long { 10 ^ 8 ≤ number }
     requires short { number < 10 ^ 16 }
@@ -100,6 +108,7 @@ fn put_middle(bytes: &mut [u8], at: usize, number: u64) -> usize
 }
 
 // So of one with seventeen digits or more.
+#[inline(always)]
 fn put_long(bytes: &mut [u8], at: usize, number: u64) -> usize
     requires long { 10 ^ 16 ≤ number }
     requires room { at + length (decimal number) ≤ length bytes.old }
@@ -124,6 +133,7 @@ fn put_few(bytes: &mut [u8], at: usize, number: u32) -> usize
 }
 
 // Writes the last sixteen digits of a number, those in front that are 0 too.
+#[inline(always)]
 fn put_sixteen(bytes: &mut [u8], at: usize, low: u64)
     requires room { at + 16 ≤ length bytes.old }
     requires few { low < 10 ^ 16 }
@@ -134,6 +144,7 @@ fn put_sixteen(bytes: &mut [u8], at: usize, low: u64)
 }
 
 /// Writes the last eight digits of a number, those in front that are 0 too.
+#[inline(always)]
 pub(crate) fn put_eight(bytes: &mut [u8], at: usize, low: u32)
     requires room { at + 8 ≤ length bytes.old }
     requires few { low < 10 ^ 8 }
@@ -168,6 +179,7 @@ fn digit_count_of_short(number: u32) -> usize
 
 /// Writes the first bytes of a block at a place, and says where they end. The whole block is written, since that many bytes are copied
 /// faster than a number of them that isn't known.
+#[inline(always)]
 pub(crate) fn put_block(bytes: &mut [u8], at: usize, block: &[u8], len: usize) -> usize
     requires room { at + length block.now ≤ length bytes.old }
     requires within { len ≤ length block.now }
@@ -180,6 +192,7 @@ pub(crate) fn put_block(bytes: &mut [u8], at: usize, block: &[u8], len: usize) -
 }
 
 /// The last eight digits of a number, those in front that are 0 too.
+#[inline(always)]
 pub(crate) fn eight_digits(low: u32) -> [u8; 8]
     requires { low < 100_000_000 }
     ensures { result ≡ low_digits 8 low }
@@ -190,6 +203,7 @@ pub(crate) fn eight_digits(low: u32) -> [u8; 8]
 }
 
 // Four digits as the bytes of a number, the first digit lowest.
+#[inline(always)]
 fn four_digits(number: u32) -> u64
     requires { number < 10_000 }
     ensures { result ≡ worth_of_four number }
@@ -198,10 +212,11 @@ fn four_digits(number: u32) -> u64
 }
 
 // Two digits as the bytes of a number, the first digit lowest.
+#[inline(always)]
 fn two_digits(number: u32) -> u64
     requires { number < 100 }
     ensures { result ≡ 48 + number / 10 + 256 * (48 + number % 10) }
 {
-    let tens = number / 10;
-    u64::from(12_336 + 256 * number - 2_559 * tens)
+    let at = number as usize * 2;
+    u64::from(PAIRS[at]) + 256 * u64::from(PAIRS[at + 1])
 }

@@ -91,6 +91,7 @@ pub(crate) fn add_met(
 }
 
 // The name that a row's line gives its leaf.
+#[inline(always)]
 fn name_of(set: &TaskSet, leaf: Leaf) -> &[u8]
     requires { IsAmong (length set.now.tasks) leaf }
     ensures name { result.now ≡ leaf_name set.now.tasks leaf }

@@ -3,13 +3,13 @@ ghost use Rattle.std.specs.Prelude.{◌≡◌, ◌≤◌, ◌<◌, ◌+◌, ◌-
 ghost use Rattle.sched_base.specs.Bytes.{space};
 ghost use Rattle.trace_writer.specs.Digits.{front_digits, last_digits};
 
-use crate::digits::{cut, eight_digits, put_block, put_eight, put_number, put_short};
+use crate::digits::{
+    EIGHT, SIXTEEN, cut, eight_digits, put_block, put_eight, put_number, put_short,
+};
 use std::marker::Model;
 
-/// The last eight digits of a number have as many values.
-const SPLIT: u128 = 100_000_000;
-
-/// A number whose decimal digits are kept: as long as those before the last eight stay, these alone are made anew for the next one.
+/// A number whose decimal digits are kept: as long as those before the last eight stay, these alone are made anew for the next one, and
+/// as long as those before the last sixteen stay, these.
 ///
 /// It is seen as the number.
 #[derive(Drop)]
@@ -17,6 +17,8 @@ pub(crate) struct Count {
     number: u128,
     /// The number, with 0 in place of its last eight digits.
     base: u128,
+    /// The number, with 0 in place of its last sixteen digits.
+    top: u128,
     /// The digits before the last eight, where there are any.
     front: [u8; 40],
     front_len: usize,
@@ -33,7 +35,7 @@ impl Model for Count {
 
     ghost view = { λ c. c.number };
 
-    ghost invariant = { λ c. AreHeld c.number c.base c.front c.front_len c.last c.last_len };
+    ghost invariant = { λ c. AreHeld c.number c.base c.top c.front c.front_len c.last c.last_len };
 }
 
 impl Count {
@@ -44,6 +46,7 @@ impl Count {
         Count {
             number: 0,
             base: 0,
+            top: 0,
             front: [0; 40],
             front_len: 0,
             last: [48; 8],
@@ -59,22 +62,53 @@ impl Count {
         if number == self.number {
             return;
         }
-        if number < self.base || number - self.base >= SPLIT {
-            self.turn(number);
-        } else {
+        if self.base <= number && number - self.base < u128::from(EIGHT) {
             self.go_on(number);
+        } else {
+            self.turn(number);
         }
     }
 
-    // Another number with any digits.
+    // Another number with other digits before the last eight.
     fn turn(&mut self, number: u128)
         ensures { self.new ≡ number }
     {
-        let (len, low) = put_front(&mut self.front, number);
+        if 0 < self.top && self.top <= number && number - self.top < u128::from(SIXTEEN) {
+            self.turn_low(number);
+        } else {
+            self.turn_all(number);
+        }
+    }
+
+    // Another number that has the same digits before the last sixteen, of which there are some.
+    #[inline(always)]
+    fn turn_low(&mut self, number: u128)
+        requires long { 10 ^ 16 ≤ self.old }
+        requires same { number / 10 ^ 16 ≡ self.old / 10 ^ 16 }
+        ensures { self.new ≡ number }
+    {
+        let rest = (number - self.top) as u64;
+        let middle = rest / EIGHT;
+        let low = rest - middle * EIGHT;
+        put_eight(&mut self.front, self.front_len - 8, middle as u32);
+        self.last = eight_digits(low as u32);
+        self.last_len = 8;
+        self.base = number - u128::from(low);
+        self.number = number;
+    }
+
+    // Another number with any digits.
+    #[inline(always)]
+    fn turn_all(&mut self, number: u128)
+        ensures { self.new ≡ number }
+    {
+        let (len, rest) = put_front(&mut self.front, number);
+        let low = (rest % EIGHT) as u32;
         let base = number - u128::from(low);
         self.front_len = len;
         let (last, last_len) = last_of(low, base == 0);
         self.base = base;
+        self.top = number - u128::from(rest);
         self.last = last;
         self.last_len = last_len;
         self.number = number;
@@ -104,12 +138,13 @@ impl Count {
     }
 }
 
-// Writes the digits in front of a number's last eight, and says how many these are; and what the last eight are.
-fn put_front(bytes: &mut [u8], number: u128) -> (usize, u32)
+// Writes the digits in front of a number's last eight, and says how many these are; and what the last sixteen are.
+#[inline(always)]
+fn put_front(bytes: &mut [u8], number: u128) -> (usize, u64)
     requires room { 40 ≤ length bytes.old }
     ensures few { result.0 ≤ 32 }
     ensures text { take result.0 bytes.new ≡ front_digits (number / 10 ^ 8) }
-    ensures low { result.1 ≡ number % 10 ^ 8 }
+    ensures rest { result.1 ≡ number % 10 ^ 16 }
 {
     if number <= u128::from(u64::MAX) {
         put_front_of_short(bytes, number as u64)
@@ -119,35 +154,38 @@ fn put_front(bytes: &mut [u8], number: u128) -> (usize, u32)
 }
 
 // So of a number within 64 bits.
-fn put_front_of_short(bytes: &mut [u8], number: u64) -> (usize, u32)
+#[inline(always)]
+fn put_front_of_short(bytes: &mut [u8], number: u64) -> (usize, u64)
     requires room { 40 ≤ length bytes.old }
     ensures few { result.0 ≤ 32 }
     ensures text { take result.0 bytes.new ≡ front_digits (number / 10 ^ 8) }
-    ensures low { result.1 ≡ number % 10 ^ 8 }
+    ensures rest { result.1 ≡ number % 10 ^ 16 }
 {
-    let high = number / 100_000_000;
-    let low = (number - high * 100_000_000) as u32;
+    let high = number / EIGHT;
+    let rest = number % SIXTEEN;
     if high == 0 {
-        return (0, low);
+        return (0, rest);
     }
-    (put_short(bytes, 0, high), low)
+    (put_short(bytes, 0, high), rest)
 }
 
 // So of one past 64 bits, by what is in front of its last sixteen digits.
-fn put_front_of_long(bytes: &mut [u8], number: u128) -> (usize, u32)
+#[inline(always)]
+fn put_front_of_long(bytes: &mut [u8], number: u128) -> (usize, u64)
     requires room { 40 ≤ length bytes.old }
     requires long { 10 ^ 16 ≤ number }
     ensures few { result.0 ≤ 32 }
     ensures text { take result.0 bytes.new ≡ front_digits (number / 10 ^ 8) }
-    ensures low { result.1 ≡ number % 10 ^ 8 }
+    ensures rest { result.1 ≡ number % 10 ^ 16 }
 {
     let (high, rest) = cut(number);
     let end = put_number(bytes, 0, high);
-    put_eight(bytes, end, (rest / 100_000_000) as u32);
-    (end + 8, (rest % 100_000_000) as u32)
+    put_eight(bytes, end, (rest / EIGHT) as u32);
+    (end + 8, rest)
 }
 
 // The last digits of a number and how many these are: all of them where it has no others, else eight.
+#[inline(always)]
 fn last_of(low: u32, alone: bool) -> ([u8; 8], usize)
     requires { low < 10 ^ 8 }
     ensures few { result.1 ≤ 8 }

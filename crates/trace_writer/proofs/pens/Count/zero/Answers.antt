@@ -6,6 +6,7 @@ pub invariant_of-result : goal.invariant_of-result
 invariant_of-result c = record {
   fits = omega arith;
   whole = omega arith;
+  above = omega arith;
   front_fits = omega arith;
   last_fits = omega arith;
   front_is = refl;
