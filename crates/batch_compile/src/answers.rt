@@ -23,13 +23,11 @@ pub enum Answer {
 }
 
 /// The answers of the pieces, in order.
-pub struct Answers {
-    items: Vec<Answer>,
-}
+pub struct Answers(Vec<Answer>);
 
 impl Drop for Answers {
     fn drop(self) {
-        let Self { items: _items } = self;
+        let Self(_items) = self;
     }
 }
 
@@ -39,9 +37,9 @@ impl Model for Answers {
 
     ghost Value = { List Answer };
 
-    ghost view = { λ a. a.items.items };
+    ghost view = { λ a. a.0.items };
 
-    ghost invariant = { λ a. length a.items.items < 2 ^ 32 };
+    ghost invariant = { λ a. length a.0.items < 2 ^ 32 };
 }
 
 impl Answers {
@@ -49,14 +47,14 @@ impl Answers {
         requires { length items.items < 2 ^ 32 }
         ensures { result ≡ items.items }
     {
-        Answers { items }
+        Answers(items)
     }
 
     /// How many there are, one for each piece.
     pub fn count(&self) -> u32
         ensures { result ≡ length self.now }
     {
-        self.items.len() as u32
+        self.0.len() as u32
     }
 
     /// The answer of piece j.
@@ -64,7 +62,7 @@ impl Answers {
         requires { j < length self.now }
         ensures { slice_get self.now j ≡ Some result.now }
     {
-        &self.items[j as usize]
+        &self.0[j as usize]
     }
 }
 

@@ -9,16 +9,14 @@ use std::marker::Model;
 
 /// Rates, in ticks per unit.
 #[derive(Drop)]
-pub struct Rates {
-    rates: Vec<u128>,
-}
+pub struct Rates(Vec<u128>);
 
 impl Model for Rates {
     ghost use Rattle.std.specs.Prelude.{ℕ, List};
 
     ghost Value = { List ℕ };
 
-    ghost view = { λ r. r.rates.items };
+    ghost view = { λ r. r.0.items };
 }
 
 impl Rates {
@@ -26,7 +24,7 @@ impl Rates {
     pub fn as_slice(&self) -> &[u128]
         ensures { result.now ≡ self.now }
     {
-        self.rates.as_slice()
+        self.0.as_slice()
     }
 }
 
@@ -39,5 +37,5 @@ pub fn duals(alloc: Global, servers: &[u128], scale: u128) -> Result<Rates, NoMe
     for rate in servers {
         rates.push_reserved(scale - *rate);
     }
-    Ok(Rates { rates })
+    Ok(Rates(rates))
 }
