@@ -7,7 +7,7 @@ use Rattle.sched_base.specs.declared.rows.Row.{Row}
 abbrev pub steady_row : ℕ → Row
 steady_row n = record { processor = 0; start = n; end = n + 1; leaf = Task (record { 0 = 0 }) }
 
--- the same tick by tick up to tick n
+-- task 0 on processor 0 tick by tick up to tick n
 unfoldable pub steady_rows : ℕ → List Row
 steady_rows zero = []
 steady_rows (suc n) = steady_rows n ++ steady_row n ∷ []

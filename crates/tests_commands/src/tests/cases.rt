@@ -53,7 +53,7 @@ pub(super) enum Cases {
     Faults(Parts, &'static [FaultCase]),
     /// Of one text, which is told in parts, each of these streams that fail.
     Failing(Parts, &'static [Failing]),
-    /// The same of a text with other parts in place of some. No gate and no job is called.
+    /// Of a text with other parts in place of some, each of these faults leaves something. No gate and no job is called.
     Replaced(&'static str, &'static [ReplacedCase]),
     /// It does all for each of them, and calls no gate and no job.
     Shown(&'static [ShownCase]),
@@ -368,7 +368,7 @@ pub(super) fn text_of<X: Abort + Threads + Wait + Sync>(
     text_of_row(rt, alloc, at, input)
 }
 
-// The same of the line of a row.
+// The text that the line of a row writes.
 fn text_of_row<X: Abort + Threads + Wait + Sync>(
     rt: &X,
     alloc: Global,

@@ -259,7 +259,7 @@ fn assert_cut<X: Abort + Threads + Wait + Sync>(
     assert_check(rt, alloc, last, &[first, rest.as_str()], at_double);
 }
 
-// The same of each line.
+// Each line cut, without its line feed and told twice has its fault.
 fn assert_cuts<X: Abort + Threads + Wait + Sync>(
     rt: &X,
     alloc: Global,

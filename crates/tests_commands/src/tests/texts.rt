@@ -17,11 +17,11 @@ pub(super) const THREE_ROWS: &str =
 pub(super) const FULL_RATE: &str =
     "processors = 1\nhorizon = 3\ntask = [{name = \"a\", work = 1, period = 1}]\n";
 
-/// Its schedule: three rounds are one row.
+/// The schedule of `FULL_RATE`: three rounds are one row.
 pub(super) const FULL_ROWS: &str =
     "run-trace 1\nprocessors 1\nhorizon 3\nscale 1\ntasks 1\ntask a 1 1\nrow 0 0 3 a\ntotal a 3\nrows 1\n";
 
-/// The same, with when each period was done.
+/// The schedule of `FULL_RATE`, with when each period was done.
 pub(super) const FULL_MET: &str =
     "run-trace 2\nprocessors 1\nhorizon 3\nscale 1\ntasks 1\ntask a 1 1 0\nrow 0 0 3 a\ntotal a 3\nmet a 0 1\nmet a 1 2\nmet a 2 3\nrows 1\n";
 
@@ -29,7 +29,7 @@ pub(super) const FULL_MET: &str =
 pub(super) const LATE_TASK: &str =
     "processors = 1\nhorizon = 5\ntask = [{name = \"a\", work = 1, period = 2, offset = 1}, {name = \"b\", work = 1, period = 2}]\n";
 
-/// Their schedule, with when each period was done.
+/// The schedule of `LATE_TASK`, with when each period was done.
 pub(super) const LATE_ROWS: &str =
     "run-trace 2\nprocessors 1\nhorizon 5\nscale 2\ntasks 2\ntask a 1 2 1\ntask b 1 2 0\nrow 0 0 1 -\nrow 0 1 3 b\nrow 0 3 5 a\n\
         row 0 5 7 b\nrow 0 7 9 a\nrow 0 9 10 b\ntotal a 4\ntotal b 5\nmet a 0 5\nmet a 1 9\nmet b 0 3\nmet b 1 7\nrows 6\n";

@@ -158,7 +158,7 @@ fn run_at_each_pace<X: Threads + Wait + Clock + Abort + Copy + Send + Sync>(
     run_at(rt, alloc, plan, window, Pace::AtRandom);
 }
 
-/// The same rows at each window and at each pace.
+/// 24 workers run the rows of the plan at each window and at each pace.
 #[test]
 fn runs_24_workers(rt: HostRuntime) {
     let plan = plan_of_25(&rt, rt.alloc());

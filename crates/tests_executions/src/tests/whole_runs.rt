@@ -48,7 +48,7 @@ fn assert_whole<X: Threads + Wait + Abort + Sync>(rt: &X, alloc: Global, plan: &
     assert!(rt; left.jobs == [(6, 0), (6, 0), (6, 0)]);
 }
 
-/// The same rows at each window.
+/// Three tasks on two processors have the rows of their plan at each window.
 #[test]
 fn runs_three_tasks(rt: HostRuntime) {
     let plan = three_tasks(&rt, rt.alloc());

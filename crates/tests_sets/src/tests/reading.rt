@@ -45,7 +45,7 @@ const THREE: &str =
 /// Whole documents.
 const DOCUMENTS: &[(&str, &str)] = &[
     (THREE, "2 3 a:2/3+0 b:2/3+0 c:2/3+0"),
-    // The same tree in another layout.
+    // The tree of `THREE` in another layout.
     (
         "task = [{name = 'a', work = 2, period = 3}, {name = 'b', work = 2, period = 3}, \
             {name = 'c', work = 2, period = 3}]\nhorizon = 0x3\nprocessors = +2",

@@ -322,7 +322,7 @@ fn trace_of(rt: &impl Abort, alloc: Global, text: &str) -> ReadTrace {
     read_trace(alloc, text.as_bytes()).expect(rt, "the text is a trace")
 }
 
-/// The same of the picture of a trace text.
+/// Compares the parts of the picture of a trace text.
 fn compare(rt: &impl Abort, alloc: Global, text: &str, asked: &Asked, fails: &[u64], parts: &[&str])
     requires { IfSome asked.now.units (λ n. 1 ≤ n) }
 {
@@ -331,7 +331,7 @@ fn compare(rt: &impl Abort, alloc: Global, text: &str, asked: &Asked, fails: &[u
 }
 
 #[test]
-fn pictures(rt: HostRuntime) {
+fn worked_traces_have_their_pictures(rt: HostRuntime) {
     let alloc = rt.alloc();
     let all = Asked {
         from: 0,
@@ -365,7 +365,7 @@ fn compare_windows(rt: &impl Abort, trace: &ReadTrace) {
 }
 
 #[test]
-fn windows(rt: HostRuntime) {
+fn the_units_shown_are_those_asked_for(rt: HostRuntime) {
     let trace = trace_of(&rt, rt.alloc(), OFFSET);
     compare_windows(&rt, &trace);
 }

@@ -19,7 +19,7 @@ fn outcome_of(alloc: Global, text: &[u8]) -> Result<Verdict, u64> {
     }
 }
 
-/// The same where nobody asks for orders.
+/// The verdict of a text or the line at fault, where nobody asks for orders.
 fn checked_outcome_of(alloc: Global, text: &[u8]) -> Result<Verdict, u64> {
     match read_checked(alloc, text) {
         Ok(trace) => Ok(trace.verdict()),
@@ -88,7 +88,7 @@ fn three_tasks_of_rate_two_thirds(rt: HostRuntime) {
 }
 
 #[test]
-fn texts_alone(rt: HostRuntime) {
+fn texts_have_their_verdicts(rt: HostRuntime) {
     let table: [(&[u8], Result<Verdict, u64>); 9] = [
         // The longest horizon: one row over 4,294,967,295 periods.
         (

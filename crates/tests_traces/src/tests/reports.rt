@@ -28,14 +28,14 @@ fn compare_report(rt: &impl Abort, alloc: Global, trace: &CheckedTrace, fails: &
     assert!(rt; sink.taken() == taken.as_bytes());
 }
 
-/// The same of a trace text.
+/// Compares the report of a trace text.
 fn compare(rt: &impl Abort, alloc: Global, text: &str, fails: &[u64], taken: &str) {
     let trace = trace_of(rt, alloc, text);
     compare_report(rt, alloc, &trace, fails, taken);
 }
 
 #[test]
-fn reports(rt: HostRuntime) {
+fn traces_have_their_reports(rt: HostRuntime) {
     let table: [(&str, &[u64], &str); 8] = [
         // Three tasks of rate 2/3 on two processors.
         (
@@ -43,13 +43,13 @@ fn reports(rt: HostRuntime) {
             &[],
             "valid\nrows 4\npreemptions 1\nmigrations 1\nresponse a 9\nresponse b 9\nresponse c 6\nchart 0 baa\nchart 1 ccb\n",
         ),
-        // The same, where a call of the sink fails.
+        // Three tasks, where a call of the sink fails.
         (
             THREE_TASKS,
             &[6],
             "valid\nrows 4\npreemptions 1\nmigrations 1\nresponse a 9\n",
         ),
-        // The same with rows in two parts, which are joined, and in no order.
+        // Three tasks with rows in two parts, which are joined, and in no order.
         (
             "run-trace 1\nprocessors 2\nhorizon 3\nscale 3\ntasks 3\ntask a 2 3\ntask b 2 3\ntask c 2 3\nrow 1 6 9 b\n\
                 row 0 5 9 a\nrow 0 2 3 b\nrow 1 0 6 c\nrow 0 3 5 a\nrow 0 0 2 b\ntotal a 6\ntotal b 6\ntotal c 6\nrows 6\n",
@@ -104,7 +104,7 @@ fn compare_counts(rt: &impl Abort, trace: &CheckedTrace)
 }
 
 #[test]
-fn counts_alone(rt: HostRuntime) {
+fn counts_are_those_of_the_report(rt: HostRuntime) {
     let trace = trace_of(&rt, rt.alloc(), THREE_TASKS);
     compare_counts(&rt, &trace);
 }

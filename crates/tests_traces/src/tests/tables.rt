@@ -104,7 +104,7 @@ const struct furnacelime_table furnacelime_table = {
 ";
 
 #[test]
-fn a_late_task(rt: HostRuntime) -> Result<(), NoMemory> {
+fn a_late_task_waits_in_its_table(rt: HostRuntime) -> Result<(), NoMemory> {
     let rows = MergedRows::new(rt.alloc(), 1)?;
     let rows = rows.with_round(6, &[Some(Leaf::Wait(TaskId(0)))])?;
     let rows = rows.with_round(256, &[Some(A)])?;
@@ -152,9 +152,9 @@ const struct furnacelime_table furnacelime_table = {
 };
 ";
 
-/// Of no tasks, and what a sink takes of it whose third call fails.
+/// The table of no tasks, and what a sink takes of it whose third call fails.
 #[test]
-fn no_tasks(rt: HostRuntime) -> Result<(), NoMemory> {
+fn a_table_of_no_tasks_is_told(rt: HostRuntime) -> Result<(), NoMemory> {
     let rows = MergedRows::new(rt.alloc(), 2)?;
     let rows = rows.with_round(1, &[Some(Leaf::Idle(0)), Some(Leaf::Empty)])?;
     let set = TaskSet::start(rt.alloc(), 2, 1);

@@ -2,7 +2,7 @@
 use text_words::{after_word, cut_number, first_line, read_number};
 
 #[test]
-fn numbers(rt: HostRuntime) {
+fn words_are_read_as_numbers(rt: HostRuntime) {
     let table: [(&[u8], Option<u128>); 9] = [
         (b"0", Some(0)),
         (b"4294967295", Some(4_294_967_295)),
@@ -27,7 +27,7 @@ fn numbers(rt: HostRuntime) {
 
 /// What the clause of `cut_number` leaves open: that it answers wherever a number of at most 38 digits and a space begin the text.
 #[test]
-fn numbers_at_the_front(rt: HostRuntime) {
+fn numbers_are_cut_from_the_front(rt: HostRuntime) {
     let table: [(&[u8], Option<u128>); 9] = [
         (b"0 a", Some(0)),
         (b"9999999999999999999 a", Some(9_999_999_999_999_999_999)),
@@ -54,7 +54,7 @@ fn numbers_at_the_front(rt: HostRuntime) {
 }
 
 #[test]
-fn lines(rt: HostRuntime) {
+fn a_line_ends_at_its_line_feed(rt: HostRuntime) {
     let text = b"row 0 3\r\n\nrows";
     let (first, rest) = first_line(text);
     assert!(rt; first == b"row 0 3\r".as_slice());
