@@ -166,7 +166,7 @@ line_start _ = []
 unfoldable pub refusal_line : Refusal → List ℕ
 refusal_line refusal = line_start refusal ++ line_of (codes "refused") (decimal (code_of (status_of refusal)) ∷ refusal_words refusal)
 
--- the same of a mode, behind its number
+-- the line of a refusal of a mode, behind its number
 unfoldable pub mode_line : ModeRefusal → List ℕ
 mode_line refusal = line_of (codes "refused") (decimal (code_of (mode_status refusal)) ∷ mode_words refusal)
 

@@ -1,66 +1,52 @@
 //! The command `batch`.
-ghost use Rattle.std.specs.Prelude.{◌≡◌, ◌≢◌, ◌≤◌, ◌+◌, ◌++◌, ◌↔◌, true, length, map, codes, string_bytes, None, Some, IfOk, OnOk, IfErr};
+ghost use Rattle.std.specs.Prelude.{◌≡◌, ◌≢◌, ◌≤◌, ◌+◌, ◌++◌, length, codes, Some, IfOk, OnOk, IfErr};
 ghost use Rattle.std.specs.List.{AllZip};
 ghost use Rattle.sched_edges.specs.Causes.{HasCause};
-ghost use Rattle.sched_edges.specs.Lines.{number_line};
 ghost use Rattle.sched_edges.specs.Streams.{Wrote};
 ghost use Rattle.task_reader.specs.Pieces.{pieces_of};
 ghost use Rattle.batch_compile.specs.declared.answers.Answer.TheVariants.{Fits};
 ghost use Rattle.batch_compile.specs.Answers.{IsAnswer};
 ghost use Rattle.pure_commands.specs.Batch.{answer_text, answer_line};
 ghost use Rattle.pure_commands.specs.Numbered.{numbered, several};
-ghost use Rattle.command_words.specs.Words.{command_of, asks_for_batch};
 ghost use Rattle.pure_commands.specs.Commands.{of_batch};
-ghost use Rattle.pure_commands.specs.Ends.{streams_of, error_of, IsDone, IsUsage, Stops, Ends, IsAnswered};
+ghost use Rattle.pure_commands.specs.Ends.{streams_of, error_of, IsDone, Stops, Ends, IsAnswered};
 ghost use Rattle.command_words.specs.declared.command.Command.TheVariants.{Batch};
 ghost use Rattle.exit_status.specs.declared.Status.TheVariants.{Done};
 
 use crate::mode_line::set_start;
+use crate::numbered::write_count;
 use crate::refusal::Refusal;
 use crate::refusal_line::{overload_line, refuse, scale_line, write_line, write_set_refusal};
 use crate::unwritten::written;
 use batch_compile::{Answer, Answers, answers_of};
-use command_words::is_batch;
 use exit_status::Status;
 use sched_base::{NoMemory, SET_LIMIT};
-use sched_edges::{Failed, Line, Sink, Source, number_line, read_all, write_all, write_lines};
+use sched_edges::{Failed, Line, Sink, Source, read_all, write_all};
 use std::alloc::Global;
 use std::thread::Threads;
 use task_reader::cut;
 
-/// The version of the text.
-const VERSION: u128 = 1;
-
-/// Does what the words ask for, where they ask for many sets. The clauses are those of the top call.
+/// Runs `batch`: reads many task sets, and writes of each whether it fits, or one line that says why not to `err`.
 pub fn run_batch<R: Source, W: Sink, E: Sink, X: Threads + Sync>(
     rt: &X,
     alloc: Global,
-    words: &[String],
     source: &mut R,
     out: &mut W,
     err: &mut E,
 ) -> Status
-    requires batch { asks_for_batch (map string_bytes words.now) ≡ true }
-    ensures usage { result ≢ Status.NoMemory → ((result ≡ Status.Usage) ↔ (command_of (map string_bytes words.now) ≡ None)) }
-    ensures unread { command_of (map string_bytes words.now) ≡ None → IsUsage
-        (streams_of R.Source W.Sink source.old out.old) (streams_of R.Source W.Sink source.new out.new)
-        (error_of E.Sink err.old) (error_of E.Sink err.new) result }
-    ensures done { result ≡ Status.Done → (command_of (map string_bytes words.now) ≡ Some Batch) × IsDone of_batch Done
+    ensures done { result ≡ Status.Done → IsDone of_batch Done
         (streams_of R.Source W.Sink source.old out.old) (streams_of R.Source W.Sink source.new out.new) }
+    ensures usage { result ≢ Status.Usage }
     ensures valid { result ≢ Status.Invalid }
-    ensures ends { command_of (map string_bytes words.now) ≡ Some Batch → Ends of_batch
+    ensures ends { Ends of_batch
         (streams_of R.Source W.Sink source.old out.old) (streams_of R.Source W.Sink source.new out.new)
         (error_of E.Sink err.old) (error_of E.Sink err.new) result }
-    ensures answered { IsAnswered (command_of (map string_bytes words.now)) (R.left source.old)
+    ensures answered { IsAnswered (Some Batch) (R.left source.old)
         (streams_of R.Source W.Sink source.old out.old) (streams_of R.Source W.Sink source.new out.new) result }
 {
-    match is_batch(alloc, words) {
-        Err(_) => refuse(&Refusal::NoMemory, err),
-        Ok(false) => refuse(&Refusal::Usage, err),
-        Ok(true) => match batch(rt, alloc, source, out) {
-            Ok(()) => Status::Done,
-            Err(refusal) => refuse(&refusal, err),
-        },
+    match batch(rt, alloc, source, out) {
+        Ok(()) => Status::Done,
+        Err(refusal) => refuse(&refusal, err),
     }
 }
 
@@ -95,20 +81,8 @@ fn write_answers<W: Sink>(answers: &Answers, out: &mut W) -> Result<(), Failed>
     ensures wrote { Wrote (W.taken out.old) (W.taken out.new) (several (codes "run-batch") (codes "sets") answer_line answers.now) result }
     ensures cause { HasCause (W.faults out.old) (W.faults out.new) result }
 {
-    write_head(answers.count(), out)?;
+    write_count(b"run-batch", b"sets", answers.count(), out)?;
     write_sets(answers, out)
-}
-
-// Writes the version, and how many sets there are.
-fn write_head<W: Sink>(count: u32, out: &mut W) -> Result<(), Failed>
-    ensures wrote { Wrote (W.taken out.old) (W.taken out.new) (number_line (codes "run-batch") 1 ++ number_line (codes "sets") count) result }
-    ensures cause { HasCause (W.faults out.old) (W.faults out.new) result }
-{
-    let lines = [
-        number_line(b"run-batch", VERSION),
-        number_line(b"sets", u128::from(count)),
-    ];
-    write_lines(out, &lines)
 }
 
 // Writes the line of each set.

@@ -1,12 +1,8 @@
 //! The command `follow`.
-ghost use Rattle.std.specs.Prelude.{◌≡◌, ◌≤◌, length, IfOk, IfErr, OnOk};
-ghost use Rattle.sched_base.specs.Tables.{row_limit};
-ghost use Rattle.row_totals.specs.Sums.{totals_of};
-ghost use Rattle.merged_rows.specs.Lawful.{AreLawful};
-ghost use Rattle.merged_rounds.specs.Passes.{AreMergedOf};
+ghost use Rattle.std.specs.Prelude.{◌≡◌, IfOk, IfErr, OnOk};
 ghost use Rattle.tree_check.specs.TextTree.{IsTextOfTree};
 ghost use Rattle.trace_format.specs.Conditions.{AreOnTime};
-ghost use Rattle.pure_commands.specs.Commands.{set_limit, of_tree, rows_of, Writes};
+ghost use Rattle.pure_commands.specs.Commands.{set_limit, of_tree, Writes};
 ghost use Rattle.pure_commands.specs.Ends.{streams_of, IsTold, StopsAs};
 ghost use Rattle.pure_commands.specs.Follow.{RefusesFollow, GaveTree, GaveNoTree, WrotePlan, StopsAtPlan, plan_told};
 ghost use Rattle.exit_status.specs.declared.Status.TheVariants.{Done};
@@ -14,7 +10,6 @@ ghost use Rattle.exit_status.specs.declared.Status.TheVariants.{Done};
 use crate::refusal::Refusal;
 use crate::trace::merged_rows_of;
 use crate::unwritten::written;
-use merged_rows::MergedRows;
 use run_tree::Plan;
 use sched_base::SET_LIMIT;
 use sched_edges::{Sink, Source, read_all};
@@ -76,27 +71,5 @@ fn write_plan<W: Sink>(
         (W.faults out.old) (W.faults out.new) tree.now) }
 {
     let (rows, totals) = merged_rows_of(alloc, plan)?;
-    write_plan_rows(tree, plan, &rows, totals.as_slice(), out)
-}
-
-// Writes the merged rows of the plan of a tree text.
-fn write_plan_rows<W: Sink>(
-    tree: &ReadTree,
-    plan: &Plan,
-    rows: &MergedRows,
-    totals: &[u128],
-    out: &mut W,
-) -> Result<(), Refusal>
-    requires on_time { AreOnTime tree.now.set.tasks }
-    requires text { IsTextOfTree tree.now }
-    requires plan { plan.now ≡ plan_told tree.now }
-    requires room { rows_of (plan_told tree.now) ≤ row_limit }
-    requires rows { AreMergedOf plan.now rows.now.lanes }
-    requires lawful { AreLawful plan.now.set rows.now.lanes }
-    requires totals { totals.now ≡ totals_of (length plan.now.set.tasks) rows.now.lanes }
-    ensures done { OnOk result (WrotePlan (W.taken out.old) (W.taken out.new) tree.now) }
-    ensures stops { IfErr result (StopsAtPlan (W.taken out.old) (W.taken out.new)
-        (W.faults out.old) (W.faults out.new) tree.now) }
-{
-    written(write_merged(out, tree.set(), plan.scale(), rows, totals))
+    written(write_merged(out, tree.set(), plan.scale(), &rows, totals.as_slice()))
 }

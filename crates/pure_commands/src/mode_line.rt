@@ -9,7 +9,8 @@ ghost use Rattle.pure_commands.specs.declared.mode_refusal.ModeRefusal.TheVarian
 
 use crate::mode_refusal::ModeRefusal;
 use crate::refusal_line::{
-    add_number, begin, gate_line, job_line, overload_line, rows_line, write_line, write_set_refusal,
+    begin, counted_line, gate_line, job_line, overload_line, rows_line, write_line,
+    write_set_refusal,
 };
 use exit_status::Status;
 use mode_join::ModeKind;
@@ -81,13 +82,9 @@ fn processors_line() -> Line
 }
 
 // The line of a set with such a task.
-#[tactic(auto, unfolding(sched_edges::specs::Lines::line_of))]
 fn task_line(word: &[u8], task: u32) -> Line
     requires { length word.now ≤ 16 }
     ensures { result ≡ line_of (codes "refused") (decimal 15 ∷ codes "Mode" ∷ word.now ∷ decimal task ∷ []) }
 {
-    let mut line = begin(Status::ModeFault, b"Mode");
-    add_number(&mut line, word, u128::from(task));
-    line.end();
-    line
+    counted_line(Status::ModeFault, b"Mode", word, u128::from(task))
 }

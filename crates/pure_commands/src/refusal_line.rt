@@ -12,7 +12,7 @@ ghost use Rattle.pure_commands.specs.Ends.{error_of};
 ghost use Rattle.pure_commands.specs.Refuse.{IsRefused};
 ghost use Rattle.exit_status.specs.declared.Status.TheVariants.{BadInput};
 ghost use Rattle.pure_commands.specs.declared.refusal.Refusal.TheVariants.{BadSet, Overload, ScaleTooLarge, TooLong, GateFault, JobFault};
-ghost use Rattle.pure_commands.specs.declared.refusal.Refusal.TheVariants.{BadTree, TooWide, NoRepeat, WideRepeat};
+ghost use Rattle.pure_commands.specs.declared.refusal.Refusal.TheVariants.{BadTree};
 ghost use Rattle.task_reader.specs.declared.refusals.ReadSet.TheVariants.{UnknownKey};
 
 use crate::mode_line::write_mode_refusal;
@@ -64,9 +64,19 @@ fn write_refusal<W: Sink>(refusal: &Refusal, out: &mut W) -> Result<(), Failed>
             u128::from(*count),
         ),
         Refusal::BadTree { line, kind } => tree_line(*line, *kind),
-        Refusal::TooWide { ticks } => ticks_line(*ticks),
-        Refusal::NoRepeat { task } => offset_line(*task),
-        Refusal::WideRepeat { units } => units_line(*units),
+        Refusal::TooWide { ticks } => counted_line(Status::TooWide, b"TooWide", b"ticks", *ticks),
+        Refusal::NoRepeat { task } => counted_line(
+            Status::TooWide,
+            b"NoRepeat",
+            b"offset",
+            u128::from(*task),
+        ),
+        Refusal::WideRepeat { units } => counted_line(
+            Status::TooWide,
+            b"NoRepeat",
+            b"units",
+            *units,
+        ),
     };
     write_line(line, out)
 }
@@ -162,6 +172,19 @@ fn number_line(status: Status, why: &[u8], number: u128) -> Line
     line
 }
 
+/// A line with a word and a number.
+#[tactic(auto, unfolding(sched_edges::specs::Lines::line_of))]
+pub(crate) fn counted_line(status: Status, why: &[u8], word: &[u8], number: u128) -> Line
+    requires why { length why.now ≤ 32 }
+    requires word { length word.now ≤ 16 }
+    ensures { result ≡ line_of (codes "refused") (decimal (code_of status) ∷ why.now ∷ word.now ∷ decimal number ∷ []) }
+{
+    let mut line = begin(status, why);
+    add_number(&mut line, word, number);
+    line.end();
+    line
+}
+
 // A line with a value that may be below 0.
 #[tactic(auto, unfolding(sched_edges::specs::Lines::line_of))]
 fn value_line(why: &[u8], value: i64) -> Line
@@ -216,14 +239,11 @@ fn index_line(why: &[u8], index: u32) -> Line
 }
 
 /// The line of a schedule with too many rows.
-#[tactic(auto, unfolding(crate::specs::Refusals::refusal_line, sched_edges::specs::Lines::line_of))]
+#[tactic(auto, unfolding(crate::specs::Refusals::refusal_line))]
 pub(crate) fn rows_line(rows: u64) -> Line
     ensures { result ≡ refusal_line (TooLong rows) }
 {
-    let mut line = begin(Status::TooLong, b"TooLong");
-    add_number(&mut line, b"rows", u128::from(rows));
-    line.end();
-    line
+    counted_line(Status::TooLong, b"TooLong", b"rows", u128::from(rows))
 }
 
 /// Adds a word and a number.
@@ -253,47 +273,15 @@ pub(crate) fn overload_line(total: u128, room: u128) -> Line
 }
 
 /// The line of a scale past the limit.
-#[tactic(auto, unfolding(crate::specs::Refusals::refusal_line, sched_edges::specs::Lines::line_of))]
 pub(crate) fn scale_line(task: u32) -> Line
     ensures { result ≡ refusal_line (ScaleTooLarge task) }
 {
-    let mut line = begin(Status::ScaleTooLarge, b"ScaleTooLarge");
-    add_number(&mut line, b"task", u128::from(task));
-    line.end();
-    line
-}
-
-// The line of a schedule with too many ticks.
-#[tactic(auto, unfolding(crate::specs::Refusals::refusal_line, sched_edges::specs::Lines::line_of))]
-fn ticks_line(ticks: u128) -> Line
-    ensures { result ≡ refusal_line (TooWide ticks) }
-{
-    let mut line = begin(Status::TooWide, b"TooWide");
-    add_number(&mut line, b"ticks", ticks);
-    line.end();
-    line
-}
-
-// The line of a schedule that doesn't repeat, since this task has an offset.
-#[tactic(auto, unfolding(crate::specs::Refusals::refusal_line, sched_edges::specs::Lines::line_of))]
-fn offset_line(task: u32) -> Line
-    ensures { result ≡ refusal_line (NoRepeat task) }
-{
-    let mut line = begin(Status::TooWide, b"NoRepeat");
-    add_number(&mut line, b"offset", u128::from(task));
-    line.end();
-    line
-}
-
-// The line of a schedule that would repeat after too many units.
-#[tactic(auto, unfolding(crate::specs::Refusals::refusal_line, sched_edges::specs::Lines::line_of))]
-fn units_line(units: u128) -> Line
-    ensures { result ≡ refusal_line (WideRepeat units) }
-{
-    let mut line = begin(Status::TooWide, b"NoRepeat");
-    add_number(&mut line, b"units", units);
-    line.end();
-    line
+    counted_line(
+        Status::ScaleTooLarge,
+        b"ScaleTooLarge",
+        b"task",
+        u128::from(task),
+    )
 }
 
 // The line of a tree text that isn't that of a reduction tree.

@@ -175,7 +175,7 @@ takes_memory_late (Some (Execute Jobs)) = true
 takes_memory_late (Some (Execute Modes)) = true
 takes_memory_late _ = false
 
--- the same by the command
+-- whether gates or jobs may have run, by the command and by how the call ended
 abbrev pub may_have_run : Option Command → Status → Bool
 may_have_run asked NoMemory = takes_memory_late asked
 may_have_run asked status = may_have_called status

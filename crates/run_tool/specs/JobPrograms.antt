@@ -26,7 +26,7 @@ pub record ReadsJobs (bytes : List ℕ) (text : JobTextHeld) (s : SetContents) :
   pub set : set_read_from (set_bytes text bytes) ≡ Ok s
   pub named : first_stray s.tasks text.programs ≡ None
 
--- the same of a set that fits, with this scale, and whose schedule has room
+-- the bytes are this job text, with this set behind it, which fits with this scale, and whose schedule has room
 pub record IsJobsToRun (bytes : List ℕ) (text : JobTextHeld) (s : SetContents) (scale : ℕ) : Type 0 where
   pub reads : ReadsJobs bytes text s
   pub scaled : ReadsSet (set_bytes text bytes) s scale

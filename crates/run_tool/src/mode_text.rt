@@ -1,9 +1,9 @@
 //! The text of modes that were run.
-ghost use Rattle.std.specs.Prelude.{◌≡◌, ◌≤◌, ◌<◌, ◌*◌, ◌++◌, ◌∷◌, [], length, codes, decimal, slice_get, Some};
+ghost use Rattle.std.specs.Prelude.{◌≡◌, ◌≤◌, ◌<◌, ◌*◌, ◌∷◌, [], length, codes, decimal, slice_get, Some};
 ghost use Rattle.std.specs.List.{AllZip};
 ghost use Rattle.sched_base.specs.Tables.{row_limit};
 ghost use Rattle.sched_edges.specs.Causes.{HasCause};
-ghost use Rattle.sched_edges.specs.Lines.{line_of, number_line};
+ghost use Rattle.sched_edges.specs.Lines.{line_of};
 ghost use Rattle.sched_edges.specs.Streams.{Wrote};
 ghost use Rattle.plan_rounds.specs.PlanRows.{plan_rows};
 ghost use Rattle.mode_join.specs.declared.mode.Mode.{Mode};
@@ -17,14 +17,12 @@ ghost use Rattle.trace_format.specs.declared.versions.Version.TheVariants.{One};
 ghost use Rattle.run_tool.specs.ModeTexts.{mode_part};
 
 use mode_switch::{Modes, ModesRun};
+use pure_commands::write_count;
 use round_table::table_law;
 use run_tree::Plan;
 use sched_base::RowTable;
-use sched_edges::{Failed, Line, Sink, number_line, write_all, write_lines};
+use sched_edges::{Failed, Line, Sink, write_all};
 use trace_writer::write_trace;
-
-/// The version of the text.
-const VERSION: u128 = 1;
 
 /// Writes modes that were run: how many there are, and of each when it starts, how long it lasts, and its rows.
 pub(crate) fn write_modes<W: Sink>(modes: &Modes, run: &ModesRun, out: &mut W) -> Result<(), Failed>
@@ -32,20 +30,8 @@ pub(crate) fn write_modes<W: Sink>(modes: &Modes, run: &ModesRun, out: &mut W) -
     ensures wrote { Wrote (W.taken out.old) (W.taken out.new) (several (codes "run-modes") (codes "modes") mode_part modes.now.modes) result }
     ensures cause { HasCause (W.faults out.old) (W.faults out.new) result }
 {
-    write_head(modes.count(), out)?;
+    write_count(b"run-modes", b"modes", modes.count(), out)?;
     write_each(modes, run, out)
-}
-
-// Writes the version, and how many modes there are.
-fn write_head<W: Sink>(count: u32, out: &mut W) -> Result<(), Failed>
-    ensures wrote { Wrote (W.taken out.old) (W.taken out.new) (number_line (codes "run-modes") 1 ++ number_line (codes "modes") count) result }
-    ensures cause { HasCause (W.faults out.old) (W.faults out.new) result }
-{
-    let lines = [
-        number_line(b"run-modes", VERSION),
-        number_line(b"modes", u128::from(count)),
-    ];
-    write_lines(out, &lines)
 }
 
 // Writes each mode.

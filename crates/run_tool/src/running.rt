@@ -17,7 +17,9 @@ use crate::exec::exec;
 use crate::jobs::{load_and_run, read_job_input};
 use crate::mode_text::write_modes;
 use crate::modes::{read_modes, run_all};
-use command_words::{Execution, USUAL_WINDOW, asks_for_batch, asks_to_execute, execution_of};
+use command_words::{
+    Execution, USUAL_WINDOW, asks_for_batch, asks_to_execute, execution_of, is_batch,
+};
 use exec_workers::Kit;
 use exit_status::Status;
 use pure_commands::{Refusal, plan_of, refuse, run_batch, run_still, written};
@@ -126,10 +128,14 @@ pub fn run_without_crew<R: Source, W: Sink, E: Sink, X: Threads + Sync>(
     ensures answered { IsCommandAnswered (command_of (map string_bytes words.now)) (R.left source.old)
         (streams_of R.Source W.Sink source.old out.old) (streams_of R.Source W.Sink source.new out.new) result }
 {
-    if asks_for_batch(words) {
-        return run_batch(rt, alloc, words, source, out, err);
+    if !asks_for_batch(words) {
+        return run_still(alloc, words, source, out, err);
     }
-    run_still(alloc, words, source, out, err)
+    match is_batch(alloc, words) {
+        Err(_) => refuse(&Refusal::NoMemory, err),
+        Ok(false) => refuse(&Refusal::Usage, err),
+        Ok(true) => run_batch(rt, alloc, source, out, err),
+    }
 }
 
 // Does what the words ask for, where they ask for an execution.

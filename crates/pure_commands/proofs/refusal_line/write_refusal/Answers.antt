@@ -37,6 +37,24 @@ number_line-line-requires-in-BadProgram g c = omega arith
 pub number_line-line-requires-in-InputTooLong : goal.number_line-line-requires-in-InputTooLong
 number_line-line-requires-in-InputTooLong g c = omega arith
 
+pub counted_line-line-requires-clause-why : goal.counted_line-line-requires-clause-why
+counted_line-line-requires-clause-why g c = omega arith
+
+pub counted_line-line-requires-clause-word : goal.counted_line-line-requires-clause-word
+counted_line-line-requires-clause-word g c = omega arith
+
+pub counted_line-line-requires-in-NoRepeat-clause-why : goal.counted_line-line-requires-in-NoRepeat-clause-why
+counted_line-line-requires-in-NoRepeat-clause-why g c = omega arith
+
+pub counted_line-line-requires-in-NoRepeat-clause-word : goal.counted_line-line-requires-in-NoRepeat-clause-word
+counted_line-line-requires-in-NoRepeat-clause-word g c = omega arith
+
+pub counted_line-line-requires-in-WideRepeat-clause-why : goal.counted_line-line-requires-in-WideRepeat-clause-why
+counted_line-line-requires-in-WideRepeat-clause-why g c = omega arith
+
+pub counted_line-line-requires-in-WideRepeat-clause-word : goal.counted_line-line-requires-in-WideRepeat-clause-word
+counted_line-line-requires-in-WideRepeat-clause-word g c = omega arith
+
 pub returns-clause-wrote : goal.returns-clause-wrote
 unfolding refusal_line
 returns-clause-wrote g c =
@@ -54,9 +72,9 @@ returns-clause-wrote g c =
       | in-JobFault w ↦ w.line-is ∙ rw (w.in-JobFault.is, w.job_line-line.ensures) refl
       | in-InputTooLong w ↦ w.line-is ∙ rw (w.in-InputTooLong.is, w.number_line-line-in-InputTooLong.ensures, w.from-in-InputTooLong.ensures) refl
       | in-BadTree w ↦ w.line-is ∙ rw (w.in-BadTree.is, w.tree_line-line.ensures) refl
-      | in-TooWide w ↦ w.line-is ∙ rw (w.in-TooWide.is, w.ticks_line-line.ensures) refl
-      | in-NoRepeat w ↦ w.line-is ∙ rw (w.in-NoRepeat.is, w.offset_line-line.ensures) refl
-      | in-WideRepeat w ↦ w.line-is ∙ rw (w.in-WideRepeat.is, w.units_line-line.ensures) refl
+      | in-TooWide w ↦ w.line-is ∙ rw (w.in-TooWide.is, w.counted_line-line.ensures) refl
+      | in-NoRepeat w ↦ w.line-is ∙ rw (w.in-NoRepeat.is, w.counted_line-line-in-NoRepeat.ensures, w.from-in-NoRepeat.ensures) refl
+      | in-WideRepeat w ↦ w.line-is ∙ rw (w.in-WideRepeat.is, w.counted_line-line-in-WideRepeat.ensures) refl
     ] in
     wrote_as _ _ _ _ _ line c.write_line.ensures.wrote
 
