@@ -7,5 +7,6 @@ mod rates;
 mod scales;
 
 pub use loads::{Load, LoadFault, load_of};
+pub use multiples::gcd;
 pub use rates::{fits, rate, rates_of, total};
 pub use scales::{ScaleTooLarge, scale_law, scale_of};

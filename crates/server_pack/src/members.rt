@@ -8,16 +8,14 @@ use std::marker::Model;
 
 /// The numbers of the items that a server has, in the order in which they came. The first four take no memory.
 #[derive(Drop)]
-pub struct Members {
-    items: SmallVec<u32, 4>,
-}
+pub struct Members(SmallVec<u32, 4>);
 
 impl Model for Members {
     ghost use Rattle.std.specs.Prelude.{ℕ, List};
 
     ghost Value = { List ℕ };
 
-    ghost view = { λ m. m.items.items };
+    ghost view = { λ m. m.0.items };
 }
 
 impl Members {
@@ -25,9 +23,7 @@ impl Members {
     pub fn new(alloc: Global) -> Members
         ensures { result ≡ [] }
     {
-        Members {
-            items: SmallVec::new(alloc),
-        }
+        Members(SmallVec::new(alloc))
     }
 
     /// Adds a member at the end.
@@ -35,7 +31,7 @@ impl Members {
         ensures ok { OnOk result (self.new ≡ self.old ++ item ∷ []) }
         ensures err { OnErr result (self.new ≡ self.old) }
     {
-        self.items.push(item)?;
+        self.0.push(item)?;
         Ok(())
     }
 
@@ -43,6 +39,6 @@ impl Members {
     pub fn as_slice(&self) -> &[u32]
         ensures { result.now ≡ self.now }
     {
-        self.items.as_slice()
+        self.0.as_slice()
     }
 }

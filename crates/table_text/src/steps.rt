@@ -1,11 +1,12 @@
 //! The step in which a table tells the starts and ends of its rows.
 ghost use Rattle.std.specs.Prelude.{ℕ, ◌≡◌, ◌≤◌, ◌<◌, ◌*◌, ◌/◌, List, length};
-ghost use Rattle.std.specs.Int.{◌∣◌, IsGcd};
+ghost use Rattle.std.specs.Int.{◌∣◌};
 ghost use Rattle.sched_base.specs.declared.rows.Row.{Row as declared_row};
 ghost use Rattle.sched_base.specs.Tables.{all_rows, lane_of};
 ghost use Rattle.table_text.specs.Steps.{step_of, AreWhole, DividesRows, IsStep};
 
 use merged_rows::MergedRows;
+use rate_scale::gcd;
 
 /// The law of steps: times the step the whole numbers that are told of rows, and of all ticks, are their ticks; and no greater number
 /// of ticks divides them all. This runs nothing: its clauses are the law.
@@ -46,18 +47,4 @@ fn lane_step(before: u128, rows: &MergedRows, p: u32) -> u128
         step = gcd(row.end, gcd(row.start, step));
     }
     step
-}
-
-// The greatest common divisor, by Euclid's algorithm.
-fn gcd(a: u128, b: u128) -> u128
-    ensures { IsGcd a b result }
-{
-    let mut x = a;
-    let mut y = b;
-    while y != 0 {
-        let rest = x % y;
-        x = y;
-        y = rest;
-    }
-    x
 }
