@@ -21,6 +21,8 @@ use sched_edges::{Jobs, Sink, Source, StdSink, StdSource, SureGate};
 use std::alloc::Global;
 use std::io::{BufWriter, Write};
 use std::process::ExitCode;
+use std::sync::Wait;
+use std::thread::Threads;
 use std::{env, io};
 
 /// The bytes of a text that standard output keeps back, so that a line costs no call of the system.
@@ -61,8 +63,9 @@ fn all_kits(alloc: Global) -> Result<Vec<Kit<SureGate>>, NoMemory>
 }
 
 // Does what the words ask for, with gates and jobs that are made for it: a job for each task that a set may have.
-fn run_with_crew<R: Source, W: Sink, E: Sink>(
-    rt: &HostRuntime,
+fn run_with_crew<R: Source, W: Sink, E: Sink, X: Threads + Wait + Sync>(
+    rt: &X,
+    alloc: Global,
     words: &[String],
     source: &mut R,
     out: &mut W,
@@ -76,7 +79,6 @@ fn run_with_crew<R: Source, W: Sink, E: Sink>(
         (error_of E.Sink err.old) (error_of E.Sink err.new) status) }
     ensures same { OnErr result ((source.new ≡ source.old) × (out.new ≡ out.old) × (err.new ≡ err.old)) }
 {
-    let alloc = rt.alloc();
     let mut kits = all_kits(alloc)?;
     let mut jobs = Jobs::with_room(alloc, TASK_LIMIT)?;
     for id in 0..TASK_LIMIT {
@@ -86,8 +88,9 @@ fn run_with_crew<R: Source, W: Sink, E: Sink>(
 }
 
 // Does what the words behind the program's name ask for. Gates and jobs are made for an execution alone.
-fn run_words<R: Source, W: Sink, E: Sink>(
-    rt: &HostRuntime,
+fn run_words<R: Source, W: Sink, E: Sink, X: Threads + Wait + Sync>(
+    rt: &X,
+    alloc: Global,
     called_with: &[String],
     source: &mut R,
     out: &mut W,
@@ -102,17 +105,18 @@ fn run_words<R: Source, W: Sink, E: Sink>(
 {
     let words = behind_name(called_with);
     if !asks_to_execute(words) {
-        return run_without_crew(rt, rt.alloc(), words, source, out, err);
+        return run_without_crew(rt, alloc, words, source, out, err);
     }
-    match run_with_crew(rt, words, source, out, err) {
+    match run_with_crew(rt, alloc, words, source, out, err) {
         Ok(status) => status,
         Err(NoMemory) => refuse(&Refusal::NoMemory, err),
     }
 }
 
 // Does what the words ask for, and hands the text on.
-fn run_and_close<R: Source, W: Write + Drop, E: Sink>(
-    rt: &HostRuntime,
+fn run_and_close<R: Source, W: Write + Drop, E: Sink, X: Threads + Wait + Sync>(
+    rt: &X,
+    alloc: Global,
     called_with: &[String],
     source: &mut R,
     out: &mut StdSink<BufWriter<W>>,
@@ -129,7 +133,7 @@ fn run_and_close<R: Source, W: Write + Drop, E: Sink>(
     ensures handed_on { result ≡ Status.Done → kept_back out.new ≡ [] }
     ensures judged { result ≡ Status.Invalid → kept_back out.new ≡ [] }
 {
-    let status = run_words(rt, called_with, source, out, err);
+    let status = run_words(rt, alloc, called_with, source, out, err);
     close_run(status, out, err)
 }
 
@@ -140,7 +144,7 @@ fn main(rt: HostRuntime) -> ExitCode {
     let status = match (called_with(&rt), writer) {
         (Ok(words), Ok(writer)) => {
             let mut out = StdSink::new(writer);
-            run_and_close(&rt, &words, &mut source, &mut out, &mut err)
+            run_and_close(&rt, rt.alloc(), &words, &mut source, &mut out, &mut err)
         }
         // There is no memory for the words, or for what the text is kept in.
         _ => refuse(&Refusal::NoMemory, &mut err),
