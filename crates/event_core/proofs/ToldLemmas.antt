@@ -127,7 +127,7 @@ module _ (p : PlanContents) (h : IsPlan p) (c c' : CoreContents) (b : IsCoreOf p
   not_seen : (i : ℕ) → IsAmong changes.seen i → get_or c'.places.last i None ≢ Some q
   not_seen i (k, m, e) at = not_told (tells.each k q m (ap (λ j. get_or c'.places.last j None) e ∙ at))
 
-  stays : get_or c'.places.onto q None ≡ get_or c.places.onto q None
+  pub stays : get_or c'.places.onto q None ≡ get_or c.places.onto q None
   stays =
       ap (λ (s : Placing). get_or s.onto q None) placed
       ∙ moved runs c.places noted long q

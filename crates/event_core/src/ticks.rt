@@ -138,6 +138,35 @@ fn first_of_one(least: &mut [u128], ticks: &[u128], used: usize, most: u128) -> 
     first_anew(least, ticks, used, 0, most)
 }
 
+// The block of which the earliest tick is kept.
+fn soonest_block(least: &[u128], used: usize) -> usize
+    requires some { 0 < used }
+    requires blocks { used ≤ length least.now * 8 }
+    ensures { result * 8 < used }
+{
+    let mut soonest = 0;
+    for block in 1..used.div_ceil(BLOCK) {
+        if least[block] < least[soonest] {
+            soonest = block;
+        }
+    }
+    soonest
+}
+
+// The first of a tick and of the soonest block's. Mostly it is the first of all, so that no other block need be looked at.
+fn first_in_soonest(least: &mut [u128], ticks: &[u128], used: usize, most: u128) -> u128
+    requires blocks { AreInBlocks least.old ticks.now used }
+    ensures blocks { AreInBlocks least.new ticks.now used }
+    ensures below { result ≤ most }
+    ensures one { (result ≡ most) ⊎ ((k : ℕ) × (k < length ticks.now) × (result ≡ slice_index ticks.now k)) }
+{
+    if used == 0 {
+        return most;
+    }
+    let block = soonest_block(least, used);
+    first_anew(least, ticks, used, block, most)
+}
+
 // The first of a tick and of all others.
 fn first_of(least: &mut [u128], ticks: &[u128], used: usize, most: u128) -> u128
     requires blocks { AreInBlocks least.old ticks.now used }
@@ -148,7 +177,7 @@ fn first_of(least: &mut [u128], ticks: &[u128], used: usize, most: u128) -> u128
     if used > 0 && used <= BLOCK {
         return first_of_one(least, ticks, used, most);
     }
-    let mut first = most;
+    let mut first = first_in_soonest(least, ticks, used, most);
     for block in 0..used.div_ceil(BLOCK) {
         first = first_in(least, ticks, used, block, first);
     }
