@@ -10,7 +10,6 @@ use run_tree::Plan;
 use sched_base::{NoMemory, Totals};
 use sched_edges::{Gate, Job, JobList};
 use std::alloc::Global;
-use std::thread::Threads;
 use unit_ledger::PostLedger;
 
 /// What a run needs memory for beside its book.
@@ -30,8 +29,7 @@ pub struct RunMemory<G: Gate, Q: PostLedger> {
 
 impl<G: Gate, Q: PostLedger> RunMemory<G, Q> {
     /// The room for a run of this plan with these jobs. The only error is want of memory.
-    pub fn of_plan<J: Job, X: Threads>(
-        rt: &X,
+    pub fn of_plan<J: Job>(
         alloc: Global,
         plan: &Plan,
         jobs: &JobList<J>,
@@ -44,7 +42,7 @@ impl<G: Gate, Q: PostLedger> RunMemory<G, Q> {
         Ok(RunMemory {
             counts: fault_counts(alloc, jobs, n)?,
             posted: vec![in alloc; 0u64; m as usize]?,
-            waiters: Waiters::of_lanes(rt, alloc, m)?,
+            waiters: Waiters::of_lanes(alloc, m)?,
             totals: Totals::with_room(alloc, n)?,
             lanes: Vec::with_capacity(alloc, m as usize)?,
         })

@@ -8,29 +8,18 @@ use std::hint::spin_loop;
 use std::sync::atomic::{AtomicU64, Ordering};
 use std::sync::{Mutex, MutexGuard, Wait};
 use std::thread;
-use std::thread::Threads;
 use std::time::Duration;
 
-/// A worker that waits looks this often before it sleeps, where each lane has a processor: about as long as a sleep and its end take.
-const LOOKS: u32 = 2_000;
+/// A worker that waits looks this often before it sleeps: about as long as a row takes, and it has mostly run many since it last slept. To look
+/// until it is woken takes more than a sleep, since a lane waits for rows of all others.
+const LOOKS: u32 = 20;
 
-/// A worker that waits looks only this often where lanes share processors, and where looking longer was in vain.
-const FEW_LOOKS: u32 = 20;
-
-/// After this many waits in a row for which looking was in vain, a worker looks long only once in a while.
-const VAIN_WAITS: u64 = 4;
-
-/// A worker for whom looking was in vain looks long again at each of so many waits.
-const TRIAL_WAITS: u64 = 64;
-
-/// A worker that finds the lock held tries this often, with a pause twice as long each time, before it gives way to others.
-const TRIES: u32 = 24;
-
-/// The longest pause between two tries: a worker that has the lock often gets through several rows meanwhile, with the book at hand.
+/// The longest pause between two tries at a held lock: a worker that has the lock often gets through several rows meanwhile, with the book
+/// at hand.
 const PAUSE: u32 = 256;
 
-/// After its pauses, a worker that wants the lock gives way to others this often, and tries again, before it sleeps until it has the lock.
-const TURNS: u32 = 400;
+/// A worker that finds the lock held tries this often before it sleeps until it has the lock.
+const TRIES: u32 = 48;
 
 /// A worker alone gives up after so many waits in a row.
 const PATIENCE: u32 = 10_000;
@@ -51,8 +40,6 @@ pub struct Waiters {
     begun: AtomicU64,
     /// 1 where some lane has no worker, as far as is known: then whoever must wait gives up.
     short: AtomicU64,
-    /// Whether each lane has a processor.
-    has_processors: bool,
     sleepers: Vec<Sleeper>,
 }
 
@@ -62,9 +49,7 @@ struct Sleeper {
     calls: AtomicU64,
     /// How often it had been woken when the worker last looked into the book. Only the lane's own worker changes it.
     seen: AtomicU64,
-    /// For how many waits in a row looking was in vain. Only the lane's own worker changes it.
-    vain: AtomicU64,
-    _rest_of_line: [u64; 5],
+    _rest_of_line: [u64; 6],
 }
 
 impl Drop for Sleeper {
@@ -72,7 +57,6 @@ impl Drop for Sleeper {
         let Self {
             calls: _,
             seen: _,
-            vain: _,
             _rest_of_line: _,
         } = self;
     }
@@ -83,7 +67,6 @@ impl Drop for Waiters {
         let Self {
             begun: _,
             short: _,
-            has_processors: _,
             sleepers,
         } = self;
         drop(sleepers);
@@ -92,24 +75,18 @@ impl Drop for Waiters {
 
 impl Waiters {
     /// The lanes have no workers yet.
-    pub(crate) fn of_lanes<X: Threads>(
-        rt: &X,
-        alloc: Global,
-        lanes: u32,
-    ) -> Result<Waiters, NoMemory> {
+    pub(crate) fn of_lanes(alloc: Global, lanes: u32) -> Result<Waiters, NoMemory> {
         let mut sleepers = Vec::with_capacity(alloc, lanes as usize)?;
         for _ in 0..lanes {
             sleepers.push(Sleeper {
                 calls: AtomicU64::new(0),
                 seen: AtomicU64::new(0),
-                vain: AtomicU64::new(0),
-                _rest_of_line: [0; 5],
+                _rest_of_line: [0; 6],
             })?;
         }
         Ok(Waiters {
             begun: AtomicU64::new(0),
             short: AtomicU64::new(0),
-            has_processors: has_processors(rt, lanes),
             sleepers,
         })
     }
@@ -156,7 +133,7 @@ impl Waiters {
         if self.is_short() {
             return false;
         }
-        if sleeper.is_woken_soon(self.has_processors) {
+        if sleeper.is_woken_soon() {
             return true;
         }
         if self.begun.load(Ordering::SeqCst) >= self.sleepers.len() as u64 {
@@ -187,21 +164,15 @@ impl Sleeper {
         }
     }
 
-    // Looks whether its worker is woken, for about as long as a sleep and its end take. Where lanes share processors, and where that was
-    // in vain for some waits in a row, it looks for a moment only.
-    fn is_woken_soon(&self, has_processors: bool) -> bool {
+    // Looks for a moment whether its worker is woken.
+    fn is_woken_soon(&self) -> bool {
         let seen = self.seen.load(Ordering::Relaxed);
-        let vain = self.vain.load(Ordering::Relaxed);
-        let is_long = has_processors && (vain < VAIN_WAITS || vain % TRIAL_WAITS == 0);
-        let looks = if is_long { LOOKS } else { FEW_LOOKS };
-        for _ in 0..looks {
+        for _ in 0..LOOKS {
             if self.calls.load(Ordering::SeqCst) != seen {
-                self.vain.store(0, Ordering::Relaxed);
                 return true;
             }
             spin_loop();
         }
-        self.vain.store(vain.saturating_add(1), Ordering::Relaxed);
         false
     }
 
@@ -271,33 +242,30 @@ pub fn lock_soon<'a, T, R: Wait>(rt: &R, book: &'a Mutex<T>) -> MutexGuard<'a, T
     }
 }
 
-// Takes the lock of a book that was found held.
+// Takes the lock of a book that was found held. Each pause is twice as long as the one before; once they are long it gives way to others
+// after each, since the worker that has the lock may want its processor.
 #[inline(never)]
 fn lock_contended<'a, T, R: Wait>(rt: &R, book: &'a Mutex<T>) -> MutexGuard<'a, T> {
     let mut pause = 1u32;
     for _ in 0..TRIES {
-        for _ in 0..pause {
-            spin_loop();
-        }
-        pause = pause.saturating_mul(2).min(PAUSE);
+        pause_for(pause);
         if let Some(guard) = book.try_lock() {
             return guard;
         }
-    }
-    for _ in 0..TURNS {
-        thread::yield_now();
-        if let Some(guard) = book.try_lock() {
-            return guard;
+        if pause < PAUSE {
+            pause = pause.saturating_mul(2);
+        } else {
+            thread::yield_now();
         }
     }
     book.lock(rt)
 }
 
-// Whether each of these lanes has a processor, as far as the system tells.
-fn has_processors<X: Threads>(rt: &X, lanes: u32) -> bool {
-    match thread::available_parallelism(rt) {
-        Ok(processors) => processors.get() >= lanes as usize,
-        Err(_) => false,
+// Pauses that often.
+#[inline(always)]
+fn pause_for(pauses: u32) {
+    for _ in 0..pauses {
+        spin_loop();
     }
 }
 

@@ -100,7 +100,7 @@ fn execute_in<G: Gate + Send, Q: PostLedger + Send + Sync, J: Job + Send, X: Thr
     ensures { OutcomeOf G.Gate J.Job plan.now window kits.old kits.new jobs.old jobs.new result }
 {
     let n = plan.set().count();
-    let room = RunMemory::of_plan(rt, alloc, plan, jobs)?;
+    let room = RunMemory::of_plan(alloc, plan, jobs)?;
     let (book, seats) = open_book::<Q, J>(alloc, blank, plan, rounds, window, jobs)?;
     let RunMemory {
         mut counts,
