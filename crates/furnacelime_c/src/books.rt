@@ -71,6 +71,7 @@ pub extern "C" fn furnacelime_exec_open(
     requires closed { book.old.book ≡ None }
     ensures opened { result ≡ 0 → IsBookOpened set.now window book.new.book about.new }
     ensures refused { result ≢ 0 → IsBookNotOpened set.now window book.new.book result }
+    ensures untold { result ≢ 0 → about.new ≡ about.old }
 {
     if window < 1 || WINDOW_LIMIT < window {
         return WRONG_CALL;
@@ -101,6 +102,7 @@ pub extern "C" fn furnacelime_take(
     ensures over { result ≡ 65 → Goes book.book kept.new.book (λ old new. IsAllPosted old new processor) }
     ensures halted { result ≡ 67 → Goes book.book kept.new.book IsHalted }
     ensures wrong { result ≡ 64 → Goes book.book kept.new.book (λ old new. CantTake old new processor) }
+    ensures untold { result ≢ 0 → result ≢ 66 → row.new ≡ row.old }
     ensures status { (result ≡ 0) ⊎ ((result ≡ 64) ⊎ ((result ≡ 65) ⊎ ((result ≡ 66) ⊎ (result ≡ 67)))) }
 {
     let mut steps = book.into_box(alloc);
@@ -146,6 +148,7 @@ pub extern "C" fn furnacelime_post_and_take(
     ensures over { result ≡ 65 → Goes book.book kept.new.book (λ old new. PostsAndEnds old new processor) }
     ensures halted { result ≡ 67 → Goes book.book kept.new.book (λ old new. PostsAndHalts old new processor) }
     ensures wrong { result ≡ 64 → Goes book.book kept.new.book (λ old new. CantPostAndTake old new processor) }
+    ensures untold { result ≢ 0 → result ≢ 66 → row.new ≡ row.old }
     ensures status { (result ≡ 0) ⊎ ((result ≡ 64) ⊎ ((result ≡ 65) ⊎ ((result ≡ 66) ⊎ (result ≡ 67)))) }
 {
     let mut steps = book.into_box(alloc);
@@ -191,6 +194,7 @@ pub extern "C" fn furnacelime_exec_tell(
     requires empty { kept.old.book ≡ None }
     ensures told { result ≡ 0 → Goes book.book kept.new.book (λ old new. TellsEnd old new posted.new totals.new end.new) }
     ensures short { result ≢ 0 → (result ≡ 64) × Goes book.book kept.new.book (λ old new. IsShortOf old new (length posted.old) (length totals.old)) }
+    ensures untold { result ≢ 0 → (posted.new ≡ posted.old) × ((totals.new ≡ totals.old) × (end.new ≡ end.old)) }
 {
     let steps = book.into_box(alloc);
     let status = tell_end(&steps, posted, totals, end);
@@ -212,6 +216,7 @@ pub extern "C" fn furnacelime_exec_want(
     requires empty { kept.old.book ≡ None }
     ensures told { result ≡ 0 → Goes book.book kept.new.book (λ old new. TellsWant old new processor want.new) }
     ensures wrong { result ≢ 0 → (result ≡ 64) × Goes book.book kept.new.book (λ old new. IsNoProcessor old new processor) }
+    ensures untold { result ≢ 0 → want.new ≡ want.old }
 {
     let steps = book.into_box(alloc);
     let status = tell_want(&steps, processor, want);
@@ -262,6 +267,7 @@ fn take_turn(book: &mut StepBook, processor: u32, row: &mut BookRow) -> u8
     ensures over { result ≡ 65 → IsAllPosted book.old book.new processor }
     ensures halted { result ≡ 67 → IsHalted book.old book.new }
     ensures wrong { result ≡ 64 → CantTake book.old book.new processor }
+    ensures untold { result ≢ 0 → result ≢ 66 → row.new ≡ row.old }
     ensures status { (result ≡ 0) ⊎ ((result ≡ 64) ⊎ ((result ≡ 65) ⊎ ((result ≡ 66) ⊎ (result ≡ 67)))) }
 {
     if processor >= book.processors() {
@@ -306,6 +312,7 @@ fn post_and_take(book: &mut StepBook, processor: u32, row: &mut BookRow) -> u8
     ensures over { result ≡ 65 → PostsAndEnds book.old book.new processor }
     ensures halted { result ≡ 67 → PostsAndHalts book.old book.new processor }
     ensures wrong { result ≡ 64 → CantPostAndTake book.old book.new processor }
+    ensures untold { result ≢ 0 → result ≢ 66 → row.new ≡ row.old }
     ensures status { (result ≡ 0) ⊎ ((result ≡ 64) ⊎ ((result ≡ 65) ⊎ ((result ≡ 66) ⊎ (result ≡ 67)))) }
 {
     if processor >= book.processors() || !book.is_out(processor) {
@@ -348,6 +355,7 @@ fn halt_turn(book: &mut StepBook, processor: u32, why: u32) -> u8
 fn tell_end(book: &StepBook, posted: &mut [u64], totals: &mut [Halves], end: &mut BookEnd) -> u8
     ensures told { result ≡ 0 → TellsEnd book.now book.now posted.new totals.new end.new }
     ensures short { result ≢ 0 → (result ≡ 64) × IsShortOf book.now book.now (length posted.old) (length totals.old) }
+    ensures untold { result ≢ 0 → (posted.new ≡ posted.old) × ((totals.new ≡ totals.old) × (end.new ≡ end.old)) }
 {
     if posted.len() < book.processors() as usize || totals.len() < book.tasks() as usize {
         return WRONG_CALL;
@@ -362,6 +370,7 @@ fn tell_end(book: &StepBook, posted: &mut [u64], totals: &mut [Halves], end: &mu
 fn tell_want(book: &StepBook, processor: u32, want: &mut BookWant) -> u8
     ensures told { result ≡ 0 → TellsWant book.now book.now processor want.new }
     ensures wrong { result ≢ 0 → (result ≡ 64) × IsNoProcessor book.now book.now processor }
+    ensures untold { result ≢ 0 → want.new ≡ want.old }
 {
     if processor >= book.processors() {
         return WRONG_CALL;
