@@ -119,6 +119,7 @@ struct fl_execution {
     uint32_t processors;
     uint32_t window;
     int looks; /* FL_LOOKS, or 0 */
+    int alone; /* the lock is the execution's own, and one thread wants it */
     uint64_t frames;
     const void *set;
     size_t length;
@@ -188,12 +189,18 @@ static inline void fl_signal(struct fl_execution *in, struct fl_lane *lane)
             fl_call(&in->lanes[p]);
 }
 
+static inline void fl_unlock(struct fl_execution *in)
+{
+    if (!in->alone)
+        pthread_mutex_unlock(in->lock);
+}
+
 /* Sleeps until another thread has taken for it, or has stopped all. The lock is held when it is called, and not at its end. */
 static inline void fl_sleep(struct fl_execution *in, struct fl_lane *lane)
 {
     in->waits++;
     lane->asleep = 1;
-    pthread_mutex_unlock(in->lock);
+    fl_unlock(in);
     fl_signal(in, lane);
     fl_await_call(lane);
 }
@@ -245,7 +252,7 @@ static inline int fl_try(pthread_mutex_t *lock)
 static inline void fl_lock(struct fl_execution *in)
 {
     pthread_mutex_t *lock = in->lock;
-    if (pthread_mutex_trylock(lock) == 0)
+    if (in->alone || pthread_mutex_trylock(lock) == 0)
         return;
     if (in->crew->priority || !fl_try(lock))
         pthread_mutex_lock(lock);
@@ -258,7 +265,7 @@ static inline void fl_look(struct fl_execution *in, struct fl_lane *lane, uint64
     int looks;
     if (in->looks == 0 || (lane->vain >= 4 && lane->vain++ % 64 != 0))
         return;
-    pthread_mutex_unlock(in->lock);
+    fl_unlock(in);
     fl_signal(in, lane);
     for (looks = in->looks; looks > 0 && fl_least(in) < posted; looks--)
         fl_pause();
@@ -451,7 +458,7 @@ static inline int fl_get_row(struct fl_execution *in, struct fl_lane *lane)
     if (sleeps) {
         fl_sleep(in, lane);
     } else {
-        pthread_mutex_unlock(in->lock);
+        fl_unlock(in);
         fl_signal(in, lane);
     }
     return lane->status == FL_DONE;
@@ -467,7 +474,7 @@ static inline void *fl_serve(void *argument)
         pthread_cond_signal(&in->all_ready);
     pthread_mutex_unlock(in->lock);
     fl_await_call(lane);
-    pthread_mutex_lock(in->lock);
+    fl_lock(in);
     lane->status = in->stopped ? FL_HALTED : fl_take(&in->exec, lane->processor, &lane->row);
     while (fl_get_row(in, lane))
         fl_run_and_take(in, lane);
@@ -587,6 +594,7 @@ static inline int fl_run_lanes(struct fl_execution *in, const struct fl_exec_abo
 static inline int fl_execute_open(struct fl_execution *in, struct fl_ended *ended)
 {
     in->processors = ended->about.processors;
+    in->alone = in->processors == 1 && !in->crew->lock;
     in->looks = in->crew->priority == 0 && sysconf(_SC_NPROCESSORS_ONLN) >= (long)in->processors ? FL_LOOKS : 0;
     ended->error = fl_run_lanes(in, &ended->about);
     ended->waits = in->waits;

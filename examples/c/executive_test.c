@@ -471,6 +471,58 @@ static void try_blocking(struct crew_notes *notes)
     }
 }
 
+/* Without gates: what ran is what the jobs saw, over some windows and up to three frames, on one processor too; and a job that fails. */
+static void try_without_gates(struct crew_notes *notes)
+{
+    static const char one[] = "processors = 1\nhorizon = 60\ntask = [{name = \"a\", work = 1, period = 3}, {name = \"b\", work = 2, period = 5}]\n";
+    static const char *const sets[] = {one, three, five};
+    static struct fl_ended ended;
+    uint32_t window, t;
+    for (window = 0; window <= 96; window++) {
+        const char *set = sets[window % 3];
+        struct fl_crew crew = crew_of(notes, window);
+        crew.gate = NULL;
+        crew.frames = 1 + window % 4 % 3;
+        WANT(fl_execute(set, strlen(set), &crew, &ended) == FL_DONE && !notes->wrong && notes->begun == 1 && ended.frames == crew.frames);
+        for (t = 0; t < ended.about.tasks; t++)
+            WANT(ended.ticks[t].low == notes->ticks[t] && notes->ticks[t] > 0);
+        for (t = 1; t < ended.about.processors; t++)
+            WANT(ended.posted[t] == ended.posted[0]);
+        crew = crew_of(notes, window);
+        crew.gate = NULL;
+        notes->bad_task = window % 2;
+        WANT(fl_execute(set, strlen(set), &crew, &ended) == FL_HALTED && ended.end.task == window % 2 && ended.end.why == (uint32_t)-9);
+        WANT(ended.ticks[window % 2].low == 0 && notes->ticks[window % 2] == 0);
+    }
+}
+
+/* A job that waits until the other task's has begun as many rows. */
+static int meet(uint32_t task, const struct fl_row *row, void *user)
+{
+    struct crew_notes *notes = (struct crew_notes *)user;
+    (void)row;
+    pthread_mutex_lock(&notes->lock);
+    notes->rows[task]++;
+    pthread_cond_broadcast(&notes->met);
+    while (notes->rows[1 - task] < notes->rows[task])
+        pthread_cond_wait(&notes->met, &notes->lock);
+    pthread_mutex_unlock(&notes->lock);
+    return 0;
+}
+
+static void try_meeting(struct crew_notes *notes)
+{
+    static const char two[] = "processors = 2\nhorizon = 64\ntask = [{name = \"a\", work = 1, period = 1}, {name = \"b\", work = 1, period = 1}]\n";
+    static struct fl_ended ended;
+    uint32_t window;
+    for (window = 1; window <= 24; window++) {
+        struct fl_crew crew = crew_of(notes, window);
+        crew.gate = NULL;
+        crew.job = meet;
+        WANT(fl_execute(two, sizeof two - 1, &crew, &ended) == FL_DONE && notes->rows[0] == 64 && notes->rows[1] == 64);
+    }
+}
+
 /* A gate fails at each of its rows, a job at each of its task's first ones, and both processors' gates at once. */
 static void try_failures(struct crew_notes *notes)
 {
@@ -640,6 +692,8 @@ int main(void)
     }
     try_windows(&notes);
     try_blocking(&notes);
+    try_without_gates(&notes);
+    try_meeting(&notes);
     try_failures(&notes);
     try_frames(&notes);
     try_refusals(&notes);
