@@ -15,7 +15,7 @@ work=$(mktemp -d)
 trap 'rm -rf "$work"' EXIT
 peer=
 if command -v rustc >/dev/null; then
-    rustc -O -o "$work/plain" "$here/plain_check.rs" && peer=$work/plain
+    rustc --edition 2021 -C opt-level=3 -C codegen-units=1 -C panic=abort -o "$work/plain" "$here/plain_check.rs" && peer=$work/plain
 fi
 printf '%-22s %8s %9s %8s %7s %12s %8s\n' text MB rows ms ratio rows/s peak-MB
 for name in $names; do

@@ -1,18 +1,29 @@
 //! A plain program of the same task as `trace` and `exec`, without proofs, to measure them by: `plain_run trace < SET`,
-//! `plain_run exec WINDOW < SET`. It reads the sets that `sets.py` writes (no offsets), and writes the same text.
+//! `plain_run exec --window WINDOW < SET`. It reads the sets that `sets.py` writes (no offsets), and writes the same text.
 //!
-//! A round costs by what changed: heaps of deadlines in each pack and of window ends, the tick at which each running member is
-//! done, and merged rows that grow where a processor shows something else. `exec` takes one lock for each take and each post; a
+//! A round costs by what changed: packs of all levels are the bits of one word, a knockout for each pack tells who is ready and which window ends first,
+//! the ticks at which running members are done are kept in blocks with the least of each, and merged rows grow where a processor shows something else.
+//! A line's digits are made eight at a time, and those of an end are the next start's. `exec` takes one lock for a post and the next take; a
 //! worker that must wait sleeps until the slowest one has come as far.
 
-use std::cmp::Reverse;
-use std::collections::{BinaryHeap, VecDeque};
-use std::io::{Read, Write};
+use std::io::Read;
 use std::sync::{Condvar, Mutex};
 
-const IDLE: u32 = u32::MAX;
+mod plain_lines;
+use plain_lines::{Digits, NameBlock, Page, name_blocks};
+
+/// What a processor shows that has nobody, and what one shows before the first round.
+const IDLE: u16 = u16::MAX;
+const UNSEEN: u16 = u16::MAX - 1;
+const NOBODY: u32 = u32::MAX;
+/// A unit behind all windows: where those of idle leaves end.
 const NEVER_ENDS: u64 = 1 << 33;
 const LIMIT: u64 = 2_097_152;
+/// The packs whose least end is kept together.
+const BLOCK: usize = 8;
+/// As many bits of a key tell a place in its pack.
+const PLACE_BITS: u32 = 11;
+const NO_KEY: u64 = u64::MAX;
 
 struct Task {
     name: String,
@@ -59,11 +70,10 @@ enum Member {
     Dual(u32),
 }
 
-/// A member of a pack: what it is, its rate, its pack, and whether it runs.
+/// A member of a pack: what it is, and its rate.
 struct Node {
     kind: Member,
     rate: u128,
-    pack: u32,
 }
 
 struct Pack {
@@ -97,7 +107,7 @@ fn first_fit(scale: u128, items: &[(Member, u128)], nodes: &mut Vec<Node>, packs
         if let Member::Dual(p) = kind {
             packs[p as usize].dual = Some(nodes.len() as u32);
         }
-        nodes.push(Node { kind, rate, pack: at as u32 });
+        nodes.push(Node { kind, rate });
     }
 }
 
@@ -116,7 +126,7 @@ fn compile(set: &Set) -> Tree {
         if rate > 0 {
             packs[at].members.push(nodes.len() as u32);
             packs[at].rate += rate;
-            nodes.push(Node { kind: Member::Idle, rate, pack: at as u32 });
+            nodes.push(Node { kind: Member::Idle, rate });
             slack -= rate;
         }
         at += 1;
@@ -134,348 +144,471 @@ fn compile(set: &Set) -> Tree {
     }
 }
 
-/// The parts that count ticks, for ticks of 64 bits where they fit, else of 128.
+/// The first of a pack's members by the unit at which each ends, ties to the one in front: a tournament tree over keys.
+struct Knockout {
+    leaves: usize,
+    keys: Vec<u64>,
+}
+
+impl Knockout {
+    fn new(places: usize) -> Knockout {
+        let leaves = places.next_power_of_two();
+        Knockout { leaves, keys: vec![NO_KEY; 2 * leaves] }
+    }
+
+    #[inline(always)]
+    fn put(&mut self, place: usize, key: u64) {
+        let keys = &mut self.keys[..2 * self.leaves];
+        let (mut at, mut first) = (self.leaves + place, key);
+        keys[at] = key;
+        while at > 1 {
+            first = first.min(keys[at ^ 1]);
+            at /= 2;
+            keys[at] = first;
+        }
+    }
+
+    #[inline(always)]
+    fn set(&mut self, place: usize, end: u64) {
+        self.put(place, end << PLACE_BITS | place as u64);
+    }
+
+    #[inline(always)]
+    fn clear(&mut self, place: usize) {
+        self.put(place, NO_KEY);
+    }
+
+    #[inline(always)]
+    fn first(&self) -> u64 {
+        self.keys[1]
+    }
+}
+
+/// The place that a key tells.
+#[inline(always)]
+fn place_of(key: u64) -> usize {
+    (key & ((1 << PLACE_BITS) - 1)) as usize
+}
+
+/// A pack: its members' slots begin at `base`. Packs are numbered from the last level down, so that a dual's pack comes before its primal.
+struct PackState {
+    base: usize,
+    /// Members with something left by the ends of their windows, and the window ends of all.
+    ready: Knockout,
+    windows: Knockout,
+    /// Of its dual: the pack, and the place in it.
+    dual: Option<(usize, usize)>,
+}
+
+/// The parts that count ticks, for ticks of 64 bits where they fit, else of 128, and for up to 64 packs or 128.
 macro_rules! core {
-    ($name:ident, $tick:ty) => {
+    ($name:ident, $tick:ty, $set:ident, $word:ty) => {
         mod $name {
             use super::*;
             type Tick = $tick;
+            /// A bit for each pack.
+            type Word = $word;
 
-            pub struct Core<'a> {
-                set: &'a Set,
-                tree: &'a Tree,
+            pub struct Core {
+                horizon: u64,
                 scale: Tick,
+                /// As many units are given to what never ends, so that ticks stay small.
                 most: u64,
                 now: Tick,
-                // of each node: what is left (as it rests) or the tick at which nothing is (as it runs), and its window's end
-                left: Vec<Tick>,
-                ends: Vec<u64>,
-                runs: Vec<bool>,
-                // of each pack: members with something left by their ends, ends of all members, who runs, when it is done, whether it runs
-                ready: Vec<BinaryHeap<Reverse<(u64, u32)>>>,
-                windows: Vec<BinaryHeap<Reverse<(u64, u32)>>>,
-                serves: Vec<Option<u32>>,
+                unit: u64,
+                unit_tick: Tick,
+                packs: Vec<PackState>,
+                /// The first pack of level 0.
+                low: usize,
+                // of each pack its next boundary, who runs, and when that is done (the greatest tick where nobody runs)
+                next: Vec<u64>,
+                serves: Vec<u32>,
                 dry: Vec<Tick>,
-                on: Vec<bool>,
-                stale: Vec<bool>,
-                calendar: BinaryHeap<Reverse<(u64, u32)>>,
-                // of each processor its pack; of each pack of level 0 its processor, now and last
-                placed: Vec<Option<u32>>,
-                held: Vec<Option<u32>>,
-                last: Vec<Option<u32>>,
-                pub shown: Vec<u32>,
+                least: Vec<Tick>,
+                // packs as bits: those to be looked at, those that run, and blocks in which somebody's end has changed
+                stale: Word,
+                runs: Word,
+                touched: u32,
+                // of each slot what is left as it rests, what a window of a task brings, its period, its primal, what it shows
+                left: Vec<Tick>,
+                due: Vec<Tick>,
+                period: Vec<u64>,
+                primal: Vec<u32>,
+                name: Vec<u16>,
+                // of each pack of level 0 its processor, now and last; of each processor what it shows; free processors as bits
+                held: Vec<u32>,
+                last: Vec<u32>,
+                free: u64,
+                pub shown: Vec<u16>,
                 pub changed: Vec<u32>,
             }
 
-            impl<'a> Core<'a> {
-                pub fn new(set: &'a Set, tree: &'a Tree) -> Core<'a> {
-                    let (n, p) = (tree.nodes.len(), tree.packs.len());
+            impl Core {
+                pub fn new(set: &Set, tree: &Tree) -> Core {
+                    let count = tree.packs.len();
+                    assert!(count <= Word::BITS as usize);
+                    let mut number = vec![0; count];
+                    let order: Vec<usize> = tree.levels.iter().rev().flat_map(|level| level.clone()).collect();
+                    for (new, &old) in order.iter().enumerate() {
+                        number[old] = new;
+                    }
+                    let low = count - tree.levels[0].len();
                     let mut core = Core {
-                        set,
-                        tree,
+                        horizon: set.horizon,
                         scale: tree.scale as Tick,
                         most: last_end(set),
                         now: 0,
-                        left: vec![0; n],
-                        ends: vec![0; n],
-                        runs: vec![false; n],
-                        ready: (0..p).map(|_| BinaryHeap::new()).collect(),
-                        windows: (0..p).map(|_| BinaryHeap::new()).collect(),
-                        serves: vec![None; p],
-                        dry: vec![Tick::MAX; p],
-                        on: (0..p).map(|i| tree.packs[i].rate == tree.scale).collect(),
-                        stale: vec![true; p],
-                        calendar: BinaryHeap::new(),
-                        placed: vec![None; set.processors],
-                        held: vec![None; tree.levels[0].len()],
-                        last: vec![None; tree.levels[0].len()],
-                        shown: vec![IDLE; set.processors],
+                        unit: 0,
+                        unit_tick: 0,
+                        packs: Vec::new(),
+                        low,
+                        next: vec![NEVER_ENDS; count],
+                        serves: vec![NOBODY; count],
+                        dry: vec![Tick::MAX; count],
+                        least: vec![Tick::MAX; count.div_ceil(BLOCK)],
+                        stale: if count == Word::BITS as usize { Word::MAX } else { (1 << count) - 1 },
+                        runs: Word::MAX,
+                        touched: (1 << count.div_ceil(BLOCK)) - 1,
+                        left: Vec::new(),
+                        due: Vec::new(),
+                        period: Vec::new(),
+                        primal: Vec::new(),
+                        name: Vec::new(),
+                        held: vec![NOBODY; count - low],
+                        last: vec![NOBODY; count - low],
+                        free: (1 << set.processors) - 1,
+                        shown: vec![UNSEEN; set.processors],
                         changed: Vec::new(),
                     };
-                    // A pack with a dual runs as its dual rests.
-                    for i in 0..p {
-                        core.on[i] = true;
+                    let mut duals = vec![None; count];
+                    for (p, &old) in order.iter().enumerate() {
+                        let members = &tree.packs[old].members;
+                        core.packs.push(PackState {
+                            base: core.left.len(),
+                            ready: Knockout::new(members.len()),
+                            windows: Knockout::new(members.len()),
+                            dual: None,
+                        });
+                        for (place, &x) in members.iter().enumerate() {
+                            let node = &tree.nodes[x as usize];
+                            let (period, primal, name) = match node.kind {
+                                Member::Task(i) => (set.tasks[i as usize].period, NOBODY, i as u16),
+                                Member::Idle => (0, NOBODY, IDLE),
+                                Member::Dual(q) => {
+                                    duals[number[q as usize]] = Some((p, place));
+                                    (1, number[q as usize] as u32, IDLE)
+                                }
+                            };
+                            core.left.push(0);
+                            core.due.push(node.rate as Tick * period as Tick);
+                            core.period.push(period);
+                            core.primal.push(primal);
+                            core.name.push(name);
+                            if let Member::Idle = node.kind {
+                                core.left[core.packs[p].base + place] = node.rate as Tick * core.most as Tick;
+                                core.packs[p].ready.set(place, NEVER_ENDS);
+                                core.packs[p].windows.set(place, NEVER_ENDS);
+                            } else {
+                                core.packs[p].windows.set(place, 0);
+                            }
+                        }
                     }
-                    for x in 0..n {
-                        core.turn(x as u32, 0);
+                    for (p, dual) in duals.into_iter().enumerate() {
+                        core.packs[p].dual = dual;
                     }
+                    core.next.fill(0);
+                    core.turn();
                     core
                 }
 
-                /// Node x begins a window at a unit. Members of lower levels have begun theirs.
-                fn turn(&mut self, x: u32, unit: u64) {
-                    let node = &self.tree.nodes[x as usize];
-                    let end = match node.kind {
-                        Member::Task(i) => {
-                            let period = self.set.tasks[i as usize].period;
-                            (unit / period + 1) * period
+                /// Gives members whose windows end at the present unit their next ones, level by level, and finds the next unit.
+                fn turn(&mut self) {
+                    let unit = self.unit;
+                    let mut hit: Word = 0;
+                    for p in self.low..self.packs.len() {
+                        hit |= ((self.next[p] == unit) as Word) << p;
+                    }
+                    self.stale |= hit;
+                    while hit != 0 {
+                        // a dual's pack has a lower number, so the greatest comes first
+                        let p = (Word::BITS - 1 - hit.leading_zeros()) as usize;
+                        hit ^= 1 << p;
+                        let pack = &mut self.packs[p];
+                        let mut first = pack.windows.first();
+                        while p >= self.low && first >> PLACE_BITS == unit {
+                            let place = place_of(first);
+                            let slot = pack.base + place;
+                            let end = unit + self.period[slot];
+                            self.left[slot] = self.due[slot];
+                            pack.ready.set(place, end);
+                            pack.windows.set(place, end);
+                            first = pack.windows.first();
                         }
-                        Member::Idle => NEVER_ENDS,
-                        Member::Dual(p) => {
-                            let windows = &mut self.windows[p as usize];
-                            while windows.peek().is_some_and(|w| w.0.0 <= unit) {
-                                windows.pop();
-                            }
-                            windows.peek().unwrap().0.0
+                        let end = first >> PLACE_BITS;
+                        self.next[p] = end;
+                        if let Some((upper, place)) = pack.dual {
+                            let above = &mut self.packs[upper];
+                            let slot = above.base + place;
+                            self.left[slot] = self.due[slot] * (end.min(self.most) - unit) as Tick;
+                            above.ready.set(place, end);
+                            above.windows.set(place, end);
+                            hit |= 1 << upper;
+                            self.stale |= 1 << upper;
                         }
-                    };
-                    let pack = node.pack as usize;
-                    self.ends[x as usize] = end;
-                    // What never ends within the rounds is given up to their end alone, so that ticks stay small.
-                    self.left[x as usize] = node.rate as Tick * (end.min(self.most) - unit) as Tick;
-                    self.ready[pack].push(Reverse((end, x)));
-                    self.windows[pack].push(Reverse((end, x)));
-                    self.calendar.push(Reverse((end, x)));
-                    self.stale[pack] = true;
+                    }
+                    self.unit = self.next[self.low..].iter().fold(self.horizon, |least, &next| least.min(next));
+                    self.unit_tick = self.unit as Tick * self.scale;
                 }
 
-                /// A member begins or stops; the primal of a dual does the other way.
-                fn set_runs(&mut self, x: u32, runs: bool) {
-                    let x = x as usize;
-                    if self.runs[x] == runs {
-                        return;
-                    }
-                    self.runs[x] = runs;
-                    self.left[x] = if runs { self.now + self.left[x] } else { self.left[x] - self.now };
-                    if let Member::Dual(p) = self.tree.nodes[x].kind {
-                        self.on[p as usize] = !runs;
-                        self.stale[p as usize] = true;
-                    }
-                }
-
-                fn select(&mut self, begun: &mut Vec<u32>) {
-                    for level in (0..self.tree.levels.len()).rev() {
-                        for p in self.tree.levels[level].clone() {
-                            if !self.stale[p] {
-                                continue;
-                            }
-                            self.stale[p] = false;
-                            let chosen = if self.on[p] { self.ready[p].peek().map(|r| r.0.1) } else { None };
-                            let was = self.serves[p];
-                            if was != chosen {
-                                if let Some(x) = was {
-                                    self.set_runs(x, false);
-                                }
-                                if let Some(x) = chosen {
-                                    self.set_runs(x, true);
-                                }
-                                self.serves[p] = chosen;
-                            }
-                            self.dry[p] = chosen.map_or(Tick::MAX, |x| self.left[x as usize]);
-                            if level == 0 {
-                                match (self.held[p], self.on[p]) {
-                                    (Some(q), false) => {
-                                        self.placed[q as usize] = None;
-                                        self.held[p] = None;
-                                    }
-                                    (None, true) => begun.push(p as u32),
-                                    (Some(q), true) if was != chosen => self.show(q),
-                                    _ => {}
-                                }
-                            }
-                        }
+                /// A dual begins or stops, and its primal does the other way.
+                #[inline(always)]
+                fn turn_primal(&mut self, slot: usize, runs: bool) {
+                    let primal = self.primal[slot];
+                    if primal != NOBODY {
+                        self.runs = self.runs & !(1 << primal) | ((runs as Word) << primal);
+                        self.stale |= 1 << primal;
                     }
                 }
 
-                fn show(&mut self, q: u32) {
-                    let pack = self.placed[q as usize].unwrap() as usize;
-                    let name = match self.serves[pack].map(|x| self.tree.nodes[x as usize].kind) {
-                        Some(Member::Task(i)) => i,
-                        _ => IDLE,
-                    };
+                /// Who runs, down the tree: the packs of level 0 that begin, as bits.
+                fn select(&mut self) -> u64 {
+                    let mut begun = 0;
+                    while self.stale != 0 {
+                        let p = self.stale.trailing_zeros() as usize;
+                        self.stale &= self.stale - 1;
+                        let runs = self.runs >> p & 1 == 1;
+                        let first = self.packs[p].ready.first();
+                        let chosen = if runs && first != NO_KEY { (self.packs[p].base + place_of(first)) as u32 } else { NOBODY };
+                        let was = self.serves[p];
+                        if was != chosen {
+                            self.serves[p] = chosen;
+                            self.touched |= 1 << (p / BLOCK);
+                            if was != NOBODY {
+                                self.left[was as usize] = self.dry[p] - self.now;
+                                self.turn_primal(was as usize, true);
+                            }
+                            self.dry[p] = Tick::MAX;
+                            if chosen != NOBODY {
+                                self.dry[p] = self.now + self.left[chosen as usize];
+                                self.turn_primal(chosen as usize, false);
+                            }
+                        }
+                        if p >= self.low {
+                            let q = self.held[p - self.low];
+                            match (q != NOBODY, runs) {
+                                (true, false) => {
+                                    self.free |= 1 << q;
+                                    self.held[p - self.low] = NOBODY;
+                                }
+                                (true, true) => self.show(p, q),
+                                (false, true) => begun |= 1 << (p - self.low),
+                                (false, false) => {}
+                            }
+                        }
+                    }
+                    begun
+                }
+
+                #[inline(always)]
+                fn show(&mut self, p: usize, q: u32) {
+                    let slot = self.serves[p];
+                    let name = if slot == NOBODY { IDLE } else { self.name[slot as usize] };
                     if self.shown[q as usize] != name {
                         self.shown[q as usize] = name;
                         self.changed.push(q);
                     }
                 }
 
-                fn put(&mut self, p: u32, q: u32) {
-                    self.placed[q as usize] = Some(p);
-                    self.held[p as usize] = Some(q);
-                    self.last[p as usize] = Some(q);
-                    self.show(q);
+                fn put(&mut self, i: usize, q: u32) {
+                    self.free &= !(1 << q);
+                    self.held[i] = q;
+                    self.last[i] = q;
+                    self.show(self.low + i, q);
                 }
 
-                fn place(&mut self, begun: &[u32]) {
-                    for &p in begun {
-                        if let Some(q) = self.last[p as usize] {
-                            if self.placed[q as usize].is_none() {
-                                self.put(p, q);
-                            }
+                /// Packs that begin go where they ran last, where that is free; then the others to the lowest free processors.
+                fn place(&mut self, begun: u64) {
+                    let (mut rest, mut others) = (begun, 0u64);
+                    while rest != 0 {
+                        let i = rest.trailing_zeros() as usize;
+                        rest &= rest - 1;
+                        let q = self.last[i];
+                        if q != NOBODY && self.free >> q & 1 == 1 {
+                            self.put(i, q);
+                        } else {
+                            others |= 1 << i;
                         }
                     }
-                    let mut free = 0;
-                    for &p in begun {
-                        if self.held[p as usize].is_none() {
-                            while self.placed[free].is_some() {
-                                free += 1;
-                            }
-                            self.put(p, free as u32);
-                        }
+                    while others != 0 {
+                        let i = others.trailing_zeros() as usize;
+                        others &= others - 1;
+                        self.put(i, self.free.trailing_zeros());
                     }
                 }
 
                 pub fn is_over(&self) -> bool {
-                    self.now >= self.set.horizon as Tick * self.scale
+                    self.now >= self.horizon as Tick * self.scale
                 }
 
-                /// Does a round: its start and its end. `changed` has the processors that show something else from the start on.
-                pub fn round(&mut self, begun: &mut Vec<u32>) -> (Tick, Tick) {
+                /// The tick at which the first of those who run is done.
+                fn first_dry(&mut self) -> Tick {
+                    while self.touched != 0 {
+                        let block = self.touched.trailing_zeros() as usize;
+                        self.touched &= self.touched - 1;
+                        let ends = &self.dry[block * BLOCK..self.dry.len().min((block + 1) * BLOCK)];
+                        self.least[block] = ends.iter().fold(Tick::MAX, |least, &end| least.min(end));
+                    }
+                    self.least.iter().fold(Tick::MAX, |least, &end| least.min(end))
+                }
+
+                /// Those who are done now stop.
+                fn dry_up(&mut self) {
+                    for block in 0..self.least.len() {
+                        if self.least[block] != self.now {
+                            continue;
+                        }
+                        self.touched |= 1 << block;
+                        for p in block * BLOCK..self.dry.len().min((block + 1) * BLOCK) {
+                            if self.dry[p] == self.now {
+                                let slot = self.serves[p] as usize;
+                                let pack = &mut self.packs[p];
+                                pack.ready.clear(slot - pack.base);
+                                self.left[slot] = 0;
+                                self.serves[p] = NOBODY;
+                                self.dry[p] = Tick::MAX;
+                                self.stale |= 1 << p;
+                                self.turn_primal(slot, true);
+                            }
+                        }
+                    }
+                }
+
+                /// Does a round, and tells its start. `changed` has the processors that show something else from there on.
+                pub fn round(&mut self) -> Tick {
                     self.changed.clear();
-                    begun.clear();
-                    self.select(begun);
+                    let begun = self.select();
                     self.place(begun);
                     let start = self.now;
-                    let unit = self.calendar.peek().map_or(NEVER_ENDS, |c| c.0.0).min(self.set.horizon);
-                    let end = self.dry.iter().fold(unit as Tick * self.scale, |least, &dry| least.min(dry));
-                    self.now = end;
-                    for p in 0..self.dry.len() {
-                        if self.dry[p] == end {
-                            let x = self.serves[p].take().unwrap();
-                            self.ready[p].pop();
-                            self.dry[p] = Tick::MAX;
-                            self.set_runs(x, false);
-                            self.stale[p] = true;
-                        }
+                    let dry = self.first_dry();
+                    self.now = dry.min(self.unit_tick);
+                    if dry == self.now {
+                        self.dry_up();
                     }
-                    if end == unit as Tick * self.scale && unit < self.set.horizon {
-                        // Nodes stand lower levels first, and so do equal ends in the calendar.
-                        while let Some(&Reverse((at, x))) = self.calendar.peek() {
-                            if at != unit {
-                                break;
-                            }
-                            self.calendar.pop();
-                            let pack = self.tree.nodes[x as usize].pack as usize;
-                            while self.windows[pack].peek().is_some_and(|w| w.0.0 <= unit) {
-                                self.windows[pack].pop();
-                            }
-                            self.turn(x, unit);
-                        }
+                    if self.now == self.unit_tick && self.unit < self.horizon {
+                        self.turn();
                     }
-                    (start, end)
+                    start
+                }
+
+                pub fn now(&self) -> Tick {
+                    self.now
                 }
             }
 
-            /// Merged rows of each processor: starts and names.
-            pub fn trace(set: &Set, tree: &Tree) -> Option<(Vec<Vec<(Tick, u32)>>, Tick)> {
+            /// The merged rows of a processor: where each begins, and what it shows.
+            #[derive(Default)]
+            pub struct Lane {
+                starts: Vec<Tick>,
+                names: Vec<u16>,
+            }
+
+            impl Lane {
+                fn push(&mut self, start: Tick, name: u16) {
+                    self.starts.push(start);
+                    self.names.push(name);
+                }
+            }
+
+            pub fn trace(set: &Set, tree: &Tree) -> Option<Vec<Lane>> {
                 let mut core = Core::new(set, tree);
-                let mut lanes: Vec<Vec<(Tick, u32)>> = vec![Vec::new(); set.processors];
-                let mut begun = Vec::new();
+                let mut lanes: Vec<Lane> = (0..set.processors).map(|_| Lane::default()).collect();
                 let mut rounds = 0u64;
                 while !core.is_over() {
-                    if (rounds + 1) * set.processors as u64 > LIMIT {
+                    rounds += 1;
+                    if rounds * set.processors as u64 > LIMIT {
                         return None;
                     }
-                    let (start, _) = core.round(&mut begun);
-                    if rounds == 0 {
-                        for q in 0..set.processors {
-                            lanes[q].push((start, core.shown[q]));
-                        }
-                    } else {
-                        for &q in &core.changed {
-                            let lane = &mut lanes[q as usize];
-                            let shown = core.shown[q as usize];
-                            if lane.last().unwrap().0 == start {
-                                lane.pop();
-                            }
-                            if lane.last().map(|r| r.1) != Some(shown) {
-                                lane.push((start, shown));
-                            }
-                        }
+                    let start = core.round();
+                    for &q in &core.changed {
+                        lanes[q as usize].push(start, core.shown[q as usize]);
                     }
-                    rounds += 1;
                 }
-                Some((lanes, set.horizon as Tick * tree.scale as Tick))
+                Some(lanes)
             }
 
             /// All rounds: the name on each processor, and each round's end.
-            pub fn table(set: &Set, tree: &Tree) -> Option<(Vec<u32>, Vec<Tick>)> {
+            pub fn table(set: &Set, tree: &Tree) -> Option<(Vec<u16>, Vec<Tick>)> {
                 let mut core = Core::new(set, tree);
-                let (mut names, mut ends, mut begun) = (Vec::new(), Vec::new(), Vec::new());
+                let (mut names, mut ends) = (Vec::new(), Vec::new());
                 while !core.is_over() {
                     if (ends.len() as u64 + 1) * set.processors as u64 > LIMIT {
                         return None;
                     }
-                    let (_, end) = core.round(&mut begun);
+                    core.round();
                     names.extend_from_slice(&core.shown);
-                    ends.push(end);
+                    ends.push(core.now());
                 }
                 Some((names, ends))
             }
 
-            fn number(out: &mut Vec<u8>, mut n: Tick) {
-                let mut digits = [0u8; 40];
-                let mut at = 40;
-                loop {
-                    at -= 1;
-                    digits[at] = b'0' + (n % 10) as u8;
-                    n /= 10;
-                    if n == 0 {
-                        break;
-                    }
-                }
-                out.extend_from_slice(&digits[at..]);
-            }
-
-            pub fn write(set: &Set, tree: &Tree, lanes: &[Vec<(Tick, u32)>], end: Tick) {
-                let stdout = std::io::stdout();
-                let mut sink = stdout.lock();
-                let mut out = Vec::with_capacity(80_000);
-                write!(out, "run-trace 1\nprocessors {}\nhorizon {}\nscale {}\ntasks {}\n", set.processors, set.horizon, tree.scale, set.tasks.len()).unwrap();
+            pub fn write(set: &Set, tree: &Tree, lanes: &[Lane], end: Tick) {
+                let mut page = Page::new();
+                page.add(&format!(
+                    "run-trace 1\nprocessors {}\nhorizon {}\nscale {}\ntasks {}\n",
+                    set.processors,
+                    set.horizon,
+                    tree.scale,
+                    set.tasks.len()
+                ));
                 for t in &set.tasks {
-                    writeln!(out, "task {} {} {}", t.name, t.work, t.period).unwrap();
+                    page.add(&format!("task {} {} {}\n", t.name, t.work, t.period));
                 }
-                let mut totals: Vec<Tick> = vec![0; set.tasks.len()];
-                let mut count = 0usize;
+                let blocks = name_blocks(set.tasks.iter().map(|t| t.name.as_str()));
+                let mut totals: Vec<Tick> = vec![0; blocks.len()];
+                let mut count = 0;
                 for (q, lane) in lanes.iter().enumerate() {
-                    for (i, &(start, name)) in lane.iter().enumerate() {
-                        let stop = lane.get(i + 1).map_or(end, |r| r.0);
-                        out.extend_from_slice(b"row ");
-                        number(&mut out, q as Tick);
-                        out.push(b' ');
-                        number(&mut out, start);
-                        out.push(b' ');
-                        number(&mut out, stop);
-                        out.push(b' ');
-                        if name == IDLE {
-                            out.push(b'-');
-                        } else {
-                            out.extend_from_slice(set.tasks[name as usize].name.as_bytes());
-                            totals[name as usize] += stop - start;
-                        }
-                        out.push(b'\n');
-                        count += 1;
-                        if out.len() > 65_536 {
-                            sink.write_all(&out).unwrap();
-                            out.clear();
-                        }
+                    let words = NameBlock::of(&format!("row {q} "));
+                    // digits of a start and of an end, by turns
+                    let mut digits = [Digits::zero(), Digits::zero()];
+                    let (mut start, mut from) = (0, 0);
+                    let stops = lane.starts.iter().skip(1).copied().chain([end]);
+                    for (&name, stop) in lane.names.iter().zip(stops) {
+                        let name = (name as usize).min(blocks.len() - 1);
+                        totals[name] += stop - start;
+                        digits[1 - from].$set(stop as _);
+                        page.add_row(&words, &digits[from], &digits[1 - from], &blocks[name]);
+                        from = 1 - from;
+                        start = stop;
                     }
+                    count += lane.names.len();
                 }
                 for (t, total) in set.tasks.iter().zip(&totals) {
-                    writeln!(out, "total {} {}", t.name, total).unwrap();
+                    page.add(&format!("total {} {}\n", t.name, total));
                 }
-                writeln!(out, "rows {}", count).unwrap();
-                sink.write_all(&out).unwrap();
+                page.add(&format!("rows {count}\n"));
+                page.flush();
             }
 
             pub fn run_trace(set: &Set, tree: &Tree) -> i32 {
-                let Some((lanes, end)) = trace(set, tree) else { return 9 };
-                write(set, tree, &lanes, end);
+                let Some(lanes) = trace(set, tree) else { return 9 };
+                write(set, tree, &lanes, set.horizon as Tick * tree.scale as Tick);
                 0
             }
 
             pub fn run_exec(set: &Set, tree: &Tree, window: usize) -> i32 {
                 let Some((names, ends)) = table(set, tree) else { return 9 };
                 let lists = execute(set.processors, window, &names, ends.len());
-                let mut lanes: Vec<Vec<(Tick, u32)>> = vec![Vec::new(); set.processors];
-                for (q, list) in lists.iter().enumerate() {
+                let mut lanes = Vec::new();
+                for list in lists {
+                    let mut lane = Lane::default();
                     let mut start = 0;
-                    for (k, &name) in list.iter().enumerate() {
-                        if lanes[q].last().map(|r| r.1) != Some(name) {
-                            lanes[q].push((start, name));
+                    for (&name, &end) in list.iter().zip(&ends) {
+                        if lane.names.last() != Some(&name) {
+                            lane.push(start, name);
                         }
-                        start = ends[k];
+                        start = end;
                     }
+                    lanes.push(lane);
                 }
                 write(set, tree, &lanes, *ends.last().unwrap());
                 0
@@ -484,35 +617,90 @@ macro_rules! core {
     };
 }
 
-core!(narrow, u64);
-core!(wide, u128);
+core!(narrow, u64, set_short, u64);
+core!(narrow_deep, u64, set_short, u128);
+core!(wide, u128, set_wide, u64);
+core!(wide_deep, u128, set_wide, u128);
 
-/// What is posted, by lane, and of each row the last earlier row of its task on another lane.
+/// A row of the same task on another processor, which must be posted before: the processor, and how many rows are posted there then.
+#[derive(Clone, Copy)]
+struct Link {
+    lane: u32,
+    posted: u32,
+}
+
+/// What is posted, by lane, the least of it, and who waits: lanes as bits, those at their window's end, and of each lane those that wait for its rows.
 struct Book {
-    posted: Vec<usize>,
-    least: usize,
+    posted: Vec<u32>,
+    least: u32,
+    ahead: u64,
+    behind: Vec<u64>,
+    /// How many rows each of them waits for.
+    wanted: Vec<u32>,
+}
+
+impl Book {
+    /// Posts a lane's row, and tells which lanes may go on: those whose link is posted, and, where the slowest has come as far, those that stood at
+    /// their window's end, each with a whole window before it.
+    fn post(&mut self, lane: usize) -> u64 {
+        let before = self.posted[lane];
+        self.posted[lane] = before + 1;
+        let mut woken = 0;
+        let mut waiting = self.behind[lane];
+        while waiting != 0 {
+            let q = waiting.trailing_zeros() as usize;
+            waiting &= waiting - 1;
+            woken |= ((self.wanted[q] <= before + 1) as u64) << q;
+        }
+        self.behind[lane] &= !woken;
+        if self.least == before {
+            self.least = *self.posted.iter().min().unwrap();
+            if self.least > before {
+                let mut waiting = self.ahead;
+                while waiting != 0 {
+                    let q = waiting.trailing_zeros() as usize;
+                    waiting &= waiting - 1;
+                    if self.posted[q] == self.least {
+                        self.ahead &= !(1 << q);
+                        woken |= 1 << q;
+                    }
+                }
+            }
+        }
+        woken
+    }
+}
+
+/// The links of all rows, round by round: the last earlier row of the task on another processor.
+fn links_of(lanes: usize, names: &[u16]) -> Vec<Link> {
+    let none = Link { lane: 0, posted: 0 };
+    let most = names.iter().filter(|&&name| name != IDLE).max().map_or(0, |&name| name as usize + 1);
+    // of each task its last row, and the last one on another processor than that
+    let mut seen = vec![(none, none); most];
+    let mut links = Vec::with_capacity(names.len());
+    for (k, round) in names.chunks(lanes).enumerate() {
+        for (q, &name) in round.iter().enumerate() {
+            if name == IDLE {
+                links.push(none);
+                continue;
+            }
+            let (last, other) = &mut seen[name as usize];
+            links.push(if last.lane == q as u32 { *other } else { *last });
+            if last.lane != q as u32 {
+                *other = *last;
+            }
+            *last = Link { lane: q as u32, posted: k as u32 + 1 };
+        }
+    }
+    links
 }
 
 /// A worker for each processor takes rows in order, none more than a window ahead of the slowest, and each after the earlier rows of
 /// its task: what each of them ran.
-fn execute(lanes: usize, window: usize, names: &[u32], rounds: usize) -> Vec<Vec<u32>> {
-    let mut links: Vec<(u32, u32)> = vec![(0, 0); names.len()];
-    let mut seen: std::collections::HashMap<u32, VecDeque<(u32, u32)>> = std::collections::HashMap::new();
-    for k in 0..rounds {
-        for q in 0..lanes {
-            let name = names[k * lanes + q];
-            if name == IDLE {
-                continue;
-            }
-            let rows = seen.entry(name).or_default();
-            if let Some(&(lane, round)) = rows.iter().rev().find(|r| r.0 != q as u32) {
-                links[k * lanes + q] = (lane, round + 1);
-            }
-            rows.retain(|r| r.0 != q as u32);
-            rows.push_back((q as u32, k as u32));
-        }
-    }
-    let book = Mutex::new(Book { posted: vec![0; lanes], least: 0 });
+fn execute(lanes: usize, window: usize, names: &[u16], rounds: usize) -> Vec<Vec<u16>> {
+    let window = window.min(rounds.max(1)) as u32;
+    let links = links_of(lanes, names);
+    let book = Mutex::new(Book { posted: vec![0; lanes], least: 0, ahead: 0, behind: vec![0; lanes], wanted: vec![0; lanes] });
     let beds: Vec<Condvar> = (0..lanes).map(|_| Condvar::new()).collect();
     std::thread::scope(|scope| {
         let workers: Vec<_> = (0..lanes)
@@ -520,26 +708,31 @@ fn execute(lanes: usize, window: usize, names: &[u32], rounds: usize) -> Vec<Vec
                 let (book, beds, links) = (&book, &beds, &links);
                 scope.spawn(move || {
                     let mut ran = Vec::with_capacity(rounds);
+                    let mut held = book.lock().unwrap();
                     for k in 0..rounds {
-                        {
-                            let mut held = book.lock().unwrap();
-                            let (lane, wanted) = links[k * lanes + q];
-                            while k >= held.least + window || held.posted[lane as usize] < wanted as usize {
-                                held = beds[q].wait(held).unwrap();
+                        let link = links[k * lanes + q];
+                        loop {
+                            if k as u32 >= held.least + window {
+                                held.ahead |= 1 << q;
+                            } else if held.posted[link.lane as usize] < link.posted {
+                                held.behind[link.lane as usize] |= 1 << q;
+                                held.wanted[q] = link.posted;
+                            } else {
+                                break;
                             }
-                        }
-                        ran.push(names[k * lanes + q]);
-                        let mut held = book.lock().unwrap();
-                        held.posted[q] = k + 1;
-                        if held.least == k {
-                            let least = *held.posted.iter().min().unwrap();
-                            if least > held.least {
-                                held.least = least;
-                            }
+                            held = beds[q].wait(held).unwrap();
                         }
                         drop(held);
-                        for bed in beds {
-                            bed.notify_one();
+                        ran.push(names[k * lanes + q]);
+                        held = book.lock().unwrap();
+                        let mut woken = held.post(q);
+                        if woken != 0 {
+                            drop(held);
+                            while woken != 0 {
+                                beds[woken.trailing_zeros() as usize].notify_one();
+                                woken &= woken - 1;
+                            }
+                            held = book.lock().unwrap();
                         }
                     }
                     ran
@@ -555,14 +748,17 @@ fn main() {
     let set = read_set();
     let tree = compile(&set);
     let fits = (last_end(&set) as u128).checked_mul(tree.scale).is_some_and(|t| t < 1 << 64);
-    let status = match words.first().map(String::as_str) {
-        Some("exec") => {
-            let window = words.get(1).and_then(|w| w.parse().ok()).unwrap_or(32);
-            if fits { narrow::run_exec(&set, &tree, window) } else { wide::run_exec(&set, &tree, window) }
-        }
-        _ => {
-            if fits { narrow::run_trace(&set, &tree) } else { wide::run_trace(&set, &tree) }
-        }
+    let window = words.last().and_then(|w| w.parse().ok()).unwrap_or(32);
+    let executes = words.first().is_some_and(|word| word == "exec");
+    let status = match (executes, fits, tree.packs.len() <= 64) {
+        (false, true, true) => narrow::run_trace(&set, &tree),
+        (false, true, false) => narrow_deep::run_trace(&set, &tree),
+        (false, false, true) => wide::run_trace(&set, &tree),
+        (false, false, false) => wide_deep::run_trace(&set, &tree),
+        (true, true, true) => narrow::run_exec(&set, &tree, window),
+        (true, true, false) => narrow_deep::run_exec(&set, &tree, window),
+        (true, false, true) => wide::run_exec(&set, &tree, window),
+        (true, false, false) => wide_deep::run_exec(&set, &tree, window),
     };
     std::process::exit(status);
 }
