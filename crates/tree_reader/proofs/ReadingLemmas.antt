@@ -13,16 +13,15 @@ use Rattle.trace_check.specs.declared.faults.TraceFault.{TraceFault}
 use Rattle.trace_check.specs.declared.faults.TraceFault.TheVariants as trace
 use Rattle.trace_check.specs.declared.head_lines.Head.{Head}
 use Rattle.trace_check.specs.Steps.{and_then, step, next_line, number_after, number_within}
-use Rattle.trace_check.specs.Faults as traces
 use Rattle.trace_check.specs.HeadLines.{capped}
 use Rattle.trace_check.specs.TaskLines.{tasks_from, is_scale}
 use Rattle.trace_check.specs.Reading.{set_of}
 use Rattle.trace_check.proofs.ReadingLemmas.{scale_of_head, head_same}
 use Rattle.trace_check.proofs.ScaleTest.{is_scale_to}
 use Rattle.tree_check.specs.Written.{Pack, Written, IsWritten, IsWrittenLevel, level_at, end_line}
-use Rattle.tree_reader.specs.declared.faults.TreeFault.{TreeFault}
-use Rattle.tree_reader.specs.declared.faults.TreeFault.TheVariants.{BadLine, NoMemory}
-use Rattle.tree_reader.specs.Faults.{NamesBadLine, same_fault}
+use Rattle.trace_check.specs.declared.faults.TraceFault.{TraceFault}
+use Rattle.trace_check.specs.declared.faults.TraceFault.TheVariants.{BadLine, NoMemory}
+use Rattle.trace_check.specs.Faults.{NamesBadLine}
 use Rattle.tree_reader.specs.Packs.{pack_of, second_number}
 use Rattle.tree_reader.specs.Reading.{tree_head, idles_from, packs_from, level_from, with_pack, last_line, is_count, ended, levels_from, body, reading, lines_so_far}
 
@@ -108,7 +107,7 @@ levels_more scale at levels lines rest after line packs e off f =
     ∙ ap (λ r. and_then r (λ (p : List Pack × List (List ℕ)). levels_from scale (at + 1 + length p.0) 0 (levels ++ p.0 ∷ []) p.1)) f
     ∙ ap (λ k. levels_from scale k 0 (levels ++ packs ∷ []) after) z
 
-pub levels_stop : (scale at : ℕ) (levels : List (List Pack)) (lines rest : List (List ℕ)) (line : List ℕ) (fault : TreeFault) → lines ≡ line ∷ rest → is_some (after_word (codes "levels") line) ≡ false
+pub levels_stop : (scale at : ℕ) (levels : List (List Pack)) (lines rest : List (List ℕ)) (line : List ℕ) (fault : TraceFault) → lines ≡ line ∷ rest → is_some (after_word (codes "levels") line) ≡ false
     → NamesBadLine (level_from scale (length levels) at line rest) fault → NamesBadLine (levels_from scale at 0 levels lines) fault
 levels_stop scale at levels lines rest line (BadLine bad) e off s =
     ap (levels_from scale at 0 levels) e ∙ levels_level scale at levels line rest off
@@ -120,7 +119,7 @@ pub levels_done : (scale at : ℕ) (levels : List (List Pack)) (lines rest : Lis
 levels_done scale at levels lines rest line e on = ap (levels_from scale at 0 levels) e ∙ cond-true (is_some (after_word (codes "levels") line)) _ _ on
 
 -- what stops a reading stops one that it equals
-pub stops_same : {A : Type 0} (r s : Result A ℕ) (fault : TreeFault) → r ≡ s → NamesBadLine s fault → NamesBadLine r fault
+pub stops_same : {A : Type 0} (r s : Result A ℕ) (fault : TraceFault) → r ≡ s → NamesBadLine s fault → NamesBadLine r fault
 stops_same r s (BadLine line) e f = e ∙ f
 stops_same r s NoMemory e f = tt
 
@@ -157,9 +156,9 @@ pub tasks_same : (head h : Head) (lines : List (List ℕ)) → head ≡ capped h
 tasks_same head h lines c v = ap (λ w. tasks_from w head.tasks [] lines) v ∙ ap (λ (w : Head). tasks_from One w.tasks [] lines) c
 
 pub stops_in_tasks : (text : List ℕ) (head h : Head) (lines : List (List ℕ)) (fault : TraceFault) → tree_head (lines_of text) ≡ Ok (h, lines) → head ≡ capped h → head.version ≡ One
-    → traces.NamesBadLine (tasks_from head.version head.tasks [] lines) fault → NamesBadLine (reading text) (same_fault fault)
-stops_in_tasks text head h lines (trace.BadLine line) e c v s = reading_tasks text h lines e ∙ ap (λ r. and_then r (judged h)) (sym (tasks_same head h lines c v) ∙ s)
-stops_in_tasks text head h lines trace.NoMemory e c v s = tt
+    → NamesBadLine (tasks_from head.version head.tasks [] lines) fault → NamesBadLine (reading text) fault
+stops_in_tasks text head h lines (BadLine line) e c v s = reading_tasks text h lines e ∙ ap (λ r. and_then r (judged h)) (sym (tasks_same head h lines c v) ∙ s)
+stops_in_tasks text head h lines NoMemory e c v s = tt
 
 pub reading_scale : (text : List ℕ) (head h : Head) (lines rest : List (List ℕ)) (tasks : List Task) → tree_head (lines_of text) ≡ Ok (h, lines) → head ≡ capped h → head.version ≡ One
     → tasks_from head.version head.tasks [] lines ≡ Ok (tasks, rest) → reading text ≡ judged h (tasks, rest)
@@ -249,16 +248,16 @@ body_levels set scale at first n start lines rest later idles r a e b f s g =
     body_idles set scale at first n lines rest (Ok (idles, later)) a e b f
     ∙ ap (λ x. and_then x (λ levels. Ok (record { set = set; scale = scale; idles = idles; levels = levels }))) (sym (ap (λ k. levels_from scale k 0 [] later) s) ∙ g)
 
-pub stops_then : {A B : Type 0} (whole : Result B ℕ) (r : Result A ℕ) (next : A → Result B ℕ) (fault : TreeFault) → whole ≡ and_then r next → NamesBadLine r fault → NamesBadLine whole fault
+pub stops_then : {A B : Type 0} (whole : Result B ℕ) (r : Result A ℕ) (next : A → Result B ℕ) (fault : TraceFault) → whole ≡ and_then r next → NamesBadLine r fault → NamesBadLine whole fault
 stops_then whole r next (BadLine line) e s = e ∙ ap (λ x. and_then x next) s
 stops_then whole r next NoMemory e s = tt
 
 -- an answer of what a reading equals is one of the reading
-pub ok_same : {A : Type 0} (r : Result A TreeFault) (x y : Result A ℕ) → x ≡ y → IfOk r (λ t. y ≡ Ok t) → IfOk r (λ t. x ≡ Ok t)
+pub ok_same : {A : Type 0} (r : Result A TraceFault) (x y : Result A ℕ) → x ≡ y → IfOk r (λ t. y ≡ Ok t) → IfOk r (λ t. x ≡ Ok t)
 ok_same (Ok t) x y e h = e ∙ h
 ok_same (Err f) x y e h = tt
 
-pub err_same : {A : Type 0} (r : Result A TreeFault) (x y : Result A ℕ) → x ≡ y → IfErr r (NamesBadLine y) → IfErr r (NamesBadLine x)
+pub err_same : {A : Type 0} (r : Result A TraceFault) (x y : Result A ℕ) → x ≡ y → IfErr r (NamesBadLine y) → IfErr r (NamesBadLine x)
 err_same (Ok t) x y e h = tt
 err_same (Err f) x y e h = stops_same x y f e h
 

@@ -1,7 +1,5 @@
 -- Which line a fault names.
 use Rattle.std.specs.Prelude.{ℕ, ◌≡◌, Result, Err}
-use Rattle.trace_check.specs.declared.faults.TraceFault.{TraceFault}
-use Rattle.trace_check.specs.declared.faults.TraceFault.TheVariants as trace
 use Rattle.tree_reader.specs.declared.faults.TreeFault.{TreeFault}
 use Rattle.tree_reader.specs.declared.faults.TreeFault.TheVariants.{BadLine, NoMemory}
 
@@ -9,8 +7,3 @@ use Rattle.tree_reader.specs.declared.faults.TreeFault.TheVariants.{BadLine, NoM
 abbrev pub NamesBadLine : {A : Type 0} → Result A ℕ → TreeFault → Type 0
 NamesBadLine reading (BadLine line) = reading ≡ Err line
 NamesBadLine reading NoMemory = Unit {0}
-
--- a fault of the task lines, which both texts have
-abbrev pub same_fault : TraceFault → TreeFault
-same_fault (trace.BadLine line) = BadLine line
-same_fault trace.NoMemory = NoMemory

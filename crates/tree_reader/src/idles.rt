@@ -3,11 +3,11 @@ ghost use Rattle.std.specs.Prelude.{◌≡◌, ◌≤◌, ◌^◌, [], length, O
 ghost use Rattle.std.specs.List.{AllByRecursion};
 ghost use Rattle.text_words.specs.Words.{lines_of};
 ghost use Rattle.tree_reader.specs.Reading.{idles_from};
-ghost use Rattle.tree_reader.specs.Faults.{NamesBadLine};
+ghost use Rattle.trace_check.specs.Faults.{NamesBadLine};
 
-use crate::faults::TreeFault;
 use crate::packs::next_second;
 use std::alloc::Global;
+use trace_check::TraceFault;
 
 /// Reads the rates of so many idle leaves, the first of which stands on line `first`, and gives the lines that follow.
 pub(crate) fn read_idles<'a>(
@@ -16,7 +16,7 @@ pub(crate) fn read_idles<'a>(
     count: u32,
     first: u64,
     text: &'a [u8],
-) -> Result<(Vec<u128>, &'a [u8]), TreeFault>
+) -> Result<(Vec<u128>, &'a [u8]), TraceFault>
     requires scale { scale ≤ 2 ^ 94 }
     requires count { count ≤ 1024 }
     requires first { first ≤ 300 }

@@ -6,13 +6,12 @@ ghost use Rattle.text_words.specs.Words.{lines_of, after_word};
 ghost use Rattle.trace_check.specs.Steps.{number_after};
 ghost use Rattle.tree_check.specs.Written.{IsWrittenPack, IsWrittenLevel};
 ghost use Rattle.tree_reader.specs.Reading.{packs_from, level_from, levels_from, ended, is_count, lines_so_far};
-ghost use Rattle.tree_reader.specs.Faults.{NamesBadLine};
+ghost use Rattle.trace_check.specs.Faults.{NamesBadLine};
 
-use crate::faults::TreeFault;
 use crate::packs::{level_size, read_pack};
 use std::alloc::Global;
 use text_words::{after_word, first_line};
-use trace_check::number_after;
+use trace_check::{TraceFault, number_after};
 use tree_check::{Level, Pack};
 
 // This many packs of a level, the first of which stands on line `first`, and the lines that follow.
@@ -23,7 +22,7 @@ fn read_packs<'a>(
     count: u32,
     first: u64,
     text: &'a [u8],
-) -> Result<(Vec<Pack>, &'a [u8]), TreeFault>
+) -> Result<(Vec<Pack>, &'a [u8]), TraceFault>
     requires scale { scale ≤ 2 ^ 94 }
     requires first { first + length text.now < 2 ^ 64 }
     ensures read { IfOk result (λ p. packs_from scale level first count [] (lines_of text.now) ≡ Ok (p.0.items, lines_of p.1.now)) }
@@ -37,12 +36,12 @@ fn read_packs<'a>(
     for i in 0..count {
         let at = first + u64::from(i);
         if rest.is_empty() {
-            return Err(TreeFault::BadLine { line: at });
+            return Err(TraceFault::BadLine { line: at });
         }
         let (line, later) = first_line(rest);
         let pack = match read_pack(alloc, scale, level, line)? {
             Some(pack) => pack,
-            None => return Err(TreeFault::BadLine { line: at }),
+            None => return Err(TraceFault::BadLine { line: at }),
         };
         packs.push(pack)?;
         rest = later;
@@ -58,7 +57,7 @@ fn read_level<'a>(
     at: u64,
     line: &[u8],
     text: &'a [u8],
-) -> Result<(Vec<Pack>, &'a [u8]), TreeFault>
+) -> Result<(Vec<Pack>, &'a [u8]), TraceFault>
     requires scale { scale ≤ 2 ^ 94 }
     requires at { at + 1 + length text.now < 2 ^ 64 }
     ensures read { IfOk result (λ p. level_from scale level at line.now (lines_of text.now) ≡ Ok (p.0.items, lines_of p.1.now)) }
@@ -68,7 +67,7 @@ fn read_level<'a>(
 {
     match level_size(level, line) {
         Some(size) => read_packs(alloc, scale, level, size, at + 1, text),
-        None => Err(TreeFault::BadLine { line: at }),
+        None => Err(TraceFault::BadLine { line: at }),
     }
 }
 
@@ -90,17 +89,17 @@ fn begins_end(line: &[u8]) -> bool
 }
 
 // Whether the line names the number of these levels, and nothing follows it.
-fn end_of(levels: &[Level], at: u64, line: &[u8], rest: &[u8]) -> Result<(), TreeFault>
+fn end_of(levels: &[Level], at: u64, line: &[u8], rest: &[u8]) -> Result<(), TraceFault>
     requires { at + 1 < 2 ^ 64 }
     ensures read { IfOk result (λ done. ended at levels.now (number_after (codes "levels") line.now) (lines_of rest.now) ≡ Ok levels.now) }
     ensures some { IfOk result (λ done. 0 < length levels.now) }
     ensures fault { IfErr result (NamesBadLine (ended at levels.now (number_after (codes "levels") line.now) (lines_of rest.now))) }
 {
     if !is_count(levels, number_after(b"levels", line)) {
-        return Err(TreeFault::BadLine { line: at });
+        return Err(TraceFault::BadLine { line: at });
     }
     if !rest.is_empty() {
-        return Err(TreeFault::BadLine { line: at + 1 });
+        return Err(TraceFault::BadLine { line: at + 1 });
     }
     Ok(())
 }
@@ -111,7 +110,7 @@ pub(crate) fn read_levels(
     scale: u128,
     first: u64,
     text: &[u8],
-) -> Result<Vec<Level>, TreeFault>
+) -> Result<Vec<Level>, TraceFault>
     requires scale { scale ≤ 2 ^ 94 }
     requires first { first + length text.now + 1 < 2 ^ 64 }
     ensures read { IfOk result (λ levels. levels_from scale first 0 [] (lines_of text.now) ≡ Ok levels.items) }
@@ -139,5 +138,5 @@ pub(crate) fn read_levels(
         levels.push(Level::new(packs))?;
         rest = after;
     }
-    Err(TreeFault::BadLine { line: at })
+    Err(TraceFault::BadLine { line: at })
 }

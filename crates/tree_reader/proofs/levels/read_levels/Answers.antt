@@ -3,7 +3,7 @@ use Rattle.std.proofs.Common.{◌≡◌, ◌+◌, ◌∷◌, ◌++◌, ◌<◌, 
 use Rattle.std.proofs.lemmas.List.Sums.{sum_by_push}
 use Rattle.text_words.specs.Words.{lines_of}
 use Rattle.tree_check.specs.Written.{Pack, IsWrittenLevel}
-use Rattle.tree_reader.specs.Faults.{NamesBadLine}
+use Rattle.trace_check.specs.Faults.{NamesBadLine}
 use Rattle.tree_reader.specs.Reading.{level_from, levels_from, lines_so_far}
 use Rattle.tree_reader.proofs.ReadingLemmas.{levels_more, levels_stop, stops_same, lawful_more}
 use Rattle.tree_reader.proofs.levels.read_levels.Goals as goal

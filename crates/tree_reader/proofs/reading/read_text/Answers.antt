@@ -4,7 +4,7 @@ use Rattle.text_words.specs.Words.{lines_of}
 use Rattle.trace_check.proofs.ReadingLemmas.{set_is}
 use Rattle.tree_reader.specs.Reading.{reading, body}
 use Rattle.tree_reader.proofs.ReadingLemmas.{stops_in_head, stops_in_tasks, stops_at_scale, reading_body, ok_same, err_same}
-use Rattle.tree_reader.proofs.reading.read_tree.Goals as goal
+use Rattle.tree_reader.proofs.reading.read_text.Goals as goal
 
 pub returns-in_err-head-clause-fault : goal.returns-in_err-head-clause-fault
 returns-in_err-head-clause-fault c =
