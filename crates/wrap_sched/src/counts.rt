@@ -27,17 +27,6 @@ pub enum WrapFault {
     NoMemory,
 }
 
-impl From<NoMemory> for WrapFault {
-    ghost use Rattle.std.specs.Prelude.{◌≡◌};
-    ghost use Rattle.wrap_sched.specs.declared.counts.WrapFault.TheVariants as fault;
-
-    ghost from_gives = { λ _ f. f ≡ fault.NoMemory };
-
-    fn from(_: NoMemory) -> Self {
-        WrapFault::NoMemory
-    }
-}
-
 // The rounds of all slices, where each slice has that many, and they are at most `most`.
 fn count_slices(set: &TaskSet, each: u128, most: u64) -> Option<u64>
     ensures count { IfSome result (λ count. (count ≡ each * length (points set.now)) × (count ≤ most)) }
@@ -64,7 +53,10 @@ pub fn wrap_rounds(alloc: Global, set: &TaskSet, scale: u128) -> Result<u64, Wra
     ensures count { IfOk result (λ count. (count ≡ wrapped_rounds scale set.now) × (count * set.now.processors ≤ row_limit)) }
     ensures fault { IfErr result (λ fault. IsWrapFault scale set.now fault) }
 {
-    let rates = rates_of(alloc, set, scale)?;
+    let rates = match rates_of(alloc, set, scale) {
+        Ok(rates) => rates,
+        Err(NoMemory) => return Err(WrapFault::NoMemory),
+    };
     let each = count_cuts(&rates, scale);
     let processors = u64::from(set.processors());
     let most = ROW_LIMIT / processors;

@@ -51,7 +51,7 @@ pub(crate) fn write_rows(
     let units = u128::from(y - x);
     let end = start + units * round.end;
     let begin = start + units * round.begin;
-    let holders = round.holders();
+    let holders = round.holders.as_slice();
     for p in 0..rows.len() {
         rows[p] = Row {
             processor: p as u32,
