@@ -1,12 +1,13 @@
 -- Rows that stand in order: their entries are sorted as they are, and no two of one processor overlap.
-use Rattle.std.proofs.Common.{zero, suc, add-one, append_assoc, append-nil, ℕ, ◌+◌, ◌<◌, ◌≤◌, ◌≡◌, inl, inr, true, false, List, [], ◌∷◌, ◌++◌, length, take, get_or, Option, Some, None, ◌&&◌, eqb, ltb, leb, sym, refl, ap, ◌∙◌, subst, arith}
+use Rattle.std.proofs.Common.{zero, suc, add-one, append_assoc, append-nil, ℕ, ◌+◌, ◌<◌, ◌≤◌, ◌≡◌, inl, inr, true, false, List, [], ◌∷◌, ◌++◌, length, take, drop, get_or, Option, Some, None, ◌&&◌, eqb, ltb, leb, sym, refl, ap, ◌∙◌, subst, arith}
 use Rattle.std.specs.List.{AllByRecursion}
 use Rattle.std.specs.List.Sorted.{IsSorted}
 use Rattle.std.specs.declared.cmp.Ordering.{Ordering}
 use Rattle.std.specs.declared.cmp.Ordering.TheVariants.{Equal, Greater}
 use Rattle.std.specs.Ordering.{nat_cmp, ordering_then, is_lt}
-use Rattle.std.proofs.lemmas.Bool.{and_parts, and_from, or_cases, or_left, or_right, eqb-true, eq-eqb, ne_eqb, leb-true, ltb-true, lt-ltb, le-ltb, cond-true, cond-false, not_from_false}
-use Rattle.std.proofs.lemmas.List.{map-append, take_more, length-take-le, get_or-take}
+use Rattle.std.proofs.lemmas.Bool.{and_parts, and_from, or_cases, or_left, or_right, eqb-true, eq-eqb, ne_eqb, cases_eq, leb-true, ltb-true, lt-ltb, le-ltb, cond-true, cond-false, not_from_false}
+use Rattle.std.proofs.lemmas.List.{map-append, take_more, take_all, take-append-drop, length-take-le, get_or-take}
+use Rattle.std.proofs.Math.Seq.{drop-cons}
 use Rattle.std.proofs.lemmas.List.Sorted.{IsPermutation-refl}
 use Rattle.sched_base.specs.declared.rows.Row.{Row}
 use Rattle.sched_base.specs.Sets.{SetContents}
@@ -114,6 +115,20 @@ stands_front rows i last inv = ap (stand None) (sym (append-nil (take i rows))) 
   where
     none : (last : Option Row) → stand last [] ≡ true
     none last = refl
+
+-- where the next row doesn't come after the last one, the rows don't stand
+pub stand_no_more : (rows : List Row) (i : ℕ) (last : Option Row) (r d : Row) → i < length rows → r ≡ get_or rows i d → comes_after last r ≡ false
+    → ((rest : List Row) → stand None (take i rows ++ rest) ≡ stand last rest) → stand None rows ≡ false
+stand_no_more rows i last r d h is c inv =
+    let behind : drop i rows ≡ r ∷ drop (suc i) rows = drop-cons rows i d h ∙ ap (λ x. x ∷ drop (suc i) rows) (sym is) in
+    ap (stand None) (sym (take-append-drop i rows)) ∙ (inv (drop i rows) ∙ (ap (stand last) behind ∙ ap (λ b. b && stand (Some r) (drop (suc i) rows)) c))
+
+-- all rows stand exactly where those at the front are all
+pub standing_all : (rows : List Row) (n all : ℕ) → all ≡ length rows → n ≤ length rows → stand None (take n rows) ≡ true → (n < length rows → stand None rows ≡ false) → eqb n all ≡ stand None rows
+standing_all rows n all is within front stops = elim (cases_eq n all) [
+  | inl same ↦ eq-eqb n all same ∙ (sym front ∙ ap (stand None) (take_all n rows (omega (arith, same, is))))
+  | inr less ↦ ne_eqb n all less ∙ sym (stops (omega (arith, less, is, within)))
+]
 
 -- the rows at the front stand, and the next one overlaps one of them
 pub hit_after : (s : SetContents) (rows : List Row) (i k : ℕ) → AllByRecursion (IsTraceRow s) rows → i < length rows → stand None (take i rows) ≡ true → k < i → hits processor_key rows i k ≡ true

@@ -1,6 +1,6 @@
 //! The rows of a trace in the orders of processors and of tasks.
 ghost use Rattle.std.specs.Prelude.{◌≡◌, ◌<◌, ◌^◌, ◌++◌, length, IfOk, OnOk, IsSorted};
-ghost use Rattle.trace_verdict.specs.Orders.{entry_cmp, processor_key, task_key, entry_of, entries_from, places, IsOrder, AreStarts};
+ghost use Rattle.trace_verdict.specs.Orders.{entry_cmp, processor_key, task_key, key_by, entry_of, entries_from, places, IsOrder, AreStarts};
 ghost use Rattle.trace_verdict.specs.Searches.{IsFront};
 
 use crate::dealt_orders::dealt_order;
@@ -38,14 +38,32 @@ fn add_entry(
     Ok(())
 }
 
-fn processor_entries(alloc: Global, rows: &RowList) -> Result<Vec<Entry>, NoMemory>
+/// By what rows are put in order.
+#[derive(Clone, Copy)]
+pub(crate) enum RowKey {
+    Processor,
+    Task,
+}
+
+// The key of a row, where it has one.
+fn key_of(by: RowKey, row: &Row) -> Option<u32>
+    ensures { result ≡ key_by by row.now }
+{
+    match by {
+        RowKey::Processor => Some(row.processor),
+        RowKey::Task => task_key(row),
+    }
+}
+
+// The entries of the rows that have a key, as they stand.
+fn entries_by(alloc: Global, by: RowKey, rows: &RowList) -> Result<Vec<Entry>, NoMemory>
     requires { length rows.now < 2 ^ 32 }
-    ensures { IfOk result (λ v. v.items ≡ entries_from processor_key 0 rows.now) }
+    ensures { IfOk result (λ v. v.items ≡ entries_from (key_by by) 0 rows.now) }
 {
     let mut entries = Vec::new(alloc);
     for i in 0..rows.len() {
         let row = rows.get(i);
-        add_entry(&mut entries, Some(row.processor), &row, i as u32)?;
+        add_entry(&mut entries, key_of(by, &row), &row, i as u32)?;
     }
     Ok(entries)
 }
@@ -55,20 +73,8 @@ pub fn order_by_processor(alloc: Global, rows: &RowList) -> Result<Vec<Entry>, N
     requires { length rows.now < 2 ^ 32 }
     ensures { IfOk result (λ v. IsOrder processor_key rows.now v.items) }
 {
-    let mut entries = processor_entries(alloc, rows)?;
+    let mut entries = entries_by(alloc, RowKey::Processor, rows)?;
     entries.sort()?;
-    Ok(entries)
-}
-
-fn task_entries(alloc: Global, rows: &RowList) -> Result<Vec<Entry>, NoMemory>
-    requires { length rows.now < 2 ^ 32 }
-    ensures { IfOk result (λ v. v.items ≡ entries_from task_key 0 rows.now) }
-{
-    let mut entries = Vec::new(alloc);
-    for i in 0..rows.len() {
-        let row = rows.get(i);
-        add_entry(&mut entries, task_key(&row), &row, i as u32)?;
-    }
     Ok(entries)
 }
 
@@ -80,7 +86,7 @@ pub fn order_by_task(alloc: Global, rows: &RowList) -> Result<Vec<Entry>, NoMemo
     if let Some(entries) = dealt_order(alloc, rows)? {
         return Ok(entries);
     }
-    let mut entries = task_entries(alloc, rows)?;
+    let mut entries = entries_by(alloc, RowKey::Task, rows)?;
     entries.sort()?;
     Ok(entries)
 }

@@ -1,5 +1,5 @@
 //! Rows that stand in the order of processors, none of them over another: their order is that in which they stand.
-ghost use Rattle.std.specs.Prelude.{◌≡◌, ◌<◌, ◌≤◌, ◌-◌, ◌^◌, true, None, length, take, IfOk, IsTrue};
+ghost use Rattle.std.specs.Prelude.{◌≡◌, ◌<◌, ◌≤◌, ◌-◌, ◌^◌, true, false, None, length, take, IfOk, IsTrue};
 ghost use Rattle.trace_verdict.specs.Orders.{processor_key, entries_from, places};
 ghost use Rattle.trace_verdict.specs.Searches.{hits};
 ghost use Rattle.trace_verdict.specs.Standing.{comes_after, stand};
@@ -24,21 +24,14 @@ pub(crate) fn comes_after(last: &Option<Row>, row: &Row) -> bool
 pub fn stand(rows: &RowList) -> bool
     ensures { result ≡ stand None rows.now }
 {
-    let mut last: Option<Row> = None;
-    for i in 0..rows.len() {
-        let row = rows.get(i);
-        if !comes_after(&last, &row) {
-            return false;
-        }
-        last = Some(row);
-    }
-    true
+    standing_len(rows) == rows.len()
 }
 
-/// How many rows at the front come each after the one before it.
+/// How many rows at the front come each after the one before it. The next one doesn't, where there is one.
 pub fn standing_len(rows: &RowList) -> usize
     ensures within { result ≤ length rows.now }
     ensures stands { stand None (take result rows.now) ≡ true }
+    ensures stops { result < length rows.now → stand None rows.now ≡ false }
 {
     let mut last: Option<Row> = None;
     for i in 0..rows.len() {

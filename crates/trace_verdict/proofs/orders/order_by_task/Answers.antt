@@ -7,5 +7,5 @@ returns-in_err-entries c = IfOk-from_err _ _ c.from_residual.ensures.0
 pub returns-in_err-sort : goal.returns-in_err-sort
 returns-in_err-sort c = IfOk-from_err _ _ c.from_residual-in_err-sort.ensures.0
 
-pub task_entries-requires : goal.task_entries-requires
-task_entries-requires c = c.requires
+pub entries_by-requires : goal.entries_by-requires
+entries_by-requires c = c.requires
