@@ -52,26 +52,46 @@ fn short_number(number: u32) -> Option<u8>
     }
 }
 
+/// A column in two forms: short ones as long as the elements fit, long ones from there on. Each form has room for a stated
+/// number more.
+#[derive(Drop)]
+struct TwoForms<S: Drop, L: Drop> {
+    short: Vec<S>,
+    long: Vec<L>,
+    room: u64,
+    ghost short_room: { room ≤ vec_capacity short - vec_len short },
+    ghost long_room: { room ≤ vec_capacity long - vec_len long },
+}
+
+impl<S: Drop, L: Drop> TwoForms<S, L> {
+    // No element yet, with room for that many.
+    fn with_room(alloc: Global, room: u64) -> Result<TwoForms<S, L>, NoMemory>
+        ensures short { IfOk result (λ f. f.short.items ≡ []) }
+        ensures long { IfOk result (λ f. f.long.items ≡ []) }
+        ensures room { IfOk result (λ f. f.room ≡ room) }
+    {
+        let short = Vec::with_capacity(alloc, room as usize)?;
+        let long = Vec::with_capacity(alloc, room as usize)?;
+        Ok(TwoForms { short, long, room })
+    }
+}
+
 /// What one processor runs in each round, with room for a stated number of rounds.
 ///
 /// A leaf takes two bytes in the rounds before the first whose leaf has a number of 256 or more, and eight from there on.
 #[derive(Drop)]
 pub(crate) struct LaneLeaves {
-    short: Vec<ShortLeaf>,
-    long: Vec<Leaf>,
-    room: u64,
+    forms: TwoForms<ShortLeaf, Leaf>,
 }
 
 impl Model for LaneLeaves {
-    ghost use Rattle.std.specs.Prelude.{◌≤◌, ◌-◌, ◌++◌, map, vec_capacity, vec_len};
+    ghost use Rattle.std.specs.Prelude.{◌++◌, map};
     ghost use Rattle.sched_base.specs.Tables.{LaneHeld};
     ghost use Rattle.sched_base.specs.Columns.{leaf_of};
 
     ghost Value = { LaneHeld };
 
-    ghost view = { λ l. record { leaves = map leaf_of l.short.items ++ l.long.items; room = l.room } };
-
-    ghost invariant = { λ l. (l.room ≤ vec_capacity l.short - vec_len l.short) × (l.room ≤ vec_capacity l.long - vec_len l.long) };
+    ghost view = { λ l. record { leaves = map leaf_of l.forms.short.items ++ l.forms.long.items; room = l.forms.room } };
 }
 
 impl LaneLeaves {
@@ -79,13 +99,8 @@ impl LaneLeaves {
     pub(crate) fn with_room(alloc: Global, rounds: u64) -> Result<LaneLeaves, NoMemory>
         ensures { IfOk result (λ l. l ≡ record { leaves = []; room = rounds }) }
     {
-        let short = Vec::with_capacity(alloc, rounds as usize)?;
-        let long = Vec::with_capacity(alloc, rounds as usize)?;
-        Ok(LaneLeaves {
-            short,
-            long,
-            room: rounds,
-        })
+        let forms = TwoForms::with_room(alloc, rounds)?;
+        Ok(LaneLeaves { forms })
     }
 
     // Appends what is run in the next round.
@@ -93,15 +108,15 @@ impl LaneLeaves {
         requires { 1 ≤ self.old.room }
         ensures { self.new ≡ with_leaf self.old leaf }
     {
-        push_leaf(&mut self.short, &mut self.long, leaf);
-        self.room -= 1;
+        self.forms.room -= 1;
+        push_leaf(&mut self.forms.short, &mut self.forms.long, leaf);
     }
 
     /// The number of rounds.
     pub(crate) fn len(&self) -> u64
         ensures { result ≡ length self.now.leaves }
     {
-        self.short.len() as u64 + self.long.len() as u64
+        self.forms.short.len() as u64 + self.forms.long.len() as u64
     }
 
     /// What is run in round k.
@@ -109,7 +124,7 @@ impl LaneLeaves {
         requires { k < length self.now.leaves }
         ensures { slice_get self.now.leaves k ≡ Some result }
     {
-        leaf_at(self.short.as_slice(), self.long.as_slice(), k as usize)
+        leaf_at(&self.forms.short, &self.forms.long, k as usize)
     }
 }
 
@@ -145,20 +160,16 @@ fn leaf_at(short: &[ShortLeaf], long: &[Leaf], k: usize) -> Leaf
 /// An end takes eight bytes in the rounds before the first that ends at 2^64 or later, and sixteen from there on.
 #[derive(Drop)]
 pub(crate) struct RoundEnds {
-    low: Vec<u64>,
-    high: Vec<u128>,
-    room: u64,
+    forms: TwoForms<u64, u128>,
 }
 
 impl Model for RoundEnds {
-    ghost use Rattle.std.specs.Prelude.{◌≤◌, ◌-◌, ◌++◌, vec_capacity, vec_len};
+    ghost use Rattle.std.specs.Prelude.{◌++◌};
     ghost use Rattle.sched_base.specs.Tables.{EndsHeld};
 
     ghost Value = { EndsHeld };
 
-    ghost view = { λ e. record { ends = e.low.items ++ e.high.items; room = e.room } };
-
-    ghost invariant = { λ e. (e.room ≤ vec_capacity e.low - vec_len e.low) × (e.room ≤ vec_capacity e.high - vec_len e.high) };
+    ghost view = { λ e. record { ends = e.forms.short.items ++ e.forms.long.items; room = e.forms.room } };
 }
 
 impl RoundEnds {
@@ -166,13 +177,8 @@ impl RoundEnds {
     pub(crate) fn with_room(alloc: Global, rounds: u64) -> Result<RoundEnds, NoMemory>
         ensures { IfOk result (λ e. e ≡ record { ends = []; room = rounds }) }
     {
-        let low = Vec::with_capacity(alloc, rounds as usize)?;
-        let high = Vec::with_capacity(alloc, rounds as usize)?;
-        Ok(RoundEnds {
-            low,
-            high,
-            room: rounds,
-        })
+        let forms = TwoForms::with_room(alloc, rounds)?;
+        Ok(RoundEnds { forms })
     }
 
     /// Appends where these rows of the next round end. No rows are no round.
@@ -181,8 +187,8 @@ impl RoundEnds {
         ensures { self.new ≡ with_end self.old rows.now }
     {
         if let Some(row) = rows.first() {
-            push_end(&mut self.low, &mut self.high, row.end);
-            self.room -= 1;
+            self.forms.room -= 1;
+            push_end(&mut self.forms.short, &mut self.forms.long, row.end);
         }
     }
 
@@ -191,7 +197,7 @@ impl RoundEnds {
         requires { k < length self.now.ends }
         ensures { slice_get self.now.ends k ≡ Some result }
     {
-        end_at(self.low.as_slice(), self.high.as_slice(), k as usize)
+        end_at(&self.forms.short, &self.forms.long, k as usize)
     }
 
     /// Where round k starts.
