@@ -4,7 +4,7 @@ ghost use Rattle.std.specs.Fmt.{signed_decimal};
 ghost use Rattle.sched_base.specs.Bytes.{line_feed, space};
 ghost use Rattle.sched_edges.specs.Lines.{word_line, number_line, numbers_line, named_line};
 
-use itoa::Buffer;
+use itoa::{Buffer, Integer};
 use std::marker::Model;
 
 /// The most bytes of a line.
@@ -56,14 +56,23 @@ impl Line {
         self.len = end;
     }
 
+    // Adds what prints an integer.
+    fn integer<I: Integer>(&mut self, integer: I)
+        requires { length self.old ≤ 216 }
+        ensures text { self.new ≡ self.old ++ I.text integer }
+        ensures short { length self.new ≤ length self.old + 40 }
+    {
+        let mut buffer = Buffer::new();
+        self.text(buffer.format(integer).as_bytes());
+    }
+
     /// Adds a number, in decimal digits.
     pub fn number(&mut self, number: u128)
         requires { length self.old ≤ 216 }
         ensures text { self.new ≡ self.old ++ decimal number }
         ensures short { length self.new ≤ length self.old + 40 }
     {
-        let mut buffer = Buffer::new();
-        self.text(buffer.format(number).as_bytes());
+        self.integer(number);
     }
 
     /// Adds a number that may be below 0, in decimal digits, with a `-` before them where it is.
@@ -72,8 +81,7 @@ impl Line {
         ensures text { self.new ≡ self.old ++ signed_decimal number }
         ensures short { length self.new ≤ length self.old + 40 }
     {
-        let mut buffer = Buffer::new();
-        self.text(buffer.format(number).as_bytes());
+        self.integer(number);
     }
 
     /// Adds the space between two words.
@@ -135,12 +143,12 @@ pub fn numbers_line(word: &[u8], first: u128, second: u128) -> Line
     line
 }
 
-/// A line of a word, a name and a number.
-#[tactic(auto, unfolding(crate::specs::Lines::named_line, crate::specs::Lines::line_of))]
-pub fn named_line(word: &[u8], name: &[u8], number: u128) -> Line
+/// The begin of a line: a word, a name and a number.
+pub fn named_begin(word: &[u8], name: &[u8], number: u128) -> Line
     requires word { length word.now ≤ 128 }
     requires name { length name.now ≤ 64 }
-    ensures { result ≡ named_line word.now name.now number }
+    ensures text { result ≡ word.now ++ (space ∷ (name.now ++ (space ∷ decimal number))) }
+    ensures short { length result ≤ length word.now + length name.now + 42 }
 {
     let mut line = Line::new();
     line.text(word);
@@ -148,6 +156,17 @@ pub fn named_line(word: &[u8], name: &[u8], number: u128) -> Line
     line.text(name);
     line.space();
     line.number(number);
+    line
+}
+
+/// A line of a word, a name and a number.
+#[tactic(auto, unfolding(crate::specs::Lines::named_line, crate::specs::Lines::line_of))]
+pub fn named_line(word: &[u8], name: &[u8], number: u128) -> Line
+    requires word { length word.now ≤ 128 }
+    requires name { length name.now ≤ 64 }
+    ensures { result ≡ named_line word.now name.now number }
+{
+    let mut line = named_begin(word, name, number);
     line.end();
     line
 }

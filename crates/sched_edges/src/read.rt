@@ -83,8 +83,8 @@ pub fn read_all<R: Source>(alloc: Global, source: &mut R, limit: usize) -> Resul
     Ok(Bytes { items: bytes })
 }
 
-// A buffer with room for a piece. Its length stays out of the contract, so that no proof looks into so long a list.
-fn empty_piece(alloc: Global) -> Result<Vec<u8>, AllocError>
+/// A buffer with room for a piece, of 65,536 bytes. Its length stays out of the contract, so that no proof looks into so long a list.
+pub fn empty_piece(alloc: Global) -> Result<Vec<u8>, AllocError>
     ensures { IfOk result (λ piece. 0 < length piece.items) }
 {
     vec![in alloc; 0u8; PIECE]
@@ -121,8 +121,8 @@ fn read_rest<R: Source>(
     }
 }
 
-// Reads once into the piece, and puts what came after the bytes.
-fn read_piece<R: Source>(
+/// Reads once into the piece, and puts what came after the bytes.
+pub fn read_piece<R: Source>(
     source: &mut R,
     piece: &mut [u8],
     bytes: &mut Vec<u8>,

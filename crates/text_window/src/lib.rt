@@ -2,7 +2,6 @@
 #![tactic(auto)]
 
 mod lines;
-mod pieces;
 mod window;
 
 pub use lines::whole_line;

@@ -6,13 +6,9 @@ ghost use Rattle.text_words.specs.Words.{lines_of};
 ghost use Rattle.text_window.specs.Lines.{EndsLine};
 ghost use Rattle.text_window.specs.Windows.{Fills, StopsFilling};
 
-use crate::pieces::read_piece;
-use sched_edges::{Source, TakeFault};
+use sched_edges::{Source, TakeFault, empty_piece, read_piece};
 use std::alloc::{AllocError, Global};
 use std::marker::Model;
-
-/// The most bytes that are asked of a source at once.
-const PIECE: usize = 65_536;
 
 /// The bytes of a source that were read and that nobody has gone past yet.
 #[derive(Drop)]
@@ -29,13 +25,6 @@ impl Model for Window {
     ghost Value = { WindowHeld };
 
     ghost view = { λ w. record { ahead = w.bytes.items; count = w.count; limit = w.limit } };
-}
-
-// A buffer with room for a piece. Its length stays out of the contract, so that no proof looks into so long a list.
-fn empty_piece(alloc: Global) -> Result<Vec<u8>, AllocError>
-    ensures { IfOk result (λ piece. 0 < length piece.items) }
-{
-    vec![in alloc; 0u8; PIECE]
 }
 
 // Moves what follows the first bytes to the front.
