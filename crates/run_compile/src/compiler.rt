@@ -8,6 +8,7 @@ ghost use Rattle.sched_laws.specs.LevelCounts.{duals_of};
 
 use crate::faults::CompileFault;
 use crate::higher;
+use crate::rates::Rates;
 use rate_scale::{load_of, rates_of};
 use run_tree::{Plan, Tree};
 use sched_base::{NoMemory, TaskSet};
@@ -36,8 +37,13 @@ fn set_tree(alloc: Global, set: &TaskSet, scale: u128) -> Result<Tree, NoMemory>
     ensures scale { IfOk result (λ tree. tree.scale ≡ scale) }
     ensures of_set { IfOk result (λ tree. IsTreeOf set.now tree) }
 {
-    let rates = rates_of(alloc, set, scale)?;
-    higher::tree_of(alloc, set.processors(), scale, rates.as_slice())
+    let each = rates_of(alloc, set, scale)?;
+    let rates = Rates {
+        processors: set.processors(),
+        scale,
+        each: each.as_slice(),
+    };
+    higher::tree_of(alloc, rates)
 }
 
 /// The number of levels of a plan's tree, level 0 included.

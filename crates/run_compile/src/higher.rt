@@ -1,14 +1,15 @@
 //! The levels above level 0: the duals of a level's packs that aren't roots, by first fit, until all packs are roots.
 ghost use Rattle.std.specs.Prelude.{◌≡◌, ◌≤◌, ◌<◌, ◌^◌, ℕ, length, map, slice_index, IfOk, OnOk};
-ghost use Rattle.sched_base.specs.Limits.{processor_limit, task_limit};
 ghost use Rattle.sched_base.specs.FirstFit.{homes};
 ghost use Rattle.run_tree.specs.Tree.{rate};
 ghost use Rattle.run_tree.specs.Making.{lower_packs, lifted};
 ghost use Rattle.run_tree.specs.Compiled.{tree_of_rates};
-ghost use Rattle.tree_laws.specs.Raised.{RatesFit, lower_duals};
+ghost use Rattle.tree_laws.specs.Raised.{lower_duals};
+ghost use Rattle.run_compile.specs.Rates.{AreOfSet};
 
 use crate::homes::homes_of;
 use crate::level_0::first_level;
+use crate::rates::Rates;
 use dual_step::duals;
 use run_tree::{Tree, TreeMaker};
 use sched_base::NoMemory;
@@ -16,23 +17,15 @@ use server_pack::first_fit;
 use std::alloc::Global;
 
 /// The compiled tree of tasks of these rates.
-pub(crate) fn tree_of(
-    alloc: Global,
-    processors: u32,
-    scale: u128,
-    rates: &[u128],
-) -> Result<Tree, NoMemory>
-    requires fit { RatesFit processors scale rates.now }
-    requires few_processors { processors ≤ processor_limit }
-    requires scale_fits { scale ≤ 2 ^ 94 }
-    requires few_tasks { length rates.now ≤ task_limit }
-    ensures { IfOk result (λ tree. tree ≡ tree_of_rates processors scale rates.now) }
+pub(crate) fn tree_of(alloc: Global, rates: Rates) -> Result<Tree, NoMemory>
+    requires { AreOfSet rates.processors rates.scale rates.each.now }
+    ensures { IfOk result (λ tree. tree ≡ tree_of_rates rates.entry.processors rates.entry.scale rates.entry.each.now) }
 {
-    let mut maker = first_level(alloc, processors, scale, rates)?;
-    let mut lower = lower_rates(alloc, &maker, scale)?;
+    let mut maker = first_level(alloc, rates)?;
+    let mut lower = lower_rates(alloc, &maker, rates.scale)?;
     while !lower.is_empty() {
-        raise(alloc, &mut maker, scale, lower.as_slice())?;
-        lower = lower_rates(alloc, &maker, scale)?;
+        raise(alloc, &mut maker, rates.scale, lower.as_slice())?;
+        lower = lower_rates(alloc, &maker, rates.scale)?;
     }
     Ok(maker.finish())
 }

@@ -7,6 +7,7 @@ mod higher;
 mod homes;
 mod level_0;
 mod migration;
+mod rates;
 
 pub use compiler::{compile, levels};
 pub use faults::CompileFault;

@@ -19,18 +19,10 @@ pub struct Server {
 }
 
 /// Servers that hold items, none of a rate past the scale with which the packing was made.
+#[derive(Drop)]
 pub struct Packing {
     pub(crate) scale: u128,
     pub(crate) servers: Vec<Server>,
-}
-
-impl Drop for Packing {
-    fn drop(self) {
-        let Self {
-            scale: _scale,
-            servers: _servers,
-        } = self;
-    }
 }
 
 impl Model for Packing {
