@@ -9,7 +9,9 @@ use crate::idles::write_idles;
 use crate::packs::write_level;
 use run_tree::Plan;
 use sched_base::{Task, TaskSet};
-use sched_edges::{Failed, Line, Sink, number_line, word_line, write_all, write_lines};
+use sched_edges::{
+    Failed, Line, Sink, named_begin, number_line, word_line, write_all, write_lines,
+};
 
 /// Writes the text of a plan's tree. Where the sink fails, it has taken a first part of it.
 ///
@@ -56,11 +58,7 @@ fn write_tasks<W: Sink>(set: &TaskSet, sink: &mut W) -> Result<(), Failed>
 fn line_of_task(task: &Task) -> Line
     ensures { result ≡ task_line task.now }
 {
-    let mut line = Line::new();
-    line.text(b"task ");
-    line.text(task.name.as_slice());
-    line.space();
-    line.number(u128::from(task.work));
+    let mut line = named_begin(b"task", task.name.as_slice(), u128::from(task.work));
     line.space();
     line.number(u128::from(task.period));
     line.end();
