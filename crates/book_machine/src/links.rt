@@ -1,16 +1,14 @@
-//! Links: for each row of a task the task's last row before it on another processor.
-ghost use Rattle.std.specs.Prelude.{◌≡◌, ◌≤◌, ◌<◌, ◌+◌, ◌^◌, ◌⊎◌, ℕ, List, [], Some, replicate, length, slice_get, slice_set};
+//! Links: for each row its leaf's last row before it on another processor.
+ghost use Rattle.std.specs.Prelude.{◌≡◌, ◌≤◌, ◌<◌, ◌+◌, ◌^◌, ◌⊎◌, ℕ, [], replicate, length};
 ghost use Rattle.std.specs.Prelude.{slice_index_or, IfOk};
 ghost use Rattle.sched_base.specs.declared.rows.Row.{Row};
-ghost use Rattle.sched_base.specs.declared.rows.Leaf.TheVariants.{Task};
-ghost use Rattle.sched_base.specs.declared.rows.TaskId.{TaskId};
 ghost use Rattle.sched_base.specs.Tables.{rounds_in, end_of, RowAt, IsRound, with_round};
 ghost use Rattle.book_machine.specs.declared.links.Link.TheVariants.{Unknown};
 ghost use Rattle.book_machine.specs.declared.links.Latest.{Latest};
-ghost use Rattle.book_machine.specs.declared.links.Latest.TheVariants.{NoRow, Last};
-ghost use Rattle.book_machine.specs.Links.{IsLatest, LinkMeans, AreLinked, KeepsLink, link_of};
+ghost use Rattle.book_machine.specs.declared.links.Latest.TheVariants.{NoRow};
+ghost use Rattle.book_machine.specs.Links.{LinkMeans, AreLinked, KeepsLink, link_of, slot_of, followed, last_link, latest_at, with_latest};
 
-use sched_base::{Leaf, NoMemory, Row, RowTable, TaskId};
+use sched_base::{Leaf, NoMemory, Row, RowTable};
 use std::alloc::Global;
 use std::marker::Model;
 
@@ -21,50 +19,76 @@ pub struct Place {
     pub round: u32,
 }
 
-/// What is kept of the rows of a row's task that stand before it on other processors.
+/// What is kept of the rows of a row's leaf that stand in earlier rounds on other processors.
 #[derive(Clone, Copy)]
 pub enum Link {
     /// There is none.
     First,
     /// The last one stands there.
     After(Place),
-    /// Nothing: the row is of no task, or of one past the number of tasks that the table was made for.
+    /// Nothing.
     Unknown,
 }
 
-/// Where a task's last row stands so far.
+/// Where a leaf's last row stands so far.
 #[derive(Clone, Copy)]
 pub(crate) enum Latest {
     /// There is none.
     NoRow,
     /// There, with its link.
     Last(Place, Link),
+    /// Nothing is kept of the leaf: it stood twice in a round, or has no slot.
+    Lost,
 }
 
 impl Latest {
-    // The link of the task's next row, on lane p.
-    fn link(&self, p: u32) -> Link
-        ensures { (rows : List (List Row)) (task : TaskId) (n : ℕ) → IsLatest rows task n p self.now → LinkMeans rows task p n p result }
+    // What is kept once the leaf's next row stands there.
+    fn followed(self, place: Place) -> Latest
+        ensures { result ≡ followed self place }
     {
-        match *self {
-            Latest::NoRow => Link::First,
-            Latest::Last(place, link) => {
-                if place.lane == p {
-                    link
+        match self {
+            Latest::NoRow => Latest::Last(place, Link::First),
+            Latest::Last(last, link) => {
+                if last.round == place.round {
+                    Latest::Lost
+                } else if last.lane == place.lane {
+                    Latest::Last(place, link)
                 } else {
-                    Link::After(place)
+                    Latest::Last(place, Link::After(last))
                 }
             }
+            Latest::Lost => Latest::Lost,
+        }
+    }
+
+    // The link of the last row.
+    fn link(&self) -> Link
+        ensures { result ≡ last_link self.now }
+    {
+        match *self {
+            Latest::Last(_, link) => link,
+            Latest::NoRow | Latest::Lost => Link::Unknown,
         }
     }
 }
 
-/// A table of whole rounds, as `RowTable`, that finds the last row of a row's task on another processor by one look.
+// The slot of a leaf among the last rows, where it has one: tasks and idle leaves by turns.
+fn slot_of(leaf: Leaf) -> Option<usize>
+    ensures { result ≡ slot_of leaf }
+{
+    match leaf {
+        Leaf::Task(task) => Some(2 * task.0 as usize),
+        Leaf::Idle(number) => Some(2 * number as usize + 1),
+        Leaf::Wait(_) | Leaf::Empty => None,
+    }
+}
+
+/// A table of whole rounds, as `RowTable`, that finds the last row of a row's leaf on another processor by one look.
 #[derive(Drop)]
 pub struct LinkedTable {
     table: RowTable,
     links: Vec<LaneLinks>,
-    // of each task where its last row stands
+    // of each leaf that has a slot where its last row stands
     latest_rows: Vec<Latest>,
 }
 
@@ -94,7 +118,7 @@ impl LinkedTable {
     {
         let table = RowTable::new(alloc, processors, rounds)?;
         let links = no_links(alloc, processors, rounds)?;
-        let latest_rows = no_trails(alloc, tasks)?;
+        let latest_rows = no_rows_yet(alloc, processors, tasks)?;
         Ok(LinkedTable {
             table,
             links,
@@ -133,7 +157,7 @@ impl LinkedTable {
     pub(crate) fn link(&self, p: u32, k: u64) -> Link
         requires processor { p < length self.now.lanes }
         requires round { k < rounds_in self.now.lanes }
-        ensures { (r : Row) (task : TaskId) → RowAt self.now.lanes p k r → r.leaf ≡ Task task → LinkMeans self.now.lanes task p k p result }
+        ensures { (r : Row) → RowAt self.now.lanes p k r → LinkMeans self.now.lanes r.leaf p k 0 result }
     {
         self.links[p as usize].get(k)
     }
@@ -236,10 +260,12 @@ fn no_links(alloc: Global, processors: u32, rounds: u64) -> Result<Vec<LaneLinks
     Ok(links)
 }
 
-fn no_trails(alloc: Global, tasks: u32) -> Result<Vec<Latest>, NoMemory>
-    ensures { IfOk result (λ v. v.items ≡ replicate tasks NoRow) }
+// A slot for each task and each idle leaf: of a plan's idle leaves each is alone on a processor's pack, or with a task.
+fn no_rows_yet(alloc: Global, processors: u32, tasks: u32) -> Result<Vec<Latest>, NoMemory>
+    ensures { IfOk result (λ v. (n : ℕ) × (v.items ≡ replicate n NoRow)) }
 {
-    Ok(vec![in alloc; Latest::NoRow; tasks as usize]?)
+    let leaves = tasks as usize + processors as usize;
+    Ok(vec![in alloc; Latest::NoRow; 2 * leaves]?)
 }
 
 // Links the rows of the last round.
@@ -271,26 +297,23 @@ fn link_row(
     requires before { AreLinked table.now.lanes round p links.old.items latest_rows.old.items }
     ensures { AreLinked table.now.lanes round (p + 1) links.new.items latest_rows.new.items }
 {
-    let link = match table.row(p, u64::from(round)).leaf {
-        Leaf::Task(task) => follow(latest_rows, task, Place { lane: p, round }),
-        Leaf::Wait(_) => Link::Unknown,
-        Leaf::Idle(_) => Link::Unknown,
-        Leaf::Empty => Link::Unknown,
-    };
+    let leaf = table.row(p, u64::from(round)).leaf;
+    let link = follow(latest_rows, leaf, Place { lane: p, round });
     links[p as usize].put(round, link);
 }
 
-// Moves the task's latest to its next row, which stands there, and gives the row's link.
-fn follow(latest_rows: &mut Vec<Latest>, task: TaskId, place: Place) -> Link
-    ensures link { (rows : List (List Row)) → ((latest : Latest) → slice_get latest_rows.old.items task.0 ≡ Some latest →
-        IsLatest rows task place.round place.lane latest) → LinkMeans rows task place.lane place.round place.lane result }
-    ensures latest_rows { latest_rows.new.items ≡ slice_set latest_rows.old.items task.0 (Last place result) }
+// Moves what is kept of a leaf on to its next row, which stands there, and gives the row's link.
+fn follow(latest_rows: &mut Vec<Latest>, leaf: Leaf, place: Place) -> Link
+    ensures link { result ≡ last_link (followed (latest_at latest_rows.old.items leaf) place) }
+    ensures latest_rows { latest_rows.new.items ≡ with_latest latest_rows.old.items leaf (followed (latest_at latest_rows.old.items leaf) place) }
 {
-    match latest_rows.get_mut(task.0 as usize) {
+    let Some(slot) = slot_of(leaf) else {
+        return Link::Unknown;
+    };
+    match latest_rows.get_mut(slot) {
         Some(latest) => {
-            let link = latest.link(place.lane);
-            *latest = Latest::Last(place, link);
-            link
+            *latest = latest.followed(place);
+            latest.link()
         }
         None => Link::Unknown,
     }

@@ -11,7 +11,7 @@ ghost use Rattle.sched_base.specs.Tables.{rounds_in};
 use crate::events::Event;
 use crate::links::{Link, LinkedTable};
 use crate::search::{any_left, any_out, least_posted, lowest, waits_for};
-use sched_base::{Leaf, NoMemory, ProcId, RowTable};
+use sched_base::{NoMemory, ProcId, RowTable};
 use std::alloc::Global;
 use std::marker::Model;
 
@@ -215,7 +215,7 @@ impl MachineState {
     }
 
     /// The lane that `waits_for` names, where each posted row has its leaf's earlier rows posted: it searches only where the lane waits,
-    /// or where rows of no task are behind.
+    /// or where no link is kept.
     pub fn waits_by_link(&self, linked: &LinkedTable, window: u32, p: u32) -> Option<u32>
         requires lanes { length self.now.lanes ≡ length linked.now.lanes }
         requires round { posted_at self.now p < least_count self.now + window → posted_at self.now p < rounds_in linked.now.lanes }
@@ -232,7 +232,7 @@ impl MachineState {
     }
 
     /// Whether lane p may take its next row, whatever is out and halted, where each posted row has its leaf's earlier rows posted: the
-    /// link of a task's row tells. It searches only for a row of no task that is ahead of other lanes.
+    /// row's link tells. It searches only for a row without a link that is ahead of other lanes.
     #[inline(always)]
     pub fn is_due(&self, linked: &LinkedTable, window: u32, p: u32) -> bool
         requires lanes { length self.now.lanes ≡ length linked.now.lanes }
@@ -259,14 +259,11 @@ impl MachineState {
         requires in_order { ArePostedInOrder linked.now.lanes self.now }
         ensures { IfSome result (λ told. AreEarlierPosted linked.now.lanes self.now p round told) }
     {
-        let leaf = linked.table().row(p, round).leaf;
+        let _row = linked.table().row(p, round);
         if round == self.least {
             return Some(true);
         }
-        match leaf {
-            Leaf::Task(_) => self.has_posted(linked.link(p, round)),
-            Leaf::Wait(_) | Leaf::Idle(_) | Leaf::Empty => None,
-        }
+        self.has_posted(linked.link(p, round))
     }
 
     // Whether the row to which a link leads is posted, where it is known.
