@@ -260,7 +260,7 @@ fn no_links(alloc: Global, processors: u32, rounds: u64) -> Result<Vec<LaneLinks
     Ok(links)
 }
 
-// A slot for each task and each idle leaf: of a plan's idle leaves each is alone on a processor's pack, or with a task.
+// Nothing yet in a slot for each task and each idle leaf: a plan has at most an idle leaf for each task and each processor.
 fn no_rows_yet(alloc: Global, processors: u32, tasks: u32) -> Result<Vec<Latest>, NoMemory>
     ensures { IfOk result (λ v. (n : ℕ) × (v.items ≡ replicate n NoRow)) }
 {
