@@ -1,5 +1,5 @@
 -- Row lines: numbers past every limit, and one line after the other.
-use Rattle.std.proofs.Common.{Fits, w64, get_or, replicate, ℕ, ◌+◌, ◌-◌, ◌^◌, ◌<◌, ◌≤◌, ◌≡◌, ◌&&◌, inl, inr, eqb, ltb, leb, Bool, true, false, List, [], ◌∷◌, ◌++◌, length, length-append, Option, Some, None, option_map, option_and_then, Ok, Err, codes, sym, refl, ap, ◌∙◌, subst, arith}
+use Rattle.std.proofs.Common.{Fits, w64, get_or, replicate, ℕ, ◌+◌, ◌-◌, ◌^◌, ◌<◌, ◌≤◌, ◌≡◌, ◌&&◌, inl, inr, eqb, ltb, leb, cond, Bool, true, false, List, [], ◌∷◌, ◌++◌, length, length-append, Option, Some, None, option_map, option_and_then, Ok, Err, codes, sym, refl, ap, ◌∙◌, subst, arith}
 use Rattle.std.proofs.lemmas.Bool.{cases_Bool, both_ways, and_parts, eqb-true, eqb-false, ltb-true, leb-true, false_from_ne_true, cond-false}
 use Rattle.std.proofs.lemmas.List.{length-replicate, get_or-replicate}
 use Rattle.sched_base.specs.declared.rows.Row.{Row}
@@ -8,7 +8,7 @@ use Rattle.sched_base.specs.Tables.{row_limit}
 use Rattle.trace_verdict.proofs.EntryLemmas.{AllByRecursion-append}
 use Rattle.text_words.specs.Words.{lines_of, after_word, number_of, cut_space}
 use Rattle.trace_check.specs.declared.row_lines.RowsRead.{RowsRead}
-use Rattle.trace_check.specs.RowLines.{row_from, row_of, rows_from, IsRead, AreTotals}
+use Rattle.trace_check.specs.RowLines.{leaf_named, row_from, row_of, rows_from, IsRead, AreTotals}
 use Rattle.trace_check.specs.RowsRead.{AreRead, ReadsRows}
 use Rattle.trace_check.proofs.TaskLemmas.{cap, no_lines}
 
@@ -81,6 +81,15 @@ pub row_of_is : (tasks : List Task) (done : List Row) (line rest processor r sta
 row_of_is tasks done line rest processor r start q end name p s e a b c d x y z =
     rw (sym a, sym b, sym c, sym d)
     (numbers_capped (λ p s e. row_from tasks done p s e name) (number_of processor) (number_of start) (number_of end) p s e x y z (row_from_capped tasks done name))
+
+-- ---- a name of no leaf
+
+either_way : {A : Type 0} (b : Bool) (o : Option A) → o ≡ cond b o o
+either_way true o = refl
+either_way false o = refl
+
+pub row_unnamed : (tasks : List Task) (done : List Row) (p s e : ℕ) (name : List ℕ) → leaf_named tasks name ≡ None → None ≡ row_from tasks done p s e name
+row_unnamed tasks done p s e name none = rw none (either_way (fit (length done) p s e) None)
 
 -- ---- one line after the other
 

@@ -13,6 +13,7 @@ mod reaches;
 mod reading;
 mod row_lines;
 mod row_reader;
+mod row_runs;
 mod row_words;
 mod source_reading;
 mod tables;

@@ -7,6 +7,7 @@ ghost use Rattle.trace_check.specs.WholeRows.{AreRowsOf, NextWhole, RowsEnd, Sto
 use crate::known_words::LastWords;
 use crate::name_table::NameTable;
 use crate::row_lines::{add_ticks, begins_row, row_from, row_of};
+use crate::row_runs::{narrow, run_row, run_words};
 use crate::row_words::{RowWords, next_row_words, whole_row_words};
 use sched_base::{NoMemory, Row, TaskSet};
 use std::alloc::{AllocError, Global};
@@ -132,7 +133,7 @@ fn other_line<'a>(
 }
 
 // The next line. The words of the line before become its words, where it is a row line as they mostly are.
-#[inline(always)]
+#[inline(never)]
 fn next_line<'a>(
     set: &TaskSet,
     table: &NameTable,
@@ -173,6 +174,39 @@ impl RowReader {
         })
     }
 
+    // Reads the row lines at the front that go on where the last line ends, as they mostly do: what follows them, and the words
+    // of the last of them.
+    #[inline(never)]
+    fn take_run<'a>(
+        &mut self,
+        set: &TaskSet,
+        last: LastWords<'a>,
+        text: &'a [u8],
+    ) -> Result<(&'a [u8], LastWords<'a>), AllocError>
+        requires { (whole : List ℕ) × AreRowsOf set.now.tasks whole self.old.rows self.old.totals.items text.now }
+        ensures split { IfOk result (λ p. (gone : List ℕ) × (text.now ≡ gone ++ p.0.now)) }
+        ensures less { IfOk result (λ p. length p.0.now ≤ length text.now) }
+        ensures read { IfOk result (λ p. (whole : List ℕ) → AreRowsOf set.now.tasks whole self.old.rows self.old.totals.items text.now
+            → AreRowsOf set.now.tasks whole self.new.rows self.new.totals.items p.0.now) }
+    {
+        let mut rest = text;
+        let mut last = last;
+        let Some(mut tick) = narrow(last.end.number) else {
+            return Ok((rest, last));
+        };
+        while let Some(words) = run_words(set, &self.table, &last, rest)
+            && let Some(end) = narrow(words.end.number)
+            && let Some(row) = run_row(set, &self.rows, &self.totals, &words, tick, end)
+        {
+            add_ticks(set, &self.rows, &mut self.totals, &row);
+            self.rows.push(&row)?;
+            last.end = words.end;
+            tick = end;
+            rest = words.words.later;
+        }
+        Ok((rest, last))
+    }
+
     /// Reads the row lines at the front that have their line feeds: how many bytes they are, and why no more.
     pub fn take(&mut self, set: &TaskSet, text: &[u8]) -> Result<(usize, Stop), AllocError>
         requires { (whole : List ℕ) × AreRowsOf set.now.tasks whole self.old.rows self.old.totals.items text.now }
@@ -189,7 +223,9 @@ impl RowReader {
                 NextLine::Row(row, later) => {
                     add_ticks(set, &self.rows, &mut self.totals, &row);
                     self.rows.push(&row)?;
-                    rest = later;
+                    let (behind, words) = self.take_run(set, last, later)?;
+                    rest = behind;
+                    last = words;
                 }
                 NextLine::Ends => return Ok((gone, Stop::Ends)),
                 NextLine::Fault => return Ok((gone, Stop::Fault)),
