@@ -12,6 +12,7 @@ pub mod ValidLemmas
 pub mod VerdictLemmas
 mod AllEntries
 mod StandingLemmas
+mod ShortLemmas
 mod SuppliedLemmas
 mod StackLemmas
 mod DealtLemmas
@@ -20,4 +21,5 @@ pub mod TallyLemmas
 mod ToldLemmas
 mod TimedLemmas
 mod NearLemmas
+mod CrossLemmas
 mod FoundLemmas

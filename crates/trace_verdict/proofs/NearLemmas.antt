@@ -244,16 +244,16 @@ response_is t r n l begun base long i =
     top : (a b : ℕ) → a ≡ 0 → b ≡ max a b
     top a b e = omega (arith, e)
 
-found_goes : (t : TaskWalk) (r : Row) (n : Near) (u : Tally) → AreLawful t.periods → t.periods.base ≤ t.periods.stop → t.periods.base ≤ r.start → r.start < r.end → IsNear t r n → KeepsPace t.periods u → u.before ≡ r
+-- a row is gone through that begins in this period, with this response
+pub row_goes : (t : TaskWalk) (r : Row) (n : Near) (u : Tally) (x : ℕ) {k : ℕ} → ended_by t.periods r.start ≡ k → n.same ≡ eqb (ended_by t.periods (t.before.end - 1)) k → x ≡ row_response t.periods r
+    → KeepsPace t.periods u → u.before ≡ r
     → u.found.preemptions ≡ t.found.preemptions + bit (n.same && is_preemption t.before r) → u.found.migrations ≡ t.found.migrations + bit (n.same && is_migration t.before r)
-    → u.found.response ≡ max t.found.response (finished n t.periods.stop r.end) → Goes t.periods (r ∷ []) (tally_of t) u
-found_goes t r n u l begun base long i pace before pre mig resp =
+    → u.found.response ≡ max t.found.response x → Goes t.periods (r ∷ []) (tally_of t) u
+row_goes t r n u x first same d pace before pre mig resp =
     let p : Periods = t.periods in
-    let both = row_period t r n l base long i in
-    let job : n.same ≡ in_one_job p t.before r = i.period.same ∙ ap (λ k. eqb (ended_by p (t.before.end - 1)) k) (sym both.0) in
+    let job : n.same ≡ in_one_job p t.before r = same ∙ ap (λ k. eqb (ended_by p (t.before.end - 1)) k) (sym first) in
     let a : bit (n.same && is_preemption t.before r) ≡ bit (goes_on is_preemption p t.before r) = ap (λ s. bit (s && is_preemption t.before r)) job in
     let b : bit (n.same && is_migration t.before r) ≡ bit (goes_on is_migration p t.before r) = ap (λ s. bit (s && is_migration t.before r)) job in
-    let d : finished n p.stop r.end ≡ row_response p r = response_is t r n l begun base long i in
     let one = bit_one (n.same && is_preemption t.before r) in
     let two = bit_one (n.same && is_migration t.before r) in
     record {
@@ -293,7 +293,9 @@ near_gone rows j place t r n f g some room own is apart long ends i pre mig resp
     } in
     let stands : StandsAt p w = record { base = refl; span = refl; number = refl; begun = omega (arith, base, long); ends = ends; small = (let m = s.small in omega (arith, m, apart, long)) } in
     let past : GoesPast p (entry_for j r place ∷ []) (walk_of t) w = past_one p (entry_for j r place) (walk_of t) w stands refl refl apart long i.period.gap i.row in
-    let goes = found_goes t r n u l begun base long i (record { some = l.some_period; base = refl; span = refl; last = refl; ended = refl }) refl pre mig resp in
+    let both = row_period t r n l base long i in
+    let goes = row_goes t r n u (finished n p.stop r.end) both.0 i.period.same (response_is t r n l begun base long i)
+    (record { some = l.some_period; base = refl; span = refl; last = refl; ended = refl }) refl pre mig resp in
     gone_more rows j place n.begin n.next n.owed t w u g room own (subst (λ (q : Row). GoesPast p (entry_for j q place ∷ []) (walk_of t) w) is past)
     (λ e. absurd (omega (arith, e, some))) (λ ne. subst (λ (q : Row). Goes p (q ∷ []) (tally_of t) u) is goes)
     (record {

@@ -79,7 +79,9 @@ impl Hands {
         let chosen = (self.turns[1] % 32) as usize;
         let place = self.hands[chosen].place;
         self.hands[chosen].place = place.wrapping_add(1);
-        self.choose(rows, chosen);
+        if self.width > 1 {
+            self.choose(rows, chosen);
+        }
         place
     }
 

@@ -15,6 +15,7 @@ use crate::row_list::RowList;
 use crate::searches::{
     first_processor_hit, first_task_hit, first_unfit, first_unsupplied, is_fit, task_periods,
 };
+use crate::short_standing::count_short;
 use crate::standing::{all_places, comes_after, hits_last, stand, standing_len};
 use crate::supplied::{TaskOrder, supplied_order};
 use crate::timed::timed_findings;
@@ -313,6 +314,19 @@ fn found_in_time(
 // How many rows of tasks there are, where all rows stand by processor, those of one in the order of time, and none has a fault by
 // itself.
 fn count_standing(set: &TaskSet, scale: u128, rows: &RowList) -> Option<u64>
+    requires trace { IsTrace set.now scale rows.now }
+    ensures stands { IfSome result (λ _. stand None rows.now ≡ true) }
+    ensures fit { IfSome result (λ _. IsFirstUnfit set.now scale rows.now (length rows.now)) }
+    ensures total { IfSome result (λ total. total ≡ length (entries_from task_key 0 rows.now)) }
+{
+    match rows.all_short() {
+        Some(short) => count_short(set, scale, short),
+        None => count_any(set, scale, rows),
+    }
+}
+
+// The same of rows of which some may be long.
+fn count_any(set: &TaskSet, scale: u128, rows: &RowList) -> Option<u64>
     requires trace { IsTrace set.now scale rows.now }
     ensures stands { IfSome result (λ _. stand None rows.now ≡ true) }
     ensures fit { IfSome result (λ _. IsFirstUnfit set.now scale rows.now (length rows.now)) }

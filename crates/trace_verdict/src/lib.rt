@@ -13,6 +13,7 @@ mod judgments;
 mod orders;
 mod row_list;
 mod searches;
+mod short_standing;
 mod standing;
 mod supplied;
 mod supply;

@@ -1,6 +1,7 @@
 //! A list of rows that takes a third of the memory where their ticks have at most 64 bits.
-ghost use Rattle.std.specs.Prelude.{◌≡◌, ◌<◌, ◌++◌, ◌∷◌, [], length, IfSome, IfOk, OnOk};
+ghost use Rattle.std.specs.Prelude.{◌≡◌, ◌<◌, ◌++◌, ◌∷◌, [], length, map, is_some, IfSome, IfOk, OnOk};
 ghost use Rattle.trace_verdict.specs.Faults.{row_at};
+ghost use Rattle.trace_verdict.specs.Orders.{task_key};
 ghost use Rattle.trace_verdict.specs.RowLists.{leaf_for, row_for};
 
 use sched_base::{Leaf, NoMemory, Row, TaskId};
@@ -36,17 +37,54 @@ pub struct ShortRow {
 }
 
 impl ShortRow {
-    // The row that it stands for.
+    /// No ticks of processor 0 at tick 0.
+    pub(crate) fn none() -> ShortRow
+        ensures processor { (row_for result).processor ≡ 0 }
+        ensures end { (row_for result).end ≡ 0 }
+    {
+        ShortRow {
+            start: 0,
+            low: 0,
+            high: 0,
+            owner: 0,
+        }
+    }
+
+    /// Its processor.
     #[inline(always)]
-    fn row(&self) -> Row
-        ensures { result ≡ row_for self.now }
+    pub(crate) fn processor(&self) -> u32
+        ensures { result ≡ (row_for self.now).processor }
+    {
+        u32::from(self.owner) / LEAVES
+    }
+
+    /// Where it ends.
+    #[inline(always)]
+    pub(crate) fn end(&self) -> u128
+        ensures { result ≡ (row_for self.now).end }
     {
         let ticks = u64::from(self.high) * 4_294_967_296 + u64::from(self.low);
+        u128::from(self.start) + u128::from(ticks)
+    }
+
+    /// Whether it is one of a task.
+    #[inline(always)]
+    pub(crate) fn is_of_task(&self) -> bool
+        ensures { result ≡ is_some (task_key (row_for self.now)) }
+    {
+        u32::from(self.owner) % LEAVES != IDLE
+    }
+
+    /// The row that it stands for.
+    #[inline(always)]
+    pub(crate) fn row(&self) -> Row
+        ensures { result ≡ row_for self.now }
+    {
         Row {
-            processor: u32::from(self.owner) / LEAVES,
+            processor: self.processor(),
             leaf: leaf_for(u32::from(self.owner) % LEAVES),
             start: u128::from(self.start),
-            end: u128::from(self.start) + u128::from(ticks),
+            end: self.end(),
         }
     }
 }
@@ -155,6 +193,16 @@ impl RowList {
         } else {
             self.long[i - count]
         }
+    }
+
+    /// The short rows, where they are all.
+    pub(crate) fn all_short(&self) -> Option<&[ShortRow]>
+        ensures { IfSome result (λ short. self.now ≡ map row_for short.now) }
+    {
+        if !self.long.is_empty() {
+            return None;
+        }
+        Some(self.short.as_slice())
     }
 
     /// Row i's start, without so many of its last digits. What it gives of a start that still has more than 64 is any number.

@@ -23,7 +23,8 @@ fn begin_of(set: &TaskSet, task: u32, scale: u128) -> u128
     u128::from(set.tasks()[task as usize].offset) * scale
 }
 
-fn is_early(set: &TaskSet, scale: u128, row: &Row) -> bool
+/// Whether the row begins before its task does.
+pub(crate) fn is_early(set: &TaskSet, scale: u128, row: &Row) -> bool
     requires row { IsTraceRow set.now row.now }
     requires scale { scale ≤ 2 ^ 94 }
     ensures { result ≡ is_early set.now scale row.now }

@@ -1,5 +1,5 @@
 //! What has gone by of the rows of one task, where the rows of all tasks go by in the order of time.
-ghost use Rattle.std.specs.Prelude.{ℕ, ◌≡◌, ◌≢◌, ◌∷◌, [], ◌+◌, ◌-◌, ◌*◌, ◌^◌, ◌<◌, ◌≤◌, ◌&&◌, max, List, length, Some, IsTrue, IfSome};
+ghost use Rattle.std.specs.Prelude.{ℕ, ◌≡◌, ◌≢◌, ◌∷◌, [], ◌+◌, ◌-◌, ◌*◌, ◌^◌, ◌<◌, ◌≤◌, ◌&&◌, max, List, length, Some, false, IsTrue, IfSome};
 ghost use Rattle.sched_base.specs.Counting.{bit};
 ghost use Rattle.sched_base.specs.declared.rows.Row.{Row};
 ghost use Rattle.trace_verdict.specs.Faults.{row_at};
@@ -297,6 +297,65 @@ impl TaskWalk {
         self.count += 1;
     }
 
+    // Whether a row that begins in this period ends in the next one, and has what is due by then where that begins.
+    #[inline(always)]
+    fn crosses(&self, row: &Row, near: &Near) -> bool
+        requires lawful { AreLawful self.now.periods }
+        requires begins { BeginsIn self.now row.now.start near.now }
+        requires ends { row.now.end ≤ self.now.periods.stop }
+        requires small { self.now.done ≤ row.now.start }
+        ensures past { IsTrue result → near.now.next < row.now.end }
+        ensures within { IsTrue result → row.now.end < near.now.next + self.now.periods.period }
+        ensures due { IsTrue result → self.now.done + (near.now.next - row.now.start) ≡ near.now.owed }
+    {
+        near.next < row.end
+            && row.end - near.next < self.periods.period
+            && self.done + (near.next - row.start) == near.owed
+    }
+
+    // The row goes by, where it begins in the period of the last row or in the next one, and ends in the one after that.
+    #[inline(never)]
+    fn step_over(&mut self, _rows: &RowList, _task: u32, _place: usize, row: &Row) -> bool
+        requires gone { HasGone _rows.now _task self.old }
+        requires some { 0 < self.old.count }
+        requires room { self.old.count < self.old.limit }
+        requires within { _place < length _rows.now }
+        requires row { row.now ≡ row_at _rows.now _place }
+        requires key { task_key row.now ≡ Some _task }
+        requires apart { self.old.tick ≤ row.now.start }
+        requires long { row.now.start < row.now.end }
+        requires ends { row.now.end ≤ self.old.periods.stop }
+        requires lawful { AreLawful self.old.periods }
+        requires stands { StandsAt self.old.periods (walk_of self.old) }
+        requires paced { IsPaced self.old }
+        requires few_preempted { self.old.found.preemptions < 2 ^ 63 }
+        requires few_moved { self.old.found.migrations < 2 ^ 63 }
+        ensures periods { self.new.periods ≡ self.old.periods }
+        ensures gone { HasGone _rows.now _task self.new }
+        ensures same { result ≡ false → self.new ≡ self.old }
+    {
+        let Some(near) = self.period_of(row.start) else {
+            return false;
+        };
+        if !self.crosses(row, &near) {
+            return false;
+        }
+        self.found = Findings {
+            preemptions: self.found.preemptions
+                + one_if(near.same & is_preemption(&self.before, row)),
+            migrations: self.found.migrations + one_if(near.same & is_migration(&self.before, row)),
+            response: self.found.response.max(self.periods.period),
+        };
+        self.tick = row.end;
+        self.done += row.end - row.start;
+        self.begin = near.next;
+        self.next = near.next + self.periods.period;
+        self.owed = near.owed + self.periods.due;
+        self.before = *row;
+        self.count += 1;
+        true
+    }
+
     /// The row at this place goes by, where it is one of the task, begins no sooner than the last one has ended, and keeps to
     /// what is due.
     pub(crate) fn step(&mut self, _rows: &RowList, task: u32, place: usize, row: &Row) -> bool
@@ -324,7 +383,12 @@ impl TaskWalk {
                 return true;
             }
         }
-        self.step_far(_rows, task, place, row)
+        // What is called by its address is a copy, so that the row itself stays in registers.
+        let other = *row;
+        if self.count > 0 && self.step_over(_rows, task, place, &other) {
+            return true;
+        }
+        self.step_far(_rows, task, place, &other)
     }
 
     /// What the rows that went by tell, where they give each period its due.
