@@ -5,7 +5,7 @@ ghost use Rattle.run_tree.specs.Making.{member_node, pack_node, joined};
 ghost use Rattle.run_tree.specs.Growth.{no_growth, node_in, with_member, grown, IsPrimalBelow, mark_primal, with_duals, with_duals_of};
 
 use crate::kinds::Kind;
-use crate::nodes::{Node, node_of};
+use crate::nodes::{Node, NodeHead, node_of};
 use sched_base::{NoMemory, NodeId};
 use std::alloc::Global;
 use std::marker::Model;
@@ -26,28 +26,36 @@ impl Model for Growth {
     ghost view = { λ g. record { nodes = g.nodes.items; packs = g.packs.items } };
 }
 
+/// What becomes a member of a pack: a leaf or a dual.
+#[derive(Clone, Copy)]
+pub(crate) struct Member {
+    pub(crate) kind: Kind,
+    /// In ticks a unit.
+    pub(crate) rate: u128,
+}
+
 // A member at the end of the pack at this place, where the numbers of the nodes begin at `base`.
-fn join(
-    nodes: &mut Vec<Node>,
-    base: u32,
-    place: usize,
-    kind: Kind,
-    rate: u128,
-) -> Result<(), NoMemory>
+fn join(nodes: &mut Vec<Node>, base: u32, place: usize, next: Member) -> Result<(), NoMemory>
     requires pack { place < length nodes.old.items }
-    requires rate_fits { (node_in nodes.old.items place).rate + rate < 2 ^ 128 }
+    requires rate_fits { (node_in nodes.old.items place).rate + next.rate < 2 ^ 128 }
     requires members_fit { length (node_in nodes.old.items place).members < 2 ^ 32 }
     requires numbers_fit { base + length nodes.old.items < 2 ^ 32 }
-    ensures ok { OnOk result (nodes.new.items ≡ with_member base kind rate place nodes.old.items) }
+    ensures ok { OnOk result (nodes.new.items ≡ with_member base next.kind next.rate place nodes.old.items) }
     ensures err { OnErr result (nodes.new.items ≡ nodes.old.items) }
 {
     nodes.reserve(1)?;
     let number = base + nodes.len() as u32;
     let pack = &mut nodes[place];
     let members = pack.members().len() as u32;
-    pack.join(NodeId(number), rate)?;
-    let member = Node::member(*nodes.allocator(), kind, rate, base + place as u32, members);
-    nodes.push_reserved(member);
+    pack.join(NodeId(number), next.rate)?;
+    let alloc = *nodes.allocator();
+    let head = NodeHead {
+        kind: next.kind,
+        rate: next.rate,
+        home: base + place as u32,
+        place: members,
+    };
+    nodes.push_reserved(Node::member(alloc, head));
     Ok(())
 }
 
@@ -66,12 +74,11 @@ fn open(
     packs: &mut Vec<u32>,
     base: u32,
     level: u32,
-    kind: Kind,
-    rate: u128,
+    next: Member,
 ) -> Result<(), NoMemory>
     requires numbers_fit { base + length nodes.old.items + 1 < 2 ^ 32 }
     ensures nodes { OnOk result (nodes.new.items ≡ (nodes.old.items ++ joined (pack_node level)
-        (base + length nodes.old.items + 1) rate ∷ []) ++ member_node kind rate (base + length nodes.old.items) 0 ∷ []) }
+        (base + length nodes.old.items + 1) next.rate ∷ []) ++ member_node next.kind next.rate (base + length nodes.old.items) 0 ∷ []) }
     ensures packs { OnOk result (packs.new.items ≡ packs.old.items ++ (base + length nodes.old.items) ∷ []) }
     ensures err { OnErr result ((nodes.new.items ≡ nodes.old.items) × (packs.new.items ≡ packs.old.items)) }
 {
@@ -79,10 +86,16 @@ fn open(
     nodes.reserve(2)?;
     packs.reserve(1)?;
     let number = base + nodes.len() as u32;
-    let pack = opened(alloc, level, NodeId(number + 1), rate)?;
+    let pack = opened(alloc, level, NodeId(number + 1), next.rate)?;
     packs.push_reserved(number);
     nodes.push_reserved(pack);
-    nodes.push_reserved(Node::member(alloc, kind, rate, number, 0));
+    let head = NodeHead {
+        kind: next.kind,
+        rate: next.rate,
+        home: number,
+        place: 0,
+    };
+    nodes.push_reserved(Node::member(alloc, head));
     Ok(())
 }
 
@@ -111,7 +124,7 @@ fn mark_duals(nodes: &mut Vec<Node>, number: u32, level: &[Node])
     ensures capacity { vec_capacity nodes.new ≡ vec_capacity nodes.old }
 {
     for (i, node) in level.iter().enumerate() {
-        mark(nodes, node.kind(), number + i as u32);
+        mark(nodes, node.head().kind, number + i as u32);
     }
 }
 
@@ -170,8 +183,11 @@ impl Growth {
         let base = below.len() as u32;
         let mut growth = Growth::new(alloc);
         for (i, pack) in packs.iter().enumerate() {
-            let rate = scale - node_of(below, *pack).rate();
-            growth.put(base, level, Kind::Dual(NodeId(*pack)), rate, homes[i])?;
+            let dual = Member {
+                kind: Kind::Dual(NodeId(*pack)),
+                rate: scale - node_of(below, *pack).head().rate,
+            };
+            growth.put(base, level, dual, homes[i])?;
         }
         Ok(growth)
     }
@@ -195,23 +211,22 @@ impl Growth {
         &mut self,
         base: u32,
         level: u32,
-        kind: Kind,
-        rate: u128,
+        next: Member,
         b: u32,
     ) -> Result<(), NoMemory>
         requires numbers_fit { base + length self.old.nodes + 1 < 2 ^ 32 }
         requires packs { (i : ℕ) → i < length self.old.packs → (base ≤ slice_index self.old.packs i)
             × (slice_index self.old.packs i < base + length self.old.nodes) }
-        requires rate_fits { b < length self.old.packs → (node_in self.old.nodes (slice_index self.old.packs b - base)).rate + rate < 2 ^ 128 }
+        requires rate_fits { b < length self.old.packs → (node_in self.old.nodes (slice_index self.old.packs b - base)).rate + next.rate < 2 ^ 128 }
         requires members_fit { b < length self.old.packs → length (node_in self.old.nodes (slice_index self.old.packs b - base)).members < 2 ^ 32 }
-        ensures ok { OnOk result (self.new ≡ grown base level kind rate b self.old) }
+        ensures ok { OnOk result (self.new ≡ grown base level next.kind next.rate b self.old) }
         ensures err { OnErr result (self.new ≡ self.old) }
     {
         if (b as usize) < self.packs.len() {
             let place = (self.packs[b as usize] - base) as usize;
-            join(&mut self.nodes, base, place, kind, rate)
+            join(&mut self.nodes, base, place, next)
         } else {
-            open(&mut self.nodes, &mut self.packs, base, level, kind, rate)
+            open(&mut self.nodes, &mut self.packs, base, level, next)
         }
     }
 

@@ -8,7 +8,7 @@ ghost use Rattle.run_tree.specs.Growth.{node_in};
 ghost use Rattle.run_tree.specs.Making.{started, put, lower_packs, lifted};
 ghost use Rattle.run_tree.specs.Maker.{IsMaking, NamesLower, leaf_count, packs_named};
 
-use crate::growth::Growth;
+use crate::growth::{Growth, Member};
 use crate::kinds::Kind;
 use crate::nodes::{Node, node_of};
 use crate::tree::Tree;
@@ -94,7 +94,7 @@ fn lower_of(alloc: Global, nodes: &[Node], packs: &[u32], scale: u128) -> Result
 {
     let mut found = Vec::new(alloc);
     for pack in packs {
-        if node_of(nodes, *pack).rate() < scale {
+        if node_of(nodes, *pack).head().rate < scale {
             found.push(*pack)?;
         }
     }
@@ -145,7 +145,7 @@ impl TreeMaker {
         ensures { result ≡ rate_in self.now.tree (slice_index self.now.last i) }
     {
         let pack = self.growth.packs()[i as usize];
-        node_of(self.growth.nodes(), pack).rate()
+        node_of(self.growth.nodes(), pack).head().rate
     }
 
     /// Adds a leaf at the end of pack `pack` of level 0, which is new where `pack` is the number of packs.
@@ -159,8 +159,11 @@ impl TreeMaker {
         ensures ok { OnOk result (self.new ≡ put (kind.Leaf leaf) rate pack self.old) }
         ensures err { OnErr result (self.new ≡ self.old) }
     {
-        self.growth
-            .put(0, self.levels - 1, Kind::Leaf(leaf), rate, pack)
+        let next = Member {
+            kind: Kind::Leaf(leaf),
+            rate,
+        };
+        self.growth.put(0, self.levels - 1, next, pack)
     }
 
     /// Adds a level: the dual of the i-th pack of the last level that isn't a root goes to the end of pack `homes[i]`,

@@ -9,27 +9,22 @@ use sched_base::{NoMemory, NodeId};
 use std::alloc::Global;
 use std::marker::Model;
 
-/// A leaf, a pack or a dual. What its kind doesn't use is 0, empty or None.
-pub(crate) struct Node {
-    kind: Kind,
-    rate: u128,
-    home: u32,
-    place: u32,
-    members: Vec<NodeId>,
-    dual: Option<NodeId>,
+/// What a node is, and where a leaf or a dual stands.
+#[derive(Clone, Copy)]
+pub(crate) struct NodeHead {
+    pub(crate) kind: Kind,
+    /// In ticks a unit.
+    pub(crate) rate: u128,
+    pub(crate) home: u32,
+    pub(crate) place: u32,
 }
 
-impl Drop for Node {
-    fn drop(self) {
-        let Self {
-            kind: _,
-            rate: _,
-            home: _,
-            place: _,
-            members: _members,
-            dual: _,
-        } = self;
-    }
+/// A leaf, a pack or a dual. What its kind doesn't use is 0, empty or None.
+#[derive(Drop)]
+pub(crate) struct Node {
+    head: NodeHead,
+    members: Vec<NodeId>,
+    dual: Option<NodeId>,
 }
 
 impl Model for Node {
@@ -39,10 +34,10 @@ impl Model for Node {
     ghost Value = { tree.Node };
 
     ghost view = { λ n. record {
-      kind = n.kind;
-      rate = n.rate;
-      home = n.home;
-      place = n.place;
+      kind = n.head.kind;
+      rate = n.head.rate;
+      home = n.head.home;
+      place = n.head.place;
       members = tree.numbers n.members.items;
       dual = option_map (λ d. d.0) n.dual;
     } };
@@ -53,25 +48,21 @@ impl Node {
     pub(crate) fn pack(alloc: Global, level: u32) -> Node
         ensures { result ≡ pack_node level }
     {
-        Node {
+        let head = NodeHead {
             kind: Kind::Pack(level),
             rate: 0,
             home: 0,
             place: 0,
-            members: Vec::new(alloc),
-            dual: None,
-        }
+        };
+        Node::member(alloc, head)
     }
 
     /// A leaf or a dual, in its home.
-    pub(crate) fn member(alloc: Global, kind: Kind, rate: u128, home: u32, place: u32) -> Node
-        ensures { result ≡ member_node kind rate home place }
+    pub(crate) fn member(alloc: Global, head: NodeHead) -> Node
+        ensures { result ≡ member_node head.kind head.rate head.home head.place }
     {
         Node {
-            kind,
-            rate,
-            home,
-            place,
+            head,
             members: Vec::new(alloc),
             dual: None,
         }
@@ -82,10 +73,7 @@ impl Node {
         ensures { IfOk result (λ n. n ≡ self.now) }
     {
         Ok(Node {
-            kind: self.kind,
-            rate: self.rate,
-            home: self.home,
-            place: self.place,
+            head: self.head,
             members: Vec::from_slice(*self.members.allocator(), self.members.as_slice())?,
             dual: self.dual,
         })
@@ -98,7 +86,7 @@ impl Node {
         ensures err { OnErr result (self.new ≡ self.old) }
     {
         self.members.push(member)?;
-        self.rate += rate;
+        self.head.rate += rate;
         Ok(())
     }
 
@@ -109,28 +97,13 @@ impl Node {
         self.dual = Some(dual);
     }
 
-    pub(crate) fn kind(&self) -> Kind
-        ensures { result ≡ self.now.kind }
+    pub(crate) fn head(&self) -> &NodeHead
+        ensures kind { result.now.kind ≡ self.now.kind }
+        ensures rate { result.now.rate ≡ self.now.rate }
+        ensures home { result.now.home ≡ self.now.home }
+        ensures place { result.now.place ≡ self.now.place }
     {
-        self.kind
-    }
-
-    pub(crate) fn rate(&self) -> u128
-        ensures { result ≡ self.now.rate }
-    {
-        self.rate
-    }
-
-    pub(crate) fn home(&self) -> u32
-        ensures { result ≡ self.now.home }
-    {
-        self.home
-    }
-
-    pub(crate) fn place(&self) -> u32
-        ensures { result ≡ self.now.place }
-    {
-        self.place
+        &self.head
     }
 
     pub(crate) fn members(&self) -> &[NodeId]

@@ -107,7 +107,7 @@ impl Tree {
         requires { n.0 < length self.now.nodes }
         ensures { result ≡ kind_at self.now n.0 }
     {
-        node_of(self.made.nodes(), n.0).kind()
+        node_of(self.made.nodes(), n.0).head().kind
     }
 
     /// Brings what each tree keeps into the proof of its caller; it does nothing.
@@ -135,7 +135,7 @@ impl Tree {
         ensures value { result ≡ rate_in self.now n.0 }
         ensures within { result ≤ self.now.scale }
     {
-        node_of(self.made.nodes(), n.0).rate()
+        node_of(self.made.nodes(), n.0).head().rate
     }
 
     /// The pack in which a leaf or a dual stands.
@@ -143,7 +143,7 @@ impl Tree {
         requires { n.0 < length self.now.nodes }
         ensures { result.0 ≡ home_in self.now n.0 }
     {
-        NodeId(node_of(self.made.nodes(), n.0).home())
+        NodeId(node_of(self.made.nodes(), n.0).head().home)
     }
 
     /// The place of a leaf or a dual among the members of its home.
@@ -151,7 +151,7 @@ impl Tree {
         requires { n.0 < length self.now.nodes }
         ensures { result ≡ place_in self.now n.0 }
     {
-        node_of(self.made.nodes(), n.0).place()
+        node_of(self.made.nodes(), n.0).head().place
     }
 
     /// The members of a pack, in order.

@@ -31,7 +31,7 @@ join-requires c =
     let old = c.args.nodes.now.items in
     let within : c.args.place < length c.reserve.new.self.items = subst (λ xs. c.args.place < length xs) (sym c.in_ok-reserve.ensures.items) c.requires.pack in
     let pack = read_node _ c.args.place _ within c.index_mut-pack.ensures.value ∙ ap (λ xs. node_in xs c.args.place) c.in_ok-reserve.ensures.items in
-    subst (λ (n : Node). n.rate + c.args.rate < 340282366920938463463374607431768211456) (sym pack) c.requires.rate_fits
+    subst (λ (n : Node). n.rate + c.args.next.rate < 340282366920938463463374607431768211456) (sym pack) c.requires.rate_fits
 
 pub overflow_cast-members : goal.overflow_cast-members
 overflow_cast-members c =
@@ -45,11 +45,11 @@ pub returns-in_err-join-clause-err : goal.returns-in_err-join-clause-err
 returns-in_err-join-clause-err c = MatchResult-from_err _ _ _ c.from_residual-in_err-join.ensures.0
     (λ _. ap (set c.reserve.new.self.items c.args.place) (c.in_err-join.ensures.err ∙ c.index_mut-pack.ensures.value) ∙ set-get_or c.reserve.new.self.items c.args.place _ ∙ c.in_ok-reserve.ensures.items)
 
-pub overflow_cast-place : goal.overflow_cast-place
-overflow_cast-place c = let fit = c.requires.numbers_fit in let pack = c.requires.pack in omega (arith, fit, pack)
+pub overflow_cast-head : goal.overflow_cast-head
+overflow_cast-head c = let fit = c.requires.numbers_fit in let pack = c.requires.pack in omega (arith, fit, pack)
 
-pub overflow_add-base : goal.overflow_add-base
-overflow_add-base c = let fit = c.requires.numbers_fit in let pack = c.requires.pack in omega (arith, fit, pack)
+pub overflow_add-head : goal.overflow_add-head
+overflow_add-head c = let fit = c.requires.numbers_fit in let pack = c.requires.pack in omega (arith, fit, pack)
 
 pub push_reserved-requires : goal.push_reserved-requires
 push_reserved-requires c = let room = c.in_ok-reserve.ensures.ok in omega (arith, room)
@@ -59,5 +59,5 @@ returns-clause-ok c =
     let within : c.args.place < length c.reserve.new.self.items = subst (λ xs. c.args.place < length xs) (sym c.in_ok-reserve.ensures.items) c.requires.pack in
     let pack = read_node _ c.args.place _ within c.index_mut-pack.ensures.value ∙ ap (λ xs. node_in xs c.args.place) c.in_ok-reserve.ensures.items in
     let number = ap (λ n. c.args.base + n) (c.len.ensures ∙ c.in_ok-reserve.ensures.len ∙ c.args.nodes.now.ok.0) in
-    member_joined c.args.base c.args.place c.args.rate _ _ c.args.kind c.args.nodes.now.items _ _ _ _ _ c.in_ok-reserve.ensures.items pack number
-    (sym (length-map c.members.result.now (λ (n : NodeId). n.0)) ∙ ap length c.members.ensures) c.in_ok-join.ensures.ok c.member-member.ensures c.push_reserved.ensures.items
+    member_joined c.args.base c.args.place c.args.next.rate _ _ c.args.next.kind c.args.nodes.now.items _ _ _ _ _ c.in_ok-reserve.ensures.items pack number
+    (sym (length-map c.members.result.now (λ (n : NodeId). n.0)) ∙ ap length c.members.ensures) c.in_ok-join.ensures.ok c.member.ensures c.push_reserved.ensures.items

@@ -51,7 +51,7 @@ push_reserved-requires-3 c = let room = c.in_ok-reserve.ensures.ok in let long =
 pub returns-clause-nodes : goal.returns-clause-nodes
 returns-clause-nodes c =
     let number = ap (λ n. c.args.base + n) (c.len.ensures ∙ c.in_ok-reserve.ensures.len ∙ c.args.nodes.now.ok.0) in
-    pack_opened c.args.base c.args.level c.args.rate _ c.args.kind c.args.nodes.now.items _ _ _ _ _ c.in_ok-reserve.ensures.items number c.in_ok-pack.ensures c.member.ensures
+    pack_opened c.args.base c.args.level c.args.next.rate _ c.args.next.kind c.args.nodes.now.items _ _ _ _ _ c.in_ok-reserve.ensures.items number c.in_ok-pack.ensures c.member.ensures
     c.push_reserved-2.ensures.items c.push_reserved-3.ensures.items
 
 pub returns-clause-packs : goal.returns-clause-packs

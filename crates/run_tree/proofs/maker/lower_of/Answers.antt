@@ -5,7 +5,7 @@ use Rattle.run_tree.proofs.MappedLists.{passed_more, failed_more}
 use Rattle.std.proofs.lemmas.Result.{IfOk-from_err}
 use Rattle.std.proofs.lemmas.List.{take_all}
 use Rattle.run_tree.proofs.maker.lower_of.Goals as goal
-use Rattle.run_tree.proofs.maker.lower_of.Goals.{then-rate-scale+in_ok-push, else-rate-scale}
+use Rattle.run_tree.proofs.maker.lower_of.Goals.{then-head-scale+in_ok-push, else-head-scale}
 
 pub loop-pack-preserved : goal.loop-pack-preserved
 loop-pack-preserved c =
@@ -13,13 +13,13 @@ loop-pack-preserved c =
     let packs = c.args.packs.now in
     let i = c.loop-pack.pack-index in
     let within = c.loop-pack-test.true in
-    let rate = c.rate.ensures ∙ ap (λ (n : Node). n.rate) c.node_of.ensures in
-    elim c.if-rate-scale.branch [
-      | then-rate-scale+in_ok-push w ↦
-          (let lower = subst (λ (r : ℕ). nat_lt r c.args.scale ≡ true) rate (lt-ltb _ _ w.if-rate-scale.true) in
+    let rate = c.head.ensures.rate ∙ ap (λ (n : Node). n.rate) c.node_of.ensures in
+    elim c.if-head-scale.branch [
+      | then-head-scale+in_ok-push w ↦
+          (let lower = subst (λ (r : ℕ). nat_lt r c.args.scale ≡ true) rate (lt-ltb _ _ w.if-head-scale.true) in
           passed_more is_lower packs i 0 _ _ within c.loop-pack.invariant (ap (λ (v : Vec ℕ Global). v.items) w.found-is ∙ w.in_ok-push.ensures.items) lower)
-      | else-rate-scale w ↦
-          (let root = subst (λ (r : ℕ). nat_lt r c.args.scale ≡ false) rate (le-ltb _ _ w.if-rate-scale.false) in
+      | else-head-scale w ↦
+          (let root = subst (λ (r : ℕ). nat_lt r c.args.scale ≡ false) rate (le-ltb _ _ w.if-head-scale.false) in
           failed_more is_lower packs i 0 _ _ within c.loop-pack.invariant (ap (λ (v : Vec ℕ Global). v.items) w.found-is) root)
     ]
 
