@@ -88,7 +88,7 @@ module _ (p : PlanContents) (start end : ℕ) (changed : List ℕ) where
 
 -- ---- leaves that are known anew
 
-module _ (changed : List ℕ) (told leaves : List (Option Leaf)) (n : ℕ) (l : get_or changed n 0 < length leaves) where
+module _ {X : Type 0} (changed : List ℕ) (told leaves : List (Option X)) (n : ℕ) (l : get_or changed n 0 < length leaves) where
   abbrev here : ℕ
   here = get_or changed n 0
 
@@ -102,7 +102,7 @@ module _ (changed : List ℕ) (told leaves : List (Option Leaf)) (n : ℕ) (l : 
     ]
   ]
 
-  pub note_rest : (before : List (Option Leaf)) → ((q : ℕ) → IsNone changed n q → get_or leaves q None ≡ get_or before q None) →
+  pub note_rest : (before : List (Option X)) → ((q : ℕ) → IsNone changed n q → get_or leaves q None ≡ get_or before q None) →
       (q : ℕ) → IsNone changed (n + 1) q → get_or (set leaves here (get_or told here None)) q None ≡ get_or before q None
   note_rest before rest q none = set_other leaves here q (get_or told here None) None (λ e. none n (omega arith) (sym e)) ∙ rest q (λ k m. none k (omega (arith, m)))
 

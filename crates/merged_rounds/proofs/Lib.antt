@@ -4,6 +4,7 @@ mod SumLemmas
 pub mod LapLemmas
 mod ApartLemmas
 mod ChangeLemmas
+mod MarkLemmas
 pub mod CountLemmas
 mod ReplayLemmas
 mod ReplaySteps

@@ -247,7 +247,7 @@ module _ (p : PlanContents) (h : IsPlan p) (old_tick new_tick : ℕ) (r r' : Rep
       off false b e = refl
       off true b e = ap not (sym e)
 
-  stays : get_or r'.places.onto q None ≡ get_or r.places.onto q None
+  pub stays : get_or r'.places.onto q None ≡ get_or r.places.onto q None
   stays =
       ap (λ (w : Placing). get_or w.onto q None) has.placed
       ∙ moved rs r.places noted (last_long p h old_tick r b early) q
@@ -287,7 +287,7 @@ module _ (p : PlanContents) (h : IsPlan p) (old_tick new_tick : ℕ) (r r' : Rep
 
 -- ---- what packs show by what processors show
 
-held_by : (os : List (Option ℕ)) (k : ℕ) → is_held os k ≡ true → (q : ℕ) × (q < length os) × (get_or os q None ≡ Some k)
+pub held_by : (os : List (Option ℕ)) (k : ℕ) → is_held os k ≡ true → (q : ℕ) × (q < length os) × (get_or os q None ≡ Some k)
 held_by [] k on = cc
 held_by (o ∷ os) k on = elim (cases_Bool (is_at o k)) [
   | inl here ↦ (0, omega arith, is_at_some o k here)

@@ -101,6 +101,17 @@ pub record AreKept (p : PlanContents) (start : ℕ) (before after : Turn) (n : �
   pub rest : (k : ℕ) → k < n → IsNotAmong after.packs.items (length before.packs.items) (length after.packs.items) k →
       (0 < length before.ends.items) × (slice_index_or after.last.items k None ≡ slice_index_or before.last.items k None)
 
+-- From number `from` on, a pack without a mark shows what the processor does that holds it, and nothing where none does.
+pub record AreStill (onto : List (Option ℕ)) (leaves shows : List (Option Leaf)) (marks : List Bool) (from : ℕ) : Type 0 where
+  pub none : (k : ℕ) → from ≤ k → k < length shows → slice_index_or marks k false ≡ false → is_held onto k ≡ false → slice_index_or shows k None ≡ None
+  pub some : (k q : ℕ) → from ≤ k → k < length shows → slice_index_or marks k false ≡ false → slice_index_or onto q None ≡ Some k →
+      slice_index_or shows k None ≡ slice_index_or leaves q None
+
+-- these are the packs that processors hold before the round that starts at this tick
+pub record AreHolding (p : PlanContents) (tick : ℕ) (holds : List (Option ℕ)) : Type 0 where
+  pub long : length holds ≡ p.tree.processors
+  pub each : (q : ℕ) → q < p.tree.processors → slice_index_or holds q None ≡ slice_index_or (places_of p tick).onto q None
+
 -- pack k, which showed another leaf or nothing, is listed with the packs that were looked at, and as one that stops or begins
 pub record IsListed (before after : ChangeLists) (k : ℕ) (runs held : Bool) : Type 0 where
   pub seen : after.seen ≡ before.seen ++ k ∷ []

@@ -3,9 +3,10 @@ ghost use Rattle.std.specs.Prelude.{ℕ, ◌≡◌, ◌<◌, ◌≤◌, ◌⊎�
 ghost use Rattle.std.specs.List.{AllByRecursion};
 ghost use Rattle.run_tree.specs.Plans.{stop_of};
 ghost use Rattle.run_tree.specs.Schedule.{packs_at};
+ghost use Rattle.event_core.specs.Cores.{places_of};
 ghost use Rattle.event_core.specs.Counts.{IsCountFault};
 ghost use Rattle.event_core.specs.Rounds.{IsRoundUpTo};
-ghost use Rattle.merged_rounds.specs.Changes.{AreAllChanged, IsChange, IsShowing};
+ghost use Rattle.merged_rounds.specs.Changes.{AreAllChanged, IsChange, IsNone, IsShowing};
 ghost use Rattle.merged_rounds.specs.Laps.{IsAllTold, IsSumUpTo};
 ghost use Rattle.merged_rounds.specs.Replays.{IsSourceOf};
 
@@ -111,6 +112,8 @@ pub(crate) fn merge_telling(
     ensures showing { IfOk result (λ pair. IsShowing plan.now source.new pair.0) }
     ensures round { IfOk result (λ _. IsRoundUpTo plan.now source.old.tick source.new.tick) }
     ensures changed { IfOk result (λ pair. AreAllChanged plan.now source.old.tick source.new.tick changed.new pair.1) }
+    ensures placed { IfOk result (λ pair. (q : ℕ) → q < plan.now.tree.processors → IsNone changed.new pair.1 q →
+        slice_index_or (places_of plan.now source.new.tick).onto q None ≡ slice_index_or (places_of plan.now source.old.tick).onto q None) }
     ensures told { IfOk result (λ pair. (q : ℕ) → IsChange plan.now source.old.tick source.new.tick changed.new pair.1 q (slice_index_or told.new q None)) }
     ensures fault { IfErr result (λ fault. IsCountFault plan.now fault) }
 {

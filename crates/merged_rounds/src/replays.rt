@@ -222,6 +222,8 @@ impl Replay {
         ensures processors { (j : ℕ) → j < result.1 → slice_index told.new j < plan.now.tree.processors }
         ensures others { (q before : ℕ) (none : DeclaredRow) → q < plan.now.tree.processors → (IsTold told.new result.1 q → ⊥) →
             IsRoundUpTo plan.now before start → leaf_at plan.now start result.0 q none ≡ leaf_at plan.now before start q none }
+        ensures placed { (q : ℕ) → q < plan.now.tree.processors → (IsTold told.new result.1 q → ⊥) →
+            slice_index_or self.new.places.onto q None ≡ slice_index_or self.old.places.onto q None }
     {
         plan.know_lawful();
         self.places.know_noted();

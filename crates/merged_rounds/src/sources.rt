@@ -1,5 +1,5 @@
 //! Where rounds come from: a core computes them, or those of the first hyperperiod come again.
-ghost use Rattle.std.specs.Prelude.{ℕ, ◌≡◌, ◌<◌, ◌≤◌, ◌*◌, true, false, length, IfOk, slice_index};
+ghost use Rattle.std.specs.Prelude.{ℕ, ◌≡◌, ◌<◌, ◌≤◌, ◌*◌, true, false, length, IfOk, None, slice_index, slice_index_or};
 ghost use Rattle.std.specs.List.{AllByRecursion};
 ghost use Rattle.sched_base.specs.declared.rows.Row.{Row as DeclaredRow};
 ghost use Rattle.run_tree.specs.Plans.{stop_of};
@@ -125,8 +125,8 @@ impl Source {
     }
 
     /// Moves to the end of the next round as `go` does, and tells the processors, numbered from 0, on which that round may show something
-    /// else than the one before: where no task is released late, each other one shows the same. How many are told; one may be told
-    /// twice. It takes no memory.
+    /// else than the one before: each other one holds the same pack, and where no task is released late it shows the same. How many are
+    /// told; one may be told twice. It takes no memory.
     #[inline(always)]
     pub(crate) fn go_telling(&mut self, plan: &Plan, told: &mut [u32]) -> usize
         requires belongs { IsSourceOf plan.now self.old }
@@ -139,6 +139,8 @@ impl Source {
         ensures others { (q start : ℕ) (none : DeclaredRow) → q < plan.now.tree.processors → (IsTold told.new result q → ⊥) →
             AllByRecursion (λ t. t.offset ≡ 0) plan.now.set.tasks → IsRoundUpTo plan.now start self.old.tick →
             leaf_at plan.now self.old.tick self.new.tick q none ≡ leaf_at plan.now start self.old.tick q none }
+        ensures placed { (q : ℕ) → q < plan.now.tree.processors → (IsTold told.new result q → ⊥) →
+            slice_index_or (places_of plan.now self.new.tick).onto q None ≡ slice_index_or (places_of plan.now self.old.tick).onto q None }
     {
         if self.replays {
             let start = self.tick;

@@ -1,5 +1,5 @@
 //! The rounds of the first hyperperiod, kept by the packs that show something else than in the round before.
-ghost use Rattle.std.specs.Prelude.{ℕ, ◌≡◌, ◌<◌, ◌≤◌, ◌+◌, ◌++◌, ◌∷◌, [], true, false, length, IfErr, IfOk, None, Some, slice_index, slice_index_or, replicate};
+ghost use Rattle.std.specs.Prelude.{ℕ, ◌≡◌, ◌<◌, ◌≤◌, ◌+◌, ◌++◌, ◌∷◌, [], true, false, length, IfErr, IfOk, None, Some, slice_index, slice_index_or, replicate, vec_len};
 ghost use Rattle.sched_base.specs.Places.{is_held};
 ghost use Rattle.run_tree.specs.Plans.{PlanContents, stop_of};
 ghost use Rattle.event_core.specs.Cores.{places_of};
@@ -8,7 +8,7 @@ ghost use Rattle.event_core.specs.Rounds.{IsRoundUpTo};
 ghost use Rattle.merged_rounds.specs.declared.turns.Turn.{Turn as DeclaredTurn};
 ghost use Rattle.merged_rounds.specs.Changes.{IsNone, IsTurning};
 ghost use Rattle.merged_rounds.specs.Laps.{CanComeRound, IsAllTold, IsSumUpTo};
-ghost use Rattle.merged_rounds.specs.Replays.{AreKept, IsPackOn, IsSourceOf, IsTurnOf, packs_of, part_start, turn_end};
+ghost use Rattle.merged_rounds.specs.Replays.{AreHolding, AreKept, AreStill, IsPackOn, IsSourceOf, IsTurnOf, packs_of, part_start, turn_end};
 
 use crate::changed::{first_of, forget_changed, merge_telling, merge_whole, room_for_told};
 use crate::laps::start_of;
@@ -127,7 +127,7 @@ impl Turn {
     }
 
     // Keeps the packs that show something else than before in the round just gone, from `start` up to `end`, or each of them, where it is
-    // the first round.
+    // the first round. All those that may do so have marks.
     fn keep_packs(
         &mut self,
         plan: &Plan,
@@ -135,12 +135,15 @@ impl Turn {
         start: u128,
         end: u128,
         leaves: &[Option<Leaf>],
+        marks: &[bool],
     ) -> Result<(), NoMemory>
         requires can { CanComeRound plan.now }
         requires places { places.now ≡ places_of plan.now end }
         requires round { IsRoundUpTo plan.now start end }
         requires leaves { IsAllTold plan.now start end leaves.now }
         requires turn { IsTurnOf plan.now self.old }
+        requires marks { length marks.now ≡ packs_of plan.now }
+        requires still { 0 < length self.old.ends.items → AreStill places.now.onto leaves.now self.old.last.items marks.now 0 }
         ensures kept { IfOk result (λ _. AreKept plan.now start self.old self.new (packs_of plan.now)) }
     {
         plan.know_lawful();
@@ -148,11 +151,11 @@ impl Turn {
         let _end = end;
         let whole = self.is_none();
         let count = pack_count(plan);
-        let mut k = next_other(places, leaves, &self.last, 0, whole);
+        let mut k = next_other(places, leaves, &self.last, marks, 0, whole);
         'others: while k < count {
             let leaf = shown_by(places, leaves, k);
             self.keep_pack(k, leaf, whole)?;
-            k = next_other(places, leaves, &self.last, k + 1, whole);
+            k = next_other(places, leaves, &self.last, marks, k + 1, whole);
         }
         Ok(())
     }
@@ -165,17 +168,20 @@ impl Turn {
         start: u128,
         end: u128,
         leaves: &[Option<Leaf>],
+        marks: &[bool],
     ) -> Result<(), NoMemory>
         requires can { CanComeRound plan.now }
         requires places { places.now ≡ places_of plan.now end }
         requires round { IsRoundUpTo plan.now start end }
         requires leaves { IsAllTold plan.now start end leaves.now }
         requires turn { IsTurnOf plan.now self.old }
+        requires marks { length marks.now ≡ packs_of plan.now }
+        requires still { 0 < length self.old.ends.items → AreStill places.now.onto leaves.now self.old.last.items marks.now 0 }
         requires here { turn_end self.old ≡ start }
         ensures turn { IfOk result (λ _. IsTurnOf plan.now self.new) }
         ensures end { IfOk result (λ _. turn_end self.new ≡ end) }
     {
-        self.keep_packs(plan, places, start, end, leaves)?;
+        self.keep_packs(plan, places, start, end, leaves, marks)?;
         self.close(end)?;
         Ok(())
     }
@@ -211,6 +217,21 @@ fn no_packs(alloc: Global, plan: &Plan) -> Result<Vec<Option<Leaf>>, NoMemory>
     Ok(vec![in alloc; None; plan.tree().packs(0) as usize]?)
 }
 
+// Of no pack of level 0 a mark.
+fn no_marks(alloc: Global, plan: &Plan) -> Result<Vec<bool>, NoMemory>
+    ensures { IfOk result (λ v. vec_len v ≡ packs_of plan.now) }
+{
+    plan.know_lawful();
+    Ok(vec![in alloc; false; plan.tree().packs(0) as usize]?)
+}
+
+// The pack that each processor holds.
+fn holds_of(alloc: Global, places: &Places) -> Result<Vec<Option<u32>>, NoMemory>
+    ensures { IfOk result (λ v. v.items ≡ places.now.onto) }
+{
+    Ok(Vec::from_slice(alloc, places.onto())?)
+}
+
 // A copy of what is told.
 fn copy_of(alloc: Global, told: &[Option<Leaf>]) -> Result<Vec<Option<Leaf>>, NoMemory>
     ensures { IfOk result (λ v. v.items ≡ told.now) }
@@ -236,18 +257,48 @@ fn shown_by(places: &Places, leaves: &[Option<Leaf>], k: u32) -> Option<Leaf>
     }
 }
 
+// Whether pack k shows something else than this. One without a mark doesn't.
+#[inline(always)]
+fn shows_other(
+    places: &Places,
+    leaves: &[Option<Leaf>],
+    shows: &[Option<Leaf>],
+    marks: &[bool],
+    from: u32,
+    k: u32,
+) -> bool
+    requires pack { k < length shows.now }
+    requires packs { length shows.now ≡ length places.now.last }
+    requires marks { length marks.now ≡ length shows.now }
+    requires long { length leaves.now ≡ length places.now.onto }
+    requires from { from ≤ k }
+    requires still { AreStill places.now.onto leaves.now shows.now marks.now from }
+    ensures none { result ≡ false → is_held places.now.onto k ≡ false → slice_index_or shows.now k None ≡ None }
+    ensures some { (q : ℕ) → result ≡ false → slice_index_or places.now.onto q None ≡ Some k →
+        slice_index_or shows.now k None ≡ slice_index_or leaves.now q None }
+{
+    let _from = from;
+    if !marks[k as usize] {
+        return false;
+    }
+    shown_by(places, leaves, k) != shows[k as usize]
+}
+
 // The first pack from number `from` on that shows something else than this, or their number where none does; or that one, where it is the
-// first round.
+// first round. Those without a mark are passed over.
 fn next_other(
     places: &Places,
     leaves: &[Option<Leaf>],
     shows: &[Option<Leaf>],
+    marks: &[bool],
     from: u32,
     whole: bool,
 ) -> u32
     requires packs { length shows.now ≡ length places.now.last }
+    requires marks { length marks.now ≡ length shows.now }
     requires long { length leaves.now ≡ length places.now.onto }
     requires from { from ≤ length shows.now }
+    requires still { whole ≡ false → AreStill places.now.onto leaves.now shows.now marks.now from }
     ensures after { from ≤ result }
     ensures within { result ≤ length shows.now }
     ensures later { from < result → whole ≡ false }
@@ -261,7 +312,7 @@ fn next_other(
     }
     let count = shows.len() as u32;
     for k in from..count {
-        if shown_by(places, leaves, k) != shows[k as usize] {
+        if shows_other(places, leaves, shows, marks, from, k) {
             return k;
         }
     }
@@ -283,12 +334,59 @@ fn note(changed: &[u32], told: &[Option<Leaf>], leaves: &mut [Option<Leaf>])
     }
 }
 
+// This pack, where there is one, is marked.
+#[inline(always)]
+fn mark(pack: Option<u32>, marks: &mut [bool])
+    requires { (k : ℕ) → pack ≡ Some k → k < length marks.old }
+    ensures own { (k : ℕ) → pack ≡ Some k → slice_index_or marks.new k false ≡ true }
+    ensures rest { (k : ℕ) → slice_index_or marks.old k false ≡ true → slice_index_or marks.new k false ≡ true }
+{
+    if let Some(k) = pack {
+        marks[k as usize] = true;
+    }
+}
+
+// The pack that processor q holds.
+#[inline(always)]
+fn held_by(holds: &[Option<u32>], q: u32) -> Option<u32>
+    requires { q < length holds.now }
+    ensures { result ≡ slice_index_or holds.now q None }
+{
+    holds[q as usize]
+}
+
+// Marks the packs that these processors held, and those that they hold now.
+#[inline(always)]
+fn mark_changed(changed: &[u32], places: &Places, holds: &mut [Option<u32>], marks: &mut [bool])
+    requires within { (j : ℕ) → j < length changed.now → slice_index changed.now j < length holds.old }
+    requires long { length holds.old ≡ length places.now.onto }
+    requires before { (q k : ℕ) → slice_index_or holds.old q None ≡ Some k → k < length marks.old }
+    requires now { (q k : ℕ) → slice_index_or places.now.onto q None ≡ Some k → k < length marks.old }
+    ensures each { (j : ℕ) → j < length changed.now →
+        slice_index_or holds.new (slice_index changed.now j) None ≡ slice_index_or places.now.onto (slice_index changed.now j) None }
+    ensures rest { (q : ℕ) → IsNone changed.now (length changed.now) q → slice_index_or holds.new q None ≡ slice_index_or holds.old q None }
+    ensures held { (q k : ℕ) → slice_index_or holds.old q None ≡ Some k → slice_index_or marks.new k false ≡ false →
+        slice_index_or holds.new q None ≡ Some k }
+    ensures marked { (j k : ℕ) → j < length changed.now → slice_index_or places.now.onto (slice_index changed.now j) None ≡ Some k →
+        slice_index_or marks.new k false ≡ true }
+{
+    for j in 0..changed.len() {
+        let q = changed[j];
+        let before = held_by(holds, q);
+        let pack = places.pack_on(q);
+        mark(before, marks);
+        mark(pack, marks);
+        holds[q as usize] = pack;
+    }
+}
+
 // The first round of a turn, of which each processor is looked at; `told` is forgotten. And what each processor shows in it.
 fn begin_turn(
     alloc: Global,
     plan: &Plan,
     source: &mut Source,
     told: &mut [Option<Leaf>],
+    marks: &[bool],
     first: RoundSum,
 ) -> Result<(RoundSum, Turn, Vec<Option<Leaf>>), CountFault>
     requires can { CanComeRound plan.now }
@@ -297,6 +395,7 @@ fn begin_turn(
     requires early { source.old.tick < stop_of plan.now }
     requires sum { IsSumUpTo plan.now source.old.tick first }
     requires told { length told.old ≡ plan.now.tree.processors }
+    requires marks { length marks.now ≡ packs_of plan.now }
     ensures going { IfOk result (λ all. IsTurning plan.now source.new all.0 told.new all.1 all.2.items) }
     ensures fault { IfErr result (λ fault. IsCountFault plan.now fault) }
 {
@@ -306,7 +405,7 @@ fn begin_turn(
     let leaves = copy_of(alloc, told)?;
     forget(told);
     let end = source.now();
-    turn.keep_round(plan, source.places(plan), start, end, &leaves)?;
+    turn.keep_round(plan, source.places(plan), start, end, &leaves, marks)?;
     Ok((sum, turn, leaves))
 }
 
@@ -317,25 +416,33 @@ fn turn_next(
     told: &mut [Option<Leaf>],
     changed: &mut [u32],
     leaves: &mut [Option<Leaf>],
+    holds: &mut [Option<u32>],
+    marks: &mut [bool],
     turn: &mut Turn,
     first: RoundSum,
 ) -> Result<RoundSum, CountFault>
     requires can { CanComeRound plan.now }
     requires going { IsTurning plan.now source.old first told.old turn.old leaves.old }
+    requires holds { AreHolding plan.now source.old.tick holds.old }
     requires early { source.old.tick < stop_of plan.now }
     requires told { length told.old ≡ plan.now.tree.processors }
     requires room { length changed.old ≡ packs_of plan.now }
+    requires marks { length marks.old ≡ packs_of plan.now }
     ensures going { IfOk result (λ sum. IsTurning plan.now source.new sum told.new turn.new leaves.new) }
+    ensures holds { IfOk result (λ _. AreHolding plan.now source.new.tick holds.new) }
     ensures later { IfOk result (λ _. IsRoundUpTo plan.now source.old.tick source.new.tick) }
     ensures fault { IfErr result (λ fault. IsCountFault plan.now fault) }
 {
+    plan.know_lawful();
     let start = source.now();
     let (sum, count) = merge_telling(plan, source, told, changed, first)?;
     let seen = first_of(changed, count);
     note(seen, told, leaves);
     forget_changed(seen, told);
     let end = source.now();
-    turn.keep_round(plan, source.places(plan), start, end, leaves)?;
+    marks.fill(false);
+    mark_changed(seen, source.places(plan), holds, marks);
+    turn.keep_round(plan, source.places(plan), start, end, leaves, marks)?;
     Ok(sum)
 }
 
@@ -363,7 +470,9 @@ pub(crate) fn merge_turn(
     ensures fault { IfErr result (λ fault. IsCountFault plan.now fault) }
 {
     let mut changed = room_for_told(alloc, plan)?;
-    let (mut sum, mut turn, mut leaves) = begin_turn(alloc, plan, source, told, first)?;
+    let mut marks = no_marks(alloc, plan)?;
+    let (mut sum, mut turn, mut leaves) = begin_turn(alloc, plan, source, told, &marks, first)?;
+    let mut holds = holds_of(alloc, source.places(plan))?;
     'rounds: while source.now() < until && turn.packs.len() < MOST_KEPT {
         sum = turn_next(
             plan,
@@ -371,6 +480,8 @@ pub(crate) fn merge_turn(
             told,
             &mut changed,
             &mut leaves,
+            &mut holds,
+            &mut marks,
             &mut turn,
             sum,
         )?;

@@ -1,8 +1,11 @@
-use Rattle.std.proofs.Common.{◌∙◌, ℕ, List, Option, subst, sym}
+use Rattle.std.proofs.Common.{◌∙◌, ℕ, List, Option, ap, arith, length, subst, sym}
 use Rattle.sched_base.specs.declared.rows.Leaf.{Leaf}
 use Rattle.event_core.proofs.SettledPacks.{same_start}
 use Rattle.merged_rounds.specs.Laps.{IsAllTold}
 use Rattle.merged_rounds.proofs.turns.begin_turn.Goals as goal
+
+pub keep_round-requires-clause-still : goal.keep_round-requires-clause-still
+keep_round-requires-clause-still c = λ l. absurd (let none = ap (λ (xs : List ℕ). length xs) c.in_ok-turn.ensures.none in omega (arith, l, none))
 
 pub returns-clause-going : goal.returns-clause-going
 returns-clause-going c =

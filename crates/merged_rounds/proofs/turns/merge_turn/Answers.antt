@@ -1,20 +1,46 @@
-use Rattle.std.proofs.Common.{◌∙◌, ℕ, List, Option, ap, arith, length, subst, sym}
+use Rattle.std.proofs.Common.{◌∙◌, Bool, ℕ, List, Option, None, ap, arith, get_or, length, subst, sym}
+use Rattle.sched_base.specs.Places.{Placing}
+use Rattle.run_tree.specs.Boundaries.{set_boundary}
+use Rattle.run_tree.proofs.ScheduleLemmas.{length-places}
 use Rattle.sched_base.specs.declared.rows.Leaf.{Leaf}
 use Rattle.cpu_assign.proofs.StepLemmas.{written}
 use Rattle.merged_rounds.specs.Changes.{IsTurning}
+use Rattle.merged_rounds.specs.Replays.{AreHolding}
 use Rattle.merged_rounds.proofs.turns.merge_turn.Goals as goal
 
 pub turn_next-requires-clause-going : goal.turn_next-requires-clause-going
 turn_next-requires-clause-going c =
     subst (λ (xs : List (Option Leaf)). IsTurning c.args.plan.now c.rounds.source c.rounds.sum c.rounds.told c.rounds.turn xs) (sym c.deref_mut-in-rounds.ensures.value) c.rounds.invariant.going
 
+pub turn_next-requires-clause-holds : goal.turn_next-requires-clause-holds
+turn_next-requires-clause-holds c =
+    subst (λ (xs : List (Option ℕ)). AreHolding c.args.plan.now c.rounds.source.tick xs) (sym c.deref_mut-in-rounds-2.ensures.value) c.rounds.invariant.holds
+
+pub turn_next-requires-clause-marks : goal.turn_next-requires-clause-marks
+turn_next-requires-clause-marks c = ap (λ (xs : List Bool). length xs) c.deref_mut-in-rounds-3.ensures.value ∙ c.rounds.invariant.marks
+
+pub rounds-init : goal.rounds-init
+rounds-init c = record {
+  going = c.in_ok-sum.ensures.going;
+  holds = record {
+    long = ap (λ (xs : List (Option ℕ)). length xs) c.in_ok-holds.ensures ∙ ap (λ (w : Placing). length w.onto) c.places.ensures ∙ length-places (set_boundary c.args.plan.now.set.tasks) c.args.plan.now.tree c.begin_turn.new.source.tick;
+    each = λ q l. ap (λ (xs : List (Option ℕ)). get_or xs q None) c.in_ok-holds.ensures ∙ ap (λ (w : Placing). get_or w.onto q None) c.places.ensures;
+  };
+  room = c.in_ok-changed.ensures;
+  marks = c.in_ok-marks.ensures;
+}
+
 pub rounds-preserved : goal.rounds-preserved
 rounds-preserved c =
     let leaves = written c.rounds.leaves c.deref_mut-in-rounds.result.now c.turn_next.new.leaves c.deref_mut-in-rounds.ensures.value c.turn_next.auto.leaves in
     let changed = written c.rounds.changed c.deref_mut.result.now c.turn_next.new.changed c.deref_mut.ensures.value c.turn_next.auto.changed in
+    let holds = written c.rounds.holds c.deref_mut-in-rounds-2.result.now c.turn_next.new.holds c.deref_mut-in-rounds-2.ensures.value c.turn_next.auto.holds in
+    let marks = written c.rounds.marks c.deref_mut-in-rounds-3.result.now c.turn_next.new.marks c.deref_mut-in-rounds-3.ensures.value c.turn_next.auto.marks in
     record {
       going = subst (λ (xs : List (Option Leaf)). IsTurning c.args.plan.now c.turn_next.new.source c.in_ok-sum-2.sum c.turn_next.new.told c.turn_next.new.turn xs) (sym leaves) c.in_ok-sum-2.ensures.going;
+      holds = subst (λ (xs : List (Option ℕ)). AreHolding c.args.plan.now c.turn_next.new.source.tick xs) (sym holds) c.in_ok-sum-2.ensures.holds;
       room = ap (λ (xs : List ℕ). length xs) changed ∙ c.turn_next.auto.changed ∙ ap (λ (xs : List ℕ). length xs) c.deref_mut.ensures.value ∙ c.rounds.invariant.room;
+      marks = ap (λ (xs : List Bool). length xs) marks ∙ c.turn_next.auto.marks ∙ ap (λ (xs : List Bool). length xs) c.deref_mut-in-rounds-3.ensures.value ∙ c.rounds.invariant.marks;
     }
 
 pub rounds-smaller : goal.rounds-smaller

@@ -1,13 +1,15 @@
 use Rattle.std.proofs.Common.{◌≡◌, ◌-◌, length}
 use Rattle.run_tree.specs.Plans.{stop_of}
 use Rattle.merged_rounds.specs.Changes.{IsTurning}
-use Rattle.merged_rounds.specs.Replays.{packs_of}
+use Rattle.merged_rounds.specs.Replays.{AreHolding, packs_of}
 use Rattle.merged_rounds.proofs.turns.merge_turn.Given as goal
 
 abbrev pub invariant-rounds : goal.invariant-rounds
 invariant-rounds l = record {
   going : IsTurning l.plan l.source l.sum l.told l.turn l.leaves.items;
+  holds : AreHolding l.plan l.source.tick l.holds.items;
   room : length l.changed.items ≡ packs_of l.plan;
+  marks : length l.marks.items ≡ packs_of l.plan;
 }
 
 abbrev pub decreases-rounds : goal.decreases-rounds

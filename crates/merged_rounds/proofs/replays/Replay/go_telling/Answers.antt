@@ -4,7 +4,7 @@ use Rattle.run_tree.proofs.ScheduleLemmas.{length-places}
 use Rattle.run_tree.specs.Boundaries.{set_boundary}
 use Rattle.event_core.specs.Told.{AreTold}
 use Rattle.event_core.proofs.OneRound.{length-last}
-use Rattle.merged_rounds.proofs.ReplaySteps.{others_same}
+use Rattle.merged_rounds.proofs.ReplaySteps.{others_same, stays}
 use Rattle.merged_rounds.proofs.replays.Replay.go_telling.Goals as goal
 
 pub tell_places-count-requires-clause-packs : goal.tell_places-count-requires-clause-packs
@@ -39,3 +39,10 @@ returns-clause-others c = λ q before none l away up.
     let tells = subst (λ (xs : List ℕ). AreTold r'.places xs c.tell_places-count.new.told (length xs) c.tell_places-count.result) c.seen.ensures.packs c.tell_places-count.ensures.told in
     others_same p c.know_lawful.ensures.lawful c.args.start c.go-end.result c.args.self.now r' c.requires.belongs c.go-end.ensures.belongs c.go-end.ensures.round c.go-end.ensures.placed
     c.know_noted.ensures c.know_noted-2.ensures c.tell_places-count.new.told c.tell_places-count.result tells q l away before up none
+
+pub returns-clause-placed : goal.returns-clause-placed
+returns-clause-placed c = λ q l away.
+    let r' = c.go-end.new.self in
+    let tells = subst (λ (xs : List ℕ). AreTold r'.places xs c.tell_places-count.new.told (length xs) c.tell_places-count.result) c.seen.ensures.packs c.tell_places-count.ensures.told in
+    stays c.args.plan.now c.know_lawful.ensures.lawful c.args.start c.go-end.result c.args.self.now r' c.requires.belongs c.go-end.ensures.belongs c.go-end.ensures.round c.go-end.ensures.placed
+    c.know_noted.ensures c.know_noted-2.ensures c.tell_places-count.new.told c.tell_places-count.result tells q l away

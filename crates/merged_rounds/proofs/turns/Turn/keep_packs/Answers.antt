@@ -6,7 +6,8 @@ use Rattle.run_tree.specs.Plans.{PlanContents}
 use Rattle.run_tree.specs.Schedule.{onto_at}
 use Rattle.run_tree.proofs.ScheduleLemmas.{length-places}
 use Rattle.event_core.proofs.OneRound.{length-last}
-use Rattle.merged_rounds.specs.Replays.{AreKept, packs_of}
+use Rattle.merged_rounds.specs.Replays.{AreKept, AreStill, packs_of}
+use Rattle.merged_rounds.proofs.MarkLemmas.{still_later}
 use Rattle.merged_rounds.proofs.ReplayLemmas.{onto_end}
 use Rattle.merged_rounds.proofs.ReplaySteps.{pack_by}
 use Rattle.merged_rounds.proofs.TurnLemmas.{kept_none, kept_to}
@@ -20,6 +21,13 @@ pub next_other-k-requires-clause-long : goal.next_other-k-requires-clause-long
 next_other-k-requires-clause-long c =
     let p = c.args.plan.now in
     c.requires.leaves.long ∙ sym (ap (λ (w : Placing). length w.onto) c.requires.places ∙ length-places (set_boundary p.set.tasks) p.tree c.args.end)
+
+pub next_other-k-requires-clause-marks : goal.next_other-k-requires-clause-marks
+next_other-k-requires-clause-marks c = c.requires.marks ∙ sym (ap (λ (xs : List (Option Leaf)). length xs) c.deref.ensures.value ∙ c.requires.turn.long)
+
+pub next_other-k-requires-clause-still : goal.next_other-k-requires-clause-still
+next_other-k-requires-clause-still c = λ off.
+    subst (λ (xs : List (Option Leaf)). AreStill c.args.places.now.onto c.args.leaves.now xs c.args.marks.now 0) (sym c.deref.ensures.value) (c.requires.still (c.is_none-whole.ensures off))
 
 pub others-init : goal.others-init
 others-init c =
@@ -64,6 +72,23 @@ pub next_other-k-requires-in-others-clause-long : goal.next_other-k-requires-in-
 next_other-k-requires-in-others-clause-long c =
     let p = c.args.plan.now in
     c.requires.leaves.long ∙ sym (ap (λ (w : Placing). length w.onto) c.requires.places ∙ length-places (set_boundary p.set.tasks) p.tree c.args.end)
+
+pub next_other-k-requires-in-others-clause-marks : goal.next_other-k-requires-in-others-clause-marks
+next_other-k-requires-in-others-clause-marks c =
+    c.requires.marks ∙ sym (ap (λ (xs : List (Option Leaf)). length xs) c.deref-in-others.ensures.value ∙ c.in_ok-keep_pack.ensures.long ∙ c.others.invariant.kept.long ∙ c.requires.turn.long)
+
+pub next_other-k-requires-in-others-clause-still : goal.next_other-k-requires-in-others-clause-still
+next_other-k-requires-in-others-clause-still c = λ off.
+    let p = c.args.plan.now in
+    let many = c.pack_count-count.ensures in
+    let on = c.others-test.true in
+    let onto = ap (λ (w : Placing). w.onto) c.requires.places ∙ onto_end p c.know_lawful.ensures.lawful c.args.start c.args.end c.requires.round in
+    let k1 : AreKept p c.args.start c.args.self.now c.keep_pack.new.self (c.others.k + 1) =
+    c.in_ok-keep_pack.ensures.kept p c.args.start c.args.self.now c.others.invariant.kept (omega (arith, many, on))
+    (pack_by p c.know_lawful.ensures.lawful c.requires.can c.args.start c.args.end c.args.places.now.onto onto c.args.leaves.now c.requires.leaves c.others.k c.shown_by-leaf.result c.shown_by-leaf.ensures.none c.shown_by-leaf.ensures.some)
+    c.is_none-whole.ensures in
+    subst (λ (xs : List (Option Leaf)). AreStill c.args.places.now.onto c.args.leaves.now xs c.args.marks.now (c.others.k + 1)) (sym c.deref-in-others.ensures.value)
+    (still_later c.args.places.now.onto c.args.leaves.now c.args.self.now.last.items c.keep_pack.new.self.last.items c.args.marks.now (c.others.k + 1) k1.long k1.later (c.requires.still (c.is_none-whole.ensures off)))
 
 pub next_other-k-requires-in-others-clause-from : goal.next_other-k-requires-in-others-clause-from
 next_other-k-requires-in-others-clause-from c =
