@@ -98,7 +98,9 @@ fn compare_wrapped(
     let scale = scale_that_fits(rt, set);
     let rounds = wrap_rounds(alloc, set, scale)?;
     assert!(rt; rounds.saturating_add(1) == starts.len() as u64);
-    let table = wrap(alloc, set, scale, rounds)?;
+    let Ok(table) = wrap(alloc, set, scale, rounds) else {
+        return Err(WrapFault::NoMemory);
+    };
     assert!(rt; table.processors() == set.processors());
     assert!(rt; lanes.len() <= table.processors() as usize);
     for p in 0..lanes.len() {
@@ -156,7 +158,10 @@ fn wraps_worked_sets(rt: HostRuntime) -> Result<(), Fail> {
 fn merged(rt: &impl Abort, alloc: Global, set: &TaskSet) -> Result<MergedRows, WrapFault> {
     let scale = scale_that_fits(rt, set);
     assert!(rt; wrap_rounds(alloc, set, scale)? == 3);
-    Ok(merged_wrap(alloc, set, scale)?)
+    match merged_wrap(alloc, set, scale) {
+        Ok(rows) => Ok(rows),
+        Err(_) => Err(WrapFault::NoMemory),
+    }
 }
 
 /// Compares the two rows of a processor with these, each told by its start, its end and a letter.
