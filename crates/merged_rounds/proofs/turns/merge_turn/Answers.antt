@@ -1,4 +1,4 @@
-use Rattle.std.proofs.Common.{◌∙◌, Bool, ℕ, List, Option, None, ap, arith, get_or, length, subst, sym}
+use Rattle.std.proofs.Common.{◌∙◌, Bool, ℕ, List, Option, None, ap, arith, get_or, length, rules, subst, sym}
 use Rattle.sched_base.specs.Places.{Placing}
 use Rattle.run_tree.specs.Boundaries.{set_boundary}
 use Rattle.run_tree.proofs.ScheduleLemmas.{length-places}
@@ -26,8 +26,8 @@ rounds-init c = record {
     long = ap (λ (xs : List (Option ℕ)). length xs) c.in_ok-holds.ensures ∙ ap (λ (w : Placing). length w.onto) c.places.ensures ∙ length-places (set_boundary c.args.plan.now.set.tasks) c.args.plan.now.tree c.begin_turn.new.source.tick;
     each = λ q l. ap (λ (xs : List (Option ℕ)). get_or xs q None) c.in_ok-holds.ensures ∙ ap (λ (w : Placing). get_or w.onto q None) c.places.ensures;
   };
-  room = c.in_ok-changed.ensures;
-  marks = c.in_ok-marks.ensures;
+  room = search rules;
+  marks = search rules;
 }
 
 pub rounds-preserved : goal.rounds-preserved
