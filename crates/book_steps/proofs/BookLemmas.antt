@@ -16,7 +16,7 @@ use Rattle.book_machine.specs.declared.events.Event.{Event}
 use Rattle.book_machine.specs.Machine.{State, at_start, start, posted_at, IsLegal, IsOut, after}
 use Rattle.book_machine.specs.Reached.{counts_of}
 use Rattle.book_machine.proofs.Lanes.{each_lane-set}
-use Rattle.book_machine.proofs.LinkLemmas.{slice_get-set_other}
+use Rattle.plan_rounds.proofs.AgainLemmas.{slice_get-set_other}
 use Rattle.book_machine.proofs.PostedTicks.{counts_of-same, ticks_of-post}
 use Rattle.plan_rounds.specs.PlanRows.{plan_rows}
 use Rattle.plan_rounds.specs.Parts.{posted_ticks}

@@ -1,5 +1,5 @@
 -- Rounds that come again, in the table of the rounds so far.
-use Rattle.std.proofs.Common.{◌≡◌, inl, inr, ℕ, zero, suc, ◌+◌, ◌-◌, ◌*◌, ◌<◌, ◌≤◌, min, true, false, List, [], ◌∷◌, ◌++◌, Some, None, length, get_or, set, refl, sym, ap, ◌∙◌, subst, arith, mul-le-mul_right}
+use Rattle.std.proofs.Common.{◌≡◌, ◌≢◌, inl, inr, ℕ, zero, suc, ◌+◌, ◌-◌, ◌*◌, ◌<◌, ◌≤◌, min, true, false, List, [], ◌∷◌, ◌++◌, Some, None, length, get_or, set, refl, sym, ap, ◌∙◌, subst, arith, mul-le-mul_right}
 use Rattle.std.specs.Prelude.{◌==◌, slice_get}
 use Rattle.std.proofs.lemmas.Bool.{cases_eq}
 use Rattle.std.proofs.lemmas.List.{ext_get_or, get_or_default}
@@ -38,6 +38,13 @@ pub slice_get-set_same : {X : Type 0} (xs : List X) (i : ℕ) (x : X) → i < le
 slice_get-set_same [] i x within = absurd (omega (arith, within))
 slice_get-set_same (y ∷ xs) zero x within = refl
 slice_get-set_same (y ∷ xs) (suc i) x within = slice_get-set_same xs i x (omega (arith, within))
+
+pub slice_get-set_other : {X : Type 0} (xs : List X) (i j : ℕ) (x : X) → j ≢ i → slice_get (set xs i x) j ≡ slice_get xs j
+slice_get-set_other [] i j x other = refl
+slice_get-set_other (y ∷ xs) zero zero x other = absurd (other refl)
+slice_get-set_other (y ∷ xs) zero (suc j) x other = refl
+slice_get-set_other (y ∷ xs) (suc i) zero x other = refl
+slice_get-set_other (y ∷ xs) (suc i) (suc j) x other = slice_get-set_other xs i j x (λ same. other (ap suc same))
 
 -- the row of a round that a table has more
 pub new_row : (lanes : List (List Row)) (rows : List Row) (q : ℕ) (r : Row) → q < length lanes → slice_get rows q ≡ Some r → RowAt (with_round lanes rows) q (length (lane_of lanes q)) r

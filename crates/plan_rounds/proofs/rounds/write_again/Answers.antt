@@ -5,8 +5,7 @@ use Rattle.sched_base.specs.declared.rows.Row.{Row}
 use Rattle.sched_base.specs.Tables.{RowAt}
 use Rattle.event_core.specs.Rounds.{IsRoundUpTo}
 use Rattle.event_core.proofs.PlanRounds.{stop_fits}
-use Rattle.book_machine.proofs.LinkLemmas.{slice_get-set_other}
-use Rattle.plan_rounds.proofs.AgainLemmas.{slice_get-set_same, again_ends_at, again_few, again_place, again_round, again_shows_at, again_wide, ended, rows_are}
+use Rattle.plan_rounds.proofs.AgainLemmas.{slice_get-set_same, slice_get-set_other, again_ends_at, again_few, again_place, again_round, again_shows_at, again_wide, ended, rows_are}
 use Rattle.plan_rounds.proofs.rounds.write_again.Goals as goal
 
 pub overflow_sub-k : goal.overflow_sub-k

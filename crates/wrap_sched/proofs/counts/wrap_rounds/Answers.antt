@@ -10,7 +10,7 @@ pub returns-in-Some-clause-count : goal.returns-in-Some-clause-count
 returns-in-Some-clause-count c =
     let s = c.args.set.now in
     let m_is = c.from-processors.ensures ∙ c.processors.ensures.value in
-    let same = c.count_cuts-each.ensures ∙ ap (λ ns. length (cuts c.args.scale ns)) (c.deref.ensures.value ∙ c.in-Ok-rates_of.ensures.value) in
+    let same = c.count_cuts-each.ensures ∙ ap (λ ns. length (cuts c.args.scale ns)) (c.deref.ensures.value ∙ c.in-Ok.ensures.value) in
     let all = wrapped_rounds_are s c.args.scale c.processors.ensures.lawful c.requires.scale in
     let each = ap (λ n. n * length (points s)) same in
     let (count, most) = c.in-Some.ensures.count in
@@ -21,7 +21,7 @@ pub returns-clause-fault : goal.returns-clause-fault
 returns-clause-fault c =
     let s = c.args.set.now in
     let m_is = c.from-processors.ensures ∙ c.processors.ensures.value in
-    let same = c.count_cuts-each.ensures ∙ ap (λ ns. length (cuts c.args.scale ns)) (c.deref.ensures.value ∙ c.in-Ok-rates_of.ensures.value) in
+    let same = c.count_cuts-each.ensures ∙ ap (λ ns. length (cuts c.args.scale ns)) (c.deref.ensures.value ∙ c.in-Ok.ensures.value) in
     let all = wrapped_rounds_are s c.args.scale c.processors.ensures.lawful c.requires.scale in
     let each = ap (λ n. n * length (points s)) same in
     let past = c.in-None.ensures.past in
@@ -38,7 +38,7 @@ pub rates_of-requires-clause-scale_fits : goal.rates_of-requires-clause-scale_fi
 rates_of-requires-clause-scale_fits c = c.requires.scale_fits
 
 pub count_cuts-each-requires-clause-within : goal.count_cuts-each-requires-clause-within
-count_cuts-each-requires-clause-within c = rw c.deref.ensures.value c.in-Ok-rates_of.ensures.within
+count_cuts-each-requires-clause-within c = rw c.deref.ensures.value c.in-Ok.ensures.within
 
 pub count_cuts-each-requires-clause-scale_fits : goal.count_cuts-each-requires-clause-scale_fits
 count_cuts-each-requires-clause-scale_fits c = c.requires.scale_fits
