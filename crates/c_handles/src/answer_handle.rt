@@ -11,7 +11,6 @@ use std::marker::Model;
 
 /// An answer behind a pointer, or none. For C it is a struct of one pointer, of which it copies none and changes none.
 #[repr(C)]
-#[derive(Drop)]
 pub struct AnswerHandle {
     at: *mut u8,
     ghost answer: { Option AnswerHeld },
@@ -19,6 +18,15 @@ pub struct AnswerHandle {
 
 impl Model for AnswerHandle {
     ghost also_owns = { λ h. owned_answer h.at h.answer };
+}
+
+/// A handle is let go only where it has none: what has any is taken out by `into_box`.
+impl Drop for AnswerHandle {
+    fn drop(self)
+        requires { self.answer ≡ None }
+    {
+        let AnswerHandle { at: _ } = self;
+    }
 }
 
 impl AnswerHandle {

@@ -11,7 +11,6 @@ use std::marker::Model;
 
 /// A book behind a pointer, or none. For C it is a struct of one pointer, of which it copies none and changes none.
 #[repr(C)]
-#[derive(Drop)]
 pub struct BookHandle {
     at: *mut u8,
     ghost book: { Option BookHeld },
@@ -19,6 +18,15 @@ pub struct BookHandle {
 
 impl Model for BookHandle {
     ghost also_owns = { λ h. owned_book h.at h.book };
+}
+
+/// A handle is let go only where it has none: what has any is taken out by `into_box`.
+impl Drop for BookHandle {
+    fn drop(self)
+        requires { self.book ≡ None }
+    {
+        let BookHandle { at: _ } = self;
+    }
 }
 
 impl BookHandle {

@@ -11,7 +11,6 @@ use std::marker::Model;
 
 /// Steps behind a pointer, or none. For C it is a struct of one pointer, of which it copies none and changes none.
 #[repr(C)]
-#[derive(Drop)]
 pub struct StepsHandle {
     at: *mut u8,
     ghost steps: { Option StepsHeld },
@@ -19,6 +18,15 @@ pub struct StepsHandle {
 
 impl Model for StepsHandle {
     ghost also_owns = { λ h. owned_steps h.at h.steps };
+}
+
+/// A handle is let go only where it has none: what has any is taken out by `into_box`.
+impl Drop for StepsHandle {
+    fn drop(self)
+        requires { self.steps ≡ None }
+    {
+        let StepsHandle { at: _ } = self;
+    }
 }
 
 impl StepsHandle {
