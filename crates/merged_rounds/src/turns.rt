@@ -1,5 +1,6 @@
 //! The rounds of the first hyperperiod, kept by the packs that show something else than in the round before.
-ghost use Rattle.std.specs.Prelude.{ℕ, ◌≡◌, ◌<◌, ◌≤◌, ◌+◌, ◌++◌, ◌∷◌, [], true, false, length, IfErr, IfOk, None, Some, slice_index, slice_index_or, replicate, vec_len};
+ghost use Rattle.std.specs.Prelude.{◌≡◌, ◌<◌, ◌≤◌, ◌+◌, ◌++◌, ◌∷◌};
+ghost use Rattle.std.specs.Prelude.{ℕ, [], true, false, length, IfErr, IfOk, None, Some, slice_index, slice_index_or, replicate, vec_len};
 ghost use Rattle.sched_base.specs.Places.{is_held};
 ghost use Rattle.run_tree.specs.Plans.{PlanContents, stop_of};
 ghost use Rattle.event_core.specs.Cores.{places_of};
