@@ -1,9 +1,9 @@
 #!/usr/bin/env python3
 """Writes the tables of docs/SPEED.md that tell a program beside another one of the same commands: `tables.py PROGRAM OTHER SETS [RUNS] [PART ..]`.
 
-SETS holds task sets (`*.toml`) and their traces (`*.trace`). The parts are `trace`, `check`, `spoilt`, `exec` and `one` (a window of 1, with an eighth of
-the horizon); all of them if none is named. Each figure is processor time (user and system) in ms, the least of RUNS (five) in turns, the ratio of both,
-or the peak of the program's memory in MB (by `/usr/bin/time`)."""
+SETS holds task sets (`*.toml`) and their traces (`*.trace`). The parts are `trace`, `late` (every second task is released half a period late, with half
+of the horizon), `check`, `spoilt`, `exec` and `one` (a window of 1, with an eighth of the horizon); all of them if none is named. Each figure is processor
+time (user and system) in ms, the least of RUNS (five) in turns, the ratio of both, or the peak of the program's memory in MB (by `/usr/bin/time`)."""
 import os
 import re
 import subprocess
@@ -26,6 +26,8 @@ class Bench:
         pairs = [(once(self.program, words, path), once(self.other, words, path)) for _ in range(self.runs)]
         if any(ours[1] != theirs[1] for ours, theirs in pairs):
             sys.exit(f"{' '.join(words)} of {path} ended otherwise")
+        if pairs[0][0][1] > 1:
+            sys.exit(f"{' '.join(words)} of {path} is refused")
         return min(it[0][0] for it in pairs), min(it[1][0] for it in pairs), peak(self.program, words, path)
 
 
@@ -44,6 +46,29 @@ def traces(bench):
         return [name, round(ours), round(theirs), ours / theirs, round(memory), met[0] / met[1]]
 
     table(["set", "trace ms", "plain", "ratio", "MB", "with `--met`"], map(row, bench.names))
+
+
+def with_offsets(text):
+    """A set, a key a line, of which every second task begins half a period late, up to half of its horizon: late releases make as many rounds again."""
+    lines, tasks = [], 0
+    for line in text.splitlines():
+        key, _, value = line.partition(" = ")
+        lines.append(f"horizon = {int(value) // 2}" if key == "horizon" else line)
+        if key == "period":
+            tasks += 1
+            lines += [f"offset = {int(value) // 2}"] * (tasks % 2 == 0)
+    return "\n".join(lines) + "\n"
+
+
+def late(bench):
+    def row(name):
+        with open(f"{bench.sets}/{name}.toml") as source, tempfile.NamedTemporaryFile("w") as to:
+            to.write(with_offsets(source.read()))
+            to.flush()
+            ours, theirs, memory = bench.beside(["trace"], to.name)
+            return [name, round(ours), round(theirs), ours / theirs, round(memory)]
+
+    table(["set with offsets", "trace ms", "plain", "ratio", "MB"], map(row, bench.names))
 
 
 def checks(bench):
@@ -101,7 +126,7 @@ def one_by_one(bench):
     table(["set", "window 1: ms", "plain", "ratio"], map(row, bench.names))
 
 
-PARTS = {"trace": traces, "check": checks, "spoilt": spoilt, "exec": executions, "one": one_by_one}
+PARTS = {"trace": traces, "late": late, "check": checks, "spoilt": spoilt, "exec": executions, "one": one_by_one}
 
 
 def main():
