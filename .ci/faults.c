@@ -1,8 +1,8 @@
 /* Preloaded under a program: makes calls of one kind fail, and counts the calls of each kind.
 
-     FAULT=KIND:FIRST:LAST   calls FIRST to LAST of the kind fail, counted from 1
-     FAULT_COUNTS=FILE       at the end the file gets a line `KIND COUNT` for each kind
-     FAULT_SECONDS=N         the program is ended by SIGALRM after N seconds
+     FAULT=KIND:FIRST:LAST:EACH   calls FIRST to LAST of the kind fail, counted from 1; where EACH is told, of these each EACH-th one
+     FAULT_COUNTS=FILE            at the end the file gets a line `KIND COUNT` for each kind
+     FAULT_SECONDS=N              the program is ended by SIGALRM after N seconds
 
    memory: malloc and its kin find no memory. read: standard input fails. write: standard output fails. line: standard error fails.
    interrupt: a read or a write of these is interrupted by a signal. cut: it takes at most 3 bytes. thread: a thread can't be made.
@@ -26,7 +26,7 @@ enum kind { MEMORY, READ, WRITE, LINE, INTERRUPT, CUT, THREAD, WAIT, KINDS };
 static const char *const names[KINDS] = {"memory", "read", "write", "line", "interrupt", "cut", "thread", "wait"};
 static atomic_long calls[KINDS];
 static enum kind failing = KINDS;
-static long first, last;
+static long first, last, each = 1;
 
 /* A call of the system past the C library, whose calls are the ones that are made to fail. */
 static long bare(long number, long a, long b, long c, long d, long e, long f)
@@ -50,7 +50,7 @@ static long answered(long answer)
 static int fails(enum kind kind)
 {
     long call = atomic_fetch_add(&calls[kind], 1) + 1;
-    return kind == failing && first <= call && call <= last;
+    return kind == failing && first <= call && call <= last && (call - first) % each == 0;
 }
 
 __attribute__((constructor)) static void begin(void)
@@ -64,7 +64,8 @@ __attribute__((constructor)) static void begin(void)
     if (colon) {
         char *end;
         first = strtol(colon + 1, &end, 10);
-        last = *end == ':' ? strtol(end + 1, NULL, 10) : first;
+        last = *end == ':' ? strtol(end + 1, &end, 10) : first;
+        each = *end == ':' ? strtol(end + 1, NULL, 10) : 1;
     }
     if (seconds)
         alarm((unsigned)atol(seconds));

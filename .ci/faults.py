@@ -7,6 +7,7 @@ calls that are left out then are told.
 import collections
 import multiprocessing
 import os
+import pathlib
 import random
 import sys
 import tempfile
@@ -42,16 +43,25 @@ def wrong(kind, without, got):
 
 
 def tried(kind, count, executes):
-    """The calls of a kind that fail together: the first of them and the last."""
-    if kind in ("memory", "thread"):
-        return [(call, last) for call in range(1, count + 1) for last in (call, EVER)]
+    """The calls of a kind that fail together: the first of them, the last, and each how manieth of these."""
+    if kind == "memory":
+        return [(call, last, 1) for call in range(1, count + 1) for last in (call, EVER)]
+    if kind == "thread":
+        return [(call, last, 1) for call in range(1, count + 1) for last in (call, EVER)] + [(first, EVER, 2) for first in (1, 2)] * (count > 0)
     if kind == "interrupt":
-        return [(call, call + more) for call in range(1, count + 1) for more in (0, 7)]
+        return [(call, call + more, 1) for call in range(1, count + 1) for more in (0, 7)]
     if kind == "cut":
-        return [(1, EVER)] * (count > 0)
+        return [(1, EVER, 1)] * (count > 0)
     if kind == "wait":
-        return [(call, call) for call in range(1, count + 1, count // 40 + 1)] + [(1, EVER)] * executes
-    return [(call, call) for call in range(1, count + 1)]
+        return [(call, call, 1) for call in range(1, count + 1, count // 40 + 1)] + [(1, EVER, each) for each in (1, 2)] * executes
+    return [(call, call, 1) for call in range(1, count + 1)]
+
+
+def tried_of_example(kind, count):
+    """Of an example threads alone: all are refused, each second one, and those behind the third and the ninth; and all waits end at once."""
+    if kind == "thread":
+        return [(1, EVER, 1), (1, EVER, 2), (2, EVER, 2), (4, EVER, 1), (10, EVER, 1)] * (count > 0)
+    return [(1, EVER, 1), (1, EVER, 2)] * (kind == "wait")
 
 
 def set_of(processors, horizon, tasks):
@@ -104,6 +114,14 @@ def cases(program):
         yield f"refused, {name}", words.split(), given, words == "exec"
 
 
+def examples(program):
+    """The sets, modes and job programs of the examples that are executed, as cases."""
+    folder = pathlib.Path(__file__).resolve().parent.parent / "examples"
+    for path in sorted(it for it in folder.iterdir() if it.suffix in (".toml", ".modes", ".jobs")):
+        words = {".toml": "exec", ".modes": "modes", ".jobs": "jobs"}[path.suffix]
+        yield f"example {path.name}", [words], path.read_bytes(), True
+
+
 def run(program, words, given, faults):
     """Runs the program once. Its streams are files in memory, so nothing waits for another process."""
     files = [os.memfd_create(name) for name in ("given", "text", "line")]
@@ -125,7 +143,7 @@ class Trial:
 
     def __init__(self, program, preload, until):
         self.program, self.preload, self.until = program, preload, until
-        self.cases = [(case, self.plainly(case)) for case in cases(program)]
+        self.cases = [(case, self.plainly(case)) for case in (*cases(program), *examples(program))]
 
     def plainly(self, case):
         """The answer without a fault, and how many calls of each kind it took."""
@@ -140,7 +158,7 @@ class Trial:
             (number, kind, *calls)
             for number, (case, (_, counts)) in enumerate(self.cases)
             for kind, count in counts.items()
-            for calls in tried(kind, count, case[3])
+            for calls in (tried_of_example(kind, count) if case[0].startswith("example ") else tried(kind, count, case[3]))
         ]
         random.Random(1).shuffle(jobs)
         return sorted(jobs, key=lambda job: job[1] == "memory")
@@ -150,9 +168,9 @@ def with_fault(job):
     """One run under a fault; what is wrong with it."""
     if time.monotonic() > TRIAL.until:
         return job, "left out"
-    number, kind, first, last = job
+    number, kind, first, last, each = job
     case, (without, _) = TRIAL.cases[number]
-    faults = {"LD_PRELOAD": TRIAL.preload, "FAULT": f"{kind}:{first}:{last}", "FAULT_SECONDS": str(HANGS)}
+    faults = {"LD_PRELOAD": TRIAL.preload, "FAULT": f"{kind}:{first}:{last}:{each}", "FAULT_SECONDS": str(HANGS)}
     return job, wrong(kind, without, run(TRIAL.program, case[1], case[2], faults))
 
 
@@ -162,16 +180,16 @@ def main():
     TRIAL = Trial(program, preload, time.monotonic() + float(sys.argv[3]))
     found, left_out, done = collections.defaultdict(list), 0, collections.Counter()
     with multiprocessing.get_context("fork").Pool() as pool:
-        for (number, kind, first, last), said in pool.imap_unordered(with_fault, TRIAL.faults(), chunksize=4):
+        for (number, kind, *calls), said in pool.imap_unordered(with_fault, TRIAL.faults(), chunksize=4):
             if said == "left out":
                 left_out += 1
                 continue
             done[kind] += 1
             if said:
-                found[TRIAL.cases[number][0][0], kind].append((first, last, said))
+                found[TRIAL.cases[number][0][0], kind].append((*calls, said))
     for (name, kind), faults in sorted(found.items()):
-        first, last, said = min(faults)
-        print(f"faults: {name}: {kind}, {len(faults)} of them wrong, as FAULT={kind}:{first}:{last}: {said}")
+        first, last, each, said = min(faults)
+        print(f"faults: {name}: {kind}, {len(faults)} of them wrong, as FAULT={kind}:{first}:{last}:{each}: {said}")
     print("faults:", ", ".join(f"{count} {kind}" for kind, count in sorted(done.items())), "were made;", sum(map(len, found.values())), "answers were wrong")
     if left_out:
         print(f"faults: {left_out} were left out, since the time was over")
