@@ -1,5 +1,5 @@
 -- The packs of level 0 that were looked at.
-use Rattle.std.proofs.Common.{◌≡◌, ◌≢◌, ℕ, zero, suc, ◌<◌, ◌≤◌, ◌++◌, Bool, true, false, List, [], ◌∷◌, length, get_or, Option, None, refl, ap, arith, inl, inr, sym, subst, ◌∙◌}
+use Rattle.std.proofs.Common.{◌≡◌, ◌≢◌, ℕ, zero, suc, ◌<◌, ◌≤◌, ◌++◌, Bool, true, false, List, [], ◌∷◌, length, get_or, Option, None, refl, ap, arith, inl, inr, sym, subst, subst₂, not, ◌&&◌, ◌∙◌}
 use Rattle.std.proofs.lemmas.Bool.{cases_lt, cases_eq}
 use Rattle.std.proofs.lemmas.List.{length-append, append-nil}
 use Rattle.run_tree.specs.Tree.{Tree, IsTree, level}
@@ -74,6 +74,34 @@ seen_step t first before after was now p i l at stops begins others seen stopped
   begins = λ k m. subst (λ (xs : List ℕ). IsAmong xs (get_or now.begun k 0)) (sym seen)
       (subst (λ (xs : List ℕ). k < length xs → IsAmong (was.seen ++ i ∷ []) (get_or xs k 0)) (sym begun) (listed_among was.begun was.seen i begins s.begins k) m);
 }
+
+-- where it serves the same member and neither stops nor begins, it needn't be listed
+pub seen_same : (t : Tree) (first before after : List (Option ℕ)) (was now : ChangeLists) (p i : ℕ) (stops begins : Bool) → ((q : ℕ) → q ≢ p → get_or after q None ≡ get_or before q None) → get_or after p None ≡ get_or before p None →
+    now.seen ≡ was.seen → stops ≡ false → begins ≡ false → now.stopped ≡ with_pack was.stopped i stops → now.begun ≡ with_pack was.begun i begins → AreSeen t first before was → AreSeen t first after now
+seen_same t first before after was now p i stops begins others own seen stays rests stopped begun s = record {
+  within = λ k m. subst (λ (xs : List ℕ). k < length xs → get_or xs k 0 < length (packs_at t 0)) (sym seen) (λ b. s.within k b) m;
+  same = λ j m no. every (get_or (packs_at t 0) j 0) ∙ s.same j m (λ a. no (subst (λ (xs : List ℕ). IsAmong xs j) (sym seen) a));
+  stops = λ k m. subst₂ (λ (xs ys : List ℕ). k < length xs → IsAmong ys (get_or xs k 0)) (sym (none_more was.stopped now.stopped stops stays stopped)) (sym seen) (s.stops k) m;
+  begins = λ k m. subst₂ (λ (xs ys : List ℕ). k < length xs → IsAmong ys (get_or xs k 0)) (sym (none_more was.begun now.begun begins rests begun)) (sym seen) (s.begins k) m;
+}
+  where
+    every : (q : ℕ) → get_or after q None ≡ get_or before q None
+    every q = elim (cases_eq q p) [
+      | inl is ↦ ap (λ x. get_or after x None) is ∙ own ∙ sym (ap (λ x. get_or before x None) is)
+      | inr ne ↦ others q ne
+    ]
+
+    none_more : (xs ys : List ℕ) (on : Bool) → on ≡ false → ys ≡ with_pack xs i on → ys ≡ xs
+    none_more xs ys on off e = e ∙ ap (λ (b : Bool). with_pack xs i b) off ∙ append-nil xs
+
+-- what is on a processor as it runs neither stops nor begins
+pub none_stops : (runs held : Bool) → runs ≡ held → (not runs && held) ≡ false
+none_stops true held e = refl
+none_stops false held e = sym e
+
+pub none_begins : (runs held : Bool) → runs ≡ held → (runs && not held) ≡ false
+none_begins false held e = refl
+none_begins true held e = ap (λ (b : Bool). not b) (sym e)
 
 -- before that nothing changed in level 0
 pub seen_since : (t : Tree) (first before after : List (Option ℕ)) (changes : ChangeLists) → ((k : ℕ) → k < length (packs_at t 0) → first_served t before k ≡ first_served t first k) → AreSeen t before after changes → AreSeen t first after changes

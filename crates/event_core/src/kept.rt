@@ -47,7 +47,7 @@ impl Model for Serving {
 }
 
 impl Serving {
-    /// Says again of each node whether it runs, and lets members stop and start. The packs of level 0 that were looked at are
+    /// Says again of each node whether it runs, and lets members stop and start. The packs of level 0 in which anything changes are
     /// listed, and among them those that stop and begin.
     pub(crate) fn select(
         &mut self,

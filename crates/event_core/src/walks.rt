@@ -1,5 +1,5 @@
 //! The walk over the packs that are to be looked at again.
-ghost use Rattle.std.specs.Prelude.{ℕ, List, Option, [], ◌∷◌, ◌++◌, ◌≡◌, ◌≢◌, ◌+◌, ◌&&◌, ◌<◌, ◌≤◌, not, length, true, false, option_map, None, Some};
+ghost use Rattle.std.specs.Prelude.{ℕ, List, Option, [], ◌∷◌, ◌++◌, ◌≡◌, ◌≢◌, ◌⊎◌, ◌+◌, ◌&&◌, ◌<◌, ◌≤◌, not, length, true, false, option_map, None, Some};
 ghost use Rattle.std.specs.Prelude.{slice_index, slice_index_or};
 ghost use Rattle.sched_base.specs.Places.{is_held};
 ghost use Rattle.run_tree.specs.Tree.{IsTree, IsPack, member, members, level};
@@ -43,7 +43,7 @@ fn dry_of(tree: &Tree, p: NodeId, served: Served, dues: &Dues) -> u128
     }
 }
 
-// Pack p serves the member that it picks now. The ends are only spoken of.
+// Pack p serves the member that it picks now; whether that is another one than before. The ends are only spoken of.
 fn serve_pack(
     tree: &Tree,
     p: NodeId,
@@ -54,7 +54,7 @@ fn serve_pack(
     dues: &mut Dues,
     stale: &mut [bool],
     runs: &mut [bool],
-)
+) -> bool
     requires tree { IsTree tree.now }
     requires pack { IsPack tree.now p.0 }
     requires long { AreLong tree.now dues.old (lists ready.now serves.old dry.old stale.old runs.old) }
@@ -69,12 +69,14 @@ fn serve_pack(
     ensures unchanged { AreUnchanged tree.now p.0 stale.old runs.old stale.new runs.new }
     ensures marks { (q : ℕ) → IsPack tree.now q → q ≢ p.0 → level tree.now p.0 ≤ level tree.now q →
         slice_index_or stale.new q false ≡ slice_index_or stale.old q false }
+    ensures same { result ≡ false → slice_index_or serves.new p.0 None ≡ slice_index_or serves.old p.0 None }
 {
     let _ends = ends.len();
     let was = serves[p.0 as usize];
     let next = serve(tree, p, ready_at(ready, p), was, dues, stale, runs);
     serves[p.0 as usize] = next.place;
     dry.set(p, dry_of(tree, p, next, dues));
+    was != next.place
 }
 
 /// Pack i of a level.
@@ -143,7 +145,24 @@ fn serve_level(
     }
 }
 
-// Pack p, which is number i of level 0, serves the member that it picks now, and is listed.
+// Lists pack i of level 0, given whether it serves another member than before, whether it runs, and whether it is on a processor.
+// Where it serves the same one and stays, that changes nothing, so it isn't listed.
+fn list_if(changes: &mut Changes, is_other: bool, i: u32, runs: bool, held: bool)
+    requires seen { length changes.old.seen < changes.old.room }
+    requires stopped { length changes.old.stopped < changes.old.room }
+    requires begun { length changes.old.begun < changes.old.room }
+    ensures seen { (changes.new.seen ≡ changes.old.seen ++ i ∷ [])
+        ⊎ ((changes.new.seen ≡ changes.old.seen) × (is_other ≡ false) × (runs ≡ held)) }
+    ensures stopped { changes.new.stopped ≡ with_pack changes.old.stopped i (not runs && held) }
+    ensures begun { changes.new.begun ≡ with_pack changes.old.begun i (runs && not held) }
+    ensures room { changes.new.room ≡ changes.old.room }
+{
+    if is_other || runs != held {
+        changes.see(i, runs, held);
+    }
+}
+
+// Pack p, which is number i of level 0, serves the member that it picks now, and is listed where anything changes.
 fn serve_listed(
     tree: &Tree,
     p: NodeId,
@@ -176,16 +195,19 @@ fn serve_listed(
     ensures unchanged { AreUnchanged tree.now p.0 stale.old runs.old stale.new runs.new }
     ensures marks { (q : ℕ) → IsPack tree.now q → q ≢ p.0 → level tree.now p.0 ≤ level tree.now q →
         slice_index_or stale.new q false ≡ slice_index_or stale.old q false }
-    ensures seen { changes.new.seen ≡ changes.old.seen ++ i ∷ [] }
+    ensures seen { (changes.new.seen ≡ changes.old.seen ++ i ∷ []) ⊎ ((changes.new.seen ≡ changes.old.seen)
+        × (slice_index_or serves.new p.0 None ≡ slice_index_or serves.old p.0 None)
+        × (slice_index_or runs.new p.0 false ≡ is_held places.now.onto i)) }
     ensures stopped { changes.new.stopped ≡ with_pack changes.old.stopped i (not (slice_index_or runs.new p.0 false) && is_held places.now.onto i) }
     ensures begun { changes.new.begun ≡ with_pack changes.old.begun i (slice_index_or runs.new p.0 false && not (is_held places.now.onto i)) }
     ensures room { changes.new.room ≡ changes.old.room }
 {
-    serve_pack(tree, p, ends, ready, serves, dry, dues, stale, runs);
-    changes.see(i, runs[p.0 as usize], places.holds(i));
+    let is_other = serve_pack(tree, p, ends, ready, serves, dry, dues, stale, runs);
+    list_if(changes, is_other, i, runs[p.0 as usize], places.holds(i));
 }
 
-// The marked packs of level 0, once none above it is marked. They are listed, and among them those that stop and begin.
+// The marked packs of level 0, once none above it is marked. Those in which anything changes are
+// listed, and among them those that stop and begin.
 fn serve_first_level(
     tree: &Tree,
     ends: &[u128],
@@ -229,7 +251,7 @@ fn serve_first_level(
 }
 
 /// Says again of each node whether it runs, where the lists are right but for the marked packs, and lets members stop and start.
-/// No mark is left at a pack. The packs of level 0 that were marked are listed, and among them those that stop and begin.
+/// No mark is left at a pack. The packs of level 0 in which anything changes are listed, and among them those that stop and begin.
 pub(crate) fn serve_all(
     tree: &Tree,
     ends: &[u128],

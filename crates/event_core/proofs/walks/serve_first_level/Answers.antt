@@ -1,4 +1,4 @@
-use Rattle.std.proofs.Common.{arith, ap, refl, sym, length, get_or, false, not, ℕ, List, [], ◌∷◌, Bool, ◌+◌, ◌<◌, ◌≡◌, ◌∙◌, ◌&&◌, inr}
+use Rattle.std.proofs.Common.{arith, ap, refl, sym, length, get_or, false, not, ℕ, List, [], ◌∷◌, Bool, ◌+◌, ◌<◌, ◌≡◌, ◌∙◌, ◌&&◌, inl, inr}
 use Rattle.std.proofs.lemmas.List.{length-append}
 use Rattle.sched_base.specs.Places.{is_held}
 use Rattle.run_tree.specs.Schedule.{packs_at}
@@ -6,7 +6,7 @@ use Rattle.run_tree.proofs.TreeLemmas.{first_is_pack}
 use Rattle.tree_select.proofs.MarkedLemmas.{fresh_none, fresh_step, fresh_all}
 use Rattle.event_core.specs.Serving.{first_runs, stops_below, begins_below}
 use Rattle.event_core.proofs.SettledPacks.{begins_skip, changed_are, few_pass, fresh_skip, listed_step, settled_rest, settled_skip, stops_skip}
-use Rattle.event_core.proofs.SeenLemmas.{seen_none, seen_step}
+use Rattle.event_core.proofs.SeenLemmas.{none_begins, none_stops, seen_none, seen_same, seen_step}
 use Rattle.event_core.proofs.WalkLemmas.{fitting_still}
 use Rattle.event_core.proofs.walks.serve_first_level.Goals as goal
 
@@ -118,9 +118,16 @@ marked-preserved c =
       stops_skip t onto stale runs (i + 1) next after within skipped settled c.serve_listed.new.changes.stopped stops,
       begins_skip t onto stale runs (i + 1) next after within skipped settled c.serve_listed.new.changes.begun begins,
       within,
-      seen_step t c.args.serves.now c.marked.serves c.serve_listed.new.serves c.marked.changes c.serve_listed.new.changes c.pack_of-p.result.0 i l at _ _
-          c.serve_listed.ensures.others c.serve_listed.ensures.seen c.serve_listed.ensures.stopped c.serve_listed.ensures.begun c.marked.invariant.10,
-      (let few = c.marked.invariant.11 in let more = ap (λ (xs : List ℕ). length xs) c.serve_listed.ensures.seen in let long = length-append c.marked.changes.seen (i ∷ []) in omega (arith, few, more, long, after)),
+      elim c.serve_listed.ensures.seen [
+        | inl more ↦ seen_step t c.args.serves.now c.marked.serves c.serve_listed.new.serves c.marked.changes c.serve_listed.new.changes c.pack_of-p.result.0 i l at _ _
+            c.serve_listed.ensures.others more c.serve_listed.ensures.stopped c.serve_listed.ensures.begun c.marked.invariant.10
+        | inr (none, own, still) ↦ seen_same t c.args.serves.now c.marked.serves c.serve_listed.new.serves c.marked.changes c.serve_listed.new.changes c.pack_of-p.result.0 i _ _ c.serve_listed.ensures.others own none
+            (none_stops _ _ still) (none_begins _ _ still) c.serve_listed.ensures.stopped c.serve_listed.ensures.begun c.marked.invariant.10
+      ],
+      elim c.serve_listed.ensures.seen [
+        | inl more ↦ (let few = c.marked.invariant.11 in let m = ap (λ (xs : List ℕ). length xs) more in let long = length-append c.marked.changes.seen (i ∷ []) in omega (arith, few, m, long, after))
+        | inr (none, own, still) ↦ (let few = c.marked.invariant.11 in let m = ap (λ (xs : List ℕ). length xs) none in omega (arith, few, m, after))
+      ],
     )
 
 pub returns-clause-fresh : goal.returns-clause-fresh
