@@ -1,5 +1,5 @@
 //! Which member of a pack runs, and what is left of its due.
-ghost use Rattle.std.specs.Prelude.{ℕ, List, ◌≡◌, ◌≢◌, ◌<◌, ◌≤◌, length, true, false, Some, option_map, slice_index_or};
+ghost use Rattle.std.specs.Prelude.{ℕ, List, ◌≡◌, ◌≢◌, ◌+◌, ◌<◌, ◌≤◌, ◌^◌, not, length, false, Some, option_map, slice_index, slice_index_or, slice_set};
 ghost use Rattle.sched_base.specs.Candidates.{is_at};
 ghost use Rattle.run_tree.specs.Tree.{IsTree, IsPack, IsMember, level, member, members};
 ghost use Rattle.edf_pick.specs.Ready.{AreReady};
@@ -14,40 +14,45 @@ use sched_base::NodeId;
 use server_budget::Dues;
 use tree_select::{Handed, hand_over};
 
-// The member at place k of pack p, where there is one, stops. The place is only spoken of.
-fn stop_place(tree: &Tree, p: NodeId, k: Option<u32>, node: Option<NodeId>, dues: &mut Dues)
-    requires tree { IsTree tree.now }
-    requires pack { IsPack tree.now p.0 }
-    requires member { (j : ℕ) → k ≡ Some j → j < length (members tree.now p.0) }
-    requires node { option_map (λ n. n.0) node ≡ option_map (member tree.now p.0) k }
-    requires nodes { length dues.old.runs ≡ length tree.now.nodes }
-    requires runs { (j : ℕ) → k ≡ Some j → slice_index_or dues.old.runs (member tree.now p.0 j) false ≡ true }
+// Node n starts or stops.
+fn set_node(n: NodeId, on: bool, dues: &mut Dues)
+    requires node { n.0 < length dues.old.runs }
+    requires other { slice_index_or dues.old.runs n.0 false ≡ not on }
+    requires fits { dues.old.tick + slice_index dues.old.remains n.0 < 2 ^ 128 }
     ensures tick { dues.new.tick ≡ dues.old.tick }
     ensures remains { dues.new.remains ≡ dues.old.remains }
-    ensures runs { dues.new.runs ≡ with_place tree.now p.0 k false dues.old.runs }
+    ensures runs { dues.new.runs ≡ slice_set dues.old.runs n.0 on }
 {
-    let _place = (tree.nodes(), p, k);
-    if let Some(n) = node {
+    if on {
+        dues.start(n);
+    } else {
         dues.stop(n);
     }
 }
 
-// The member at place k of pack p, where there is one, starts. The place is only spoken of.
-fn start_place(tree: &Tree, p: NodeId, k: Option<u32>, node: Option<NodeId>, dues: &mut Dues)
+// The member at place k of pack p, where there is one, starts or stops. The place is only spoken of.
+fn set_place(
+    tree: &Tree,
+    p: NodeId,
+    k: Option<u32>,
+    node: Option<NodeId>,
+    on: bool,
+    dues: &mut Dues,
+)
     requires tree { IsTree tree.now }
     requires pack { IsPack tree.now p.0 }
     requires member { (j : ℕ) → k ≡ Some j → j < length (members tree.now p.0) }
     requires node { option_map (λ n. n.0) node ≡ option_map (member tree.now p.0) k }
     requires nodes { length dues.old.runs ≡ length tree.now.nodes }
-    requires rests { (j : ℕ) → k ≡ Some j → slice_index_or dues.old.runs (member tree.now p.0 j) false ≡ false }
+    requires other { (j : ℕ) → k ≡ Some j → slice_index_or dues.old.runs (member tree.now p.0 j) false ≡ not on }
     requires fits { AreFitting tree.now dues.old }
     ensures tick { dues.new.tick ≡ dues.old.tick }
     ensures remains { dues.new.remains ≡ dues.old.remains }
-    ensures runs { dues.new.runs ≡ with_place tree.now p.0 k true dues.old.runs }
+    ensures runs { dues.new.runs ≡ with_place tree.now p.0 k on dues.old.runs }
 {
     let _place = (tree.nodes(), p, k);
     if let Some(n) = node {
-        dues.start(n);
+        set_node(n, on, dues);
     }
 }
 
@@ -74,8 +79,8 @@ fn change_over(tree: &Tree, p: NodeId, was: Option<u32>, next: Handed, dues: &mu
     ensures remains { dues.new.remains ≡ dues.old.remains }
     ensures over { IsOver tree.now p.0 next.place dues.old.runs dues.new.runs }
 {
-    stop_place(tree, p, was, next.before, dues);
-    start_place(tree, p, next.place, next.node, dues);
+    set_place(tree, p, was, next.before, false, dues);
+    set_place(tree, p, next.place, next.node, true, dues);
 }
 
 // Of pack p, the member at `was` stops, and the one that is handed to starts; nothing happens where it is one member.

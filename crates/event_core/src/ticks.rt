@@ -96,22 +96,7 @@ fn least_of(ticks: &[u128], from: usize, to: usize) -> u128
     first
 }
 
-// The first of a tick and of a block's; what is kept of the block is then its least.
-fn first_anew(least: &mut [u128], ticks: &[u128], used: usize, block: usize, first: u128) -> u128
-    requires blocks { AreInBlocks least.old ticks.now used }
-    requires block { block * 8 < used }
-    ensures blocks { AreInBlocks least.new ticks.now used }
-    ensures below { result ≤ first }
-    ensures all { (k : ℕ) → k < length ticks.now → k / 8 ≡ block → result ≤ slice_index ticks.now k }
-    ensures one { (result ≡ first) ⊎ ((k : ℕ) × (k < length ticks.now) × (result ≡ slice_index ticks.now k)) }
-{
-    let from = block * BLOCK;
-    let own = least_of(ticks, from, used.min(from + BLOCK));
-    least[block] = own;
-    first.min(own)
-}
-
-// The first of a tick and of a block's, which isn't looked at where it has none before.
+// The first of a tick and of a block's, which isn't looked at where it has none before. Where it is, what is kept of it is then its least.
 fn first_in(least: &mut [u128], ticks: &[u128], used: usize, block: usize, first: u128) -> u128
     requires blocks { AreInBlocks least.old ticks.now used }
     requires block { block * 8 < used }
@@ -123,7 +108,10 @@ fn first_in(least: &mut [u128], ticks: &[u128], used: usize, block: usize, first
     if least[block] >= first {
         return first;
     }
-    first_anew(least, ticks, used, block, first)
+    let from = block * BLOCK;
+    let own = least_of(ticks, from, used.min(from + BLOCK));
+    least[block] = own;
+    first.min(own)
 }
 
 // The first of a tick and of all others, where these are one block.
@@ -135,7 +123,7 @@ fn first_of_one(least: &mut [u128], ticks: &[u128], used: usize, most: u128) -> 
     ensures blocks { AreInBlocks least.new ticks.now used }
     ensures first { IsFirstTick ticks.now most result }
 {
-    first_anew(least, ticks, used, 0, most)
+    first_in(least, ticks, used, 0, most)
 }
 
 // The block of which the earliest tick is kept.
@@ -164,7 +152,7 @@ fn first_in_soonest(least: &mut [u128], ticks: &[u128], used: usize, most: u128)
         return most;
     }
     let block = soonest_block(least, used);
-    first_anew(least, ticks, used, block, most)
+    first_in(least, ticks, used, block, most)
 }
 
 // The first of a tick and of all others.
