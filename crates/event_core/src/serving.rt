@@ -63,26 +63,6 @@ pub(crate) struct Served {
     pub(crate) node: Option<NodeId>,
 }
 
-// Of pack p, the member at `was` stops, and the one that is handed to starts.
-fn change_over(tree: &Tree, p: NodeId, was: Option<u32>, next: Handed, dues: &mut Dues)
-    requires tree { IsTree tree.now }
-    requires pack { IsPack tree.now p.0 }
-    requires before { (j : ℕ) → was ≡ Some j → j < length (members tree.now p.0) }
-    requires after { (j : ℕ) → next.place ≡ Some j → j < length (members tree.now p.0) }
-    requires before_at { option_map (λ n. n.0) next.before ≡ option_map (member tree.now p.0) was }
-    requires after_at { option_map (λ n. n.0) next.node ≡ option_map (member tree.now p.0) next.place }
-    requires other { was ≢ next.place }
-    requires nodes { length dues.old.runs ≡ length tree.now.nodes }
-    requires runs { (j : ℕ) → j < length (members tree.now p.0) → slice_index_or dues.old.runs (member tree.now p.0 j) false ≡ is_at was j }
-    requires fits { AreFitting tree.now dues.old }
-    ensures tick { dues.new.tick ≡ dues.old.tick }
-    ensures remains { dues.new.remains ≡ dues.old.remains }
-    ensures over { IsOver tree.now p.0 next.place dues.old.runs dues.new.runs }
-{
-    set_place(tree, p, was, next.before, false, dues);
-    set_place(tree, p, next.place, next.node, true, dues);
-}
-
 // Of pack p, the member at `was` stops, and the one that is handed to starts; nothing happens where it is one member.
 fn change_if(tree: &Tree, p: NodeId, was: Option<u32>, next: Handed, dues: &mut Dues)
     requires tree { IsTree tree.now }
@@ -98,9 +78,11 @@ fn change_if(tree: &Tree, p: NodeId, was: Option<u32>, next: Handed, dues: &mut 
     ensures remains { dues.new.remains ≡ dues.old.remains }
     ensures over { IsOver tree.now p.0 next.place dues.old.runs dues.new.runs }
 {
-    if was != next.place {
-        change_over(tree, p, was, next, dues);
+    if was == next.place {
+        return;
     }
+    set_place(tree, p, was, next.before, false, dues);
+    set_place(tree, p, next.place, next.node, true, dues);
 }
 
 /// Pack p, of whose members the one at `was` ran, serves the one that it picks now, where it runs; it returns which that is. What

@@ -1,44 +1,42 @@
-use Rattle.std.proofs.Common.{refl}
+use Rattle.std.proofs.Common.{◌∙◌}
+use Rattle.event_core.proofs.ServingLemmas.{none_runs, is_over}
 use Rattle.event_core.proofs.serving.change_if.Goals as goal
 
-pub change_over-requires-clause-before : goal.change_over-requires-clause-before
-change_over-requires-clause-before c = c.requires.before
+pub set_place-requires-2-clause-other : goal.set_place-requires-2-clause-other
+set_place-requires-2-clause-other c = λ j e. none_runs c.args.tree.now c.requires.tree c.args.p.0 c.requires.pack c.args.was c.args.dues.now.runs c.set_place.new.dues.runs j c.requires.nodes c.requires.before (c.requires.after j e) c.requires.runs c.set_place.ensures.runs
 
-pub change_over-requires-clause-after : goal.change_over-requires-clause-after
-change_over-requires-clause-after c = c.requires.after
+pub returns-clause-over : goal.returns-clause-over
+returns-clause-over c = is_over c.args.tree.now c.requires.tree c.args.p.0 c.requires.pack c.args.was c.args.next.place c.args.dues.now.runs c.set_place.new.dues.runs c.set_place-2.new.dues.runs c.requires.nodes c.requires.before c.requires.after c.requires.runs c.set_place.ensures.runs c.set_place-2.ensures.runs
 
-pub change_over-requires-clause-nodes : goal.change_over-requires-clause-nodes
-change_over-requires-clause-nodes c = c.requires.nodes
+pub set_place-requires-clause-tree : goal.set_place-requires-clause-tree
+set_place-requires-clause-tree c = c.requires.tree
 
-pub change_over-requires-clause-runs : goal.change_over-requires-clause-runs
-change_over-requires-clause-runs c = c.requires.runs
+pub set_place-requires-clause-pack : goal.set_place-requires-clause-pack
+set_place-requires-clause-pack c = c.requires.pack
 
-pub change_over-requires-clause-fits : goal.change_over-requires-clause-fits
-change_over-requires-clause-fits c = c.requires.fits
+pub set_place-requires-clause-member : goal.set_place-requires-clause-member
+set_place-requires-clause-member c = c.requires.before
 
-pub returns-then-ne-clause-tick : goal.returns-then-ne-clause-tick
-returns-then-ne-clause-tick c = c.change_over.ensures.tick
+pub set_place-requires-clause-nodes : goal.set_place-requires-clause-nodes
+set_place-requires-clause-nodes c = c.requires.nodes
 
-pub returns-then-ne-clause-remains : goal.returns-then-ne-clause-remains
-returns-then-ne-clause-remains c = c.change_over.ensures.remains
+pub set_place-requires-2-clause-tree : goal.set_place-requires-2-clause-tree
+set_place-requires-2-clause-tree c = c.requires.tree
 
-pub returns-then-ne-clause-over : goal.returns-then-ne-clause-over
-returns-then-ne-clause-over c = c.change_over.ensures.over
+pub set_place-requires-2-clause-pack : goal.set_place-requires-2-clause-pack
+set_place-requires-2-clause-pack c = c.requires.pack
 
-pub change_over-requires-clause-tree : goal.change_over-requires-clause-tree
-change_over-requires-clause-tree c = c.requires.tree
+pub set_place-requires-2-clause-member : goal.set_place-requires-2-clause-member
+set_place-requires-2-clause-member c = c.requires.after
 
-pub change_over-requires-clause-pack : goal.change_over-requires-clause-pack
-change_over-requires-clause-pack c = c.requires.pack
+pub returns-clause-tick : goal.returns-clause-tick
+returns-clause-tick c = c.set_place-2.ensures.tick ∙ c.set_place.ensures.tick
 
-pub returns-else-ne-clause-tick : goal.returns-else-ne-clause-tick
-returns-else-ne-clause-tick c = refl
+pub returns-clause-remains : goal.returns-clause-remains
+returns-clause-remains c = c.set_place-2.ensures.remains ∙ c.set_place.ensures.remains
 
-pub returns-else-ne-clause-remains : goal.returns-else-ne-clause-remains
-returns-else-ne-clause-remains c = refl
+pub set_place-requires-clause-node : goal.set_place-requires-clause-node
+set_place-requires-clause-node c = c.requires.before_at
 
-pub change_over-requires-clause-before_at : goal.change_over-requires-clause-before_at
-change_over-requires-clause-before_at c = c.requires.before_at
-
-pub change_over-requires-clause-after_at : goal.change_over-requires-clause-after_at
-change_over-requires-clause-after_at c = c.requires.after_at
+pub set_place-requires-2-clause-node : goal.set_place-requires-2-clause-node
+set_place-requires-2-clause-node c = c.requires.after_at
