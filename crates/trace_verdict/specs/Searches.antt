@@ -44,6 +44,10 @@ is_early_leaf s scale start leaves.Empty = false
 abbrev pub is_early : SetContents → ℕ → Row → Bool
 is_early s scale r = is_early_leaf s scale r.start r.leaf
 
+-- each task has begun by this tick
+abbrev pub HaveBegun : List Task → ℕ → ℕ → Type 0
+HaveBegun tasks scale tick = (j : ℕ) → j < length tasks → (task_at tasks j).offset * scale ≤ tick
+
 -- the row has no fault by itself
 abbrev pub is_fit : SetContents → ℕ → Row → Bool
 is_fit s scale r = (nat_lt r.processor s.processors && nat_le r.end (s.horizon * scale)) && not (is_early s scale r)

@@ -1,5 +1,5 @@
 //! A list of rows that takes a third of the memory where their ticks have at most 64 bits.
-ghost use Rattle.std.specs.Prelude.{◌≡◌, ◌<◌, ◌++◌, ◌∷◌, [], length, map, is_some, IfSome, IfOk, OnOk};
+ghost use Rattle.std.specs.Prelude.{◌≡◌, ◌+◌, ◌*◌, ◌<◌, nat_le, ◌++◌, ◌∷◌, [], length, map, is_some, IfSome, IfOk, OnOk};
 ghost use Rattle.trace_verdict.specs.Faults.{row_at};
 ghost use Rattle.trace_verdict.specs.Orders.{task_key};
 ghost use Rattle.trace_verdict.specs.RowLists.{leaf_for, row_for};
@@ -58,13 +58,28 @@ impl ShortRow {
         u32::from(self.owner) / LEAVES
     }
 
+    // The number of its ticks.
+    #[inline(always)]
+    fn ticks(&self) -> u64
+        ensures { result ≡ self.now.high * 4294967296 + self.now.low }
+    {
+        u64::from(self.high) * 4_294_967_296 + u64::from(self.low)
+    }
+
     /// Where it ends.
     #[inline(always)]
     pub(crate) fn end(&self) -> u128
         ensures { result ≡ (row_for self.now).end }
     {
-        let ticks = u64::from(self.high) * 4_294_967_296 + u64::from(self.low);
-        u128::from(self.start) + u128::from(ticks)
+        u128::from(self.start) + u128::from(self.ticks())
+    }
+
+    /// Whether it ends by this tick.
+    #[inline(always)]
+    pub(crate) fn ends_by(&self, tick: u64) -> bool
+        ensures { result ≡ nat_le (row_for self.now).end tick }
+    {
+        self.start <= tick && self.ticks() <= tick - self.start
     }
 
     /// Whether it is one of a task.
@@ -192,6 +207,20 @@ impl RowList {
             self.short[i].row()
         } else {
             self.long[i - count]
+        }
+    }
+
+    /// Where row i starts.
+    #[inline(always)]
+    pub fn start(&self, i: usize) -> u128
+        requires { i < length self.now }
+        ensures { result ≡ (row_at self.now i).start }
+    {
+        let count = self.short.len();
+        if i < count {
+            u128::from(self.short[i].start)
+        } else {
+            self.long[i - count].start
         }
     }
 
