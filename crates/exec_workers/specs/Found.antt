@@ -1,37 +1,36 @@
 -- What is known of a book that was found under the lock and passed a test.
-use Rattle.std.specs.Prelude.{ℕ, ◌≡◌, ◌≢◌, ◌<◌, ◌+◌, List, Option, None, false, length}
+use Rattle.std.specs.Prelude.{ℕ, Bool, ◌≡◌, ◌≢◌, ◌<◌, ◌+◌, List, Option, None, false, length}
 use Rattle.sched_base.specs.declared.rows.Row.{Row}
+use Rattle.sched_base.specs.Sets.{SetContents}
 use Rattle.sched_edges.specs.Jobs.{FaultsAre}
 use Rattle.run_tree.specs.Plans.{PlanContents, IsPlan}
 use Rattle.unit_ledger.specs.Seats.{Seat}
 use Rattle.exec_lanes.specs.Lanes.{LaneContents, lane_in}
 use Rattle.book_machine.specs.Machine.{State, IsOut, HasTakeable, lane_at, posted_at}
 use Rattle.book_machine.specs.Reached.{IsReached, OutRow, counts_of}
-use Rattle.plan_rounds.specs.PlanRows.{plan_rows}
+use Rattle.plan_rounds.specs.PlanRows.{IsCompiled, plan_rows}
 use Rattle.plan_rounds.specs.Parts.{posted_ticks}
 use Rattle.exec_book.specs.Jobs.{Made, IsJobOf}
 use Rattle.exec_book.specs.Books.{BookContents, IsDismissed}
 
--- the book is one of the plan that isn't dismissed, and stands at the seat's count with no row out on the seat's lane
-pub record IsFreeAt {J : Type 0} (p : PlanContents) (b : BookContents J) (seat : Seat) : Type 0 where
-  pub plan : b.plan ≡ p
-  pub undismissed : ¬ (IsDismissed b)
-  pub lane : seat.lane < length b.state.lanes
-  pub free : (lane_at b.state.lanes seat.lane).out ≡ false
-  pub count : posted_at b.state seat.lane ≡ seat.posted
+-- the plan is compiled, and its set is the ledger's
+pub record IsAgreed (p : PlanContents) (set : SetContents) : Type 0 where
+  pub compiled : IsCompiled p
+  pub set_is : p.set ≡ set
 
--- the book is one of the plan that isn't dismissed, and stands at the seat's count with a row out on the seat's lane
-pub record IsBusyAt {J : Type 0} (p : PlanContents) (b : BookContents J) (seat : Seat) : Type 0 where
+-- the book is one of the plan that isn't dismissed, and stands at the seat's count, with a row out on the seat's lane or with none
+pub record StandsAt {J : Type 0} (p : PlanContents) (b : BookContents J) (seat : Seat) (out : Bool) : Type 0 where
   pub plan : b.plan ≡ p
   pub lawful : IsPlan b.plan
   pub undismissed : ¬ (IsDismissed b)
   pub reached : IsReached (plan_rows b.plan) b.window b.state
-  pub out : IsOut b.state seat.lane
+  pub lane : seat.lane < length b.state.lanes
+  pub out_is : (lane_at b.state.lanes seat.lane).out ≡ out
   pub count : posted_at b.state seat.lane ≡ seat.posted
 
--- a book that is free at the seat, and is halted or its jobs have failed as often as is given
+-- a book with no row out that stands at the seat's count, and is halted or its jobs have failed as often as is given
 pub record IsToldAt {J : Type 0} (faults : J → ℕ) (p : PlanContents) (b : BookContents J) (seat : Seat) (counts : List ℕ) : Type 0 where
-  pub free : IsFreeAt p b seat
+  pub free : StandsAt p b seat false
   pub told : b.state.halted ≡ false → FaultsAre faults b.jobs.places counts
 
 -- the book is one of the plan that isn't dismissed, and this row is out on the seat's lane at the seat's count

@@ -3,11 +3,11 @@ ghost use Rattle.std.specs.Prelude.{◌≡◌, ◌+◌, ◌-◌, length, false, 
 ghost use Rattle.sched_edges.specs.Jobs.{FaultsAre};
 ghost use Rattle.run_tree.specs.Plans.{IsPlan};
 ghost use Rattle.book_machine.specs.Reached.{OutRow};
-ghost use Rattle.plan_rounds.specs.PlanRows.{IsCompiled, plan_rows};
+ghost use Rattle.plan_rounds.specs.PlanRows.{plan_rows};
 ghost use Rattle.plan_rounds.specs.Parts.{posted_ticks};
 ghost use Rattle.exec_book.specs.Jobs.{IsJobOf};
 ghost use Rattle.exec_book.specs.Books.{IsDismissed};
-ghost use Rattle.exec_workers.specs.Found.{AreDue, IsBusyAt, IsFreeAt, IsOutAt, IsWholeAt};
+ghost use Rattle.exec_workers.specs.Found.{AreDue, IsAgreed, IsOutAt, IsWholeAt, StandsAt};
 ghost use Rattle.exec_workers.specs.Promises.{Agrees};
 
 use exec_book::Book;
@@ -27,16 +27,14 @@ pub(crate) fn ticks_of(row: &Row) -> u128
 /// Whether the book is one of this plan.
 pub(crate) fn is_of_plan<Q: PostLedger, J: Job>(book: &Book<Q, J>, plan: &Plan) -> bool
     ensures same { IsTrue result → book.now.plan ≡ plan.now }
-    ensures set { IsTrue result → plan.now.set ≡ Q.set }
-    ensures compiled { IsTrue result → IsCompiled plan.now }
+    ensures agreed { IsTrue result → IsAgreed plan.now Q.set }
 {
     is_same_plan(book.plan(), plan)
 }
 
 // A book of the ledger is one of the compiled plan with the ledger's set. Whether it isn't dismissed.
 fn is_of_run<Q: PostLedger, J: Job>(book: &Book<Q, J>, plan: &Plan) -> bool
-    requires compiled { IsCompiled plan.now }
-    requires set { plan.now.set ≡ Q.set }
+    requires agreed { IsAgreed plan.now Q.set }
     ensures plan { book.now.plan ≡ plan.now }
     ensures lawful { IsPlan book.now.plan }
     ensures lanes { length book.now.state.lanes ≡ book.now.plan.tree.processors }
@@ -47,21 +45,22 @@ fn is_of_run<Q: PostLedger, J: Job>(book: &Book<Q, J>, plan: &Plan) -> bool
     !book.dismissed()
 }
 
-/// Whether the book is not dismissed, and stands at the seat's count with no row out on the seat's lane.
-pub(crate) fn is_free_at<Q: PostLedger, J: Job>(
+/// Whether the book is not dismissed, and stands at the seat's count, with a row out on the seat's lane or with none.
+pub(crate) fn stands_at<Q: PostLedger, J: Job>(
     book: &Book<Q, J>,
     plan: &Plan,
     seat: &LaneSeat<Q>,
+    out: bool,
 ) -> bool
-    requires compiled { IsCompiled plan.now }
-    requires set { plan.now.set ≡ Q.set }
-    ensures { IsTrue result → IsFreeAt plan.now book.now seat.now }
+    requires agreed { IsAgreed plan.now Q.set }
+    ensures { IsTrue result → StandsAt plan.now book.now seat.now out }
 {
     if !is_of_run(book, plan) || seat.lane() >= plan.tree().processors() {
         return false;
     }
+    let _follows = book.log();
     let lane = book.lane(seat.lane());
-    !lane.out && lane.posted == seat.posted()
+    lane.out == out && lane.posted == seat.posted()
 }
 
 /// Whether the book is halted, or each job at home has failed as often as is given.
@@ -73,24 +72,6 @@ pub(crate) fn is_halted_or_told<Q: PostLedger, J: Job>(book: &Book<Q, J>, counts
     book.halted() || book.faults_are(counts)
 }
 
-/// Whether the book is not dismissed, and stands at the seat's count with a row out on the seat's lane.
-pub(crate) fn is_busy_at<Q: PostLedger, J: Job>(
-    book: &Book<Q, J>,
-    plan: &Plan,
-    seat: &LaneSeat<Q>,
-) -> bool
-    requires compiled { IsCompiled plan.now }
-    requires set { plan.now.set ≡ Q.set }
-    ensures { IsTrue result → IsBusyAt plan.now book.now seat.now }
-{
-    if !is_of_run(book, plan) || seat.lane() >= plan.tree().processors() {
-        return false;
-    }
-    let _follows = book.log();
-    let lane = book.lane(seat.lane());
-    lane.out && lane.posted == seat.posted()
-}
-
 /// Whether this row is out on the seat's lane at the seat's count.
 pub(crate) fn is_out_at<Q: PostLedger, J: Job>(
     book: &Book<Q, J>,
@@ -98,8 +79,7 @@ pub(crate) fn is_out_at<Q: PostLedger, J: Job>(
     seat: &LaneSeat<Q>,
     row: &Row,
 ) -> bool
-    requires compiled { IsCompiled plan.now }
-    requires set { plan.now.set ≡ Q.set }
+    requires agreed { IsAgreed plan.now Q.set }
     ensures { IsTrue result → IsOutAt plan.now book.now seat.now row.now }
 {
     let p = seat.lane();
@@ -170,8 +150,7 @@ pub(crate) fn is_whole_at<Q: PostLedger, J: Job>(
     plan: &Plan,
     posted: &[u64],
 ) -> bool
-    requires compiled { IsCompiled plan.now }
-    requires set { plan.now.set ≡ Q.set }
+    requires agreed { IsAgreed plan.now Q.set }
     requires lanes { length posted.now ≡ plan.now.tree.processors }
     ensures { IsTrue result → IsWholeAt plan.now book.now posted.now }
 {

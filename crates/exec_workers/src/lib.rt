@@ -15,6 +15,7 @@ mod rows;
 mod run;
 mod serving;
 mod turns;
+mod workplace;
 
 pub use close::close_book;
 pub use exec_lanes::{Cause, ExecFault, Executed, Kit, Lane};

@@ -1,16 +1,16 @@
 //! Serving all lanes.
 ghost use Rattle.std.specs.Prelude.{◌≡◌, ◌≢◌, ◌<◌, ◌⊎◌, ℕ, None, length};
-ghost use Rattle.plan_rounds.specs.PlanRows.{IsCompiled, plan_rows};
+ghost use Rattle.plan_rounds.specs.PlanRows.{plan_rows};
 ghost use Rattle.exec_lanes.specs.Lanes.{lane_in, AllServed, NoneFailed, AllAt};
+ghost use Rattle.exec_workers.specs.Found.{IsAgreed};
 
-use crate::rows::agree;
-use crate::serving::serve_beside;
+use crate::serving::serve_lane;
 use crate::turns::{TURNS, wait_for_good};
-use exec_book::Book;
-use exec_lanes::{Lane, Waiters, all_at, any_failed};
+use crate::workplace::Workplace;
+use exec_lanes::{Lane, all_at, any_failed};
 use run_tree::Plan;
 use sched_edges::{Gate, Job};
-use std::sync::{Mutex, Wait};
+use std::sync::Wait;
 use std::thread;
 use std::thread::Threads;
 use unit_ledger::PostLedger;
@@ -26,29 +26,21 @@ pub(crate) fn serve_passes<
     Q: PostLedger + Send + Sync,
     J: Job + Send,
     R: Threads + Wait + Sync,
->(
-    rt: &R,
-    book: &Mutex<Book<Q, J>>,
-    plan: &Plan,
-    lanes: &mut [Lane<G, Q>],
-    counts: &[u64],
-    waiters: &Waiters,
-    rounds: u64,
-)
-    requires counts { length counts.now ≡ length plan.now.set.tasks }
+>(work: &Workplace<'_, Q, J, R>, lanes: &mut [Lane<G, Q>], counts: &[u64], rounds: u64)
+    requires counts { length counts.now ≡ length work.now.plan.now.set.tasks }
     requires fresh { NoneFailed lanes.old }
-    ensures served { AllServed (plan_rows plan.now) counts.now lanes.old lanes.new }
+    ensures served { AllServed (plan_rows work.now.plan.now) counts.now lanes.old lanes.new }
     ensures ended { (NoneFailed lanes.new × AllAt rounds lanes.new) ⊎ ((p : ℕ) × (p < length lanes.new) × ((lane_in lanes.new p).cause ≢ None)) }
 {
-    agree(rt, book, plan);
+    work.agree();
     for pass in 1..TURNS {
-        let threads = threads_of(pass, plan, lanes.len());
-        serve_all(rt, book, plan, lanes, counts, waiters, threads);
+        let threads = threads_of(pass, work.plan, lanes.len());
+        serve_all(work, lanes, counts, threads);
         if any_failed(lanes) || all_at(lanes, rounds) {
             return;
         }
     }
-    wait_for_good(rt)
+    wait_for_good(work.rt)
 }
 
 // How many threads a pass asks for. Where there is no task there is no work to share.
@@ -63,25 +55,21 @@ fn threads_of(pass: u64, plan: &Plan, lanes: usize) -> usize {
 
 // Serves each lane once, in so many threads, where they can be made.
 fn serve_all<G: Gate + Send, Q: PostLedger + Send + Sync, J: Job + Send, R: Threads + Wait + Sync>(
-    rt: &R,
-    book: &Mutex<Book<Q, J>>,
-    plan: &Plan,
+    work: &Workplace<'_, Q, J, R>,
     lanes: &mut [Lane<G, Q>],
     counts: &[u64],
-    waiters: &Waiters,
     threads: usize,
 )
-    requires compiled { IsCompiled plan.now }
-    requires set { plan.now.set ≡ Q.set }
-    requires counts { length counts.now ≡ length plan.now.set.tasks }
+    requires agreed { IsAgreed work.now.plan.now Q.set }
+    requires counts { length counts.now ≡ length work.now.plan.now.set.tasks }
     requires fresh { NoneFailed lanes.old }
-    ensures { AllServed (plan_rows plan.now) counts.now lanes.old lanes.new }
+    ensures { AllServed (plan_rows work.now.plan.now) counts.now lanes.old lanes.new }
 {
-    waiters.begin_pass(threads);
+    work.begin_pass(threads);
     thread::for_each_mut(
-        rt,
+        work.rt,
         lanes,
         threads.max(1),
-        &|_, lane: &mut Lane<G, Q>| serve_beside(rt, waiters, book, plan, lane, counts),
+        &|_, lane: &mut Lane<G, Q>| serve_lane(work, lane, counts),
     );
 }

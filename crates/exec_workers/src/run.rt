@@ -15,6 +15,7 @@ ghost use Rattle.exec_workers.specs.Runs.{GatesRan, HandedOut, FailedWereDue, Na
 
 use crate::close::close_after;
 use crate::passes::serve_passes;
+use crate::workplace::Workplace;
 use exec_book::{Book, Closing};
 use exec_lanes::{
     FirstFault, Kit, Lane, Waiters, empty_lanes, fill_lanes, first_fault, note_faults, note_posted,
@@ -71,17 +72,14 @@ pub(crate) fn run_gates<
     let mut seats = seats;
     let mut lanes = lanes;
     fill_lanes(kits, &mut seats, &mut lanes, m);
-    let (closing, fault) = serve_book(
+    let book = Mutex::new(book);
+    let work = Workplace {
         rt,
-        &Mutex::new(book),
+        book: &book,
         plan,
-        rounds,
-        window,
-        lanes.as_mut_slice(),
-        counts,
-        posted,
-        waiters,
-    );
+        waiters: Some(waiters),
+    };
+    let (closing, fault) = serve_book(&work, rounds, window, lanes.as_mut_slice(), counts, posted);
     empty_lanes(kits, &mut seats, lanes);
     let Closing { jobs, side, table } = closing;
     let posts = unit_ledger::close(side, seats);
@@ -101,40 +99,37 @@ pub(crate) fn serve_book<
     J: Job + Send,
     R: Threads + Wait + Sync,
 >(
-    rt: &R,
-    book: &Mutex<Book<Q, J>>,
-    plan: &Plan,
+    work: &Workplace<'_, Q, J, R>,
     rounds: u64,
     window: u32,
     lanes: &mut [Lane<G, Q>],
     counts: &mut [u64],
     posted: &mut [u64],
-    waiters: &Waiters,
 ) -> (Closing<Q, J>, Option<FirstFault>)
-    requires rounds { rounds ≡ rounds_of plan.now }
-    requires counts { length counts.old ≡ length plan.now.set.tasks }
-    requires width { length lanes.old ≡ plan.now.tree.processors }
+    requires rounds { rounds ≡ rounds_of work.now.plan.now }
+    requires counts { length counts.old ≡ length work.now.plan.now.set.tasks }
+    requires width { length lanes.old ≡ work.now.plan.now.tree.processors }
     requires places { length posted.old ≡ length lanes.old }
     requires fresh { NoneFailed lanes.old }
-    ensures served { AllServed (plan_rows plan.now) counts.old lanes.old lanes.new }
+    ensures served { AllServed (plan_rows work.now.plan.now) counts.old lanes.old lanes.new }
     ensures counts { KeepsCounts lanes.new (length lanes.new) counts.old counts.new }
     ensures side { result.0.side ≡ sum (posted_by lanes.new) }
-    ensures jobs { AllAtHome J.id J.used J.made Q.made (length plan.now.set.tasks)
-        (λ t. ticks_of t (plan_rows plan.now) (posted_by lanes.new)) result.0.jobs.places }
+    ensures jobs { AllAtHome J.id J.used J.made Q.made (length work.now.plan.now.set.tasks)
+        (λ t. ticks_of t (plan_rows work.now.plan.now) (posted_by lanes.new)) result.0.jobs.places }
     ensures faults { FaultsAre J.faults result.0.jobs.places counts.new }
-    ensures table { AreFirstRounds result.0.table.lanes (plan_rows plan.now) }
+    ensures table { AreFirstRounds result.0.table.lanes (plan_rows work.now.plan.now) }
     ensures held { (p : ℕ) → slice_index (posted_by lanes.new) p ≤ rounds_in result.0.table.lanes }
-    ensures front { IsFrontAt plan.now (posted_by lanes.new) }
+    ensures front { IsFrontAt work.now.plan.now (posted_by lanes.new) }
     ensures within { StaysWithin window (posted_by lanes.new) }
-    ensures due { FailedWereDue (plan_rows plan.now) window lanes.new }
+    ensures due { FailedWereDue (plan_rows work.now.plan.now) window lanes.new }
     ensures some { IfSome result.1 (λ fault. NamesLowest lanes.new fault) }
-    ensures none { IfNone result.1 (NoneFailed lanes.new × AllAt (rounds_of plan.now) lanes.new) }
+    ensures none { IfNone result.1 (NoneFailed lanes.new × AllAt (rounds_of work.now.plan.now) lanes.new) }
 {
-    let _few = plan.tree().processors();
-    serve_passes(rt, book, plan, lanes, counts, waiters, rounds);
+    let _few = work.plan.tree().processors();
+    serve_passes(work, lanes, counts, rounds);
     note_posted(lanes, posted);
     note_faults(lanes, counts);
     let fault = first_fault(lanes);
-    let closing = close_after(rt, book, plan, window, lanes, posted, counts);
+    let closing = close_after(work, window, lanes, posted, counts);
     (closing, fault)
 }

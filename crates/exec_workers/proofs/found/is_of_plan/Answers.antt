@@ -6,8 +6,8 @@ use Rattle.exec_workers.proofs.found.is_of_plan.Goals as goal
 pub returns-clause-same : goal.returns-clause-same
 returns-clause-same g c = λ same. sym c.plan.ensures.value ∙ c.is_same_plan.ensures.0 same
 
-pub returns-clause-set : goal.returns-clause-set
-returns-clause-set g c = λ same. ap (λ (p : PlanContents). p.set) (sym (c.is_same_plan.ensures.0 same) ∙ c.plan.ensures.value) ∙ c.plan.ensures.set
-
-pub returns-clause-compiled : goal.returns-clause-compiled
-returns-clause-compiled g c = λ same. subst (λ p. IsCompiled p) (sym c.plan.ensures.value ∙ c.is_same_plan.ensures.0 same) c.plan.ensures.compiled
+pub returns-clause-agreed : goal.returns-clause-agreed
+returns-clause-agreed g c = λ same. record {
+  compiled = subst (λ p. IsCompiled p) (sym c.plan.ensures.value ∙ c.is_same_plan.ensures.0 same) c.plan.ensures.compiled;
+  set_is = ap (λ (p : PlanContents). p.set) (sym (c.is_same_plan.ensures.0 same) ∙ c.plan.ensures.value) ∙ c.plan.ensures.set;
+}

@@ -33,11 +33,8 @@ returns g c _ =
       counts = counts_are c.args.book.now.state.lanes c.args.posted.now (wide g after ∙ sym c.requires.lanes) (λ q within. (c.loop-p.invariant q (passed g after q within)).1);
     }
 
-pub is_of_run-requires-clause-compiled : goal.is_of_run-requires-clause-compiled
-is_of_run-requires-clause-compiled g c = c.requires.compiled
-
-pub is_of_run-requires-clause-set : goal.is_of_run-requires-clause-set
-is_of_run-requires-clause-set g c = c.requires.set
+pub is_of_run-requires : goal.is_of_run-requires
+is_of_run-requires g c = record { agreed = c.requires.agreed }
 
 pub returns-then-not-is_of_run : goal.returns-then-not-is_of_run
 returns-then-not-is_of_run g c = untrue

@@ -8,4 +8,4 @@ for_each_mut-requires-clause-threads g c κs within = omega arith
 
 pub for_each_mut-requires-clause-accepts : goal.for_each_mut-requires-clause-accepts
 for_each_mut-requires-clause-accepts g c κs within = λ i p below is κs' ref ref' name same known fits none n κs'' lives.
-    (c.requires.compiled, (c.requires.set, (c.requires.counts, ap (λ (l : LaneContents). l.cause) (is ∙ get_or_default c.args.lanes.now i _ no_lane below) ∙ c.requires.fresh i below)))
+    (c.requires.agreed, (c.requires.counts, ap (λ (l : LaneContents). l.cause) (is ∙ get_or_default c.args.lanes.now i _ no_lane below) ∙ c.requires.fresh i below))

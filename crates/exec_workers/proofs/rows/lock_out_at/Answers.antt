@@ -2,11 +2,8 @@ use Rattle.std.proofs.Common.{subst}
 use Rattle.exec_workers.specs.Found.{IsOutWith}
 use Rattle.exec_workers.proofs.rows.lock_out_at.Goals as goal
 
-pub is_out_at-requires-clause-compiled : goal.is_out_at-requires-clause-compiled
-is_out_at-requires-clause-compiled g c = c.requires.compiled
-
-pub is_out_at-requires-clause-set : goal.is_out_at-requires-clause-set
-is_out_at-requires-clause-set g c = c.requires.set
+pub is_out_at-requires : goal.is_out_at-requires
+is_out_at-requires g c = record { agreed = c.requires.agreed }
 
 pub is_job_of-requires-clause-out : goal.is_job_of-requires-clause-out
 is_job_of-requires-clause-out g c = rw c.lane.ensures (c.is_out_at.ensures c.if-is_out_at.true).out
@@ -16,5 +13,5 @@ is_job_of-requires-clause-agrees g c = c.requires.agrees
 
 pub returns-then-is_job_of : goal.returns-then-is_job_of
 returns-then-is_job_of g c =
-    subst (λ b. IsOutWith g.J.Job.id g.J.Job.used g.J.Job.made g.Q.PostLedger.made c.args.plan.now b c.args.seat.now c.args.row.now c.args.job.now c.args.ticks) c.deref-held.ensures
+    subst (λ b. IsOutWith g.J.Job.id g.J.Job.used g.J.Job.made g.Q.PostLedger.made c.args.work.now.plan.now b c.args.seat.now c.args.row.now c.args.job.now c.args.ticks) c.deref-held.ensures
     (record { found = c.is_out_at.ensures c.if-is_out_at.true; own = c.is_job_of.ensures c.if-is_job_of.true })

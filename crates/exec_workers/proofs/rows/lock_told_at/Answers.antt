@@ -1,20 +1,22 @@
-use Rattle.std.proofs.Common.{ap, length, subst, sym, ◌∙◌}
+use Rattle.std.proofs.Common.{false, ap, length, subst, sym, ◌∙◌}
 use Rattle.run_tree.specs.Plans.{PlanContents}
-use Rattle.exec_workers.specs.Found.{IsToldAt}
+use Rattle.exec_workers.specs.Found.{IsToldAt, StandsAt}
 use Rattle.exec_workers.proofs.rows.lock_told_at.Goals as goal
+use Rattle.exec_workers.proofs.rows.lock_told_at.Goals.{After-deref-held}
 
-pub is_free_at-requires-clause-compiled : goal.is_free_at-requires-clause-compiled
-is_free_at-requires-clause-compiled g c = c.requires.compiled
+found : (g : _) (c : After-deref-held g) → StandsAt c.args.work.now.plan.now c.deref-held.result.now c.args.seat.now false
+found g c = subst (λ b. StandsAt c.args.work.now.plan.now b c.args.seat.now false) (sym c.deref-held.ensures) c.lock_at-guard.ensures
 
-pub is_free_at-requires-clause-set : goal.is_free_at-requires-clause-set
-is_free_at-requires-clause-set g c = c.requires.set
+pub lock_at-guard-requires : goal.lock_at-guard-requires
+lock_at-guard-requires g c = record { agreed = c.requires.agreed }
 
 pub is_halted_or_told-requires-clause-open : goal.is_halted_or_told-requires-clause-open
-is_halted_or_told-requires-clause-open g c = (c.is_free_at.ensures c.if-is_free_at.true).undismissed
+is_halted_or_told-requires-clause-open g c = (found g (goal.at.is_halted_or_told-requires-clause-open g c).After-deref-held).undismissed
 
 pub is_halted_or_told-requires-clause-counts : goal.is_halted_or_told-requires-clause-counts
-is_halted_or_told-requires-clause-counts g c = c.requires.counts ∙ ap (λ (p : PlanContents). length p.set.tasks) (sym (c.is_free_at.ensures c.if-is_free_at.true).plan)
+is_halted_or_told-requires-clause-counts g c =
+    c.requires.counts ∙ ap (λ (p : PlanContents). length p.set.tasks) (sym (found g (goal.at.is_halted_or_told-requires-clause-counts g c).After-deref-held).plan)
 
 pub returns-then-is_halted_or_told : goal.returns-then-is_halted_or_told
-returns-then-is_halted_or_told g c = subst (λ b. IsToldAt g.J.Job.faults c.args.plan.now b c.args.seat.now c.args.counts.now) c.deref-held.ensures
-    (record { free = c.is_free_at.ensures c.if-is_free_at.true; told = c.is_halted_or_told.ensures c.if-is_halted_or_told.true })
+returns-then-is_halted_or_told g c = subst (λ b. IsToldAt g.J.Job.faults c.args.work.now.plan.now b c.args.seat.now c.args.counts.now) c.deref-held.ensures
+    (record { free = found g (goal.at.returns-then-is_halted_or_told g c).After-deref-held; told = c.is_halted_or_told.ensures c.if-is_halted_or_told.true })

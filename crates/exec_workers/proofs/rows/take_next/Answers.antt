@@ -1,25 +1,22 @@
-use Rattle.std.proofs.Common.{sym, subst}
+use Rattle.std.proofs.Common.{false, sym, subst}
 use Rattle.exec_book.specs.Looks.{SaysNext}
-use Rattle.exec_workers.specs.Found.{IsFreeAt}
+use Rattle.exec_workers.specs.Found.{StandsAt}
 use Rattle.exec_workers.specs.Promises.{GivesRow}
 use Rattle.exec_workers.proofs.LookLemmas.{gives_row}
 use Rattle.exec_workers.proofs.rows.take_next.Goals as goal
 use Rattle.exec_workers.proofs.rows.take_next.Goals.{After-deref_mut-held}
 
-found : (g : _) (c : After-deref_mut-held g) → IsFreeAt c.args.plan.now c.deref_mut-held.result.now c.args.seat.now
-found g c = subst (λ b. IsFreeAt c.args.plan.now b c.args.seat.now) (sym c.deref_mut-held.ensures.value) c.lock_free_at-guard.ensures
+found : (g : _) (c : After-deref_mut-held g) → StandsAt c.args.work.now.plan.now c.deref_mut-held.result.now c.args.seat.now false
+found g c = subst (λ b. StandsAt c.args.work.now.plan.now b c.args.seat.now false) (sym c.deref_mut-held.ensures.value) c.lock_at-guard.ensures
 
-pub lock_free_at-guard-requires-clause-compiled : goal.lock_free_at-guard-requires-clause-compiled
-lock_free_at-guard-requires-clause-compiled g c = c.requires.compiled
-
-pub lock_free_at-guard-requires-clause-set : goal.lock_free_at-guard-requires-clause-set
-lock_free_at-guard-requires-clause-set g c = c.requires.set
+pub lock_at-guard-requires : goal.lock_at-guard-requires
+lock_at-guard-requires g c = record { agreed = c.requires.agreed }
 
 pub take_next-next-requires-clause-lane : goal.take_next-next-requires-clause-lane
 take_next-next-requires-clause-lane g c = rw c.lane-lane.ensures (found g (goal.at.take_next-next-requires-clause-lane g c).After-deref_mut-held).lane
 
 pub take_next-next-requires-clause-free : goal.take_next-next-requires-clause-free
-take_next-next-requires-clause-free g c = rw c.lane-lane.ensures (found g (goal.at.take_next-next-requires-clause-free g c).After-deref_mut-held).free
+take_next-next-requires-clause-free g c = rw c.lane-lane.ensures (found g (goal.at.take_next-next-requires-clause-free g c).After-deref_mut-held).out_is
 
 pub take_next-next-requires-clause-open : goal.take_next-next-requires-clause-open
 take_next-next-requires-clause-open g c = (found g (goal.at.take_next-next-requires-clause-open g c).After-deref_mut-held).undismissed

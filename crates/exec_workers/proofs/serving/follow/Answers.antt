@@ -1,52 +1,26 @@
-use Rattle.std.proofs.Common.{refl, subst}
-use Rattle.exec_workers.specs.Promises.{GivesRow}
-use Rattle.exec_lanes.proofs.ServeLemmas.{served_none}
+use Rattle.std.proofs.Common.{subst}
+use Rattle.plan_rounds.specs.PlanRows.{plan_rows}
+use Rattle.exec_workers.specs.Promises.{IsNextRow, GivesRow}
+use Rattle.exec_workers.proofs.LookLemmas.{job_may_work}
+use Rattle.exec_lanes.proofs.ServeLemmas.{served_none, served_row}
 use Rattle.exec_workers.proofs.serving.follow.Goals as goal
 
-pub run_row-requires-clause-compiled : goal.run_row-requires-clause-compiled
-run_row-requires-clause-compiled g c = c.requires.compiled
-
-pub run_row-requires-clause-set : goal.run_row-requires-clause-set
-run_row-requires-clause-set g c = c.requires.set
-
-pub run_row-requires-clause-counts : goal.run_row-requires-clause-counts
-run_row-requires-clause-counts g c = c.requires.counts
-
-pub run_row-requires-clause-fresh : goal.run_row-requires-clause-fresh
-run_row-requires-clause-fresh g c = c.requires.fresh
-
-pub run_row-requires-clause-next : goal.run_row-requires-clause-next
-run_row-requires-clause-next g c = subst (λ l. GivesRow g.J.Job.id g.J.Job.used g.J.Job.made g.Q.PostLedger.made c.args.plan.now c.args.lane.now.seat l) c.in-Ready.is c.requires.gives
-
-pub take_next-requires-clause-compiled : goal.take_next-requires-clause-compiled
-take_next-requires-clause-compiled g c = c.requires.compiled
-
-pub take_next-requires-clause-set : goal.take_next-requires-clause-set
-take_next-requires-clause-set g c = c.requires.set
-
-pub returns-in-Ready-clause-served : goal.returns-in-Ready-clause-served
-returns-in-Ready-clause-served g c = c.run_row.ensures.served
-
-pub returns-in-Ready-clause-more : goal.returns-in-Ready-clause-more
-returns-in-Ready-clause-more g c = c.run_row.ensures.more
-
-pub returns-in-Ready-clause-gives : goal.returns-in-Ready-clause-gives
-returns-in-Ready-clause-gives g c = c.run_row.ensures.gives
-
-pub returns-then-not-wait-clause-served : goal.returns-then-not-wait-clause-served
-returns-then-not-wait-clause-served g c = served_none _ _ _ c.requires.fresh
-
-pub returns-else-not-wait-clause-served : goal.returns-else-not-wait-clause-served
-returns-else-not-wait-clause-served g c = served_none _ _ _ c.requires.fresh
-
-pub returns-else-not-wait-clause-more : goal.returns-else-not-wait-clause-more
-returns-else-not-wait-clause-more g c = c.requires.fresh
-
-pub returns-else-not-wait-clause-gives : goal.returns-else-not-wait-clause-gives
-returns-else-not-wait-clause-gives g c = rw (← c.lane.view_is) c.take_next.ensures
+pub work_on-requires : goal.work_on-requires
+work_on-requires g c j there =
+    let next : IsNextRow g.J.Job.id g.J.Job.used g.J.Job.made g.Q.PostLedger.made c.args.work.now.plan.now c.args.lane.now.seat c.in-Ready.row c.in-Ready.job =
+    subst (λ l. GivesRow g.J.Job.id g.J.Job.used g.J.Job.made g.Q.PostLedger.made c.args.work.now.plan.now c.args.lane.now.seat l) c.in-Ready.is c.requires.gives in
+    rw c.ticks_of.ensures (job_may_work _ _ _ _ _ c.know_lawful.ensures.lawful _ _ _ next j there)
 
 pub returns-in-Done-clause-served : goal.returns-in-Done-clause-served
 returns-in-Done-clause-served g c = served_none _ _ _ c.requires.fresh
 
-pub same-lane : goal.same-lane
-same-lane g c = refl
+pub returns-in-Done-2-clause-served : goal.returns-in-Done-2-clause-served
+returns-in-Done-2-clause-served g c = served_none _ _ _ c.requires.fresh
+
+pub returns-in_default-work_on-clause-served : goal.returns-in_default-work_on-clause-served
+returns-in_default-work_on-clause-served g c =
+    let next : IsNextRow g.J.Job.id g.J.Job.used g.J.Job.made g.Q.PostLedger.made c.args.work.now.plan.now c.args.lane.now.seat c.in-Ready.row c.in-Ready.job =
+    subst (λ l. GivesRow g.J.Job.id g.J.Job.used g.J.Job.made g.Q.PostLedger.made c.args.work.now.plan.now c.args.lane.now.seat l) c.in-Ready.is c.requires.gives in
+    let at = rw (← c.lane.view_is) at next.at in
+    let none = rw (← c.lane.view_is) at c.requires.fresh in
+    rw (← c.lane.view_is, c.post_and_take.ensures.seat) (served_row (plan_rows c.args.work.now.plan.now) c.args.counts.now _ c.in-Ready.row _ _ _ at c.in_default.ensures.ok c.in_default.ensures.count none)
