@@ -1,5 +1,5 @@
-/* An executive over the book of furnacelime.h: a POSIX thread for each processor takes the processor's next row, has the program's gate and
- * the task's job run it, and posts it.
+/* An executive over the book of furnacelime.h: POSIX threads, one for each processor, take the processors' rows, have the program's gate and
+ * the task's job run them, and post them.
  *
  *     static int gate(uint32_t processor, const struct fl_row *row, void *user) { ... wait until row->start ...; return 0; }
  *     static int job(uint32_t task, const struct fl_row *row, void *user) { ... the task's work ...; return 0; }
@@ -16,6 +16,10 @@
  *    earlier call wrote is seen by a later one;
  *  - gates of different processors and jobs of different tasks are called at once;
  *  - no processor is `window` rounds or more ahead of the one that is furthest behind.
+ * Where the crew has a gate, a priority or CPUs, a processor's rows are run by its own thread. Where it has none of them, nothing ties them to it, and a
+ * job is called by whichever thread is there: by one for all tasks while jobs take up to a microsecond, which costs less than to share the rows
+ * out; else by one for each CPU; and while hardly a row is posted for a fifth of a millisecond, by twice as many each time. So jobs may wait
+ * for one another there too, and meet within a millisecond or two.
  * With `frames` the schedule is run so often, one time after the other: rows are told later by a frame's length each time, so that no tick lies
  * between two frames, and what ran stays a valid schedule. That wants a set of which no period is open where a frame begins or ends. The next
  * frame's book is opened at the end of the one before, which takes as long as fl_exec_open.
@@ -36,6 +40,7 @@
 #include <sched.h>
 #include <semaphore.h>
 #include <string.h>
+#include <time.h>
 #include <unistd.h>
 #include "furnacelime.h"
 
@@ -109,6 +114,22 @@ struct fl_lane {
     int asleep;
     int status;        /* of the last take, which another thread did where this one slept */
     struct fl_row row; /* what it gave */
+    uint32_t rows;     /* where threads roam: how many rows the thread has run */
+    uint32_t turn;     /* and the turn in which it was last counted as active */
+};
+
+/* How threads that roam share the rows out. A thread is idle while it sleeps until it is called, and active while it isn't and doesn't watch. */
+struct fl_roaming {
+    uint64_t rows;    /* how many were posted */
+    uint32_t ready;   /* a bit for each processor whose row is out and that no thread runs */
+    uint32_t working; /* how many processors haven't come to their end */
+    uint32_t idle;    /* a bit for each thread */
+    uint32_t active;  /* how many threads are, beside those that have run the same row since before the turn */
+    uint32_t wanted;  /* how many should be at most */
+    uint32_t turn;    /* how often fewer were wanted */
+    uint32_t less;    /* for how many timed rows in a row fewer would do */
+    uint32_t cpus;    /* how many CPUs there are, at most one for each processor */
+    int watched;      /* a thread watches over the active ones */
 };
 
 /* What is read without the lock stands apart from what is written with it, with the lanes in between: else each try at the lock would fetch memory
@@ -120,6 +141,7 @@ struct fl_execution {
     uint32_t window;
     int looks; /* FL_LOOKS, or 0 */
     int alone; /* the lock is the execution's own, and one thread wants it */
+    int roams; /* each thread may run the rows of each processor */
     uint64_t frames;
     const void *set;
     size_t length;
@@ -127,8 +149,10 @@ struct fl_execution {
     struct fl_ticks shift; /* the tick at which the frame begins; it is written where no row is out */
     struct fl_lane lanes[FL_PROCESSORS];
     struct fl_exec exec;
+    struct fl_roaming roaming;
     uint64_t least; /* as many rows all have posted; it is written with the lock, and looked at without it */
     uint64_t counts[FL_PROCESSORS];  /* of each processor the rows that it has posted in the frame */
+    uint32_t last;                   /* how many processors have posted no more than the least */
     uint32_t full;                   /* a bit for each processor whose thread sleeps at the end of the window */
     uint32_t behind[FL_TASKS];       /* a bit for each processor whose thread sleeps behind an earlier row of the task */
     struct fl_ticks given[FL_TASKS]; /* of each task the ticks that are posted in the frame */
@@ -137,7 +161,7 @@ struct fl_execution {
     int stopped;    /* a thread could not be started, a row failed, or the next frame could not be opened */
     int status;     /* that of the last opening */
     uint32_t ready; /* how many threads are there */
-    pthread_cond_t all_ready;
+    pthread_cond_t called; /* the caller waits for all threads, and later a thread watches over the leader */
     uint64_t posted[FL_PROCESSORS];
     struct fl_ticks ticks[FL_TASKS];
 };
@@ -160,11 +184,24 @@ static inline struct fl_ticks fl_between(struct fl_ticks from, struct fl_ticks t
     return rest;
 }
 
-/* Has a thread that sleeps do so no more. The lock is held. */
+/* Lays the row of a processor out for whichever thread comes, where threads roam; or notes that the processor has come to its end. The lock is
+ * held. */
+static inline void fl_lay_out(struct fl_execution *in, struct fl_lane *lane)
+{
+    if (lane->status == FL_DONE)
+        in->roaming.ready |= (uint32_t)1 << lane->processor;
+    else
+        in->roaming.working--;
+}
+
+/* Has a thread that sleeps do so no more, or where threads roam a processor that waits. The lock is held. */
 static inline void fl_wake(struct fl_lane *lane, struct fl_lane *sleeper)
 {
     sleeper->asleep = 0;
-    lane->to_wake |= (uint32_t)1 << sleeper->processor;
+    if (lane->in->roams)
+        fl_lay_out(lane->in, sleeper);
+    else
+        lane->to_wake |= (uint32_t)1 << sleeper->processor;
 }
 
 /* Calls a thread that sleeps, or is about to. */
@@ -348,18 +385,15 @@ static inline int fl_is_to_sleep(struct fl_execution *in, struct fl_lane *lane)
 /* Notes that a processor has posted this row, and wakes those that waited for it. The lock is held. */
 static inline void fl_note_post(struct fl_execution *in, struct fl_lane *lane, const struct fl_row *ran)
 {
-    uint64_t least = ++in->counts[lane->processor];
     uint32_t p;
     if (ran->task != FL_NO_TASK)
         in->given[ran->task] = fl_later(in->given[ran->task], fl_between(ran->start, ran->end));
     fl_take_for_sleepers(in, lane, ran->task);
-    if (least > in->least + 1)
+    if (in->counts[lane->processor]++ > in->least || --in->last > 0)
         return;
+    fl_set_least(in, in->least + 1);
     for (p = 0; p < in->processors; p++)
-        least = in->counts[p] < least ? in->counts[p] : least;
-    if (least == in->least)
-        return;
-    fl_set_least(in, least);
+        in->last += in->counts[p] == in->least;
     fl_take_for_full(in, lane);
 }
 
@@ -376,8 +410,8 @@ static inline void fl_stop(struct fl_execution *in, struct fl_lane *lane)
         }
 }
 
-/* Runs a row that was taken, and posts it and takes the next one, or halts the book. The lock is held at its end, and not when it is called. */
-static inline void fl_run_and_take(struct fl_execution *in, struct fl_lane *lane)
+/* Runs a row that was taken. 0, or why it failed. The lock isn't held. */
+static inline int fl_run(const struct fl_execution *in, const struct fl_lane *lane)
 {
     const struct fl_crew *crew = in->crew;
     struct fl_row shown = lane->row;
@@ -388,15 +422,20 @@ static inline void fl_run_and_take(struct fl_execution *in, struct fl_lane *lane
         why = crew->gate(lane->processor, &shown, crew->user);
     if (why == 0 && crew->job && shown.task != FL_NO_TASK)
         why = crew->job(shown.task, &shown, crew->user);
-    fl_lock(in);
+    return why;
+}
+
+/* Posts a row that ran and takes the next one, or halts the book. The lock is held. */
+static inline void fl_put_back(struct fl_execution *in, struct fl_lane *lane, int why)
+{
+    const struct fl_row ran = lane->row;
     if (why != 0) {
         fl_halt(&in->exec, lane->processor, (uint32_t)why);
         fl_stop(in, lane);
         return;
     }
-    shown = lane->row;
     lane->status = fl_post_and_take(&in->exec, lane->processor, &lane->row);
-    fl_note_post(in, lane, &shown);
+    fl_note_post(in, lane, &ran);
 }
 
 /* Counts what the book's frame ran. The lock is held. */
@@ -433,6 +472,7 @@ static inline void fl_open_frame(struct fl_execution *in, struct fl_lane *lane)
     fl_set_least(in, 0);
     memset(in->given, 0, sizeof in->given);
     memset(in->counts, 0, sizeof in->counts);
+    in->last = in->processors;
     for (p = 0; p < in->processors; p++)
         if (in->lanes[p].asleep)
             fl_take_for(in, lane, &in->lanes[p]);
@@ -449,13 +489,19 @@ static inline int fl_ends_frame(struct fl_execution *in, struct fl_lane *lane)
     return 0;
 }
 
+/* Whether a processor has to wait, by what its last take gave. The lock is held. */
+static inline int fl_has_to_wait(struct fl_execution *in, struct fl_lane *lane)
+{
+    int waits = 0;
+    while (!waits && (lane->status == FL_WAIT || (lane->status == FL_OVER && in->told->frames + 1 < in->frames)))
+        waits = lane->status == FL_WAIT ? fl_is_to_sleep(in, lane) : fl_ends_frame(in, lane);
+    return waits;
+}
+
 /* Whether a processor gets a further row: it waits for it if need be. The lock is held when it is called, and not at its end. */
 static inline int fl_get_row(struct fl_execution *in, struct fl_lane *lane)
 {
-    int sleeps = 0;
-    while (!sleeps && (lane->status == FL_WAIT || (lane->status == FL_OVER && in->told->frames + 1 < in->frames)))
-        sleeps = lane->status == FL_WAIT ? fl_is_to_sleep(in, lane) : fl_ends_frame(in, lane);
-    if (sleeps) {
+    if (fl_has_to_wait(in, lane)) {
         fl_sleep(in, lane);
     } else {
         fl_unlock(in);
@@ -464,20 +510,240 @@ static inline int fl_get_row(struct fl_execution *in, struct fl_lane *lane)
     return lane->status == FL_DONE;
 }
 
-/* Serves one processor: all its rows, or those up to a failure. */
+/* ---- Threads that roam. Where a crew has no gate, no priority and no CPUs, nothing ties a processor's rows to a thread: each runs whichever row is
+ * ready. How many are active goes by how long rows take: one where they are short, since to share them out takes longer than to run them, else one
+ * for each CPU; and more and more, while those that are active get nothing done, since a job may block. */
+
+/* A row is short up to so many nanoseconds, and long from so many on. */
+enum { FL_SHORT = 1000, FL_LONG = 50000 };
+
+/* Of short rows one in so many is timed; fewer threads are wanted after so many rows that were shorter; who watches looks whenever so many
+ * nanoseconds have passed, and is content with so many rows. */
+enum { FL_TIMED = 16, FL_LESS = 8, FL_WATCH = 200000, FL_FEW = 4 };
+
+static inline struct timespec fl_now(void)
+{
+    struct timespec at;
+    clock_gettime(CLOCK_MONOTONIC, &at);
+    return at;
+}
+
+/* Calls an idle thread, where there is one. The lock is held. */
+static inline void fl_call_idle(struct fl_execution *in, struct fl_lane *self)
+{
+    uint32_t p = 0;
+    if (in->roaming.idle == 0)
+        return;
+    while (!(in->roaming.idle >> p & 1))
+        p++;
+    in->roaming.idle &= ~((uint32_t)1 << p);
+    in->roaming.active++;
+    in->lanes[p].turn = in->roaming.turn;
+    self->to_wake |= (uint32_t)1 << p;
+}
+
+/* Counts a thread as active that isn't. The lock is held. */
+static inline void fl_count_active(struct fl_roaming *roaming, struct fl_lane *self)
+{
+    roaming->active += self->turn != roaming->turn;
+    self->turn = roaming->turn;
+}
+
+/* Has more threads active. The lock is held. */
+static inline void fl_want_more(struct fl_execution *in, uint32_t wanted)
+{
+    in->roaming.wanted = wanted;
+    in->roaming.less = 0;
+    if (wanted == in->processors)
+        pthread_cond_signal(&in->called);
+}
+
+/* Has fewer threads active: of the others each is counted again when its row ends, since that may go on for long. One is to watch. The lock is
+ * held. */
+static inline void fl_want_fewer(struct fl_execution *in, struct fl_lane *self, uint32_t wanted)
+{
+    in->roaming.wanted = wanted;
+    in->roaming.less = 0;
+    in->roaming.active = 0;
+    in->roaming.turn++;
+    fl_count_active(&in->roaming, self);
+    if (!in->roaming.watched)
+        fl_call_idle(in, self);
+}
+
+/* Goes by how long a row took that began then. A long one may have lost its CPU, so it adds no more threads than there are CPUs. The lock is
+ * held. */
+static inline void fl_judge(struct fl_execution *in, struct fl_lane *self, struct timespec began, struct timespec ended)
+{
+    struct fl_roaming *roaming = &in->roaming;
+    const double took = 1e9 * (double)(ended.tv_sec - began.tv_sec) + (double)(ended.tv_nsec - began.tv_nsec);
+    const uint32_t wanted = took <= FL_SHORT ? 1 : took < FL_LONG ? roaming->cpus : in->processors;
+    if (wanted > roaming->wanted && roaming->wanted < roaming->cpus)
+        fl_want_more(in, roaming->cpus);
+    else if (wanted < roaming->wanted && ++roaming->less >= FL_LESS)
+        fl_want_fewer(in, self, wanted);
+    else if (wanted >= roaming->wanted)
+        roaming->less = 0;
+}
+
+/* Whether a thread is still to watch. The lock is held. */
+static inline int fl_is_to_watch(const struct fl_execution *in)
+{
+    return in->roaming.wanted < in->processors && in->roaming.working > 0;
+}
+
+/* Watches until all threads are wanted: while those that are active run few rows, twice as many are. The lock is held, but while it sleeps. */
+static inline void fl_watch(struct fl_execution *in, struct fl_lane *self)
+{
+    struct fl_roaming *roaming = &in->roaming;
+    roaming->watched = 1;
+    while (fl_is_to_watch(in)) {
+        struct timespec until = fl_now();
+        const uint64_t seen = roaming->rows;
+        until.tv_sec += (until.tv_nsec + FL_WATCH) / 1000000000L;
+        until.tv_nsec = (until.tv_nsec + FL_WATCH) % 1000000000L;
+        while (fl_is_to_watch(in) && pthread_cond_timedwait(&in->called, in->lock, &until) == 0)
+            continue;
+        if (fl_is_to_watch(in) && roaming->rows - seen < FL_FEW) {
+            fl_want_more(in, roaming->wanted < in->processors / 2 ? 2 * roaming->wanted : in->processors);
+            fl_call_idle(in, self);
+            fl_signal(in, self);
+        }
+    }
+    roaming->watched = 0;
+}
+
+/* What a thread does that has no row to run: it watches, or is idle until it is called. The lock is held, but while it sleeps. */
+static inline void fl_rest(struct fl_execution *in, struct fl_lane *self)
+{
+    struct fl_roaming *roaming = &in->roaming;
+    roaming->active--;
+    self->turn = roaming->turn - 1;
+    if (fl_is_to_watch(in) && !roaming->watched) {
+        fl_watch(in, self);
+        return;
+    }
+    in->waits++;
+    roaming->idle |= (uint32_t)1 << self->processor;
+    pthread_mutex_unlock(in->lock);
+    fl_signal(in, self);
+    fl_await_call(self);
+    fl_lock(in);
+}
+
+/* The next processor behind this one whose row is ready, or a null pointer where a thread has none to run, is one too many, or is to watch. It
+ * isn't ready any more then. The lock is held. */
+static inline struct fl_lane *fl_pick(struct fl_execution *in, struct fl_lane *self, uint32_t p)
+{
+    struct fl_roaming *roaming = &in->roaming;
+    fl_count_active(roaming, self);
+    if (roaming->ready == 0 || roaming->active > roaming->wanted)
+        return NULL;
+    if (roaming->active > 1 && roaming->wanted < in->processors && !roaming->watched)
+        return NULL;
+    do
+        p = p + 1 < in->processors ? p + 1 : 0;
+    while (!(roaming->ready >> p & 1));
+    roaming->ready &= ~((uint32_t)1 << p);
+    return &in->lanes[p];
+}
+
+/* Sees to a processor's next row, by what its last take gave. The lock is held. */
+static inline void fl_go_on(struct fl_execution *in, struct fl_lane *lane)
+{
+    if (fl_has_to_wait(in, lane))
+        lane->asleep = 1;
+    else
+        fl_lay_out(in, lane);
+}
+
+/* Runs the row of a processor, and sees to its next one. The lock is held, but while it runs. */
+static inline void fl_run_ready(struct fl_execution *in, struct fl_lane *self, struct fl_lane *lane)
+{
+    struct fl_roaming *roaming = &in->roaming;
+    const int is_timed = roaming->wanted > 1 || self->rows++ % FL_TIMED == 0;
+    struct timespec began = {0, 0}, ended = {0, 0};
+    int why;
+    if (roaming->ready && roaming->active < roaming->wanted)
+        fl_call_idle(in, self);
+    pthread_mutex_unlock(in->lock);
+    fl_signal(in, self);
+    if (is_timed)
+        began = fl_now();
+    why = fl_run(in, lane);
+    if (is_timed)
+        ended = fl_now();
+    fl_lock(in);
+    roaming->rows++;
+    fl_put_back(in, lane, why);
+    fl_go_on(in, lane);
+    if (is_timed)
+        fl_judge(in, self, began, ended);
+}
+
+/* Runs rows of all processors, until each has come to its end. The lock is held. */
+static inline void fl_roam(struct fl_execution *in, struct fl_lane *self)
+{
+    uint32_t at = self->processor;
+    while (in->roaming.working > 0) {
+        struct fl_lane *lane = fl_pick(in, self, at);
+        if (lane) {
+            fl_run_ready(in, self, lane);
+            at = lane->processor;
+        } else {
+            fl_rest(in, self);
+        }
+    }
+    self->to_wake |= in->roaming.idle;
+    in->roaming.idle = 0;
+    pthread_cond_signal(&in->called);
+}
+
+/* Takes the first row of each processor, for threads that roam: this one is active, and another one is to watch. The lock is held. */
+static inline void fl_begin_to_roam(struct fl_execution *in, struct fl_lane *self)
+{
+    uint32_t p;
+    in->roaming.working = in->processors;
+    for (p = 0; p < in->processors; p++) {
+        in->lanes[p].status = fl_take(&in->exec, p, &in->lanes[p].row);
+        fl_go_on(in, &in->lanes[p]);
+    }
+    fl_want_fewer(in, self, 1);
+}
+
+/* ---- Serving, and all around it. */
+
+/* Serves one processor: all its rows, or those up to a failure. The lock is held when it is called, and not at its end. */
+static inline void fl_serve_own(struct fl_execution *in, struct fl_lane *lane)
+{
+    lane->status = in->stopped ? FL_HALTED : fl_take(&in->exec, lane->processor, &lane->row);
+    while (fl_get_row(in, lane)) {
+        const int why = fl_run(in, lane);
+        fl_lock(in);
+        fl_put_back(in, lane, why);
+    }
+}
+
+/* What the thread of a processor does. */
 static inline void *fl_serve(void *argument)
 {
     struct fl_lane *lane = (struct fl_lane *)argument;
     struct fl_execution *in = lane->in;
     pthread_mutex_lock(in->lock);
     if (++in->ready == in->processors)
-        pthread_cond_signal(&in->all_ready);
+        pthread_cond_signal(&in->called);
     pthread_mutex_unlock(in->lock);
     fl_await_call(lane);
     fl_lock(in);
-    lane->status = in->stopped ? FL_HALTED : fl_take(&in->exec, lane->processor, &lane->row);
-    while (fl_get_row(in, lane))
-        fl_run_and_take(in, lane);
+    if (in->roams) {
+        if (lane->processor == 0 && !in->stopped)
+            fl_begin_to_roam(in, lane);
+        fl_roam(in, lane);
+        fl_unlock(in);
+        fl_signal(in, lane);
+    } else {
+        fl_serve_own(in, lane);
+    }
     return NULL;
 }
 
@@ -564,11 +830,25 @@ static inline int fl_make_lock(pthread_mutex_t *lock, const struct fl_crew *crew
     return error;
 }
 
+/* Makes a condition that may be awaited by the clock that nobody sets; an errno. */
+static inline int fl_make_condition(pthread_cond_t *condition)
+{
+    pthread_condattr_t attributes;
+    int error = pthread_condattr_init(&attributes);
+    if (error)
+        return error;
+    error = pthread_condattr_setclock(&attributes, CLOCK_MONOTONIC);
+    if (!error)
+        error = pthread_cond_init(condition, &attributes);
+    pthread_condattr_destroy(&attributes);
+    return error;
+}
+
 /* Starts a thread for each processor, has all begin at once, and waits until they end; an errno. The lock isn't held. */
 static inline int fl_run_lanes(struct fl_execution *in, const struct fl_exec_about *about)
 {
     uint32_t started, p;
-    int error = pthread_cond_init(&in->all_ready, NULL);
+    int error = fl_make_condition(&in->called);
     if (error)
         return error;
     for (started = 0; started < in->processors && !error; started += !error)
@@ -576,26 +856,31 @@ static inline int fl_run_lanes(struct fl_execution *in, const struct fl_exec_abo
     pthread_mutex_lock(in->lock);
     in->stopped = error != 0;
     while (!in->stopped && in->ready < in->processors)
-        pthread_cond_wait(&in->all_ready, in->lock);
+        pthread_cond_wait(&in->called, in->lock);
     pthread_mutex_unlock(in->lock);
     if (!error && in->crew->begin)
         in->crew->begin(about, in->crew->user);
-    for (p = 0; p < started; p++)
+    for (p = 0; p < (in->roams && !error ? 1 : started); p++)
         fl_call(&in->lanes[p]);
     for (p = 0; p < started; p++)
         pthread_join(in->lanes[p].thread, NULL);
     for (p = 0; p < started; p++)
         fl_drop_bed(&in->lanes[p]);
-    pthread_cond_destroy(&in->all_ready);
+    pthread_cond_destroy(&in->called);
     return error;
 }
 
 /* Executes an open book, and tells how it ended. */
 static inline int fl_execute_open(struct fl_execution *in, struct fl_ended *ended)
 {
+    const long online = sysconf(_SC_NPROCESSORS_ONLN), cpus = online > 0 ? online : 1;
     in->processors = ended->about.processors;
     in->alone = in->processors == 1 && !in->crew->lock;
-    in->looks = in->crew->priority == 0 && sysconf(_SC_NPROCESSORS_ONLN) >= (long)in->processors ? FL_LOOKS : 0;
+    in->last = in->processors;
+    in->roams = in->processors > 1 && !in->crew->gate && !in->crew->priority && !in->crew->cpus;
+    in->roaming.idle = ~(uint32_t)1 & (UINT32_MAX >> (FL_PROCESSORS - in->processors));
+    in->roaming.cpus = cpus < (long)in->processors ? (uint32_t)cpus : in->processors;
+    in->looks = !in->roams && in->crew->priority == 0 && cpus >= (long)in->processors ? FL_LOOKS : 0;
     ended->error = fl_run_lanes(in, &ended->about);
     ended->waits = in->waits;
     if (ended->error)
