@@ -84,7 +84,7 @@ struct fl_ended {
     uint64_t posted[FL_PROCESSORS];  /* of each processor the number of its rows that ran: the first ones, over all frames */
     struct fl_ticks ticks[FL_TASKS]; /* of each task the ticks of its rows that ran */
     uint64_t frames;                 /* how many frames ran whole */
-    uint64_t waits;                  /* how often a thread slept for another one's post */
+    uint64_t waits;                  /* how often a thread slept that had no row to run */
     int error;
 };
 
@@ -98,70 +98,72 @@ static inline uint64_t fl_time_of(struct fl_ticks at, struct fl_ticks scale, uin
 
 /* ---- The rest is the executive's own. */
 
+/* A processor, between its rows. */
+struct fl_lane {
+    uint32_t processor;
+    int waits;           /* its next row can't be taken yet; who posts what it waits for takes for it */
+    uint32_t waiters;    /* a bit for each processor that waits until this one posts a row without a task */
+    uint64_t goes_on_at; /* while it waits at the end of the window: as many rows all have posted when it goes on */
+    struct fl_want want; /* while it waits behind an earlier row of its task: when it goes on */
+    int status;          /* of the last take */
+    struct fl_row row;   /* what it gave */
+};
+
 struct fl_execution;
 
-/* The thread of one processor. */
-struct fl_lane {
+/* A thread. It is idle while it sleeps until it is called, and active while it isn't and doesn't watch. */
+struct fl_worker {
     struct fl_execution *in;
     pthread_t thread;
-    sem_t bed; /* it sleeps until it is called */
-    uint32_t processor;
-    uint32_t sleepers; /* a bit for each processor whose thread sleeps until this one posts a row without a task */
-    uint64_t woken_at; /* while it sleeps at the end of the window: as many rows all have posted when it is woken */
-    struct fl_want want; /* while it sleeps behind an earlier row of its task: when it is woken */
-    uint32_t vain;     /* for how many waits in a row looking was in vain */
-    uint32_t to_wake;  /* a bit for each processor whose thread is to be told, once the lock is free, that it sleeps no more */
-    int asleep;
-    int status;        /* of the last take, which another thread did where this one slept */
-    struct fl_row row; /* what it gave */
-    uint32_t rows;     /* where threads roam: how many rows the thread has run */
-    uint32_t turn;     /* and the turn in which it was last counted as active */
+    sem_t bed;
+    uint32_t number;
+    uint32_t at;   /* the processor whose row it ran last */
+    uint32_t rows; /* how many rows it ran */
+    uint32_t turn; /* the turn in which it was last counted as active */
+    uint32_t vain; /* for how many waits in a row it looked in vain */
 };
 
-/* How threads that roam share the rows out. A thread is idle while it sleeps until it is called, and active while it isn't and doesn't watch. */
-struct fl_roaming {
-    uint64_t rows;    /* how many were posted */
-    uint32_t ready;   /* a bit for each processor whose row is out and that no thread runs */
-    uint32_t working; /* how many processors haven't come to their end */
-    uint32_t idle;    /* a bit for each thread */
-    uint32_t active;  /* how many threads are, beside those that have run the same row since before the turn */
-    uint32_t wanted;  /* how many should be at most */
-    uint32_t turn;    /* how often fewer were wanted */
-    uint32_t less;    /* for how many timed rows in a row fewer would do */
-    uint32_t cpus;    /* how many CPUs there are, at most one for each processor */
-    int watched;      /* a thread watches over the active ones */
-};
-
-/* What is read without the lock stands apart from what is written with it, with the lanes in between: else each try at the lock would fetch memory
- * that its holder is about to write. */
+/* What is read without the lock stands apart from what is written with it, with the threads in between: else each try at the lock would fetch
+ * memory that its holder is about to write. */
 struct fl_execution {
     const struct fl_crew *crew;
     pthread_mutex_t *lock;
     uint32_t processors;
+    uint32_t cpus; /* how many CPUs there are, at most one for each processor */
     uint32_t window;
-    int looks; /* FL_LOOKS, or 0 */
-    int alone; /* the lock is the execution's own, and one thread wants it */
-    int roams; /* each thread may run the rows of each processor */
+    int alone;     /* the lock is the execution's own, and one thread wants it */
+    int roams;     /* a row is run by any thread, and not by that of its processor */
+    int looks;     /* each thread has a CPU, and no priority: it looks for a while before it sleeps */
     uint64_t frames;
     const void *set;
     size_t length;
     struct fl_ended *told;
     struct fl_ticks shift; /* the tick at which the frame begins; it is written where no row is out */
-    struct fl_lane lanes[FL_PROCESSORS];
+    struct fl_worker workers[FL_PROCESSORS];
     struct fl_exec exec;
-    struct fl_roaming roaming;
-    uint64_t least; /* as many rows all have posted; it is written with the lock, and looked at without it */
+    struct fl_lane lanes[FL_PROCESSORS];
     uint64_t counts[FL_PROCESSORS];  /* of each processor the rows that it has posted in the frame */
-    uint32_t last;                   /* how many processors have posted no more than the least */
-    uint32_t full;                   /* a bit for each processor whose thread sleeps at the end of the window */
-    uint32_t behind[FL_TASKS];       /* a bit for each processor whose thread sleeps behind an earlier row of the task */
+    uint64_t least;                  /* the least of them; it is written with the lock, and looked at without it */
+    uint32_t last;                   /* how many processors have posted no more */
+    uint32_t full;                   /* a bit for each processor that waits at the end of the window */
+    uint32_t behind[FL_TASKS];       /* a bit for each processor that waits behind an earlier row of the task */
     struct fl_ticks given[FL_TASKS]; /* of each task the ticks that are posted in the frame */
+    uint32_t ready;   /* a bit for each processor whose row is out and that no thread runs */
+    uint32_t working; /* how many processors haven't come to their end */
+    uint32_t idle;    /* a bit for each thread that is */
+    uint32_t calls;   /* a bit for each thread that is to be called once the lock is free: it then finds it so */
+    uint32_t active;  /* how many threads are, beside those that have run the same row since before the turn */
+    uint32_t wanted;  /* how many should be at most */
+    uint32_t turn;    /* how often fewer were wanted */
+    uint32_t less;    /* for how many timed rows fewer would have done */
+    int watched;      /* a thread watches over the active ones */
+    uint64_t ran;     /* how many rows ran */
     uint64_t waits;
-    uint32_t ended; /* how many threads are at the end of the frame */
-    int stopped;    /* a thread could not be started, a row failed, or the next frame could not be opened */
-    int status;     /* that of the last opening */
-    uint32_t ready; /* how many threads are there */
-    pthread_cond_t called; /* the caller waits for all threads, and later a thread watches over the leader */
+    uint32_t ended;   /* how many processors are at the end of the frame */
+    int stopped;      /* a thread could not be started, a row failed, or the next frame could not be opened */
+    int status;       /* that of the last opening */
+    uint32_t arrived; /* how many threads are there */
+    pthread_cond_t called; /* the caller waits for all threads, and later a thread watches */
     uint64_t posted[FL_PROCESSORS];
     struct fl_ticks ticks[FL_TASKS];
 };
@@ -184,65 +186,78 @@ static inline struct fl_ticks fl_between(struct fl_ticks from, struct fl_ticks t
     return rest;
 }
 
-/* Lays the row of a processor out for whichever thread comes, where threads roam; or notes that the processor has come to its end. The lock is
- * held. */
+/* A bit for a processor or a thread. */
+static inline uint32_t fl_bit(uint32_t number)
+{
+    return (uint32_t)1 << number;
+}
+
+/* Has a thread called that is idle. The lock is held. */
+static inline void fl_call(struct fl_execution *in, uint32_t number)
+{
+    in->idle &= ~fl_bit(number);
+    in->calls |= fl_bit(number);
+    in->workers[number].turn = in->turn;
+    in->active++;
+}
+
+/* Has some idle thread called, where there is one. The lock is held. */
+static inline void fl_call_idle(struct fl_execution *in)
+{
+    uint32_t number = 0;
+    if (in->idle == 0)
+        return;
+    while (!(in->idle & fl_bit(number)))
+        number++;
+    fl_call(in, number);
+}
+
+/* Lays the row of a processor out for a thread, or notes that the processor has come to its end, by what its last take gave. The lock is held. */
 static inline void fl_lay_out(struct fl_execution *in, struct fl_lane *lane)
 {
-    if (lane->status == FL_DONE)
-        in->roaming.ready |= (uint32_t)1 << lane->processor;
-    else
-        in->roaming.working--;
+    if (lane->status == FL_DONE) {
+        in->ready |= fl_bit(lane->processor);
+        if (!in->roams && in->idle & fl_bit(lane->processor))
+            fl_call(in, lane->processor);
+    } else if (--in->working == 0) {
+        in->calls |= in->idle;
+        in->idle = 0;
+        pthread_cond_signal(&in->called);
+    }
 }
 
-/* Has a thread that sleeps do so no more, or where threads roam a processor that waits. The lock is held. */
-static inline void fl_wake(struct fl_lane *lane, struct fl_lane *sleeper)
+/* Has a processor wait no more. The lock is held. */
+static inline void fl_wake(struct fl_execution *in, struct fl_lane *lane)
 {
-    sleeper->asleep = 0;
-    if (lane->in->roams)
-        fl_lay_out(lane->in, sleeper);
-    else
-        lane->to_wake |= (uint32_t)1 << sleeper->processor;
+    lane->waits = 0;
+    fl_lay_out(in, lane);
 }
 
-/* Calls a thread that sleeps, or is about to. */
-static inline void fl_call(struct fl_lane *sleeper)
+/* Lets the lock go, also where it is that of one thread, and calls the threads that are to be called. */
+static inline void fl_unlock_and_call(struct fl_execution *in)
 {
-    sem_post(&sleeper->bed);
-}
-
-/* Sleeps until it is called. */
-static inline void fl_await_call(struct fl_lane *lane)
-{
-    while (sem_wait(&lane->bed) != 0)
-        continue;
-}
-
-/* Calls the threads that sleep no more: best without the lock, which they then find free. */
-static inline void fl_signal(struct fl_execution *in, struct fl_lane *lane)
-{
-    uint32_t p;
-    for (p = 0; lane->to_wake; p++, lane->to_wake >>= 1)
-        if (lane->to_wake & 1)
-            fl_call(&in->lanes[p]);
+    uint32_t calls = in->calls, number;
+    in->calls = 0;
+    pthread_mutex_unlock(in->lock);
+    for (number = 0; calls; number++, calls >>= 1)
+        if (calls & 1)
+            sem_post(&in->workers[number].bed);
 }
 
 static inline void fl_unlock(struct fl_execution *in)
 {
     if (!in->alone)
-        pthread_mutex_unlock(in->lock);
+        fl_unlock_and_call(in);
 }
 
-/* Sleeps until another thread has taken for it, or has stopped all. The lock is held when it is called, and not at its end. */
-static inline void fl_sleep(struct fl_execution *in, struct fl_lane *lane)
+/* Sleeps until it is called. */
+static inline void fl_await_call(struct fl_worker *self)
 {
-    in->waits++;
-    lane->asleep = 1;
-    fl_unlock(in);
-    fl_signal(in, lane);
-    fl_await_call(lane);
+    while (sem_wait(&self->bed) != 0)
+        continue;
 }
 
-/* How often a thread looks before it sleeps, where each processor has a CPU. */
+/* How often a thread looks before it sleeps. */
 #if defined(__GNUC__)
 enum { FL_LOOKS = 2000 };
 static inline uint64_t fl_least(const struct fl_execution *in) { return __atomic_load_n(&in->least, __ATOMIC_RELAXED); }
@@ -295,106 +310,90 @@ static inline void fl_lock(struct fl_execution *in)
         pthread_mutex_lock(lock);
 }
 
-/* Looks without the lock whether all have posted as many rows, for about as long as a sleep and its end take; where that was in vain for four
- * waits in a row, at every 64th alone. The lock is held when it is called, and at its end. */
-static inline void fl_look(struct fl_execution *in, struct fl_lane *lane, uint64_t posted)
-{
-    int looks;
-    if (in->looks == 0 || (lane->vain >= 4 && lane->vain++ % 64 != 0))
-        return;
-    fl_unlock(in);
-    fl_signal(in, lane);
-    for (looks = in->looks; looks > 0 && fl_least(in) < posted; looks--)
-        fl_pause();
-    fl_lock(in);
-    lane->vain = in->least >= posted ? 0 : lane->vain + 1;
-}
-
-/* Notes that a processor's thread sleeps behind an earlier row: until the ticks of its task's earlier rows are posted, or, where its next row
- * has no task, until the processor that it waits for posts such a row. No ring of sleepers closes: whoever is waited for has posted less, and
- * who has posted least waits for nobody. The lock is held. */
+/* Notes that a processor waits behind an earlier row: until the ticks of its task's earlier rows are posted, or, where its next row has no task,
+ * until the processor that it waits for posts such a row. No ring of waiting ones closes: whoever is waited for has posted less, and who has
+ * posted least waits for nobody. The lock is held. */
 static inline void fl_mark_behind(struct fl_execution *in, struct fl_lane *lane)
 {
-    uint32_t *sleepers = &in->lanes[lane->row.waits_for].sleepers;
+    uint32_t *waiters = &in->lanes[lane->row.waits_for].waiters;
     fl_exec_want(&in->exec, lane->processor, &lane->want);
     if (lane->want.task != FL_NO_TASK)
-        sleepers = &in->behind[lane->want.task];
-    *sleepers |= (uint32_t)1 << lane->processor;
+        waiters = &in->behind[lane->want.task];
+    *waiters |= fl_bit(lane->processor);
 }
 
-/* Takes for a thread that sleeps, and wakes it; if it must wait behind an earlier row, it sleeps on. So nobody is woken who would only sleep
- * again, and who is woken has its row and doesn't want the lock. The lock is held. */
-static inline void fl_take_for(struct fl_execution *in, struct fl_lane *lane, struct fl_lane *sleeper)
+/* Takes for a processor that waits; if it must wait behind an earlier row, it waits on. So no thread is woken that would only sleep again. The
+ * lock is held. */
+static inline void fl_take_for(struct fl_execution *in, struct fl_lane *lane)
 {
-    sleeper->status = fl_take(&in->exec, sleeper->processor, &sleeper->row);
-    if (sleeper->status == FL_WAIT)
-        fl_mark_behind(in, sleeper);
+    lane->status = fl_take(&in->exec, lane->processor, &lane->row);
+    if (lane->status == FL_WAIT)
+        fl_mark_behind(in, lane);
     else
-        fl_wake(lane, sleeper);
+        fl_wake(in, lane);
 }
 
-/* Takes for those who slept behind the row that a processor posted. The lock is held. */
-static inline void fl_take_for_sleepers(struct fl_execution *in, struct fl_lane *lane, uint32_t task)
+/* Takes for those that waited behind the row that a processor posted. The lock is held. */
+static inline void fl_take_for_waiters(struct fl_execution *in, struct fl_lane *lane, uint32_t task)
 {
-    uint32_t *sleepers = task == FL_NO_TASK ? &lane->sleepers : &in->behind[task];
-    uint32_t left = *sleepers, p;
+    uint32_t *waiters = task == FL_NO_TASK ? &lane->waiters : &in->behind[task];
+    uint32_t left = *waiters, p;
     for (p = 0; left; p++, left >>= 1) {
-        struct fl_lane *sleeper = &in->lanes[p];
-        if (!(left & 1) || !sleeper->asleep)
+        struct fl_lane *waiter = &in->lanes[p];
+        if (!(left & 1) || !waiter->waits)
             continue;
-        if (task != FL_NO_TASK && (in->given[task].low != sleeper->want.before.low || in->given[task].high != sleeper->want.before.high))
+        if (task != FL_NO_TASK && (in->given[task].low != waiter->want.before.low || in->given[task].high != waiter->want.before.high))
             continue;
-        *sleepers &= ~((uint32_t)1 << p);
-        fl_take_for(in, lane, sleeper);
+        *waiters &= ~fl_bit(p);
+        fl_take_for(in, waiter);
     }
 }
 
-/* Takes for those who slept at the end of the window until all have posted as many rows. The lock is held. */
-static inline void fl_take_for_full(struct fl_execution *in, struct fl_lane *lane)
+/* Takes for those that waited at the end of the window until all have posted as many rows. The lock is held. */
+static inline void fl_take_for_full(struct fl_execution *in)
 {
     uint32_t left = in->full, p;
     for (p = 0; left; p++, left >>= 1) {
-        struct fl_lane *sleeper = &in->lanes[p];
-        if (!(left & 1) || !sleeper->asleep || sleeper->woken_at > in->least)
+        struct fl_lane *waiter = &in->lanes[p];
+        if (!(left & 1) || !waiter->waits || waiter->goes_on_at > in->least)
             continue;
-        in->full &= ~((uint32_t)1 << p);
-        fl_take_for(in, lane, sleeper);
+        in->full &= ~fl_bit(p);
+        fl_take_for(in, waiter);
     }
 }
 
-/* Waits until a processor that was told to wait may go on. Behind an earlier row it sleeps until that is posted; at the end of the window until
- * three quarters of that are free, since a sleep costs as much as many rows. Whether it is to sleep: if not, it took again. The lock is held,
- * but while it looks. */
-static inline int fl_is_to_sleep(struct fl_execution *in, struct fl_lane *lane)
+/* Notes for what a processor waits that was told to: an earlier row, or at the end of the window that three quarters of that are free, since a
+ * sleep costs as much as many rows. Whether it waits: if not, it took again. The lock is held. */
+static inline int fl_must_wait(struct fl_execution *in, struct fl_lane *lane)
 {
     const uint64_t posted = in->counts[lane->processor];
     if (posted < in->counts[lane->row.waits_for] + in->window) {
         fl_mark_behind(in, lane);
         return 1;
     }
-    lane->woken_at = posted - (in->window + 2) / 4;
-    fl_look(in, lane, lane->woken_at);
-    if (in->least < lane->woken_at && !in->stopped) {
-        in->full |= (uint32_t)1 << lane->processor;
+    lane->goes_on_at = posted - (in->window + 2) / 4;
+    if (in->least < lane->goes_on_at && !in->stopped) {
+        in->full |= fl_bit(lane->processor);
         return 1;
     }
     lane->status = fl_take(&in->exec, lane->processor, &lane->row);
     return 0;
 }
 
-/* Notes that a processor has posted this row, and wakes those that waited for it. The lock is held. */
+/* Notes that a processor has posted this row, and takes for those that waited for it. The lock is held. */
 static inline void fl_note_post(struct fl_execution *in, struct fl_lane *lane, const struct fl_row *ran)
 {
     uint32_t p;
+    in->ran++;
     if (ran->task != FL_NO_TASK)
         in->given[ran->task] = fl_later(in->given[ran->task], fl_between(ran->start, ran->end));
-    fl_take_for_sleepers(in, lane, ran->task);
+    fl_take_for_waiters(in, lane, ran->task);
     if (in->counts[lane->processor]++ > in->least || --in->last > 0)
         return;
     fl_set_least(in, in->least + 1);
     for (p = 0; p < in->processors; p++)
         in->last += in->counts[p] == in->least;
-    fl_take_for_full(in, lane);
+    fl_take_for_full(in);
 }
 
 /* Ends all: the row of this processor failed, or the next frame could not be opened. The lock is held. */
@@ -404,9 +403,9 @@ static inline void fl_stop(struct fl_execution *in, struct fl_lane *lane)
     in->stopped = 1;
     lane->status = FL_HALTED;
     for (p = 0; p < in->processors; p++)
-        if (in->lanes[p].asleep) {
+        if (in->lanes[p].waits) {
             in->lanes[p].status = FL_HALTED;
-            fl_wake(lane, &in->lanes[p]);
+            fl_wake(in, &in->lanes[p]);
         }
 }
 
@@ -455,7 +454,7 @@ static inline void fl_count_frame(struct fl_execution *in)
     }
 }
 
-/* Opens the book of the next frame in place of the one that ended, and takes for all that sleep at its end. The lock is held, and no row is
+/* Opens the book of the next frame in place of the one that ended, and takes for all that wait at its end. The lock is held, and no row is
  * out. */
 static inline void fl_open_frame(struct fl_execution *in, struct fl_lane *lane)
 {
@@ -470,17 +469,16 @@ static inline void fl_open_frame(struct fl_execution *in, struct fl_lane *lane)
     in->shift = fl_later(in->shift, in->told->about.end);
     in->ended = 0;
     fl_set_least(in, 0);
+    in->last = in->processors;
     memset(in->given, 0, sizeof in->given);
     memset(in->counts, 0, sizeof in->counts);
-    in->last = in->processors;
     for (p = 0; p < in->processors; p++)
-        if (in->lanes[p].asleep)
-            fl_take_for(in, lane, &in->lanes[p]);
+        if (in->lanes[p].waits)
+            fl_take_for(in, &in->lanes[p]);
     lane->status = fl_take(&in->exec, lane->processor, &lane->row);
 }
 
-/* At the end of a frame: waits until all are there. Whether it is to sleep: if not, it is the last one, and took from the next book. The lock is
- * held. */
+/* At the end of a frame: whether a processor waits for the others. If not, it is the last one, and took from the next book. The lock is held. */
 static inline int fl_ends_frame(struct fl_execution *in, struct fl_lane *lane)
 {
     if (++in->ended < in->processors)
@@ -489,30 +487,17 @@ static inline int fl_ends_frame(struct fl_execution *in, struct fl_lane *lane)
     return 0;
 }
 
-/* Whether a processor has to wait, by what its last take gave. The lock is held. */
-static inline int fl_has_to_wait(struct fl_execution *in, struct fl_lane *lane)
+/* Sees to a processor's next row, by what its last take gave: it waits, or has one. The lock is held. */
+static inline void fl_go_on(struct fl_execution *in, struct fl_lane *lane)
 {
-    int waits = 0;
-    while (!waits && (lane->status == FL_WAIT || (lane->status == FL_OVER && in->told->frames + 1 < in->frames)))
-        waits = lane->status == FL_WAIT ? fl_is_to_sleep(in, lane) : fl_ends_frame(in, lane);
-    return waits;
+    while (!lane->waits && (lane->status == FL_WAIT || (lane->status == FL_OVER && in->told->frames + 1 < in->frames)))
+        lane->waits = lane->status == FL_WAIT ? fl_must_wait(in, lane) : fl_ends_frame(in, lane);
+    if (!lane->waits)
+        fl_lay_out(in, lane);
 }
 
-/* Whether a processor gets a further row: it waits for it if need be. The lock is held when it is called, and not at its end. */
-static inline int fl_get_row(struct fl_execution *in, struct fl_lane *lane)
-{
-    if (fl_has_to_wait(in, lane)) {
-        fl_sleep(in, lane);
-    } else {
-        fl_unlock(in);
-        fl_signal(in, lane);
-    }
-    return lane->status == FL_DONE;
-}
-
-/* ---- Threads that roam. Where a crew has no gate, no priority and no CPUs, nothing ties a processor's rows to a thread: each runs whichever row is
- * ready. How many are active goes by how long rows take: one where they are short, since to share them out takes longer than to run them, else one
- * for each CPU; and more and more, while those that are active get nothing done, since a job may block. */
+/* ---- How many threads are active, where any thread may run a row: one where rows are short, since to share them out takes longer than to run
+ * them, else one for each CPU; and more and more, while those that are active get nothing done, since a job may block. */
 
 /* A row is short up to so many nanoseconds, and long from so many on. */
 enum { FL_SHORT = 1000, FL_LONG = 50000 };
@@ -528,222 +513,175 @@ static inline struct timespec fl_now(void)
     return at;
 }
 
-/* Calls an idle thread, where there is one. The lock is held. */
-static inline void fl_call_idle(struct fl_execution *in, struct fl_lane *self)
-{
-    uint32_t p = 0;
-    if (in->roaming.idle == 0)
-        return;
-    while (!(in->roaming.idle >> p & 1))
-        p++;
-    in->roaming.idle &= ~((uint32_t)1 << p);
-    in->roaming.active++;
-    in->lanes[p].turn = in->roaming.turn;
-    self->to_wake |= (uint32_t)1 << p;
-}
-
 /* Counts a thread as active that isn't. The lock is held. */
-static inline void fl_count_active(struct fl_roaming *roaming, struct fl_lane *self)
+static inline void fl_count_active(struct fl_execution *in, struct fl_worker *self)
 {
-    roaming->active += self->turn != roaming->turn;
-    self->turn = roaming->turn;
+    in->active += self->turn != in->turn;
+    self->turn = in->turn;
 }
 
 /* Has more threads active. The lock is held. */
 static inline void fl_want_more(struct fl_execution *in, uint32_t wanted)
 {
-    in->roaming.wanted = wanted;
-    in->roaming.less = 0;
+    in->wanted = wanted;
+    in->less = 0;
     if (wanted == in->processors)
         pthread_cond_signal(&in->called);
 }
 
-/* Has fewer threads active: of the others each is counted again when its row ends, since that may go on for long. One is to watch. The lock is
- * held. */
-static inline void fl_want_fewer(struct fl_execution *in, struct fl_lane *self, uint32_t wanted)
+/* Has fewer threads active: of those that run rows each is counted again when its row ends, since that may go on for long. One is to watch. The
+ * lock is held. */
+static inline void fl_want_fewer(struct fl_execution *in, uint32_t wanted)
 {
-    in->roaming.wanted = wanted;
-    in->roaming.less = 0;
-    in->roaming.active = 0;
-    in->roaming.turn++;
-    fl_count_active(&in->roaming, self);
-    if (!in->roaming.watched)
-        fl_call_idle(in, self);
+    in->wanted = wanted;
+    in->less = 0;
+    if (!in->watched)
+        fl_call_idle(in);
+    in->active = 0;
+    in->turn++;
 }
 
 /* Goes by how long a row took that began then. A long one may have lost its CPU, so it adds no more threads than there are CPUs. The lock is
  * held. */
-static inline void fl_judge(struct fl_execution *in, struct fl_lane *self, struct timespec began, struct timespec ended)
+static inline void fl_judge(struct fl_execution *in, struct timespec began, struct timespec ended)
 {
-    struct fl_roaming *roaming = &in->roaming;
     const double took = 1e9 * (double)(ended.tv_sec - began.tv_sec) + (double)(ended.tv_nsec - began.tv_nsec);
-    const uint32_t wanted = took <= FL_SHORT ? 1 : took < FL_LONG ? roaming->cpus : in->processors;
-    if (wanted > roaming->wanted && roaming->wanted < roaming->cpus)
-        fl_want_more(in, roaming->cpus);
-    else if (wanted < roaming->wanted && ++roaming->less >= FL_LESS)
-        fl_want_fewer(in, self, wanted);
-    else if (wanted >= roaming->wanted)
-        roaming->less = 0;
+    const uint32_t wanted = took <= FL_SHORT ? 1 : took < FL_LONG ? in->cpus : in->processors;
+    if (wanted > in->wanted && in->wanted < in->cpus)
+        fl_want_more(in, in->cpus);
+    else if (wanted < in->wanted && ++in->less >= FL_LESS)
+        fl_want_fewer(in, wanted);
+    else if (wanted >= in->wanted)
+        in->less = 0;
 }
 
-/* Whether a thread is still to watch. The lock is held. */
+/* Whether a thread is to watch, or to watch on. The lock is held. */
 static inline int fl_is_to_watch(const struct fl_execution *in)
 {
-    return in->roaming.wanted < in->processors && in->roaming.working > 0;
+    return in->wanted < in->processors && in->working > 0;
 }
 
 /* Watches until all threads are wanted: while those that are active run few rows, twice as many are. The lock is held, but while it sleeps. */
-static inline void fl_watch(struct fl_execution *in, struct fl_lane *self)
+static inline void fl_watch(struct fl_execution *in)
 {
-    struct fl_roaming *roaming = &in->roaming;
-    roaming->watched = 1;
+    in->watched = 1;
     while (fl_is_to_watch(in)) {
         struct timespec until = fl_now();
-        const uint64_t seen = roaming->rows;
+        const uint64_t seen = in->ran;
+        if (in->calls) {
+            fl_unlock(in);
+            fl_lock(in);
+        }
         until.tv_sec += (until.tv_nsec + FL_WATCH) / 1000000000L;
         until.tv_nsec = (until.tv_nsec + FL_WATCH) % 1000000000L;
         while (fl_is_to_watch(in) && pthread_cond_timedwait(&in->called, in->lock, &until) == 0)
             continue;
-        if (fl_is_to_watch(in) && roaming->rows - seen < FL_FEW) {
-            fl_want_more(in, roaming->wanted < in->processors / 2 ? 2 * roaming->wanted : in->processors);
-            fl_call_idle(in, self);
-            fl_signal(in, self);
-        }
+        if (!fl_is_to_watch(in) || in->ran - seen >= FL_FEW)
+            continue;
+        fl_want_more(in, in->wanted < in->processors / 2 ? 2 * in->wanted : in->processors);
+        fl_call_idle(in);
     }
-    roaming->watched = 0;
+    in->watched = 0;
+}
+
+/* ---- The threads. */
+
+/* Looks without the lock whether a thread's own processor may go on that is at the end of the window, for about as long as a sleep and its end take;
+ * where that was in vain for four waits in a row, at every 64th alone. Whether its row is ready. The lock is held, but while it looks. */
+static inline int fl_look(struct fl_execution *in, struct fl_worker *self)
+{
+    const uint64_t goes_on_at = in->lanes[self->number].goes_on_at;
+    int looks;
+    if (!in->looks || !(in->full & fl_bit(self->number)) || (self->vain >= 4 && self->vain++ % 64 != 0))
+        return 0;
+    fl_unlock(in);
+    for (looks = FL_LOOKS; looks > 0 && fl_least(in) < goes_on_at; looks--)
+        fl_pause();
+    fl_lock(in);
+    self->vain = in->ready & fl_bit(self->number) ? 0 : self->vain + 1;
+    return self->vain == 0;
 }
 
 /* What a thread does that has no row to run: it watches, or is idle until it is called. The lock is held, but while it sleeps. */
-static inline void fl_rest(struct fl_execution *in, struct fl_lane *self)
+static inline void fl_rest(struct fl_execution *in, struct fl_worker *self)
 {
-    struct fl_roaming *roaming = &in->roaming;
-    roaming->active--;
-    self->turn = roaming->turn - 1;
-    if (fl_is_to_watch(in) && !roaming->watched) {
-        fl_watch(in, self);
+    in->active--;
+    self->turn = in->turn - 1;
+    if (fl_is_to_watch(in) && !in->watched) {
+        fl_watch(in);
         return;
     }
+    if (fl_look(in, self) || in->working == 0)
+        return;
     in->waits++;
-    roaming->idle |= (uint32_t)1 << self->processor;
-    pthread_mutex_unlock(in->lock);
-    fl_signal(in, self);
+    in->idle |= fl_bit(self->number);
+    fl_unlock(in);
     fl_await_call(self);
     fl_lock(in);
 }
 
-/* The next processor behind this one whose row is ready, or a null pointer where a thread has none to run, is one too many, or is to watch. It
- * isn't ready any more then. The lock is held. */
-static inline struct fl_lane *fl_pick(struct fl_execution *in, struct fl_lane *self, uint32_t p)
+/* Whether a thread that any row would do for may run one: it isn't one too many, nor is it to watch. The lock is held. */
+static inline int fl_may_run(const struct fl_execution *in)
 {
-    struct fl_roaming *roaming = &in->roaming;
-    fl_count_active(roaming, self);
-    if (roaming->ready == 0 || roaming->active > roaming->wanted)
-        return NULL;
-    if (roaming->active > 1 && roaming->wanted < in->processors && !roaming->watched)
-        return NULL;
-    do
-        p = p + 1 < in->processors ? p + 1 : 0;
-    while (!(roaming->ready >> p & 1));
-    roaming->ready &= ~((uint32_t)1 << p);
-    return &in->lanes[p];
+    return in->active <= in->wanted && (in->active == 1 || !fl_is_to_watch(in) || in->watched);
 }
 
-/* Sees to a processor's next row, by what its last take gave. The lock is held. */
-static inline void fl_go_on(struct fl_execution *in, struct fl_lane *lane)
+/* The processor whose row a thread is to run: its own, or where it roams the next one that is ready. A null pointer where there is none. It isn't
+ * ready any more then. The lock is held. */
+static inline struct fl_lane *fl_pick(struct fl_execution *in, struct fl_worker *self)
 {
-    if (fl_has_to_wait(in, lane))
-        lane->asleep = 1;
-    else
-        fl_lay_out(in, lane);
+    fl_count_active(in, self);
+    if (in->roams ? in->ready == 0 || !fl_may_run(in) : !(in->ready & fl_bit(self->at)))
+        return NULL;
+    while (in->roams) {
+        self->at = self->at + 1 < in->processors ? self->at + 1 : 0;
+        if (in->ready & fl_bit(self->at))
+            break;
+    }
+    in->ready &= ~fl_bit(self->at);
+    return &in->lanes[self->at];
 }
 
 /* Runs the row of a processor, and sees to its next one. The lock is held, but while it runs. */
-static inline void fl_run_ready(struct fl_execution *in, struct fl_lane *self, struct fl_lane *lane)
+static inline void fl_run_ready(struct fl_execution *in, struct fl_worker *self, struct fl_lane *lane)
 {
-    struct fl_roaming *roaming = &in->roaming;
-    const int is_timed = roaming->wanted > 1 || self->rows++ % FL_TIMED == 0;
+    const int is_timed = in->roams && (in->wanted > 1 || self->rows++ % FL_TIMED == 0);
     struct timespec began = {0, 0}, ended = {0, 0};
     int why;
-    if (roaming->ready && roaming->active < roaming->wanted)
-        fl_call_idle(in, self);
-    pthread_mutex_unlock(in->lock);
-    fl_signal(in, self);
+    if (in->ready && in->active < in->wanted && in->roams)
+        fl_call_idle(in);
+    fl_unlock(in);
     if (is_timed)
         began = fl_now();
     why = fl_run(in, lane);
     if (is_timed)
         ended = fl_now();
     fl_lock(in);
-    roaming->rows++;
     fl_put_back(in, lane, why);
     fl_go_on(in, lane);
     if (is_timed)
-        fl_judge(in, self, began, ended);
+        fl_judge(in, began, ended);
 }
 
-/* Runs rows of all processors, until each has come to its end. The lock is held. */
-static inline void fl_roam(struct fl_execution *in, struct fl_lane *self)
-{
-    uint32_t at = self->processor;
-    while (in->roaming.working > 0) {
-        struct fl_lane *lane = fl_pick(in, self, at);
-        if (lane) {
-            fl_run_ready(in, self, lane);
-            at = lane->processor;
-        } else {
-            fl_rest(in, self);
-        }
-    }
-    self->to_wake |= in->roaming.idle;
-    in->roaming.idle = 0;
-    pthread_cond_signal(&in->called);
-}
-
-/* Takes the first row of each processor, for threads that roam: this one is active, and another one is to watch. The lock is held. */
-static inline void fl_begin_to_roam(struct fl_execution *in, struct fl_lane *self)
-{
-    uint32_t p;
-    in->roaming.working = in->processors;
-    for (p = 0; p < in->processors; p++) {
-        in->lanes[p].status = fl_take(&in->exec, p, &in->lanes[p].row);
-        fl_go_on(in, &in->lanes[p]);
-    }
-    fl_want_fewer(in, self, 1);
-}
-
-/* ---- Serving, and all around it. */
-
-/* Serves one processor: all its rows, or those up to a failure. The lock is held when it is called, and not at its end. */
-static inline void fl_serve_own(struct fl_execution *in, struct fl_lane *lane)
-{
-    lane->status = in->stopped ? FL_HALTED : fl_take(&in->exec, lane->processor, &lane->row);
-    while (fl_get_row(in, lane)) {
-        const int why = fl_run(in, lane);
-        fl_lock(in);
-        fl_put_back(in, lane, why);
-    }
-}
-
-/* What the thread of a processor does. */
+/* What a thread does: it runs rows until each processor has come to its end. */
 static inline void *fl_serve(void *argument)
 {
-    struct fl_lane *lane = (struct fl_lane *)argument;
-    struct fl_execution *in = lane->in;
+    struct fl_worker *self = (struct fl_worker *)argument;
+    struct fl_execution *in = self->in;
     pthread_mutex_lock(in->lock);
-    if (++in->ready == in->processors)
+    if (++in->arrived == in->processors)
         pthread_cond_signal(&in->called);
     pthread_mutex_unlock(in->lock);
-    fl_await_call(lane);
+    fl_await_call(self);
     fl_lock(in);
-    if (in->roams) {
-        if (lane->processor == 0 && !in->stopped)
-            fl_begin_to_roam(in, lane);
-        fl_roam(in, lane);
-        fl_unlock(in);
-        fl_signal(in, lane);
-    } else {
-        fl_serve_own(in, lane);
+    while (in->working > 0) {
+        struct fl_lane *lane = fl_pick(in, self);
+        if (lane)
+            fl_run_ready(in, self, lane);
+        else
+            fl_rest(in, self);
     }
+    fl_unlock(in);
     return NULL;
 }
 
@@ -778,37 +716,25 @@ static inline int fl_set_attributes(pthread_attr_t *attributes, const struct fl_
     return error;
 }
 
-/* Makes what the thread of a processor sleeps on; an errno. */
-static inline int fl_make_bed(struct fl_lane *lane)
+/* Starts a thread, which is idle; an errno. */
+static inline int fl_start(struct fl_execution *in, uint32_t number)
 {
-    return sem_init(&lane->bed, 0, 0) ? errno : 0;
-}
-
-static inline void fl_drop_bed(struct fl_lane *lane)
-{
-    sem_destroy(&lane->bed);
-}
-
-/* Starts the thread of a processor; an errno. */
-static inline int fl_start(struct fl_execution *in, uint32_t processor)
-{
-    struct fl_lane *lane = &in->lanes[processor];
+    struct fl_worker *worker = &in->workers[number];
     pthread_attr_t attributes;
     int error;
-    lane->in = in;
-    lane->processor = processor;
-    error = fl_make_bed(lane);
-    if (error)
-        return error;
+    worker->in = in;
+    worker->number = worker->at = number;
+    if (sem_init(&worker->bed, 0, 0) != 0)
+        return errno;
     error = pthread_attr_init(&attributes);
     if (!error) {
-        error = fl_set_attributes(&attributes, in->crew, processor);
+        error = fl_set_attributes(&attributes, in->crew, number);
         if (!error)
-            error = pthread_create(&lane->thread, &attributes, fl_serve, lane);
+            error = pthread_create(&worker->thread, &attributes, fl_serve, worker);
         pthread_attr_destroy(&attributes);
     }
     if (error)
-        fl_drop_bed(lane);
+        sem_destroy(&worker->bed);
     return error;
 }
 
@@ -844,6 +770,22 @@ static inline int fl_make_condition(pthread_cond_t *condition)
     return error;
 }
 
+/* Takes the first row of each processor, and has threads called for them. The lock is held, and all threads are idle. */
+static inline void fl_begin(struct fl_execution *in)
+{
+    uint32_t p;
+    in->working = in->last = in->processors;
+    for (p = 0; p < in->processors; p++) {
+        in->lanes[p].processor = p;
+        in->lanes[p].status = fl_take(&in->exec, p, &in->lanes[p].row);
+        fl_go_on(in, &in->lanes[p]);
+    }
+    if (in->roams) {
+        fl_want_fewer(in, 1);
+        fl_call_idle(in);
+    }
+}
+
 /* Starts a thread for each processor, has all begin at once, and waits until they end; an errno. The lock isn't held. */
 static inline int fl_run_lanes(struct fl_execution *in, const struct fl_exec_about *about)
 {
@@ -854,18 +796,22 @@ static inline int fl_run_lanes(struct fl_execution *in, const struct fl_exec_abo
     for (started = 0; started < in->processors && !error; started += !error)
         error = fl_start(in, started);
     pthread_mutex_lock(in->lock);
-    in->stopped = error != 0;
-    while (!in->stopped && in->ready < in->processors)
+    while (!error && in->arrived < in->processors)
         pthread_cond_wait(&in->called, in->lock);
     pthread_mutex_unlock(in->lock);
     if (!error && in->crew->begin)
         in->crew->begin(about, in->crew->user);
-    for (p = 0; p < (in->roams && !error ? 1 : started); p++)
-        fl_call(&in->lanes[p]);
+    pthread_mutex_lock(in->lock);
+    in->idle = (uint32_t)(((uint64_t)1 << started) - 1);
+    if (error)
+        in->calls = in->idle;
+    else
+        fl_begin(in);
+    fl_unlock_and_call(in);
     for (p = 0; p < started; p++)
-        pthread_join(in->lanes[p].thread, NULL);
+        pthread_join(in->workers[p].thread, NULL);
     for (p = 0; p < started; p++)
-        fl_drop_bed(&in->lanes[p]);
+        sem_destroy(&in->workers[p].bed);
     pthread_cond_destroy(&in->called);
     return error;
 }
@@ -876,11 +822,10 @@ static inline int fl_execute_open(struct fl_execution *in, struct fl_ended *ende
     const long online = sysconf(_SC_NPROCESSORS_ONLN), cpus = online > 0 ? online : 1;
     in->processors = ended->about.processors;
     in->alone = in->processors == 1 && !in->crew->lock;
-    in->last = in->processors;
     in->roams = in->processors > 1 && !in->crew->gate && !in->crew->priority && !in->crew->cpus;
-    in->roaming.idle = ~(uint32_t)1 & (UINT32_MAX >> (FL_PROCESSORS - in->processors));
-    in->roaming.cpus = cpus < (long)in->processors ? (uint32_t)cpus : in->processors;
-    in->looks = !in->roams && in->crew->priority == 0 && cpus >= (long)in->processors ? FL_LOOKS : 0;
+    in->looks = !in->roams && !in->crew->priority && cpus >= (long)in->processors;
+    in->wanted = in->processors;
+    in->cpus = cpus < (long)in->processors ? (uint32_t)cpus : in->processors;
     ended->error = fl_run_lanes(in, &ended->about);
     ended->waits = in->waits;
     if (ended->error)

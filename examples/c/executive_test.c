@@ -8,6 +8,7 @@
 
 #include <stdio.h>
 #include <string.h>
+#include <time.h>
 
 static int bad;
 #define WANT(x) do { if (!(x)) { bad = 1; printf("executive_test.c line %d: %s\n", __LINE__, #x); } } while (0)
@@ -523,6 +524,78 @@ static void try_meeting(struct crew_notes *notes)
     }
 }
 
+/* A job that waits until those of all other processors have begun as many rows, or where its task is to block, as many more. */
+static int meet_all(uint32_t task, const struct fl_row *row, void *user)
+{
+    struct crew_notes *notes = (struct crew_notes *)user;
+    uint32_t q;
+    uint64_t least;
+    (void)row;
+    pthread_mutex_lock(&notes->lock);
+    least = ++notes->rows[task];
+    if (notes->blocked == task && least == notes->at)
+        least += notes->ahead;
+    pthread_cond_broadcast(&notes->met);
+    for (q = 0; q < notes->processors; q++)
+        while ((notes->blocked == FL_NO_TASK || least > notes->rows[task]) && q != task && notes->rows[q] < least)
+            pthread_cond_wait(&notes->met, &notes->lock);
+    pthread_mutex_unlock(&notes->lock);
+    return 0;
+}
+
+/* Without gates, six tasks that have a processor each: their jobs meet at each row; and one blocks until the others are a quarter of a window ahead. */
+static void try_meeting_all(struct crew_notes *notes)
+{
+    static const char six[] = "processors = 6\nhorizon = 40\ntask = [{name = \"a\", work = 1, period = 1}, {name = \"b\", work = 1, period = 1}, "
+                              "{name = \"c\", work = 1, period = 1}, {name = \"d\", work = 1, period = 1}, {name = \"e\", work = 1, period = 1}, "
+                              "{name = \"f\", work = 1, period = 1}]\n";
+    static struct fl_ended ended;
+    uint32_t window, t;
+    for (window = 1; window <= 64; window++) {
+        struct fl_crew crew = crew_of(notes, window);
+        crew.gate = NULL;
+        crew.job = meet_all;
+        if (window % 2 == 0) {
+            notes->blocked = window % 6;
+            notes->at = 20;
+            notes->ahead = (window + 2) / 4;
+        }
+        WANT(fl_execute(six, sizeof six - 1, &crew, &ended) == FL_DONE);
+        for (t = 0; t < 6; t++)
+            WANT(notes->rows[t] == 40 && ended.ticks[t].low == 40 && ended.posted[t] == 40);
+    }
+}
+
+/* A job that sleeps at some rows and works at others for a while. */
+static int note_uneven_job(uint32_t task, const struct fl_row *row, void *user)
+{
+    struct crew_notes *notes = (struct crew_notes *)user;
+    const struct timespec nap = {0, 300000};
+    volatile uint32_t work;
+    const int why = note_job(task, row, user);
+    if (notes->ticks[task] % 100 == 0)
+        nanosleep(&nap, NULL);
+    for (work = 0; notes->ticks[task] % 50 > 25 && work < 1000; work++)
+        continue;
+    return why;
+}
+
+/* Without gates, jobs that are short and long by turns, so that now one thread runs the rows and now several. */
+static void try_uneven_jobs(struct crew_notes *notes)
+{
+    static struct fl_ended ended;
+    uint32_t window, t;
+    for (window = 1; window <= 48; window++) {
+        struct fl_crew crew = crew_of(notes, window);
+        crew.gate = NULL;
+        crew.job = note_uneven_job;
+        crew.frames = 20;
+        WANT(fl_execute(five, FIVE, &crew, &ended) == FL_DONE && !notes->wrong && notes->begun == 1 && ended.frames == 20);
+        for (t = 0; t < 5; t++)
+            WANT(ended.ticks[t].low == notes->ticks[t] && notes->ticks[t] > 0);
+    }
+}
+
 /* A gate fails at each of its rows, a job at each of its task's first ones, and both processors' gates at once. */
 static void try_failures(struct crew_notes *notes)
 {
@@ -694,6 +767,8 @@ int main(void)
     try_blocking(&notes);
     try_without_gates(&notes);
     try_meeting(&notes);
+    try_meeting_all(&notes);
+    try_uneven_jobs(&notes);
     try_failures(&notes);
     try_frames(&notes);
     try_refusals(&notes);
