@@ -2,7 +2,8 @@
 
      cc -std=c99 -O2 -Iinclude -pthread bench/executive.c crates/furnacelime_c/out/libfurnacelime_c.a KIT/c/liblibc_c.a -o executive_bench
      ./executive_bench SET.toml one [WINDOW]       takes and posts by one thread, for all processors in turn
-     ./executive_bench SET.toml crew [WINDOW]      fl_execute, a thread for each processor
+     ./executive_bench SET.toml crew [WINDOW [STEPS]]     fl_execute; each job counts up to so many
+     ./executive_bench SET.toml gated [WINDOW [STEPS]]    the same with gates that answer 0, so with a thread for each processor
      ./executive_bench SET.toml open [WINDOW]      fl_open and fl_exec_open, in turns
 
    It says the seconds by the clock and of the processors, without opening the book in the first case, and the nanoseconds of a row; of opening the
@@ -24,10 +25,23 @@ static double seconds(clockid_t clock)
     return (double)at.tv_sec + 1e-9 * (double)at.tv_nsec;
 }
 
+static uint32_t steps;
+
 static int job(uint32_t task, const struct fl_row *row, void *user)
 {
     uint64_t *used = (uint64_t *)user;
+    volatile uint32_t step;
     used[task] += row->end.low - row->start.low;
+    for (step = 0; step < steps; step++)
+        continue;
+    return 0;
+}
+
+static int gate(uint32_t processor, const struct fl_row *row, void *user)
+{
+    (void)processor;
+    (void)row;
+    (void)user;
     return 0;
 }
 
@@ -69,7 +83,7 @@ static int run_alone(const char *set, size_t length, uint32_t window, uint64_t *
     return FL_DONE;
 }
 
-static int run_crew(const char *set, size_t length, uint32_t window, uint64_t *used)
+static int run_crew(const char *set, size_t length, uint32_t window, int gated, uint64_t *used)
 {
     static struct fl_ended ended;
     struct fl_crew crew = FL_NO_CREW;
@@ -77,6 +91,7 @@ static int run_crew(const char *set, size_t length, uint32_t window, uint64_t *u
     uint64_t rows = 0;
     uint32_t p;
     int status;
+    crew.gate = gated ? gate : NULL;
     crew.job = job;
     crew.user = used;
     crew.window = window;
@@ -85,7 +100,7 @@ static int run_crew(const char *set, size_t length, uint32_t window, uint64_t *u
         return status;
     for (p = 0; p < ended.about.processors; p++)
         rows += ended.posted[p];
-    tell("crew", clock, processors, rows, ended.waits);
+    tell(gated ? "gated" : "crew", clock, processors, rows, ended.waits);
     return FL_DONE;
 }
 
@@ -127,13 +142,14 @@ int main(int count, char **words)
     size_t length;
     int status;
     if (!file) {
-        fputs("executive_bench SET.toml one|crew|open [WINDOW]\n", stderr);
+        fputs("executive_bench SET.toml one|crew|gated|open [WINDOW [STEPS]]\n", stderr);
         return 2;
     }
     length = fread(set, 1, sizeof set, file);
     fclose(file);
-    if (words[2][0] == 'c')
-        status = run_crew(set, length, window, used);
+    steps = count > 4 ? (uint32_t)atoi(words[4]) : 0;
+    if (words[2][0] == 'c' || words[2][0] == 'g')
+        status = run_crew(set, length, window, words[2][0] == 'g', used);
     else
         status = words[2][1] == 'n' ? run_alone(set, length, window, used) : time_opening(set, length, window);
     if (status != FL_DONE)

@@ -89,10 +89,11 @@ static long try_book(uint32_t window)
 
 static int rows_ran; /* with the lock of the crew */
 
-static int gate(uint32_t processor, const struct fl_row *row, void *user)
+/* The gate of each processor, or the job of each task. */
+static int count_row(uint32_t number, const struct fl_row *row, void *user)
 {
     pthread_mutex_t *lock = (pthread_mutex_t *)user;
-    (void)processor;
+    (void)number;
     (void)row;
     pthread_mutex_lock(lock);
     rows_ran++;
@@ -100,8 +101,9 @@ static int gate(uint32_t processor, const struct fl_row *row, void *user)
     return 0;
 }
 
-/* The same of an execution of so many frames, each of which opens a book: those before the refusal ran whole, and no row of another one did. */
-static long try_execution(uint32_t window, uint64_t frames)
+/* The same of an execution of so many frames, with gates or without, each of which opens a book: those before the refusal ran whole, and no row of
+ * another one did. */
+static long try_execution(uint32_t window, uint64_t frames, int gated)
 {
     static struct fl_ended ended;
     static int frame_rows; /* of a frame, by the call for one alone, which comes first */
@@ -109,7 +111,8 @@ static long try_execution(uint32_t window, uint64_t frames)
     int status = FL_NO_MEMORY;
     for (refused = 1; status == FL_NO_MEMORY; refused++) {
         struct fl_crew crew = FL_NO_CREW;
-        crew.gate = gate;
+        crew.gate = gated ? count_row : NULL;
+        crew.job = gated ? NULL : count_row;
         crew.user = &lock;
         crew.window = window;
         crew.frames = frames;
@@ -133,8 +136,10 @@ int main(void)
     for (i = 0; i < sizeof windows / sizeof *windows; i++) {
         const long allocations = try_book(windows[i]);
         WANT(allocations > 10);
-        WANT(try_execution(windows[i], 1) == allocations);
-        WANT(try_execution(windows[i], 3) == 3 * allocations);
+        WANT(try_execution(windows[i], 1, 1) == allocations);
+        WANT(try_execution(windows[i], 3, 1) == 3 * allocations);
+        WANT(try_execution(windows[i], 1, 0) == allocations);
+        WANT(try_execution(windows[i], 3, 0) == 3 * allocations);
     }
     return bad;
 }
