@@ -15,6 +15,7 @@ use Rattle.event_core.specs.Cores.{CoreContents, IsCoreOf, places_of}
 use Rattle.event_core.specs.Rounds.{IsRoundUpTo, rounds_before, rows_before}
 use Rattle.merged_rows.specs.Merging.{merged}
 use Rattle.merged_rounds.specs.declared.laps.Lap.{Lap}
+use Rattle.merged_rounds.specs.declared.laps.Later.{Later}
 use Rattle.merged_rounds.specs.declared.sums.RoundSum.{RoundSum}
 use Rattle.merged_rounds.specs.Passes.{IsKept, leaf_at}
 
@@ -78,6 +79,13 @@ pub record AreTurns (p : PlanContents) (ticks : ℕ) : Type 0 where
 pub record ComesAgain (p : PlanContents) (from ticks : ℕ) : Type 0 where
   pub turns : AreTurns p ticks
   pub places : places_of p (from + ticks) ≡ places_of p from
+
+-- what runs comes round, and these rounds, which begin after tick 0, come again so many ticks later
+pub record IsLapAgain (p : PlanContents) (when : Later) (rounds : Lap) : Type 0 where
+  pub can : CanComeRound p
+  pub later : 0 < when.from
+  pub again : ComesAgain p when.from when.ticks
+  pub lap : IsLapFrom p when.from rounds
 
 -- pack p doesn't hold two idle leaves, and where it holds an idle leaf alone it is a root
 pub record IsApartAt (t : Tree) (p : ℕ) : Type 0 where

@@ -126,32 +126,7 @@ pub(crate) fn merge_telling(
     Ok((sum, count))
 }
 
-// The same, and what was told is forgotten.
-#[inline(always)]
-fn merge_next(
-    plan: &Plan,
-    source: &mut Source,
-    told: &mut [Option<Leaf>],
-    changed: &mut [u32],
-    first: RoundSum,
-) -> Result<RoundSum, CountFault>
-    requires on_time { AllByRecursion (λ t. t.offset ≡ 0) plan.now.set.tasks }
-    requires showing { IsShowing plan.now source.old first }
-    requires early { source.old.tick < stop_of plan.now }
-    requires told { length told.old ≡ plan.now.tree.processors }
-    requires none { (q : ℕ) → slice_index_or told.old q None ≡ None }
-    requires room { length changed.old ≡ length (packs_at plan.now.tree 0) }
-    ensures showing { IfOk result (λ sum. IsShowing plan.now source.new sum) }
-    ensures none { IfOk result (λ _. (q : ℕ) → slice_index_or told.new q None ≡ None) }
-    ensures later { IfOk result (λ _. source.old.tick < source.new.tick) }
-    ensures fault { IfErr result (λ fault. IsCountFault plan.now fault) }
-{
-    let (sum, count) = merge_telling(plan, source, told, changed, first)?;
-    forget_changed(first_of(changed, count), told);
-    Ok(sum)
-}
-
-// Goes on with rounds up to the first that begins at tick `until` or later, or to the end of all.
+// Goes on with rounds up to the first that begins at tick `until` or later, or to the end of all. What is told of one is forgotten then.
 fn merge_changed(
     plan: &Plan,
     source: &mut Source,
@@ -172,7 +147,9 @@ fn merge_changed(
 {
     let mut sum = first;
     'rounds: while source.now() < until {
-        sum = merge_next(plan, source, told, changed, sum)?;
+        let (next, count) = merge_telling(plan, source, told, changed, sum)?;
+        forget_changed(first_of(changed, count), told);
+        sum = next;
     }
     Ok(sum)
 }

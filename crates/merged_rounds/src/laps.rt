@@ -2,7 +2,7 @@
 ghost use Rattle.std.specs.Prelude.{ℕ, ◌≡◌, ◌<◌, ◌≤◌, ◌+◌, ◌*◌, ◌^◌, ◌++◌, ◌∷◌, [], length, min, IfErr, IfOk, None, slice_index, slice_index_or};
 ghost use Rattle.run_tree.specs.Plans.{IsPlan, stop_of};
 ghost use Rattle.event_core.specs.Counts.{IsCountFault};
-ghost use Rattle.merged_rounds.specs.Laps.{CanComeRound, ComesAgain, IsLapFrom, IsSumUpTo, lap_end, round_start};
+ghost use Rattle.merged_rounds.specs.Laps.{IsLapAgain, IsLapFrom, IsSumUpTo, lap_end, round_start};
 ghost use Rattle.merged_rounds.specs.Replays.{IsSourceOf};
 
 use crate::looks::look_all;
@@ -18,6 +18,13 @@ use std::alloc::Global;
 pub(crate) struct Lap {
     pub(crate) ends: Vec<u128>,
     pub(crate) told: Vec<Option<Leaf>>,
+}
+
+/// From when on rounds come again, and how many ticks later.
+#[derive(Clone, Copy)]
+pub(crate) struct Later {
+    pub(crate) from: u128,
+    pub(crate) ticks: u128,
 }
 
 // No round yet.
@@ -104,84 +111,68 @@ pub(crate) fn end_of(ends: &[u128], i: usize, shift: u128, stop: u128) -> u128
     (ends[i] + shift).min(stop)
 }
 
-// With round i of a lap that begins at tick `from`, so many ticks later: cut at the end of all rounds, and no round behind that.
+// With round i of a lap that comes again: cut at the end of all rounds, and no round behind that.
 #[inline(always)]
 fn with_lap_round(
     plan: &Plan,
     lap: &Lap,
-    from: u128,
-    shift: u128,
+    again: Later,
     sum: RoundSum,
     i: usize,
 ) -> Result<RoundSum, CountFault>
-    requires can { CanComeRound plan.now }
-    requires later { 0 < from }
-    requires again { ComesAgain plan.now from shift }
-    requires early { shift ≤ stop_of plan.now }
-    requires lap { IsLapFrom plan.now from lap.now }
+    requires again { IsLapAgain plan.now again lap.now }
+    requires early { again.ticks ≤ stop_of plan.now }
     requires round { i < length lap.now.ends.items }
-    requires sum { IsSumUpTo plan.now (min (round_start from lap.now.ends.items i + shift) (stop_of plan.now)) sum }
-    ensures sum { IfOk result (λ sum. IsSumUpTo plan.now (min (round_start from lap.now.ends.items (i + 1) + shift) (stop_of plan.now)) sum) }
+    requires sum { IsSumUpTo plan.now (min (round_start again.from lap.now.ends.items i + again.ticks) (stop_of plan.now)) sum }
+    ensures sum { IfOk result (λ sum. IsSumUpTo plan.now (min (round_start again.from lap.now.ends.items (i + 1) + again.ticks) (stop_of plan.now)) sum) }
     ensures fault { IfErr result (λ fault. IsCountFault plan.now fault) }
 {
     let stop = plan.rounds_end();
-    let start = start_of(&lap.ends, from, i) + shift;
+    let start = start_of(&lap.ends, again.from, i) + again.ticks;
     if start >= stop {
         return Ok(sum);
     }
-    let end = end_of(&lap.ends, i, shift, stop);
+    let end = end_of(&lap.ends, i, again.ticks, stop);
     let told = told_in(&lap.told, plan.tree().processors() as usize, i);
     with_round(plan, sum, start, end, told)
 }
 
-// With the rounds of a lap that begins at tick `from`, so many ticks later, up to the end of all rounds.
-fn with_lap(
-    plan: &Plan,
-    lap: &Lap,
-    from: u128,
-    shift: u128,
-    first: RoundSum,
-) -> Result<RoundSum, CountFault>
-    requires can { CanComeRound plan.now }
-    requires later { 0 < from }
-    requires again { ComesAgain plan.now from shift }
-    requires early { from + shift < stop_of plan.now }
-    requires lap { IsLapFrom plan.now from lap.now }
-    requires sum { IsSumUpTo plan.now (from + shift) first }
-    ensures sum { IfOk result (λ sum. IsSumUpTo plan.now (min (lap_end from lap.now + shift) (stop_of plan.now)) sum) }
+// With the rounds of a lap that comes again, up to the end of all rounds.
+fn with_lap(plan: &Plan, lap: &Lap, again: Later, first: RoundSum) -> Result<RoundSum, CountFault>
+    requires again { IsLapAgain plan.now again lap.now }
+    requires early { again.from + again.ticks < stop_of plan.now }
+    requires sum { IsSumUpTo plan.now (again.from + again.ticks) first }
+    ensures sum { IfOk result (λ sum. IsSumUpTo plan.now (min (lap_end again.from lap.now + again.ticks) (stop_of plan.now)) sum) }
     ensures fault { IfErr result (λ fault. IsCountFault plan.now fault) }
 {
     let mut sum = first;
     for i in 0..lap.ends.len() {
-        sum = with_lap_round(plan, lap, from, shift, sum, i)?;
+        sum = with_lap_round(plan, lap, again, sum, i)?;
     }
     Ok(sum)
 }
 
-/// With a lap again and again, `ticks` later each time, up to the end of all rounds. The rounds so far are those up to its end.
+/// With a lap again and again, so many ticks later each time, up to the end of all rounds. The rounds so far are those up to its end.
 pub(crate) fn with_laps(
     plan: &Plan,
     lap: &Lap,
-    from: u128,
-    ticks: u128,
+    again: Later,
     first: RoundSum,
 ) -> Result<RoundSum, CountFault>
-    requires can { CanComeRound plan.now }
-    requires later { 0 < from }
-    requires some { 0 < ticks }
-    requires again { ComesAgain plan.now from ticks }
-    requires within { from + ticks ≤ stop_of plan.now }
-    requires lap { IsLapFrom plan.now from lap.now }
-    requires end { lap_end from lap.now ≡ from + ticks }
-    requires sum { IsSumUpTo plan.now (from + ticks) first }
+    requires again { IsLapAgain plan.now again lap.now }
+    requires some { 0 < again.ticks }
+    requires within { again.from + again.ticks ≤ stop_of plan.now }
+    requires end { lap_end again.from lap.now ≡ again.from + again.ticks }
+    requires sum { IsSumUpTo plan.now (again.from + again.ticks) first }
     ensures sum { IfOk result (λ sum. IsSumUpTo plan.now (stop_of plan.now) sum) }
     ensures fault { IfErr result (λ fault. IsCountFault plan.now fault) }
 {
     let stop = plan.rounds_end();
+    let Later { from, ticks } = again;
     let mut sum = first;
     let mut shift = ticks;
     'laps: while from + shift < stop {
-        sum = with_lap(plan, lap, from, shift, sum)?;
+        sum = with_lap(plan, lap, Later { from, ticks: shift }, sum)?;
         shift += ticks;
     }
     Ok(sum)

@@ -1,5 +1,5 @@
 //! What each processor shows in a round, where that may be something else than in the one before.
-ghost use Rattle.std.specs.Prelude.{◌≡◌, ℕ, ◌<◌, ◌≤◌, true, length, Option, None, Some, slice_index_or};
+ghost use Rattle.std.specs.Prelude.{◌≡◌, ℕ, ◌<◌, ◌≤◌, true, length, IfOk, Option, None, Some, slice_index_or, vec_len};
 ghost use Rattle.sched_base.specs.declared.rows.Leaf.TheVariants.{Wait as waiting_leaf};
 ghost use Rattle.sched_base.specs.declared.rows.NodeId.{NodeId as DeclaredNodeId};
 ghost use Rattle.sched_base.specs.declared.rows.TaskId.{TaskId as DeclaredTaskId};
@@ -12,7 +12,8 @@ ghost use Rattle.merged_rounds.specs.Replays.{IsSourceOf};
 use crate::sources::Source;
 use event_core::{Core, leaf_shown_for};
 use run_tree::Plan;
-use sched_base::{Leaf, NodeId};
+use sched_base::{Leaf, NoMemory, NodeId};
+use std::alloc::Global;
 
 // The node, unless its task waits: only then will it show something else.
 #[inline(always)]
@@ -119,6 +120,13 @@ fn next_other(
         }
     }
     (count, None)
+}
+
+/// Room for what is told of the processors.
+pub(crate) fn no_leaves(alloc: Global, plan: &Plan) -> Result<Vec<Option<Leaf>>, NoMemory>
+    ensures { IfOk result (λ v. vec_len v ≡ plan.now.tree.processors) }
+{
+    Ok(vec![in alloc; None; plan.tree().processors() as usize]?)
 }
 
 /// Nothing is told of any processor.

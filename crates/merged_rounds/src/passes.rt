@@ -1,5 +1,5 @@
 //! One pass over the rounds of a plan.
-ghost use Rattle.std.specs.Prelude.{ℕ, ◌≡◌, ◌<◌, ◌≤◌, ◌+◌, ◌*◌, true, false, length, replicate, slice_index_or, IfOk, IfErr, None, vec_len};
+ghost use Rattle.std.specs.Prelude.{ℕ, ◌≡◌, ◌<◌, ◌≤◌, ◌+◌, ◌*◌, true, false, length, replicate, slice_index_or, IfOk, IfErr, None};
 ghost use Rattle.std.specs.List.{AllByRecursion};
 ghost use Rattle.sched_base.specs.Tables.{row_limit};
 ghost use Rattle.run_tree.specs.Plans.{rounds_of, stop_of};
@@ -12,8 +12,8 @@ ghost use Rattle.merged_rounds.specs.Replays.{IsComputed, IsMergingFrom, IsSourc
 
 use crate::apart::comes_round;
 use crate::changed::merge_on_time;
-use crate::laps::{merge_lap, with_laps};
-use crate::looks::look_each;
+use crate::laps::{Later, merge_lap, with_laps};
+use crate::looks::{look_each, no_leaves};
 use crate::searches::{merge_until_again, turn_of};
 use crate::sources::{Source, source_of, with_turn};
 use crate::sums::{RoundSum, all_rounds, no_rounds, with_round};
@@ -45,13 +45,6 @@ pub fn merged_of(alloc: Global, plan: &Plan) -> Result<MergedRows, CountFault>
 // Of no processor a node.
 fn no_nodes(alloc: Global, plan: &Plan) -> Result<Vec<Option<NodeId>>, NoMemory>
     ensures { IfOk result (λ v. v.items ≡ replicate plan.now.tree.processors None) }
-{
-    Ok(vec![in alloc; None; plan.tree().processors() as usize]?)
-}
-
-// Room for what is told of the processors.
-fn no_leaves(alloc: Global, plan: &Plan) -> Result<Vec<Option<Leaf>>, NoMemory>
-    ensures { IfOk result (λ v. vec_len v ≡ plan.now.tree.processors) }
 {
     Ok(vec![in alloc; None; plan.tree().processors() as usize]?)
 }
@@ -200,7 +193,7 @@ fn merge_rounds(
     let first = no_rounds(alloc, plan)?;
     if let Some(turn) = turn_of(plan) {
         if comes_round(plan) {
-            let (sum, mut source) = merge_first(alloc, plan, core, told, first, turn)?;
+            let (sum, mut source) = merge_first(alloc, plan, core, first, turn)?;
             return merge_with_laps(alloc, plan, &mut source, kept, told, sum, turn);
         }
     }
@@ -223,7 +216,6 @@ fn merge_first(
     alloc: Global,
     plan: &Plan,
     core: Core,
-    told: &mut [Option<Leaf>],
     first: RoundSum,
     turn: u128,
 ) -> Result<(RoundSum, Source), CountFault>
@@ -231,7 +223,6 @@ fn merge_first(
     requires belongs { IsCoreOf plan.now core }
     requires first { core.tick ≡ 0 }
     requires sum { IsSumUpTo plan.now 0 first }
-    requires told { length told.old ≡ plan.now.tree.processors }
     requires turn { turn ≡ plan.now.tree.scale * plan.now.tree.scale }
     requires within { turn < stop_of plan.now }
     ensures belongs { IfOk result (λ pair. IsSourceOf plan.now pair.1) }
@@ -242,7 +233,7 @@ fn merge_first(
         return Ok((first, computed(alloc, plan, core)?));
     }
     let mut source = computed(alloc, plan, core)?;
-    let (sum, kept) = merge_turn(alloc, plan, &mut source, told, first, turn)?;
+    let (sum, kept) = merge_turn(alloc, plan, &mut source, first, turn)?;
     Ok((sum, with_turn(alloc, plan, source, kept, turn)?))
 }
 
@@ -325,7 +316,7 @@ fn merge_again(
     let places = source.places(plan).copy(alloc)?;
     let (sum, lap) = merge_lap(alloc, plan, source, told, first, until)?;
     if source.now() == until && source.places(plan).is_same(&places) {
-        return with_laps(plan, &lap, from, ticks, sum);
+        return with_laps(plan, &lap, Later { from, ticks }, sum);
     }
     forget_nodes(kept);
     merge_to_end(alloc, plan, source, kept, told, sum)

@@ -1,8 +1,8 @@
 //! The rounds so far, merged and counted.
-ghost use Rattle.std.specs.Prelude.{ℕ, ◌≡◌, ◌≢◌, ◌<◌, ◌≤◌, ◌*◌, true, length, IfErr, IfOk, None, Some, slice_get, slice_index, slice_index_or};
+ghost use Rattle.std.specs.Prelude.{ℕ, ◌≡◌, ◌≢◌, ◌<◌, ◌≤◌, ◌+◌, ◌*◌, true, length, IfErr, IfOk, None, Some, slice_get, slice_index, slice_index_or};
 ghost use Rattle.sched_base.specs.declared.rows.Row.{Row as DeclaredRow};
 ghost use Rattle.sched_base.specs.Tables.{lane_of, row_limit};
-ghost use Rattle.run_tree.specs.Plans.{rounds_of, stop_of};
+ghost use Rattle.run_tree.specs.Plans.{IsPlan, rounds_of, stop_of};
 ghost use Rattle.event_core.specs.Counts.{IsCountFault};
 ghost use Rattle.event_core.specs.Rounds.{IsRoundUpTo, rows_of_round};
 ghost use Rattle.merged_rows.specs.Columns.{AreTold, ends_showing};
@@ -33,6 +33,26 @@ pub(crate) fn no_rounds(alloc: Global, plan: &Plan) -> Result<RoundSum, NoMemory
     })
 }
 
+// How many rounds there are with the one from `start` up to tick `end`, where there is room for its rows. The ticks are only spoken of.
+#[inline(always)]
+fn next_count(plan: &Plan, sum: &RoundSum, start: u128, end: u128) -> Result<u64, CountFault>
+    requires sum { IsSumUpTo plan.now start sum.now }
+    requires round { IsRoundUpTo plan.now start end }
+    ensures lawful { IfOk result (λ _. IsPlan plan.now) }
+    ensures count { IfOk result (λ count. count ≡ sum.now.rounds + 1) }
+    ensures few { IfOk result (λ count. count * plan.now.tree.processors ≤ row_limit) }
+    ensures fault { IfErr result (λ fault. IsCountFault plan.now fault) }
+{
+    let _start = start;
+    let _end = end;
+    let count = sum.rounds + 1;
+    let rows = count * u64::from(plan.tree().processors());
+    if rows > ROW_LIMIT {
+        return Err(CountFault::TooLong { rows });
+    }
+    Ok(count)
+}
+
 /// With the round from `start` up to tick `end`, where there is room for its rows. Of each processor it is told what it shows there,
 /// or nothing where its last row shows the same. The start is only spoken of.
 #[inline(always)]
@@ -51,16 +71,9 @@ pub(crate) fn with_round(
         ends_showing (lane_of next.rows.lanes q) r.leaf ≡ true) }
     ensures fault { IfErr result (λ fault. IsCountFault plan.now fault) }
 {
-    let _start = start;
-    let RoundSum { rows, rounds } = sum;
-    let next_rows = (rounds + 1) * u64::from(plan.tree().processors());
-    if next_rows > ROW_LIMIT {
-        return Err(CountFault::TooLong { rows: next_rows });
-    }
-    Ok(RoundSum {
-        rows: rows.with_round(end, told)?,
-        rounds: rounds + 1,
-    })
+    let rounds = next_count(plan, &sum, start, end)?;
+    let rows = sum.rows.with_round(end, told)?;
+    Ok(RoundSum { rows, rounds })
 }
 
 /// The same, where the processors are listed of which something is told; one may stand there twice. It costs time for these.
@@ -83,16 +96,9 @@ pub(crate) fn with_changed(
         ends_showing (lane_of next.rows.lanes q) r.leaf ≡ true) }
     ensures fault { IfErr result (λ fault. IsCountFault plan.now fault) }
 {
-    let _start = start;
-    let RoundSum { rows, rounds } = sum;
-    let next_rows = (rounds + 1) * u64::from(plan.tree().processors());
-    if next_rows > ROW_LIMIT {
-        return Err(CountFault::TooLong { rows: next_rows });
-    }
-    Ok(RoundSum {
-        rows: rows.with_changed(end, changed, told)?,
-        rounds: rounds + 1,
-    })
+    let rounds = next_count(plan, &sum, start, end)?;
+    let rows = sum.rows.with_changed(end, changed, told)?;
+    Ok(RoundSum { rows, rounds })
 }
 
 /// The merged rows of all rounds.

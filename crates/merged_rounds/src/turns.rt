@@ -13,7 +13,7 @@ ghost use Rattle.merged_rounds.specs.Replays.{AreHolding, AreKept, AreStill, IsP
 
 use crate::changed::{first_of, forget_changed, merge_telling, merge_whole, room_for_told};
 use crate::laps::start_of;
-use crate::looks::forget;
+use crate::looks::{forget, no_leaves};
 use crate::sources::Source;
 use crate::sums::RoundSum;
 use cpu_assign::Places;
@@ -127,41 +127,8 @@ impl Turn {
         Ok(())
     }
 
-    // Keeps the packs that show something else than before in the round just gone, from `start` up to `end`, or each of them, where it is
-    // the first round. All those that may do so have marks.
-    fn keep_packs(
-        &mut self,
-        plan: &Plan,
-        places: &Places,
-        start: u128,
-        end: u128,
-        leaves: &[Option<Leaf>],
-        marks: &[bool],
-    ) -> Result<(), NoMemory>
-        requires can { CanComeRound plan.now }
-        requires places { places.now ≡ places_of plan.now end }
-        requires round { IsRoundUpTo plan.now start end }
-        requires leaves { IsAllTold plan.now start end leaves.now }
-        requires turn { IsTurnOf plan.now self.old }
-        requires marks { length marks.now ≡ packs_of plan.now }
-        requires still { 0 < length self.old.ends.items → AreStill places.now.onto leaves.now self.old.last.items marks.now 0 }
-        ensures kept { IfOk result (λ _. AreKept plan.now start self.old self.new (packs_of plan.now)) }
-    {
-        plan.know_lawful();
-        let _start = start;
-        let _end = end;
-        let whole = self.is_none();
-        let count = pack_count(plan);
-        let mut k = next_other(places, leaves, &self.last, marks, 0, whole);
-        'others: while k < count {
-            let leaf = shown_by(places, leaves, k);
-            self.keep_pack(k, leaf, whole)?;
-            k = next_other(places, leaves, &self.last, marks, k + 1, whole);
-        }
-        Ok(())
-    }
-
-    // One round more, from `start` up to `end`, of which it is known what each processor shows.
+    // One round more, from `start` up to `end`, of which it is known what each processor shows. Packs are kept that show something else than
+    // before, or each of them, where it is the first round. All those that may do so have marks.
     fn keep_round(
         &mut self,
         plan: &Plan,
@@ -182,7 +149,16 @@ impl Turn {
         ensures turn { IfOk result (λ _. IsTurnOf plan.now self.new) }
         ensures end { IfOk result (λ _. turn_end self.new ≡ end) }
     {
-        self.keep_packs(plan, places, start, end, leaves, marks)?;
+        plan.know_lawful();
+        let _start = start;
+        let whole = self.is_none();
+        for k in 0..pack_count(plan) {
+            if !whole && !marks[k as usize] {
+                continue;
+            }
+            let leaf = shown_by(places, leaves, k);
+            self.keep_pack(k, leaf, whole)?;
+        }
         self.close(end)?;
         Ok(())
     }
@@ -256,68 +232,6 @@ fn shown_by(places: &Places, leaves: &[Option<Leaf>], k: u32) -> Option<Leaf>
         None => None,
         Some(q) => leaves[q as usize],
     }
-}
-
-// Whether pack k shows something else than this. One without a mark doesn't.
-#[inline(always)]
-fn shows_other(
-    places: &Places,
-    leaves: &[Option<Leaf>],
-    shows: &[Option<Leaf>],
-    marks: &[bool],
-    from: u32,
-    k: u32,
-) -> bool
-    requires pack { k < length shows.now }
-    requires packs { length shows.now ≡ length places.now.last }
-    requires marks { length marks.now ≡ length shows.now }
-    requires long { length leaves.now ≡ length places.now.onto }
-    requires from { from ≤ k }
-    requires still { AreStill places.now.onto leaves.now shows.now marks.now from }
-    ensures none { result ≡ false → is_held places.now.onto k ≡ false → slice_index_or shows.now k None ≡ None }
-    ensures some { (q : ℕ) → result ≡ false → slice_index_or places.now.onto q None ≡ Some k →
-        slice_index_or shows.now k None ≡ slice_index_or leaves.now q None }
-{
-    let _from = from;
-    if !marks[k as usize] {
-        return false;
-    }
-    shown_by(places, leaves, k) != shows[k as usize]
-}
-
-// The first pack from number `from` on that shows something else than this, or their number where none does; or that one, where it is the
-// first round. Those without a mark are passed over.
-fn next_other(
-    places: &Places,
-    leaves: &[Option<Leaf>],
-    shows: &[Option<Leaf>],
-    marks: &[bool],
-    from: u32,
-    whole: bool,
-) -> u32
-    requires packs { length shows.now ≡ length places.now.last }
-    requires marks { length marks.now ≡ length shows.now }
-    requires long { length leaves.now ≡ length places.now.onto }
-    requires from { from ≤ length shows.now }
-    requires still { whole ≡ false → AreStill places.now.onto leaves.now shows.now marks.now from }
-    ensures after { from ≤ result }
-    ensures within { result ≤ length shows.now }
-    ensures later { from < result → whole ≡ false }
-    ensures none { (k : ℕ) → from ≤ k → k < result → is_held places.now.onto k ≡ false → slice_index_or shows.now k None ≡ None }
-    ensures some { (k q : ℕ) → from ≤ k → k < result → slice_index_or places.now.onto q None ≡ Some k →
-        slice_index_or shows.now k None ≡ slice_index_or leaves.now q None }
-{
-    places.know_noted();
-    if whole {
-        return from;
-    }
-    let count = shows.len() as u32;
-    for k in from..count {
-        if shows_other(places, leaves, shows, marks, from, k) {
-            return k;
-        }
-    }
-    count
 }
 
 // Each of these processors shows what is told of it.
@@ -448,12 +362,11 @@ fn turn_next(
 }
 
 /// Goes on with rounds from tick 0 up to the first that begins at tick `until` or later, or until so much is kept of them as there is room
-/// for, and keeps them by the packs that show something else than before. The list `told` is overwritten.
+/// for, and keeps them by the packs that show something else than before.
 pub(crate) fn merge_turn(
     alloc: Global,
     plan: &Plan,
     source: &mut Source,
-    told: &mut [Option<Leaf>],
     first: RoundSum,
     until: u128,
 ) -> Result<(RoundSum, Turn), CountFault>
@@ -462,7 +375,6 @@ pub(crate) fn merge_turn(
     requires first { source.old.tick ≡ 0 }
     requires early { source.old.tick < stop_of plan.now }
     requires sum { IsSumUpTo plan.now source.old.tick first }
-    requires told { length told.old ≡ plan.now.tree.processors }
     requires until { until ≤ stop_of plan.now }
     ensures belongs { IfOk result (λ _. IsSourceOf plan.now source.new) }
     ensures sum { IfOk result (λ pair. IsSumUpTo plan.now source.new.tick pair.0) }
@@ -472,13 +384,16 @@ pub(crate) fn merge_turn(
 {
     let mut changed = room_for_told(alloc, plan)?;
     let mut marks = no_marks(alloc, plan)?;
-    let (mut sum, mut turn, mut leaves) = begin_turn(alloc, plan, source, told, &marks, first)?;
+    let mut told = no_leaves(alloc, plan)?;
+    let (mut sum, mut turn, mut leaves) = begin_turn(
+        alloc, plan, source, &mut told, &marks, first,
+    )?;
     let mut holds = holds_of(alloc, source.places(plan))?;
     'rounds: while source.now() < until && turn.packs.len() < MOST_KEPT {
         sum = turn_next(
             plan,
             source,
-            told,
+            &mut told,
             &mut changed,
             &mut leaves,
             &mut holds,

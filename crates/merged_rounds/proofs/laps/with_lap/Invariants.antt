@@ -4,4 +4,4 @@ use Rattle.merged_rounds.specs.Laps.{IsSumUpTo, round_start}
 use Rattle.merged_rounds.proofs.laps.with_lap.Given as goal
 
 abbrev pub invariant-loop-i : goal.invariant-loop-i
-invariant-loop-i l = IsSumUpTo l.plan (min (round_start l.from l.lap.ends.items l.i + l.shift) (stop_of l.plan)) l.sum
+invariant-loop-i l = IsSumUpTo l.plan (min (round_start l.again.from l.lap.ends.items l.i + l.again.ticks) (stop_of l.plan)) l.sum

@@ -11,42 +11,42 @@ pub returns-then-start-stop-clause-sum : goal.returns-then-start-stop-clause-sum
 returns-then-start-stop-clause-sum c =
     let p = c.args.plan.now in
     let ends = c.args.lap.now.ends.items in
-    let start : c.start_of.result ≡ round_start c.args.from ends c.args.i = c.start_of.ensures ∙ ap (λ (es : List ℕ). round_start c.args.from es c.args.i) c.deref.ensures.value in
+    let start : c.start_of.result ≡ round_start c.args.again.from ends c.args.i = c.start_of.ensures ∙ ap (λ (es : List ℕ). round_start c.args.again.from es c.args.i) c.deref.ensures.value in
     let stop = c.rounds_end-stop.ensures.value in
     let past = c.if-start-stop.true in
     subst (λ (n : ℕ). IsSumUpTo p n c.args.sum)
-    (lap_over p c.args.from ends c.args.lap.now.told.items c.requires.lap c.args.i c.args.shift c.requires.round (omega (arith, start, stop, past))) c.requires.sum
+    (lap_over p c.args.again.from ends c.args.lap.now.told.items c.requires.again.lap c.args.i c.args.again.ticks c.requires.round (omega (arith, start, stop, past))) c.requires.sum
 
 pub with_round-requires-clause-round : goal.with_round-requires-clause-round
 with_round-requires-clause-round c =
     let p = c.args.plan.now in
     let ends = c.args.lap.now.ends.items in
-    let start : c.start_of.result ≡ round_start c.args.from ends c.args.i = c.start_of.ensures ∙ ap (λ (es : List ℕ). round_start c.args.from es c.args.i) c.deref.ensures.value in
+    let start : c.start_of.result ≡ round_start c.args.again.from ends c.args.i = c.start_of.ensures ∙ ap (λ (es : List ℕ). round_start c.args.again.from es c.args.i) c.deref.ensures.value in
     let stop = c.rounds_end-stop.ensures.value in
     let on = c.if-start-stop.false in
-    let early : round_start c.args.from ends c.args.i + c.args.shift < stop_of p = omega (arith, start, stop, on) in
-    let end : c.end_of-end.result ≡ min (get_or ends c.args.i 0 + c.args.shift) (stop_of p) =
-    c.end_of-end.ensures ∙ ap (λ (es : List ℕ). min (get_or es c.args.i 0 + c.args.shift) c.rounds_end-stop.result) c.deref-2.ensures.value
-    ∙ ap (λ (n : ℕ). min (get_or ends c.args.i 0 + c.args.shift) n) stop in
-    subst (λ (n : ℕ). IsRoundUpTo p (n + c.args.shift) c.end_of-end.result) (sym start)
-    (subst (λ (n : ℕ). IsRoundUpTo p (round_start c.args.from ends c.args.i + c.args.shift) n) (sym end)
-    (lap_round p c.rounds_end-stop.ensures.lawful c.requires.can c.args.from c.args.shift c.requires.later c.requires.again ends c.args.lap.now.told.items c.requires.lap c.args.i c.requires.round early))
+    let early : round_start c.args.again.from ends c.args.i + c.args.again.ticks < stop_of p = omega (arith, start, stop, on) in
+    let end : c.end_of-end.result ≡ min (get_or ends c.args.i 0 + c.args.again.ticks) (stop_of p) =
+    c.end_of-end.ensures ∙ ap (λ (es : List ℕ). min (get_or es c.args.i 0 + c.args.again.ticks) c.rounds_end-stop.result) c.deref-2.ensures.value
+    ∙ ap (λ (n : ℕ). min (get_or ends c.args.i 0 + c.args.again.ticks) n) stop in
+    subst (λ (n : ℕ). IsRoundUpTo p (n + c.args.again.ticks) c.end_of-end.result) (sym start)
+    (subst (λ (n : ℕ). IsRoundUpTo p (round_start c.args.again.from ends c.args.i + c.args.again.ticks) n) (sym end)
+    (lap_round p c.rounds_end-stop.ensures.lawful c.requires.again.can c.args.again.from c.args.again.ticks c.requires.again.later c.requires.again.again ends c.args.lap.now.told.items c.requires.again.lap c.args.i c.requires.round early))
 
 pub with_round-requires-clause-told : goal.with_round-requires-clause-told
 with_round-requires-clause-told c =
     let p = c.args.plan.now in
     let ends = c.args.lap.now.ends.items in
     let all = c.args.lap.now.told.items in
-    let start : c.start_of.result ≡ round_start c.args.from ends c.args.i = c.start_of.ensures ∙ ap (λ (es : List ℕ). round_start c.args.from es c.args.i) c.deref.ensures.value in
+    let start : c.start_of.result ≡ round_start c.args.again.from ends c.args.i = c.start_of.ensures ∙ ap (λ (es : List ℕ). round_start c.args.again.from es c.args.i) c.deref.ensures.value in
     let stop = c.rounds_end-stop.ensures.value in
     let on = c.if-start-stop.false in
-    let early : round_start c.args.from ends c.args.i + c.args.shift < stop_of p = omega (arith, start, stop, on) in
+    let early : round_start c.args.again.from ends c.args.i + c.args.again.ticks < stop_of p = omega (arith, start, stop, on) in
     let many : c.processors.result ≡ p.tree.processors = c.processors.ensures.value ∙ ap (λ (t : Tree). t.processors) c.tree.ensures.value in
-    let told : IsAllTold p (round_start c.args.from ends c.args.i + c.args.shift) c.end_of-end.result c.told_in-told.result.now =
-    lap_told p c.rounds_end-stop.ensures.lawful c.requires.can c.args.from c.args.shift c.requires.later c.requires.again ends all c.requires.lap c.args.i c.requires.round early
+    let told : IsAllTold p (round_start c.args.again.from ends c.args.i + c.args.again.ticks) c.end_of-end.result c.told_in-told.result.now =
+    lap_told p c.rounds_end-stop.ensures.lawful c.requires.again.can c.args.again.from c.args.again.ticks c.requires.again.later c.requires.again.again ends all c.requires.again.lap c.args.i c.requires.round early
     c.end_of-end.result c.told_in-told.result.now (c.told_in-told.ensures.long ∙ many)
     (λ q l. c.told_in-told.ensures.each q (omega (arith, l, many))
     ∙ ap (λ (ts : List (Option Leaf)). get_or ts (c.args.i * c.processors.result + q) None) c.deref-3.ensures.value
     ∙ ap (λ (m : ℕ). get_or all (c.args.i * m + q) None) many) in
-    told_all p (c.start_of.result + c.args.shift) c.end_of-end.result c.told_in-told.result.now c.args.sum.rows.lanes
-    (subst (λ (n : ℕ). IsAllTold p (n + c.args.shift) c.end_of-end.result c.told_in-told.result.now) (sym start) told)
+    told_all p (c.start_of.result + c.args.again.ticks) c.end_of-end.result c.told_in-told.result.now c.args.sum.rows.lanes
+    (subst (λ (n : ℕ). IsAllTold p (n + c.args.again.ticks) c.end_of-end.result c.told_in-told.result.now) (sym start) told)

@@ -6,9 +6,9 @@ use Rattle.merged_rounds.proofs.laps.with_laps.Goals as goal
 
 pub laps-init : goal.laps-init
 laps-init c = record {
-  again = λ l. c.requires.again;
+  again = λ l. c.requires.again.again;
   sum = (let within = c.requires.within in
-      let e : c.args.from + c.args.ticks ≡ min (c.args.from + c.args.ticks) (stop_of c.args.plan.now) = omega (arith, within) in
+      let e : c.args.again.from + c.args.again.ticks ≡ min (c.args.again.from + c.args.again.ticks) (stop_of c.args.plan.now) = omega (arith, within) in
       subst (λ (n : ℕ). IsSumUpTo c.args.plan.now n c.args.first) e c.requires.sum);
   near = (let within = c.requires.within in omega (arith, within));
 }
@@ -19,12 +19,12 @@ laps-preserved c =
     let h = c.rounds_end-stop.ensures.lawful in
     let stop = c.rounds_end-stop.ensures.value in
     let on = c.laps-test.true in
-    let early : c.args.from + c.laps.shift < stop_of p = omega (arith, stop, on) in
+    let early : c.args.again.from + c.laps.shift < stop_of p = omega (arith, stop, on) in
     let end = c.requires.end in
     let ends = c.args.lap.now.ends.items in
-    let e : round_start c.args.from ends (length ends) + c.laps.shift ≡ c.args.from + (c.laps.shift + c.args.ticks) = omega (arith, end) in
+    let e : round_start c.args.again.from ends (length ends) + c.laps.shift ≡ c.args.again.from + (c.laps.shift + c.args.again.ticks) = omega (arith, end) in
     record {
-      again = λ l. next_lap p h c.requires.can c.args.from c.args.ticks c.laps.shift c.requires.again (c.laps.invariant.again early) l;
+      again = λ l. next_lap p h c.requires.again.can c.args.again.from c.args.again.ticks c.laps.shift c.requires.again.again (c.laps.invariant.again early) l;
       sum = subst (λ (n : ℕ). IsSumUpTo p (min n (stop_of p)) c.in_ok-sum.sum) e c.in_ok-sum.ensures.sum;
       near = omega (arith, early);
     }
