@@ -1,5 +1,5 @@
 -- When periods were done by the rows that went by so far.
-use Rattle.std.specs.Prelude.{ℕ, ◌≡◌, ◌<◌, ◌+◌, Bool, true, List, [], map, length, slice_index, slice_index_or, EachIndex}
+use Rattle.std.specs.Prelude.{ℕ, ◌≡◌, ◌<◌, ◌+◌, Bool, true, List, [], ◌∷◌, ◌++◌, map, length, slice_index, slice_index_or, EachIndex}
 use Rattle.sched_base.specs.declared.rows.Row.{Row}
 use Rattle.sched_base.specs.declared.sets.Task.{Task}
 use Rattle.sched_base.specs.Sets.{SetContents, task_at}
@@ -22,6 +22,14 @@ ends_of finishes j = slice_index_or finishes j []
 abbrev pub IsDoneBy : ℕ → Task → ℕ → List Row → List ℕ → Type 0
 IsDoneBy scale t j rows ends = EachIndex ends (λ k. slice_index ends k ≡ finish_between rows j (period_start scale t k) (period_start scale t (k + 1)))
 
+-- with one row more, the second ticks tell so of its periods where the first did without it
+abbrev pub IsDoneWith : ℕ → Task → ℕ → Row → List ℕ → List ℕ → Type 0
+IsDoneWith scale t j row before after = (rows : List Row) → IsDoneBy scale t j rows before → IsDoneBy scale t j (rows ++ row ∷ []) after
+
 -- so do those of each task
 abbrev pub AreDoneBy : ℕ → List Task → List Row → List (List ℕ) → Type 0
 AreDoneBy scale tasks rows finishes = (j : ℕ) → j < length tasks → IsDoneBy scale (task_at tasks j) j rows (ends_of finishes j)
+
+-- and with one row more
+abbrev pub AreDoneWith : ℕ → List Task → Row → List (List ℕ) → List (List ℕ) → Type 0
+AreDoneWith scale tasks row before after = (rows : List Row) → AreDoneBy scale tasks rows before → AreDoneBy scale tasks (rows ++ row ∷ []) after

@@ -57,21 +57,10 @@ fn put_high(bytes: &mut [u8], at: usize, high: u128) -> usize
     ensures end { result ≡ at + length (decimal high) }
     ensures text { take result bytes.new ≡ take at bytes.old ++ decimal high }
 {
-    if high <= u128::from(u64::MAX) {
-        return put_short(bytes, at, high as u64);
-    }
-    put_highest(bytes, at, high)
-}
-
-// So of one past 64 bits.
-fn put_highest(bytes: &mut [u8], at: usize, high: u128) -> usize
-    requires room { at + 24 ≤ length bytes.old }
-    requires few { high < 10 ^ 23 }
-    requires long { 10 ^ 16 ≤ high }
-    ensures end { result ≡ at + length (decimal high) }
-    ensures text { take result bytes.new ≡ take at bytes.old ++ decimal high }
-{
     let (front, low) = cut(high);
+    if front == 0 {
+        return put_short(bytes, at, low);
+    }
     let end = put_few(bytes, at, front as u32);
     put_sixteen(bytes, end, low);
     end + 16

@@ -1,11 +1,10 @@
 //! When the periods of tasks were done, kept while rows go by.
-ghost use Rattle.std.specs.Prelude.{◌≡◌, ◌≤◌, ◌<◌, ◌+◌, ◌*◌, ◌^◌, ◌++◌, [], ◌∷◌, ℕ, List, true, length, replicate, max, min, IfOk};
-ghost use Rattle.sched_base.specs.declared.rows.Row.{Row as declared_row};
+ghost use Rattle.std.specs.Prelude.{◌≡◌, ◌≤◌, ◌<◌, ◌+◌, ◌*◌, ◌^◌, [], ℕ, List, true, length, replicate, max, min, IfOk};
 ghost use Rattle.sched_base.specs.Rows.{is_of_task};
 ghost use Rattle.sched_base.specs.Sets.{IsLawfulTask};
 ghost use Rattle.sched_base.specs.Valid.{period_start};
 ghost use Rattle.row_totals.specs.Sums.{IsAmong};
-ghost use Rattle.trace_writer.specs.Finishes.{HaveRoom, ends_of, IsDoneBy, AreDoneBy};
+ghost use Rattle.trace_writer.specs.Finishes.{HaveRoom, ends_of, AreDoneBy, AreDoneWith, IsDoneBy, IsDoneWith};
 
 use sched_base::{Leaf, NoMemory, Row, Task, TaskSet};
 use std::alloc::Global;
@@ -65,8 +64,7 @@ impl Finishes {
         requires room { HaveRoom set.now self.old }
         requires among { IsAmong (length set.now.tasks) row.now.leaf }
         ensures room { HaveRoom set.now self.new }
-        ensures done { (rows : List declared_row) → AreDoneBy scale set.now.tasks rows self.old
-            → AreDoneBy scale set.now.tasks (rows ++ row.now ∷ []) self.new }
+        ensures done { AreDoneWith scale set.now.tasks row.now self.old self.new }
     {
         note_row(self.tasks.as_mut_slice(), set, scale, row);
     }
@@ -96,8 +94,7 @@ fn note_row(finishes: &mut [TaskFinishes], set: &TaskSet, scale: u128, row: &Row
     requires room { HaveRoom set.now finishes.old }
     requires among { IsAmong (length set.now.tasks) row.now.leaf }
     ensures room { HaveRoom set.now finishes.new }
-    ensures done { (rows : List declared_row) → AreDoneBy scale set.now.tasks rows finishes.old
-        → AreDoneBy scale set.now.tasks (rows ++ row.now ∷ []) finishes.new }
+    ensures done { AreDoneWith scale set.now.tasks row.now finishes.old finishes.new }
 {
     if let Leaf::Task(id) = row.leaf {
         let j = id.0 as usize;
@@ -149,8 +146,7 @@ impl TaskFinishes {
         requires fits { task.now.offset + length self.old * task.now.period < 2 ^ 33 }
         requires own { is_of_task number row.now.leaf ≡ true }
         ensures same { length self.new ≡ length self.old }
-        ensures done { (rows : List declared_row) → IsDoneBy scale task.now number rows self.old
-            → IsDoneBy scale task.now number (rows ++ row.now ∷ []) self.new }
+        ensures done { IsDoneWith scale task.now number row.now self.old self.new }
     {
         let first = first_period(task, scale, self.ends.len(), self.at, row.start);
         self.at = first;
@@ -175,8 +171,7 @@ fn note_each(ends: &mut [u128], first: usize, scale: u128, task: &Task, _number:
     requires own { is_of_task _number row.now.leaf ≡ true }
     requires within { first ≤ length ends.old }
     requires past { (k : ℕ) → k < first → period_start scale task.now (k + 1) ≤ row.now.start }
-    ensures { (rows : List declared_row) → IsDoneBy scale task.now _number rows ends.old
-        → IsDoneBy scale task.now _number (rows ++ row.now ∷ []) ends.new }
+    ensures { IsDoneWith scale task.now _number row.now ends.old ends.new }
 {
     for k in first..ends.len() {
         let begin = period_start(task, scale, k as u64);

@@ -8,6 +8,13 @@ use crate::digits::{
 };
 use std::marker::Model;
 
+/// The last digits of a number: the first so many of these bytes.
+#[derive(Clone, Copy)]
+struct LastDigits {
+    bytes: [u8; 8],
+    len: usize,
+}
+
 /// A number whose decimal digits are kept: as long as those before the last eight stay, these alone are made anew for the next one, and
 /// as long as those before the last sixteen stay, these.
 ///
@@ -23,8 +30,7 @@ pub(crate) struct Count {
     front: [u8; 40],
     front_len: usize,
     /// The other digits.
-    last: [u8; 8],
-    last_len: usize,
+    last: LastDigits,
 }
 
 impl Model for Count {
@@ -35,7 +41,7 @@ impl Model for Count {
 
     ghost view = { λ c. c.number };
 
-    ghost invariant = { λ c. AreHeld c.number c.base c.top c.front c.front_len c.last c.last_len };
+    ghost invariant = { λ c. AreHeld c.number c.base c.top c.front c.front_len c.last.bytes c.last.len };
 }
 
 impl Count {
@@ -49,8 +55,10 @@ impl Count {
             top: 0,
             front: [0; 40],
             front_len: 0,
-            last: [48; 8],
-            last_len: 1,
+            last: LastDigits {
+                bytes: [48; 8],
+                len: 1,
+            },
         }
     }
 
@@ -91,8 +99,7 @@ impl Count {
         let middle = rest / EIGHT;
         let low = rest - middle * EIGHT;
         put_eight(&mut self.front, self.front_len - 8, middle as u32);
-        self.last = eight_digits(low as u32);
-        self.last_len = 8;
+        self.last = last_of(low as u32, false);
         self.base = number - u128::from(low);
         self.number = number;
     }
@@ -106,11 +113,9 @@ impl Count {
         let low = (rest % EIGHT) as u32;
         let base = number - u128::from(low);
         self.front_len = len;
-        let (last, last_len) = last_of(low, base == 0);
+        self.last = last_of(low, base == 0);
         self.base = base;
         self.top = number - u128::from(rest);
-        self.last = last;
-        self.last_len = last_len;
         self.number = number;
     }
 
@@ -120,9 +125,7 @@ impl Count {
         requires { number / 10 ^ 8 ≡ self.old / 10 ^ 8 }
         ensures { self.new ≡ number }
     {
-        let (last, last_len) = last_of((number - self.base) as u32, self.base == 0);
-        self.last = last;
-        self.last_len = last_len;
+        self.last = last_of((number - self.base) as u32, self.base == 0);
         self.number = number;
     }
 
@@ -134,7 +137,7 @@ impl Count {
         ensures text { take result bytes.new ≡ take at bytes.old ++ decimal self.now }
     {
         let end = put_block(bytes, at, &self.front[..32], self.front_len);
-        put_block(bytes, end, &self.last, self.last_len)
+        put_block(bytes, end, &self.last.bytes, self.last.len)
     }
 }
 
@@ -147,26 +150,24 @@ fn put_front(bytes: &mut [u8], number: u128) -> (usize, u64)
     ensures rest { result.1 ≡ number % 10 ^ 16 }
 {
     if number <= u128::from(u64::MAX) {
-        put_front_of_short(bytes, number as u64)
+        let short = number as u64;
+        (put_some(bytes, short / EIGHT), short % SIXTEEN)
     } else {
         put_front_of_long(bytes, number)
     }
 }
 
-// So of a number within 64 bits.
+// Writes the digits of a number, and none of 0. How many these are.
 #[inline(always)]
-fn put_front_of_short(bytes: &mut [u8], number: u64) -> (usize, u64)
+fn put_some(bytes: &mut [u8], number: u64) -> usize
     requires room { 40 ≤ length bytes.old }
-    ensures few { result.0 ≤ 32 }
-    ensures text { take result.0 bytes.new ≡ front_digits (number / 10 ^ 8) }
-    ensures rest { result.1 ≡ number % 10 ^ 16 }
+    ensures few { result ≤ 32 }
+    ensures text { take result bytes.new ≡ front_digits number }
 {
-    let high = number / EIGHT;
-    let rest = number % SIXTEEN;
-    if high == 0 {
-        return (0, rest);
+    if number == 0 {
+        return 0;
     }
-    (put_short(bytes, 0, high), rest)
+    put_short(bytes, 0, number)
 }
 
 // So of one past 64 bits, by what is in front of its last sixteen digits.
@@ -186,17 +187,20 @@ fn put_front_of_long(bytes: &mut [u8], number: u128) -> (usize, u64)
 
 // The last digits of a number and how many these are: all of them where it has no others, else eight.
 #[inline(always)]
-fn last_of(low: u32, alone: bool) -> ([u8; 8], usize)
+fn last_of(low: u32, alone: bool) -> LastDigits
     requires { low < 10 ^ 8 }
-    ensures few { result.1 ≤ 8 }
-    ensures text { take result.1 result.0 ≡ last_digits alone low }
+    ensures few { result.len ≤ 8 }
+    ensures text { take result.len result.bytes ≡ last_digits alone low }
 {
     if alone {
         let mut bytes = [0; 8];
         let len = put_short(&mut bytes, 0, u64::from(low));
-        (bytes, len)
+        LastDigits { bytes, len }
     } else {
-        (eight_digits(low), 8)
+        LastDigits {
+            bytes: eight_digits(low),
+            len: 8,
+        }
     }
 }
 

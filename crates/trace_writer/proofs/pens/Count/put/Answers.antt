@@ -11,5 +11,5 @@ returns-clause-text c =
     let cut = take-take len 32 front held.front_fits in
     let first = c.put_block-end.ensures.text ∙ ap (λ ds. take c.args.at c.args.bytes.now ++ ds) cut in
     put_twice (take c.args.at c.args.bytes.now) _ _ _ _ first c.put_block.ensures.text
-    ∙ ap (λ ds. take c.args.at c.args.bytes.now ++ ds) (held_digits c.self.inside.number c.self.inside.base c.self.inside.top front len c.self.inside.last c.self.inside.last_len (omega (arith, fits)) held)
+    ∙ ap (λ ds. take c.args.at c.args.bytes.now ++ ds) (held_digits c.self.inside.number c.self.inside.base c.self.inside.top front len c.self.inside.last.bytes c.self.inside.last.len (omega (arith, fits)) held)
     ∙ ap (λ n. take c.args.at c.args.bytes.now ++ decimal n) c.self.view_is

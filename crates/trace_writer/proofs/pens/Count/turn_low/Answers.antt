@@ -1,4 +1,4 @@
-use Rattle.std.proofs.Common.{◌≡◌, ◌≤◌, ◌-◌, ◌/◌, ◌%◌, ◌^◌, ◌∙◌, arith, rules, ap, eqb, false, length, ne_eqb, sym, take}
+use Rattle.std.proofs.Common.{◌≡◌, ◌≤◌, ◌-◌, ◌/◌, ◌%◌, ◌^◌, ◌∙◌, arith, rules, ap, eqb, false, length, ne_eqb, sym}
 use Rattle.trace_writer.specs.Digits.{last_digits, low_digits}
 use Rattle.trace_writer.proofs.HeldLemmas.{front_again, front_length}
 use Rattle.trace_writer.proofs.pens.Count.turn_low.Goals as goal
@@ -36,8 +36,7 @@ invariant_of-self c =
       whole = omega (arith, is_low);
       above = omega (arith, above, same);
       front_fits = held.front_fits;
-      last_fits = omega arith;
+      last_fits = c.last_of-self-inside.ensures.few;
       front_is = front_again n next c.self.inside.front_len _ c.self.inside.front c.put_eight.new.bytes long (omega (arith, fits)) (omega (arith, next_fits)) within held.front_is same middle c.put_eight.ensures.text;
-      last_is = ap (λ xs. take 8 xs) c.eight_digits-self-inside.ensures ∙ ap (λ k. low_digits 8 k) (sym c.from.ensures)
-          ∙ sym (ap (λ t. last_digits t (next - (next - low))) some ∙ ap (λ k. low_digits 8 k) rest);
+      last_is = c.last_of-self-inside.ensures.text ∙ ap (λ k. last_digits false k) (sym c.from.ensures) ∙ sym (ap (λ t. last_digits t (next - (next - low))) some ∙ ap (λ k. low_digits 8 k) rest);
     }
