@@ -1,5 +1,5 @@
 -- Processors that aren't told show what they showed.
-use Rattle.std.proofs.Common.{◌≡◌, ◌≢◌, ℕ, zero, suc, ◌+◌, ◌*◌, ◌<◌, Bool, true, false, List, [], ◌∷◌, length, get_or, get_or-set_same, get_or-set_other, Option, None, Some, refl, ap, arith, inl, inr, sym, subst, subst₂, ◌∙◌}
+use Rattle.std.proofs.Common.{◌≡◌, ◌≢◌, ℕ, zero, suc, ◌+◌, ◌*◌, ◌<◌, ◌≤◌, Bool, true, false, List, [], ◌∷◌, length, get_or, get_or-set_same, get_or-set_other, Option, None, Some, refl, ap, arith, inl, inr, sym, subst, subst₂, ◌∙◌}
 use Rattle.std.specs.List.{AllByRecursion}
 use Rattle.std.proofs.lemmas.Bool.{cases_lt, le-ltb}
 use Rattle.std.proofs.Math.ListN.{set}
@@ -21,7 +21,7 @@ use Rattle.event_core.specs.Cores.{CoreContents, IsCoreOf}
 use Rattle.event_core.specs.Rounds.{IsRoundUpTo, rows_of_round}
 use Rattle.event_core.specs.Serving.{ServingContents, AreAt, AreSeen, IsAmong}
 use Rattle.event_core.specs.Steps.{leaf_by, leaf_shown}
-use Rattle.event_core.specs.Told.{AreTold, IsTold}
+use Rattle.event_core.specs.Told.{AllReleased, AreTold, IsTold}
 use Rattle.event_core.proofs.RowsGone.{pack_within, row_gone}
 
 -- ---- what is told
@@ -92,20 +92,20 @@ told_next places packs told told' n count count' (Some q) noted room at some non
 
 -- ---- what is shown
 
--- no task is late
-none_late : (tasks : List declared.Task) → AllByRecursion (λ k. k.offset ≡ 0) tasks → (j : ℕ) → (task_at tasks j).offset ≡ 0
-none_late [] all j = refl
-none_late (k ∷ tasks) all zero = all.0
-none_late (k ∷ tasks) all (suc j) = none_late tasks all.1 j
+-- no task waits
+none_waits : (tasks : List declared.Task) (scale tick : ℕ) → AllByRecursion (λ k. k.offset * scale ≤ tick) tasks → (j : ℕ) → (task_at tasks j).offset * scale ≤ tick
+none_waits [] scale tick all j = omega arith
+none_waits (k ∷ tasks) scale tick all zero = all.0
+none_waits (k ∷ tasks) scale tick all (suc j) = none_waits tasks scale tick all.1 j
 
--- so each leaf is shown as it is
-shown_on_time : (tasks : List declared.Task) (scale : ℕ) → AllByRecursion (λ k. k.offset ≡ 0) tasks → (start : ℕ) (l : Leaf) → shown tasks scale start l ≡ l
-shown_on_time tasks scale all start (Task id) =
-    let z = ap (λ o. o * scale) (none_late tasks all id.0) in
-    ap (λ (b : Bool). elim b as (λ y. Leaf) [ true ↦ Wait id | false ↦ Task id ]) (le-ltb start ((task_at tasks id.0).offset * scale) (omega (arith, z)))
-shown_on_time tasks scale all start (Wait id) = refl
-shown_on_time tasks scale all start (Idle number) = refl
-shown_on_time tasks scale all start Empty = refl
+-- so each leaf is shown as it is, from there on
+shown_released : (tasks : List declared.Task) (scale tick : ℕ) → AllByRecursion (λ k. k.offset * scale ≤ tick) tasks → (start : ℕ) → tick ≤ start → (l : Leaf) → shown tasks scale start l ≡ l
+shown_released tasks scale tick all start late (Task id) =
+    let w = none_waits tasks scale tick all id.0 in
+    ap (λ (b : Bool). elim b as (λ y. Leaf) [ true ↦ Wait id | false ↦ Task id ]) (le-ltb start ((task_at tasks id.0).offset * scale) (omega (arith, w, late)))
+shown_released tasks scale tick all start late (Wait id) = refl
+shown_released tasks scale tick all start late (Idle number) = refl
+shown_released tasks scale tick all start late Empty = refl
 
 -- of members that run by both lists alike the same leaf runs
 leaf_alike : (t : Tree) (runs runs' : List Bool) (ms : List ℕ) → ((k : ℕ) → k < length ms → get_or runs' (get_or ms k 0) false ≡ get_or runs (get_or ms k 0) false) → leaf_by t runs' ms ≡ leaf_by t runs ms
@@ -142,24 +142,25 @@ module _ (p : PlanContents) (h : IsPlan p) (c c' : CoreContents) (b : IsCoreOf p
   on_at' : AreAt p.tree c'.serving
   on_at' = record { within = b'.serving.within; at = b'.serving.at }
 
-  leaf_same : (start : ℕ) → AllByRecursion (λ t. t.offset ≡ 0) p.set.tasks → (o : Option ℕ) → get_or c'.places.onto q None ≡ o → ((i : ℕ) → o ≡ Some i → i < length (packs_at p.tree 0)) →
+  leaf_same : (start : ℕ) → AllReleased p start → start ≤ c.tick → (o : Option ℕ) → get_or c'.places.onto q None ≡ o → ((i : ℕ) → o ≡ Some i → i < length (packs_at p.tree 0)) →
       leaf_shown p c'.serving.runs c.tick o ≡ leaf_shown p c.serving.runs start o
-  leaf_same start on_time None at within = refl
-  leaf_same start on_time (Some i) at within =
+  leaf_same start released later None at within = refl
+  leaf_same start released later (Some i) at within =
       let m = within i refl in
       let pack = get_or (packs_at p.tree 0) i 0 in
       let same = seen.same i m (λ a. not_seen i a (noted'.noted q i at).1) in
-      shown_on_time p.set.tasks p.tree.scale on_time c.tick (leaf_by p.tree c'.serving.runs (members p.tree pack))
+      shown_released p.set.tasks p.tree.scale start released c.tick later (leaf_by p.tree c'.serving.runs (members p.tree pack))
       ∙ leaf_stays p.tree c.serving c'.serving pack (first_is_pack p.tree h.tree.tree i m) on_at on_at' same
-      ∙ sym (shown_on_time p.set.tasks p.tree.scale on_time start (leaf_by p.tree c.serving.runs (members p.tree pack)))
+      ∙ sym (shown_released p.set.tasks p.tree.scale start released start (omega arith) (leaf_by p.tree c.serving.runs (members p.tree pack)))
 
-  pub shows_same : (start : ℕ) (none : Row) → AllByRecursion (λ t. t.offset ≡ 0) p.set.tasks → IsRoundUpTo p start c.tick →
+  pub shows_same : (start : ℕ) (none : Row) → AllReleased p start → IsRoundUpTo p start c.tick →
       (get_or (rows_of_round p c.tick c'.tick) q none).leaf ≡ (get_or (rows_of_round p start c.tick) q none).leaf
-  shows_same start none on_time before =
+  shows_same start none released before =
+      let above = before.above in
       let was = b.shown start before in
       let is = b'.shown c.tick round in
       ap (λ (r : Row). r.leaf) (row_gone p h c.tick c'.serving.runs is.says c'.places.onto is.onto c'.tick q l none)
-      ∙ leaf_same start on_time (get_or c'.places.onto q None) refl
+      ∙ leaf_same start released (omega (arith, above)) (get_or c'.places.onto q None) refl
       (λ i e. pack_within p h c.tick q i l (ap (λ (os : List (Option ℕ)). get_or os q None) (sym is.onto) ∙ e))
       ∙ ap (leaf_shown p c.serving.runs start) stays
       ∙ sym (ap (λ (r : Row). r.leaf) (row_gone p h start c.serving.runs was.says c.places.onto was.onto c.tick q l none))

@@ -1,6 +1,12 @@
 -- The processors on which a round may show something else than the one before.
-use Rattle.std.specs.Prelude.{ℕ, ◌<◌, ◌≤◌, ◌≡◌, List, length, None, Some, slice_index, slice_index_or}
+use Rattle.std.specs.Prelude.{ℕ, ◌<◌, ◌≤◌, ◌≡◌, ◌*◌, List, length, None, Some, slice_index, slice_index_or}
+use Rattle.std.specs.List.{AllByRecursion}
 use Rattle.sched_base.specs.Places.{Placing}
+use Rattle.run_tree.specs.Plans.{PlanContents}
+
+-- from this tick on no task waits for its offset
+abbrev pub AllReleased : PlanContents → ℕ → Type 0
+AllReleased p tick = AllByRecursion (λ t. t.offset * p.tree.scale ≤ tick) p.set.tasks
 
 -- processor q is one of the first `count`
 abbrev pub IsTold : List ℕ → ℕ → ℕ → Type 0
