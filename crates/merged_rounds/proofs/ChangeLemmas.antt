@@ -1,16 +1,19 @@
 -- Rounds by the processors that may show something else than before.
-use Rattle.std.proofs.Common.{◌≡◌, ◌≢◌, ℕ, ◌+◌, ◌<◌, ◌≤◌, ◌⊎◌, inl, inr, true, List, length, set, get_or, get_or-set_same, get_or-set_other, slice_get, Option, None, Some, refl, sym, ap, subst, ◌∙◌, arith}
+use Rattle.std.proofs.Common.{◌≡◌, ◌≢◌, ℕ, ◌+◌, ◌*◌, ◌<◌, ◌≤◌, ◌⊎◌, inl, inr, true, List, [], ◌∷◌, length, set, get_or, get_or-set_same, get_or-set_other, slice_get, Option, None, Some, refl, sym, ap, subst, ◌∙◌, arith}
+use Rattle.std.specs.List.{AllByRecursion}
 use Rattle.std.proofs.lemmas.Bool.{cases_eq, cases_lt}
 use Rattle.std.proofs.lemmas.Option.{slice_get-get_or}
 use Rattle.sched_base.specs.declared.rows.Leaf.{Leaf}
 use Rattle.sched_base.specs.declared.rows.Leaf.TheVariants.{Empty}
 use Rattle.sched_base.specs.declared.rows.Row.{Row}
+use Rattle.sched_base.specs.declared.sets.Task.{Task}
 use Rattle.sched_base.specs.Tables.{lane_of}
 use Rattle.run_tree.specs.Plans.{PlanContents}
 use Rattle.sched_laws.proofs.WholeRounds.{length-round}
 use Rattle.merged_rounds.specs.declared.sources.Source.{Source}
 use Rattle.merged_rounds.specs.Replays.{IsSourceOf}
 use Rattle.event_core.specs.Rounds.{IsRoundUpTo, rows_of_round}
+use Rattle.event_core.specs.Told.{AllReleased}
 use Rattle.merged_rows.specs.Columns.{AreTold, ends_showing}
 use Rattle.merged_rounds.specs.declared.sums.RoundSum.{RoundSum}
 use Rattle.merged_rounds.specs.Changes.{AreAllChanged, IsChange, IsNone, IsShowing}
@@ -159,13 +162,30 @@ left_none changed q o (inr (k, low, high, e)) = absurd (omega (arith, low, high)
 
 -- ---- from a round to the next
 
-pub showing_on : (p : PlanContents) (source : Source) (sum : RoundSum) (start : ℕ) → IsSourceOf p source → IsRoundUpTo p start source.tick → IsSumUpTo p source.tick sum →
+-- no task waits later on
+pub released_later : (p : PlanContents) (m n : ℕ) → m ≤ n → AllReleased p m → AllReleased p n
+released_later p m n up all = go p.set.tasks all
+  where
+    go : (tasks : List Task) → AllByRecursion (λ t. t.offset * p.tree.scale ≤ m) tasks → AllByRecursion (λ t. t.offset * p.tree.scale ≤ n) tasks
+    go [] all = tt
+    go (t ∷ ts) all = (let here = all.0 in omega (arith, here, up), go ts all.1)
+
+-- where all are released at tick 0, none waits
+pub released_at_once : (p : PlanContents) (n : ℕ) → AllByRecursion (λ t. t.offset ≡ 0) p.set.tasks → AllReleased p n
+released_at_once p n all = go p.set.tasks all
+  where
+    go : (tasks : List Task) → AllByRecursion (λ t. t.offset ≡ 0) tasks → AllByRecursion (λ t. t.offset * p.tree.scale ≤ n) tasks
+    go [] all = tt
+    go (t ∷ ts) all = (let z = ap (λ o. o * p.tree.scale) all.0 in omega (arith, z), go ts all.1)
+
+pub showing_on : (p : PlanContents) (source : Source) (sum : RoundSum) (start : ℕ) → IsSourceOf p source → IsRoundUpTo p start source.tick → AllReleased p start → IsSumUpTo p source.tick sum →
     ((q : ℕ) (r : Row) → slice_get (rows_of_round p start source.tick) q ≡ Some r → ends_showing (lane_of sum.rows.lanes q) r.leaf ≡ true) → IsShowing p source sum
-showing_on p source sum start belongs round is ends = record {
+showing_on p source sum start belongs round released is ends = record {
   belongs = belongs;
   sum = is;
   start = start;
   round = round;
+  released = released;
   last = λ q none l.
       let rows = rows_of_round p start source.tick in
       let long = length-round p.set.tasks p.tree start source.tick in

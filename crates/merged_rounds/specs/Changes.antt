@@ -5,6 +5,7 @@ use Rattle.sched_base.specs.declared.rows.Row.{Row}
 use Rattle.sched_base.specs.Tables.{lane_of}
 use Rattle.run_tree.specs.Plans.{PlanContents}
 use Rattle.event_core.specs.Rounds.{IsRoundUpTo}
+use Rattle.event_core.specs.Told.{AllReleased}
 use Rattle.merged_rows.specs.Columns.{ends_showing}
 use Rattle.merged_rounds.specs.declared.sources.Source.{Source}
 use Rattle.merged_rounds.specs.declared.sums.RoundSum.{RoundSum}
@@ -13,12 +14,14 @@ use Rattle.merged_rounds.specs.Laps.{IsAllTold, IsSumUpTo}
 use Rattle.merged_rounds.specs.Passes.{leaf_at}
 use Rattle.merged_rounds.specs.Replays.{IsSourceOf, IsTurnOf, turn_end}
 
--- The rounds up to the source's tick are merged, and each processor's last row shows what the processor shows in the round just gone.
+-- The rounds up to the source's tick are merged, and each processor's last row shows what the processor shows in the round just gone, in
+-- which no task waits.
 pub record IsShowing (p : PlanContents) (source : Source) (so_far : RoundSum) : Type 0 where
   pub belongs : IsSourceOf p source
   pub sum : IsSumUpTo p source.tick so_far
   pub start : ℕ
   pub round : IsRoundUpTo p start source.tick
+  pub released : AllReleased p start
   pub last : (q : ℕ) (none : Row) → q < p.tree.processors → ends_showing (lane_of so_far.rows.lanes q) (leaf_at p start source.tick q none) ≡ true
 
 -- processor q is none of the first n of these

@@ -1,11 +1,11 @@
-//! The rounds of a plan in which no task is released late, by the processors that may show something else than before.
+//! The rounds of a plan in which no task waits, by the processors that may show something else than before.
 ghost use Rattle.std.specs.Prelude.{ℕ, ◌≡◌, ◌<◌, ◌≤◌, ◌⊎◌, length, IfErr, IfOk, None, slice_index, slice_index_or, vec_len};
-ghost use Rattle.std.specs.List.{AllByRecursion};
 ghost use Rattle.run_tree.specs.Plans.{stop_of};
 ghost use Rattle.run_tree.specs.Schedule.{packs_at};
 ghost use Rattle.event_core.specs.Cores.{places_of};
 ghost use Rattle.event_core.specs.Counts.{IsCountFault};
 ghost use Rattle.event_core.specs.Rounds.{IsRoundUpTo};
+ghost use Rattle.event_core.specs.Told.{AllReleased};
 ghost use Rattle.merged_rounds.specs.Changes.{AreAllChanged, IsChange, IsNone, IsShowing};
 ghost use Rattle.merged_rounds.specs.Laps.{IsAllTold, IsSumUpTo};
 ghost use Rattle.merged_rounds.specs.Replays.{IsSourceOf};
@@ -70,7 +70,7 @@ pub(crate) fn forget_changed(changed: &[u32], told: &mut [Option<Leaf>])
     }
 }
 
-/// Goes on with one round, of which each processor is looked at.
+/// Goes on with one round in which no task waits, and looks at each processor.
 pub(crate) fn merge_whole(
     plan: &Plan,
     source: &mut Source,
@@ -78,6 +78,7 @@ pub(crate) fn merge_whole(
     first: RoundSum,
 ) -> Result<RoundSum, CountFault>
     requires belongs { IsSourceOf plan.now source.old }
+    requires released { AllReleased plan.now source.old.tick }
     requires early { source.old.tick < stop_of plan.now }
     requires sum { IsSumUpTo plan.now source.old.tick first }
     requires told { length told.old ≡ plan.now.tree.processors }
@@ -103,7 +104,6 @@ pub(crate) fn merge_telling(
     changed: &mut [u32],
     first: RoundSum,
 ) -> Result<(RoundSum, usize), CountFault>
-    requires on_time { AllByRecursion (λ t. t.offset ≡ 0) plan.now.set.tasks }
     requires showing { IsShowing plan.now source.old first }
     requires early { source.old.tick < stop_of plan.now }
     requires told { length told.old ≡ plan.now.tree.processors }
@@ -135,7 +135,6 @@ fn merge_changed(
     first: RoundSum,
     until: u128,
 ) -> Result<RoundSum, CountFault>
-    requires on_time { AllByRecursion (λ t. t.offset ≡ 0) plan.now.set.tasks }
     requires showing { IsShowing plan.now source.old first }
     requires until { until ≤ stop_of plan.now }
     requires told { length told.old ≡ plan.now.tree.processors }
@@ -154,9 +153,9 @@ fn merge_changed(
     Ok(sum)
 }
 
-/// Goes on with rounds up to the first that begins at tick `until` or later, or to the end of all, where no task is released late; `told`
-/// is overwritten. Each processor is looked at in the first round, and then only those that are told.
-pub(crate) fn merge_on_time(
+/// Goes on with rounds up to the first that begins at tick `until` or later, or to the end of all, in which no task waits; `told` is
+/// overwritten. Each processor is looked at in the first round, and then only those that are told.
+pub(crate) fn merge_released(
     alloc: Global,
     plan: &Plan,
     source: &mut Source,
@@ -164,7 +163,7 @@ pub(crate) fn merge_on_time(
     first: RoundSum,
     until: u128,
 ) -> Result<RoundSum, CountFault>
-    requires on_time { AllByRecursion (λ t. t.offset ≡ 0) plan.now.set.tasks }
+    requires released { source.old.tick < until → AllReleased plan.now source.old.tick }
     requires belongs { IsSourceOf plan.now source.old }
     requires sum { IsSumUpTo plan.now source.old.tick first }
     requires told { length told.old ≡ plan.now.tree.processors }

@@ -8,6 +8,7 @@ mod laps;
 mod looks;
 mod passes;
 mod recurrences;
+mod releases;
 mod replays;
 mod searches;
 mod sources;

@@ -1,26 +1,26 @@
 //! One pass over the rounds of a plan.
 ghost use Rattle.std.specs.Prelude.{ℕ, ◌≡◌, ◌<◌, ◌≤◌, ◌+◌, ◌*◌, true, false, length, replicate, slice_index_or, IfOk, IfErr, None};
-ghost use Rattle.std.specs.List.{AllByRecursion};
 ghost use Rattle.sched_base.specs.Tables.{row_limit};
 ghost use Rattle.run_tree.specs.Plans.{rounds_of, stop_of};
 ghost use Rattle.event_core.specs.Cores.{IsCoreOf};
 ghost use Rattle.event_core.specs.Counts.{IsCountFault};
+ghost use Rattle.event_core.specs.Told.{AllReleased};
 ghost use Rattle.merged_rows.specs.Lawful.{AreLawful};
 ghost use Rattle.merged_rounds.specs.Laps.{AreTurns, CanComeRound, IsMerging, IsSumUpTo};
 ghost use Rattle.merged_rounds.specs.Passes.{AreMergedOf};
 ghost use Rattle.merged_rounds.specs.Replays.{IsComputed, IsMergingFrom, IsSourceOf};
 
 use crate::apart::comes_round;
-use crate::changed::merge_on_time;
+use crate::changed::merge_released;
 use crate::laps::{Later, merge_lap, with_laps};
 use crate::looks::{look_each, no_leaves};
+use crate::releases::last_release;
 use crate::searches::{merge_until_again, turn_of};
 use crate::sources::{Source, source_of, with_turn};
 use crate::sums::{RoundSum, all_rounds, no_rounds, with_round};
 use crate::turns::{merge_turn, no_turn};
 use event_core::{Core, CountFault};
 use merged_rows::MergedRows;
-use repeat_laws::first_late;
 use run_tree::Plan;
 use sched_base::{Leaf, NoMemory, NodeId};
 use std::alloc::Global;
@@ -61,24 +61,6 @@ fn forget_nodes(kept: &mut [Option<NodeId>])
 // With so few processors it costs least to look at each of them in each round.
 const FEW: u32 = 2;
 
-// Whether a core tells on which processors a round may show something else: no task is released late, and there are more than a few
-// processors.
-fn is_told(plan: &Plan) -> bool
-    ensures { result ≡ true → AllByRecursion (λ t. t.offset ≡ 0) plan.now.set.tasks }
-{
-    plan.tree().processors() > FEW && first_late(plan.set().tasks()).is_none()
-}
-
-// Whether it is told on which processors a round may show something else.
-fn goes_by_changes(plan: &Plan, source: &Source) -> bool
-    requires { IsSourceOf plan.now source.now }
-    ensures on_time { result ≡ true → AllByRecursion (λ t. t.offset ≡ 0) plan.now.set.tasks }
-    ensures computed { result ≡ false → IsComputed plan.now source.now }
-    ensures off { result ≡ false → source.now.replays ≡ false }
-{
-    source.replays(plan) || is_told(plan)
-}
-
 /// Goes on with rounds up to the first that begins at tick `until` or later, or to the end of all. Of each processor a node is kept
 /// that shows what it did last; `told` is overwritten.
 pub(crate) fn merge_up_to(
@@ -98,11 +80,38 @@ pub(crate) fn merge_up_to(
     ensures reached { IfOk result (λ _. until ≤ source.new.tick) }
     ensures fault { IfErr result (λ fault. IsCountFault plan.now fault) }
 {
-    if !goes_by_changes(plan, source) {
+    if source.replays(plan) {
+        return merge_changes(alloc, plan, source, kept, told, first, until);
+    }
+    if plan.tree().processors() <= FEW {
         return merge_computed(plan, source, kept, told, first, until);
     }
+    let released = until.min(last_release(plan));
+    let sum = merge_computed(plan, source, kept, told, first, released)?;
+    merge_changes(alloc, plan, source, kept, told, sum, until)
+}
+
+// So where no task waits from the source's tick on, and only processors are looked at that may show something else.
+fn merge_changes(
+    alloc: Global,
+    plan: &Plan,
+    source: &mut Source,
+    kept: &mut [Option<NodeId>],
+    told: &mut [Option<Leaf>],
+    first: RoundSum,
+    until: u128,
+) -> Result<RoundSum, CountFault>
+    requires released { source.old.tick < until → AllReleased plan.now source.old.tick }
+    requires merging { IsMergingFrom plan.now source.old first kept.old }
+    requires kept { length kept.old ≡ plan.now.tree.processors }
+    requires told { length told.old ≡ plan.now.tree.processors }
+    requires until { until ≤ stop_of plan.now }
+    ensures merging { IfOk result (λ sum. IsMergingFrom plan.now source.new sum kept.new) }
+    ensures reached { IfOk result (λ _. until ≤ source.new.tick) }
+    ensures fault { IfErr result (λ fault. IsCountFault plan.now fault) }
+{
     forget_nodes(kept);
-    merge_on_time(alloc, plan, source, told, first, until)
+    merge_released(alloc, plan, source, told, first, until)
 }
 
 // So with rounds that a core computes, and a look at each processor in each of them.

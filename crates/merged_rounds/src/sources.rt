@@ -5,7 +5,7 @@ ghost use Rattle.sched_base.specs.declared.rows.Row.{Row as DeclaredRow};
 ghost use Rattle.run_tree.specs.Plans.{stop_of};
 ghost use Rattle.event_core.specs.Cores.{IsCoreOf, places_of};
 ghost use Rattle.event_core.specs.Rounds.{IsRoundUpTo};
-ghost use Rattle.event_core.specs.Told.{IsTold};
+ghost use Rattle.event_core.specs.Told.{AllReleased, IsTold};
 ghost use Rattle.merged_rounds.specs.Laps.{CanComeRound};
 ghost use Rattle.merged_rounds.specs.Passes.{leaf_at};
 ghost use Rattle.merged_rounds.specs.Replays.{BeginsAgain, IsComputed, IsSourceOf, IsTurnOf, packs_of, turn_end};
@@ -137,7 +137,7 @@ impl Source {
         ensures within { result ≤ length told.new }
         ensures processors { (j : ℕ) → j < result → slice_index told.new j < plan.now.tree.processors }
         ensures others { (q start : ℕ) (none : DeclaredRow) → q < plan.now.tree.processors → (IsTold told.new result q → ⊥) →
-            AllByRecursion (λ t. t.offset ≡ 0) plan.now.set.tasks → IsRoundUpTo plan.now start self.old.tick →
+            AllReleased plan.now start → IsRoundUpTo plan.now start self.old.tick →
             leaf_at plan.now self.old.tick self.new.tick q none ≡ leaf_at plan.now start self.old.tick q none }
         ensures placed { (q : ℕ) → q < plan.now.tree.processors → (IsTold told.new result q → ⊥) →
             slice_index_or (places_of plan.now self.new.tick).onto q None ≡ slice_index_or (places_of plan.now self.old.tick).onto q None }

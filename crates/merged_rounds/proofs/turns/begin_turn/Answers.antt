@@ -2,7 +2,11 @@ use Rattle.std.proofs.Common.{◌∙◌, ℕ, List, Option, ap, arith, length, s
 use Rattle.sched_base.specs.declared.rows.Leaf.{Leaf}
 use Rattle.event_core.proofs.SettledPacks.{same_start}
 use Rattle.merged_rounds.specs.Laps.{IsAllTold}
+use Rattle.merged_rounds.proofs.ChangeLemmas.{released_at_once}
 use Rattle.merged_rounds.proofs.turns.begin_turn.Goals as goal
+
+pub merge_whole-requires-clause-released : goal.merge_whole-requires-clause-released
+merge_whole-requires-clause-released c = released_at_once c.args.plan.now c.args.source.now.tick c.requires.can.on_time
 
 pub keep_round-requires-clause-still : goal.keep_round-requires-clause-still
 keep_round-requires-clause-still c = λ l. absurd (let none = ap (λ (xs : List ℕ). length xs) c.in_ok-turn.ensures.none in omega (arith, l, none))
