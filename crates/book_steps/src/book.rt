@@ -5,13 +5,12 @@ ghost use Rattle.circular_buffer.specs.Buffer.{buffer};
 ghost use Rattle.event_core.specs.Cores.{IsCoreOf};
 ghost use Rattle.book_machine.specs.Machine.{start};
 ghost use Rattle.plan_rounds.specs.PlanRows.{IsCompiled};
+ghost use Rattle.round_steps.specs.Refusals.{IsRefusedFor};
 ghost use Rattle.book_steps.specs.Books.{IsBookOf, IsSound, begun};
-ghost use Rattle.book_steps.specs.Refusals.{IsNotBooked};
 
-use crate::faults::BookFault;
 use crate::pending::Pending;
 use book_machine::MachineState;
-use round_steps::read_plan;
+use round_steps::{OpenFault, read_plan};
 use run_tree::Plan;
 use sched_base::NoMemory;
 use std::alloc::Global;
@@ -84,11 +83,11 @@ impl Parts {
 
 impl StepBook {
     /// The book of a task set, written as a TOML document, before the first event. All memory is taken here.
-    pub fn open(alloc: Global, bytes: &[u8], window: u32) -> Result<StepBook, BookFault>
+    pub fn open(alloc: Global, bytes: &[u8], window: u32) -> Result<StepBook, OpenFault>
         requires some_window { 1 ≤ window }
         requires small_window { window ≤ window_limit }
         ensures book { IfOk result (IsBookOf bytes.now window) }
-        ensures refused { IfErr result (IsNotBooked bytes.now) }
+        ensures refused { IfErr result (IsRefusedFor bytes.now) }
     {
         let plan = read_plan(alloc, bytes)?;
         Ok(StepBook::begin(alloc, plan, window)?)

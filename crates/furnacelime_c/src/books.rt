@@ -1,17 +1,17 @@
 //! The book of a task set, for an executive in C that brings its own threads, gates and jobs.
 ghost use Rattle.std.specs.Prelude.{◌≡◌, ◌≢◌, ◌≤◌, ◌⊎◌, None, length, IfOk, IfErr};
 ghost use Rattle.sched_base.specs.Limits.{window_limit};
+ghost use Rattle.round_steps.specs.Refusals.{IsRefusedFor};
 ghost use Rattle.book_steps.specs.Books.{IsBookOf};
-ghost use Rattle.book_steps.specs.Refusals.{IsNotBooked};
 ghost use Rattle.book_steps.specs.Turns.{Posts, Halts, Waits};
 ghost use Rattle.furnacelime_c.specs.Books.{TellsBook, IsBookOpened, IsBookNotOpened, Goes, IsRowTold, IsAllPosted, IsHalted, CantTake};
 ghost use Rattle.furnacelime_c.specs.Books.{CantPost, CantPostAndTake, PostsAndTakes, PostsAndWaits, PostsAndEnds, PostsAndHalts};
 ghost use Rattle.furnacelime_c.specs.Books.{TellsEnd, TellsFault, TellsWant, IsShortOf, IsNoProcessor};
 
 use crate::numbers::{HALTED, OVER, WAIT, WRONG_CALL};
-use book_steps::{BookFault, StepBook, Turn};
+use book_steps::{StepBook, Turn};
 use c_handles::BookHandle;
-use round_steps::{Halves, NO_TASK, halves_of, task_shown};
+use round_steps::{Halves, NO_TASK, OpenFault, halves_of, task_shown};
 use sched_base::WINDOW_LIMIT;
 use std::alloc::Global;
 
@@ -234,16 +234,16 @@ pub extern "C" fn furnacelime_exec_close(alloc: Global, book: BookHandle)
 }
 
 // The book of a set, in a block of its own.
-fn open_boxed(alloc: Global, set: &[u8], window: u32) -> Result<Box<StepBook>, BookFault>
+fn open_boxed(alloc: Global, set: &[u8], window: u32) -> Result<Box<StepBook>, OpenFault>
     requires some_window { 1 ≤ window }
     requires small_window { window ≤ window_limit }
     ensures opened { IfOk result (λ opened. IsBookOf set.now window opened.value) }
-    ensures refused { IfErr result (IsNotBooked set.now) }
+    ensures refused { IfErr result (IsRefusedFor set.now) }
 {
     let opened = StepBook::open(alloc, set, window)?;
     match Box::new(alloc, opened) {
         Ok(boxed) => Ok(boxed),
-        Err(_) => Err(BookFault::NoMemory),
+        Err(_) => Err(OpenFault::NoMemory),
     }
 }
 
