@@ -129,7 +129,7 @@ impl MachineState {
     /// The lowest lane with the least posted count.
     pub fn lowest(&self) -> u32
         requires some { 1 ≤ length self.now.lanes }
-        requires few { length self.now.lanes ≤ 32 }
+        requires few { length self.now.lanes ≤ processor_limit }
         ensures { IsLowest self.now.lanes result }
     {
         lowest(self.lanes.as_slice(), self.lanes.len() as u32, self.least)

@@ -1,6 +1,7 @@
 -- What an execution does with the gates and the jobs.
 use Rattle.std.specs.Prelude.{ℕ, ◌≡◌, ◌<◌, ◌≤◌, ◌+◌, List, [], Option, Some, None, IfSome, option_map, length, map, slice_get}
 use Rattle.std.specs.Prelude.{slice_index, take, Vec}
+use Rattle.sched_base.specs.Limits.{processor_limit, task_limit}
 use Rattle.sched_base.specs.declared.rows.Leaf.{Leaf}
 use Rattle.sched_base.specs.declared.rows.Leaf.TheVariants as leaf
 use Rattle.sched_base.specs.declared.rows.TaskId.{TaskId}
@@ -48,12 +49,12 @@ crew_of gate job kits jobs = record {
 abbrev pub loaded_crew : List Program → ℕ → List Task → Crew → Crew
 loaded_crew programs scale tasks c = record c { jobs = loaded scale programs tasks c.jobs }
 
--- there is a gate for each of 32 processors, which has run nothing yet where it tells its rows, and 256 jobs, which have
--- worked no tick
+-- there is a gate for each processor that a set may have, which has run nothing yet where it tells its rows, and a job for each task
+-- that it may have, which has worked no tick
 pub record IsFreshCrew (c : Crew) : Type 0 where
-  pub gates : (p : ℕ) → p < 32 → (g : GateSeen) × Holds c.gates p g × IfSome g.ran (λ rows. rows ≡ [])
-  pub count : length c.jobs ≡ 256
-  pub jobs : (i : ℕ) → i < 256 → (j : JobSeen) × Holds c.jobs i j × (j.id ≡ i) × (j.used ≡ 0)
+  pub gates : (p : ℕ) → p < processor_limit → (g : GateSeen) × Holds c.gates p g × IfSome g.ran (λ rows. rows ≡ [])
+  pub count : length c.jobs ≡ task_limit
+  pub jobs : (i : ℕ) → i < task_limit → (j : JobSeen) × Holds c.jobs i j × (j.id ≡ i) × (j.used ≡ 0)
 
 -- each kit that held a gate holds it again, and each job is in its place. No count of faults fell
 pub record AreBack (old new : Crew) : Type 0 where

@@ -1,9 +1,10 @@
 -- The reading of a tree text: what it says, or the least line at fault. Each line's test depends on earlier lines alone, but for the scale's, so the
 -- first that fails is the least.
-use Rattle.std.specs.Prelude.{ℕ, zero, suc, ◌+◌, ◌-◌, ◌^◌, ◌==◌, nat_le, Bool, false, ◌&&◌, is_some, if◌then◌else◌}
+use Rattle.std.specs.Prelude.{ℕ, zero, suc, ◌+◌, ◌-◌, ◌==◌, nat_le, Bool, false, ◌&&◌, is_some, if◌then◌else◌}
 use Rattle.std.specs.Prelude.{List, [], ◌∷◌, ◌++◌}
 use Rattle.std.specs.Prelude.{Option, Some, None, length, codes, Result, Ok, Err}
 use Rattle.std.specs.List.{sum_by}
+use Rattle.sched_base.specs.Limits.{processor_limit, task_limit, unit_limit}
 use Rattle.sched_base.specs.Sets.{SetContents}
 use Rattle.trace_verdict.specs.Faults.{first_task_line}
 use Rattle.text_words.specs.Words.{lines_of, after_word}
@@ -22,10 +23,10 @@ use Rattle.tree_reader.specs.Packs.{pack_of, second_number}
 abbrev pub tree_head : List (List ℕ) → Result (Head × List (List ℕ)) ℕ
 tree_head lines =
     and_then (next_line 1 (number_within (codes "run-tree") 1 1) lines) (λ v.
-    and_then (next_line 2 (number_within (codes "processors") 1 32) v.1) (λ p.
-    and_then (next_line 3 (number_within (codes "horizon") 1 (2 ^ 32 - 1)) p.1) (λ h.
+    and_then (next_line 2 (number_within (codes "processors") 1 processor_limit) v.1) (λ p.
+    and_then (next_line 3 (number_within (codes "horizon") 1 unit_limit) p.1) (λ h.
     and_then (next_line 4 (number_after (codes "scale")) h.1) (λ s.
-    and_then (next_line 5 (number_within (codes "tasks") 0 256) s.1) (λ t.
+    and_then (next_line 5 (number_within (codes "tasks") 0 task_limit) s.1) (λ t.
     Ok (record { version = One; processors = p.0; horizon = h.0; scale = s.0; tasks = t.0 }, t.1))))))
 
 -- ---- idle leaves
