@@ -85,8 +85,11 @@ fn compiles_and_refuses_sets(rt: HostRuntime) {
     for row in COMPILED {
         compare(&rt, rt.alloc(), *row);
     }
-    for (tasks, fault) in REFUSED {
+    for (number, (tasks, fault)) in REFUSED.iter().enumerate() {
         let set = set_with(&rt, rt.alloc(), 1, tasks);
-        assert!(rt; compile(rt.alloc(), set).err() == Some(*fault));
+        assert!(rt;
+            compile(rt.alloc(), set).err() == Some(*fault),
+            "refused set {number}"
+        );
     }
 }

@@ -9,7 +9,7 @@ fn assert_tasks(rt: &impl Abort, set: &TaskSet, tasks: &[(&str, u64, u64)]) {
     assert!(rt; (set.processors(), set.horizon()) == (4, 6000));
     assert!(rt; set.tasks().len() == tasks.len());
     for (task, (name, work, period)) in set.tasks().iter().zip(tasks) {
-        assert!(rt; task.name.as_slice() == name.as_bytes());
+        assert!(rt; task.name.as_slice() == name.as_bytes(), "{name}");
         assert!(rt;
             (task.work, task.period, task.offset) == (*work, *period, 0),
             "{name}"

@@ -21,8 +21,8 @@ fn assert_servers(rt: &impl Abort, packing: &Packing, servers: &[(u128, u128)]) 
     assert!(rt; packing.servers() as usize == servers.len());
     for (s, (rate, idle)) in (0..packing.servers()).zip(servers) {
         assert!(rt; s < packing.servers());
-        assert!(rt; packing.rate(s) == *rate);
-        assert!(rt; packing.idle(s) == *idle);
+        assert!(rt; packing.rate(s) == *rate, "server {s}");
+        assert!(rt; packing.idle(s) == *idle, "server {s}");
     }
 }
 
@@ -51,9 +51,9 @@ fn assert_packed(rt: &impl Abort, packing: &Packing, scale: u128, servers: &[(u1
     assert!(rt; packing.servers() as usize == servers.len());
     for (s, (rate, members)) in (0..packing.servers()).zip(servers) {
         assert!(rt; s < packing.servers());
-        assert!(rt; packing.rate(s) == *rate);
-        assert!(rt; packing.members(s) == *members);
-        assert!(rt; packing.idle(s) == 0);
+        assert!(rt; packing.rate(s) == *rate, "server {s}");
+        assert!(rt; packing.members(s) == *members, "server {s}");
+        assert!(rt; packing.idle(s) == 0, "server {s}");
     }
 }
 

@@ -72,11 +72,17 @@ const STILL: &[&[u64]] = &[&[], &[7, 0x0500_0000_0001]];
 /// Standing still costs nothing.
 fn compare_still(rt: &impl Abort, alloc: Global) {
     let mut job = VmJob::new(alloc, 5);
-    for code in STILL {
+    for (number, code) in STILL.iter().enumerate() {
         job.load(code, 1).expect(rt, "there is memory");
-        assert!(rt; job.used() == 0);
-        assert!(rt; job.used() == 0 && job.work(1 << 94).is_ok());
-        assert!(rt; (job.used(), job.id(), job.faults()) == ((1 << 94, 5, 0)));
+        assert!(rt; job.used() == 0, "program {number}");
+        assert!(rt;
+            job.used() == 0 && job.work(1 << 94).is_ok(),
+            "program {number}"
+        );
+        assert!(rt;
+            (job.used(), job.id(), job.faults()) == ((1 << 94, 5, 0)),
+            "program {number}"
+        );
     }
     assert!(rt; job.state() == [1, 7, 0, 0, 0, 0, 0, 0, 0]);
     job.load(&[], 1).expect(rt, "there is memory");
@@ -85,8 +91,11 @@ fn compare_still(rt: &impl Abort, alloc: Global) {
 
 #[test]
 fn programs_compute(rt: HostRuntime) {
-    for (code, rows, want) in PROGRAMS {
-        assert!(rt; computed(&rt, rt.alloc(), code, rows) == *want);
+    for (number, (code, rows, want)) in PROGRAMS.iter().enumerate() {
+        assert!(rt;
+            computed(&rt, rt.alloc(), code, rows) == *want,
+            "program {number}"
+        );
     }
     compare_still(&rt, rt.alloc());
 }
@@ -117,8 +126,11 @@ fn compare_read(rt: &impl Abort, jobs: &JobText) {
     assert!(rt; jobs.count() as usize == READ.len());
     for (j, (name, line, code)) in (0..jobs.count()).zip(READ) {
         assert!(rt; j < jobs.count());
-        assert!(rt; (jobs.name(j), jobs.line(j)) == (*name, *line));
-        assert!(rt; jobs.code(j) == *code);
+        assert!(rt;
+            (jobs.name(j), jobs.line(j)) == (*name, *line),
+            "program {j}"
+        );
+        assert!(rt; jobs.code(j) == *code, "program {j}");
     }
     assert!(rt; jobs.set_start() == SET_START);
 }
@@ -154,7 +166,10 @@ fn job_texts_are_read_or_refused(rt: HostRuntime) {
     compare_read(&rt, &jobs);
     // The text cut after each byte is refused until the line `tasks` is whole.
     for end in 0..TEXT.len() {
-        assert!(rt; read_jobs(rt.alloc(), &TEXT[..end]).is_ok() == (end + 7 >= TEXT.len()));
+        assert!(rt;
+            read_jobs(rt.alloc(), &TEXT[..end]).is_ok() == (end + 7 >= TEXT.len()),
+            "cut at {end}"
+        );
     }
     for (text, want) in FAULTS {
         match read_jobs(rt.alloc(), text.as_bytes()) {

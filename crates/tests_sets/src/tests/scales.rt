@@ -128,6 +128,9 @@ fn scales_totals_and_rates(rt: HostRuntime) {
         compare(&rt, rt.alloc(), &set, scale, rates, *sum, *fitting);
     }
     for (work, period, scale, ticks) in RATES {
-        assert!(rt; rate_at(&rt, *work, *period, *scale) == *ticks);
+        assert!(rt;
+            rate_at(&rt, *work, *period, *scale) == *ticks,
+            "{work} in {period}"
+        );
     }
 }
