@@ -26,7 +26,7 @@ fn window_of(plan: &Plan, calendar: &Calendar, n: NodeId) -> (u128, u64)
 }
 
 // The home of leaf or dual n, and its place there.
-fn stand_of(plan: &Plan, n: NodeId) -> (NodeId, u32)
+fn home_of(plan: &Plan, n: NodeId) -> (NodeId, u32)
     requires plan { IsPlan plan.now }
     requires member { IsMember plan.now.tree n.0 }
     ensures home { result.0.0 ≡ home plan.now.tree n.0 }
@@ -63,7 +63,7 @@ pub(crate) fn begin_one(
     ensures stale { stale.new ≡ slice_set stale.old (home plan.now.tree n.0) true }
 {
     let (due, end) = window_of(plan, calendar, n);
-    let (home, place) = stand_of(plan, n);
+    let (home, place) = home_of(plan, n);
     dues.give(n, due);
     put_end(home, place, end, ready, stale);
 }

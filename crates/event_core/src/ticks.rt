@@ -127,7 +127,7 @@ fn first_of_one(least: &mut [u128], ticks: &[u128], used: usize, most: u128) -> 
 }
 
 // The block of which the earliest tick is kept.
-fn soonest_block(least: &[u128], used: usize) -> usize
+fn first_block(least: &[u128], used: usize) -> usize
     requires some { 0 < used }
     requires blocks { used ≤ length least.now * 8 }
     ensures { result * 8 < used }
@@ -151,7 +151,7 @@ fn first_in_soonest(least: &mut [u128], ticks: &[u128], used: usize, most: u128)
     if used == 0 {
         return most;
     }
-    let block = soonest_block(least, used);
+    let block = first_block(least, used);
     first_in(least, ticks, used, block, most)
 }
 
@@ -189,7 +189,7 @@ fn next_in(ticks: &[u128], now: u128, from: usize, to: usize) -> usize
     to
 }
 
-// The same where the places that are used are one block.
+// The first place from number `from` on that has this tick, or the number of places that are used, where these are one block.
 fn next_of_one(least: &[u128], ticks: &[u128], used: usize, now: u128, from: usize) -> usize
     requires blocks { AreInBlocks least.now ticks.now used }
     requires some { 0 < used }

@@ -1,11 +1,13 @@
 //! Which lanes' workers wait, and for which least posted count each does. It stands in the book, and so under the lock: whoever was told
 //! to wait is marked in the same hold, and whoever posts what it waits for finds the mark. No clause speaks of it.
 
+use sched_base::PROCESSOR_LIMIT;
+
 /// The count for which a lane waits that doesn't.
 const NONE: u32 = u32::MAX;
 
 /// The most lanes that there are.
-const LANES: usize = 32;
+const LANES: usize = PROCESSOR_LIMIT as usize;
 
 /// Of each lane the least posted count for which it waits.
 #[derive(Drop)]

@@ -51,7 +51,7 @@ fn node_on(plan: &Plan, core: &Core, start: u128, q: u32) -> Option<NodeId>
 
 // What processor q shows where this node runs on it, and the node to keep of it. The core and the processor are only spoken of.
 #[inline(always)]
-fn look(
+fn shown_at(
     plan: &Plan,
     core: &Core,
     start: u128,
@@ -161,7 +161,7 @@ pub(crate) fn look_each(
     let mut other = next_other(plan, core, start, kept, 0);
     'others: while other.0 < count {
         let q = other.0;
-        let (node, leaf) = look(plan, core, start, q, other.1);
+        let (node, leaf) = shown_at(plan, core, start, q, other.1);
         kept[q as usize] = node;
         told[q as usize] = Some(leaf);
         other = next_other(plan, core, start, kept, q + 1);

@@ -67,7 +67,7 @@ fn search(
     let mut at = turn;
     'turns: while at < most {
         rounds = go_up_to(plan, core, rounds, at);
-        let found = look(plan, core, rounds, &seen, turn);
+        let found = recurrence_at(plan, core, rounds, &seen, turn);
         if found.is_some() {
             return Ok(found);
         }
@@ -111,7 +111,13 @@ fn go_up_to(plan: &Plan, core: &mut Core, first: u64, until: u128) -> u64
 }
 
 // Whether the rounds come again at the core's tick, before which so many begin, as they came at the one that was seen.
-fn look(plan: &Plan, core: &Core, rounds: u64, seen: &Seen, turn: u128) -> Option<Recurrence>
+fn recurrence_at(
+    plan: &Plan,
+    core: &Core,
+    rounds: u64,
+    seen: &Seen,
+    turn: u128,
+) -> Option<Recurrence>
     requires can { CanComeRound plan.now }
     requires turn { turn ≡ plan.now.tree.scale * plan.now.tree.scale }
     requires belongs { IsCoreOf plan.now core.now }

@@ -76,7 +76,7 @@ pub(crate) fn with_round(
     Ok(RoundSum { rows, rounds })
 }
 
-/// The same, where the processors are listed of which something is told; one may stand there twice. It costs time for these.
+/// With the round from `start` up to tick `end`, where there is room for its rows, and the processors are listed of which something is told; one may stand there twice. It costs time for these.
 #[inline(always)]
 pub(crate) fn with_changed(
     plan: &Plan,

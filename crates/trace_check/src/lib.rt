@@ -23,7 +23,9 @@ mod traces;
 
 pub use checked::CheckedTrace;
 pub use faults::{BadLine, SourceFault, TraceFault};
-pub use head_lines::{Head, next_number, next_scale, number_after};
+pub use head_lines::{
+    Head, MOST_PROCESSORS, MOST_TASKS, MOST_UNITS, next_number, next_scale, number_after,
+};
 pub use laws::{merged_law, reads_lawful_law, round_trip_law};
 pub use reading::{read_checked, read_trace};
 pub use source_reading::{read_checked_source, read_trace_source};

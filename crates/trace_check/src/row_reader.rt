@@ -23,7 +23,7 @@ pub(crate) enum NextLine<'a> {
     Ends,
     /// A row line at fault.
     Fault,
-    /// Its line feed isn't there.
+    /// A line whose line feed isn't there.
     Cut,
 }
 
@@ -249,7 +249,7 @@ impl RowReader {
         Ok(stop)
     }
 
-    /// The same where the source is at its end, so that the last line may lack its line feed.
+    /// Takes row lines where the source is at its end, so that the last line may lack its line feed.
     pub fn take_last(&mut self, set: &TaskSet, window: &mut Window) -> Result<Stop, AllocError>
         requires { (whole : List ℕ) × AreRowsOf set.now.tasks whole self.old.rows self.old.totals.items window.old.ahead }
         ensures { IfOk result (λ stop. (whole : List ℕ) → AreRowsOf set.now.tasks whole self.old.rows self.old.totals.items window.old.ahead

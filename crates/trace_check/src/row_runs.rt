@@ -55,7 +55,7 @@ fn place_guessed(text: &[u8]) -> usize {
     (marks.trailing_zeros() / 8) as usize
 }
 
-// The same, byte by byte.
+// The place of the first line feed, found byte by byte.
 #[inline(never)]
 fn place_by_bytes(text: &[u8]) -> usize {
     for (i, b) in text.iter().enumerate() {

@@ -133,7 +133,7 @@ pub fn read_trace_source<R: Source>(
     Ok(ReadTrace::new(alloc, set, scale, rows)?)
 }
 
-/// The same for whoever asks for no order of the rows.
+/// Reads a trace of a source for whoever asks for no order of the rows.
 pub fn read_checked_source<R: Source>(
     alloc: Global,
     source: &mut R,

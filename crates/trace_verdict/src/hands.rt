@@ -2,9 +2,10 @@
 //! takes the rows looks.
 
 use crate::row_list::RowList;
+use sched_base::PROCESSOR_LIMIT;
 
 /// The most processors of a set.
-const HANDS: usize = 32;
+const HANDS: usize = PROCESSOR_LIMIT as usize;
 
 /// A turn past all turns.
 const NEVER: u64 = u64::MAX / 2;
@@ -21,7 +22,7 @@ struct Hand {
 
 // When a hand is to move: the moment at which its next row starts, and behind that the hand.
 fn turn_of(moment: u64, hand: usize) -> u64 {
-    (moment % (1 << DIGITS)) * 32 + (hand % HANDS) as u64
+    (moment % (1 << DIGITS)) * HANDS as u64 + (hand % HANDS) as u64
 }
 
 // The earlier of two turns. The top bit of the difference tells which, without a branch that the processor would guess.
@@ -76,7 +77,7 @@ impl Hands {
 
     /// The place of the row that comes next. Past the last row it is any number.
     pub(crate) fn next(&mut self, rows: &RowList) -> usize {
-        let chosen = (self.turns[1] % 32) as usize;
+        let chosen = (self.turns[1] % HANDS as u64) as usize;
         let place = self.hands[chosen].place;
         self.hands[chosen].place = place.wrapping_add(1);
         if self.width > 1 {

@@ -254,7 +254,7 @@ pub fn judge_rows(
     judge_unordered(alloc, set, scale, rows)
 }
 
-// The same where rows are at fault or stand in another order.
+// Judges rows that are at fault or stand in another order.
 fn judge_unordered(
     alloc: Global,
     set: &TaskSet,
@@ -325,7 +325,7 @@ fn count_standing(set: &TaskSet, scale: u128, rows: &RowList) -> Option<u64>
     }
 }
 
-// The same of rows of which some may be long.
+// How many rows stand where a valid schedule has them, of which some may be long.
 fn count_any(set: &TaskSet, scale: u128, rows: &RowList) -> Option<u64>
     requires trace { IsTrace set.now scale rows.now }
     ensures stands { IfSome result (λ _. stand None rows.now ≡ true) }

@@ -50,7 +50,7 @@ impl ShortRow {
         }
     }
 
-    /// Its processor.
+    /// The row's processor.
     #[inline(always)]
     pub(crate) fn processor(&self) -> u32
         ensures { result ≡ (row_for self.now).processor }

@@ -146,7 +146,7 @@ impl Walk {
     }
 }
 
-// The same of all places, of which the first is given, where a period begins by the end of the schedule, and what the rows
+// Walks over all places, of which the first is given, where a period begins by the end of the schedule, and what the rows
 // there tell of the task's jobs.
 fn walk_on(
     periods: &Periods,

@@ -7,18 +7,10 @@ ghost use Rattle.trace_check.specs.declared.head_lines.Head.{Head as Said};
 ghost use Rattle.trace_check.specs.HeadLines.{capped};
 ghost use Rattle.tree_reader.specs.Reading.{tree_head};
 
-use sched_base::{PROCESSOR_LIMIT, TASK_LIMIT, UNIT_LIMIT};
-use trace_check::{BadLine, Head, next_number, next_scale};
+use trace_check::{
+    BadLine, Head, MOST_PROCESSORS, MOST_TASKS, MOST_UNITS, next_number, next_scale,
+};
 use trace_format::Version;
-
-/// The most processors of a set.
-const MOST_PROCESSORS: u128 = PROCESSOR_LIMIT as u128;
-
-/// The most units of a horizon.
-const MOST_UNITS: u128 = UNIT_LIMIT as u128;
-
-/// The most tasks of a set.
-const MOST_TASKS: u128 = TASK_LIMIT as u128;
 
 /// Reads the first five lines: what they say, and the lines that follow, or the first line at fault.
 pub(crate) fn read_head(text: &[u8]) -> Result<(Head, &[u8]), BadLine>

@@ -11,20 +11,20 @@ window_of-due-requires-clause-calendar c = c.requires.calendar
 pub window_of-due-requires-clause-member : goal.window_of-due-requires-clause-member
 window_of-due-requires-clause-member c = c.requires.member
 
-pub stand_of-place-requires-clause-plan : goal.stand_of-place-requires-clause-plan
-stand_of-place-requires-clause-plan c = c.requires.plan
+pub home_of-place-requires-clause-plan : goal.home_of-place-requires-clause-plan
+home_of-place-requires-clause-plan c = c.requires.plan
 
-pub stand_of-place-requires-clause-member : goal.stand_of-place-requires-clause-member
-stand_of-place-requires-clause-member c = c.requires.member
+pub home_of-place-requires-clause-member : goal.home_of-place-requires-clause-member
+home_of-place-requires-clause-member c = c.requires.member
 
 pub give-requires-clause-node : goal.give-requires-clause-node
 give-requires-clause-node c = let b = c.requires.member.0 in let long = c.requires.nodes in omega (arith, b, long)
 
 pub put_end-requires-clause-ready : goal.put_end-requires-clause-ready
-put_end-requires-clause-ready c = let b = c.stand_of-place.ensures.within in let long = c.requires.ready in omega (arith, b, long)
+put_end-requires-clause-ready c = let b = c.home_of-place.ensures.within in let long = c.requires.ready in omega (arith, b, long)
 
 pub put_end-requires-clause-stale : goal.put_end-requires-clause-stale
-put_end-requires-clause-stale c = let b = c.stand_of-place.ensures.within in let long = c.requires.stale in omega (arith, b, long)
+put_end-requires-clause-stale c = let b = c.home_of-place.ensures.within in let long = c.requires.stale in omega (arith, b, long)
 
 pub put_end-requires-clause-end : goal.put_end-requires-clause-end
 put_end-requires-clause-end c =

@@ -21,8 +21,8 @@ others-preserved c =
     let q = c.others.other.0 in
     let kept = c.others.kept in
     let told = c.others.told in
-    let node = c.look-node.result.0 in
-    let leaf = Some c.look-node.result.1 in
+    let node = c.shown_at-node.result.0 in
+    let leaf = Some c.shown_at-node.result.1 in
     let many = c.processors-count.ensures.value ∙ ap (λ (t : Tree). t.processors) c.tree.ensures.value in
     let on = c.others-test.true in
     let nodes = c.requires.kept in
@@ -37,7 +37,7 @@ others-preserved c =
     (λ k l. (let apart : k ≢ q = (λ e. omega (arith, e, l)) in get_or-set_other told q k leaf None apart) ∙ c.others.invariant.untold k (omega (arith, l))) in
     record {
       done = looked_past c.args.plan.now c.args.start c.args.core.now.tick (q + 1) c.next_other-other-in-others.result.0 c.args.kept.now (set kept q node) (set told q leaf)
-          (looked_on c.args.plan.now c.args.start c.args.core.now.tick q c.args.kept.now kept told None node leaf here there c.others.invariant.done c.others.invariant.left (c.look-node.ensures (get_or kept q None)))
+          (looked_on c.args.plan.now c.args.start c.args.core.now.tick q c.args.kept.now kept told None node leaf here there c.others.invariant.done c.others.invariant.left (c.shown_at-node.ensures (get_or kept q None)))
           left untold c.next_other-other-in-others.ensures.skipped;
       left = λ k l. left k (let after = c.next_other-other-in-others.ensures.after in omega (arith, after, l));
       untold = λ k l. untold k (let after = c.next_other-other-in-others.ensures.after in omega (arith, after, l));
@@ -45,8 +45,8 @@ others-preserved c =
       node = c.next_other-other-in-others.ensures.node;
     }
 
-pub look-node-requires : goal.look-node-requires
-look-node-requires c =
+pub shown_at-node-requires : goal.shown_at-node-requires
+shown_at-node-requires c =
     let many = c.processors-count.ensures.value ∙ ap (λ (t : Tree). t.processors) c.tree.ensures.value in
     let on = c.others-test.true in
     record { on = c.others.invariant.node (omega (arith, many, on)) }
