@@ -42,9 +42,6 @@ SETS["coprime-8-64"] = wide(64, 8, 0.97, PRIME)
 SETS["long-beside-short"] = {**wide(12, 4, 0.95, [2, 3, 4, 5, 6, 8, 10]), "last": 1_000_003}
 SETS["harmonic-8-128"] = wide(128, 8, 0.97, [16, 32, 64, 128, 256])
 SETS["half-16-200"] = wide(200, 16, 0.5, ROUND)
-# Sets whose tasks start late, by up to three of their periods, so the trace has `met` lines.
-for name in ("one-many", "four-few", "eight-deep", "sixteen-many", "thirty-two-few"):
-    SETS[name + "-late"] = {**SETS[name], "late": True}
 for tasks in (4, 8, 16, 32, 64, 128, 256):
     SETS["tasks-%d" % tasks] = wide(tasks, 2, 0.95, [p * max(1, tasks // 8) for p in ROUND])
 for processors in (1, 2, 4, 8, 16, 32):
@@ -52,8 +49,7 @@ for processors in (1, 2, 4, 8, 16, 32):
 
 
 def tasks_of(name, spec):
-    """Pairs of work and period. A set whose tasks start late has those of the set without."""
-    name = name.removesuffix("-late")
+    """Pairs of work and period."""
     draw = random.Random(name)
     count, goal = spec["count"], spec["processors"] * spec["share"]
     periods = [draw.choice(spec["periods"]) for _ in range(count)]
@@ -66,11 +62,8 @@ def tasks_of(name, spec):
 def text(name, horizon):
     spec = SETS[name]
     lines = ["processors = %d" % spec["processors"], "horizon = %d" % horizon]
-    draw = random.Random("offsets of " + name)
     for number, (work, period) in enumerate(tasks_of(name, spec)):
         lines += ["", "[[task]]", 'name = "t%d"' % number, "work = %d" % work, "period = %d" % period]
-        if spec.get("late"):
-            lines.append("offset = %d" % draw.randint(0, 3 * period))
     return "\n".join(lines) + "\n"
 
 
