@@ -95,6 +95,9 @@ fn a_text_that_ends_early_is_at_fault_behind_its_last_line(rt: HostRuntime) {
             end = end.saturating_add(next.len());
             line = line.saturating_add(1);
         }
-        assert!(rt; (end, line) == (text.len(), lines + 1));
+        assert!(rt;
+            (end, line) == (text.len(), lines + 1),
+            "the lines of {text}"
+        );
     }
 }

@@ -14,7 +14,10 @@ const NO_TASK: &str =
 #[test]
 fn trees_are_written_again(rt: HostRuntime) {
     for text in [THREE_LEVELS, ONE_IDLE, ROOT_BESIDE_PACKS, NO_TASK] {
-        assert!(rt; answer_for(&rt, rt.alloc(), text.as_bytes(), text) == Tree);
+        assert!(rt;
+            answer_for(&rt, rt.alloc(), text.as_bytes(), text) == Tree,
+            "{text}"
+        );
     }
     // The last line feed may be missing.
     let text = with_lines(&rt, rt.alloc(), THREE_LEVELS, &[(24, "levels 3")]);

@@ -20,7 +20,11 @@ fn texts_cut_after_each_byte(rt: HostRuntime) {
     for worked in TEXTS {
         let bytes = worked.text.as_bytes();
         let mut line: u64 = 1;
-        assert!(rt; worked.cuts.len() + 1 == bytes.len());
+        assert!(rt;
+            worked.cuts.len() + 1 == bytes.len(),
+            "a mark for each byte but the last of {}",
+            worked.text
+        );
         for (i, mark) in worked.cuts.as_bytes().iter().enumerate() {
             if bytes[i] == b'\n' {
                 line = line.saturating_add(1);
@@ -31,7 +35,7 @@ fn texts_cut_after_each_byte(rt: HostRuntime) {
                 worked.text
             );
         }
-        assert!(rt; bytes.ends_with(b"\n"));
+        assert!(rt; bytes.ends_with(b"\n"), "the last byte of {}", worked.text);
     }
 }
 
@@ -57,7 +61,11 @@ fn with_line_repeated(
 fn texts_with_a_line_twice_or_left_out(rt: HostRuntime) {
     for worked in TEXTS {
         for (times, lines) in [(2, worked.doubled), (0, worked.left_out)] {
-            assert!(rt; lines.len() == worked.text.lines().count());
+            assert!(rt;
+                lines.len() == worked.text.lines().count(),
+                "the lines of {}",
+                worked.text
+            );
             for (i, line) in lines.iter().enumerate() {
                 let text = with_line_repeated(&rt, rt.alloc(), worked.text, i, times);
                 assert!(rt;
@@ -104,7 +112,7 @@ fn texts_with_a_number_one_more(rt: HostRuntime) {
     for worked in TEXTS {
         for (i, answer) in worked.raised.iter().enumerate() {
             let (text, count) = with_number_raised(&rt, rt.alloc(), worked.text, i);
-            assert!(rt; count == worked.raised.len());
+            assert!(rt; count == worked.raised.len(), "the numbers of {text}");
             assert!(rt;
                 answer_for(&rt, rt.alloc(), text.as_bytes(), &text) == *answer,
                 "{text}"
