@@ -360,7 +360,10 @@ fn compare_windows(rt: &impl Abort, trace: &ReadTrace) {
     ];
     for (from, units, first, count) in table {
         let window = shown_window(trace, &Asked { from, units });
-        assert!(rt; (window.scale, window.from, window.units) == (2, first, count));
+        assert!(rt;
+            (window.scale, window.from, window.units) == (2, first, count),
+            "from unit {from}"
+        );
     }
 }
 

@@ -80,10 +80,13 @@ fn three_tasks_of_rate_two_thirds(rt: HostRuntime) {
         ),
         (b"row 1 6 9 b\ntotal a 6\ntotal b 06\n", Err(14)),
     ];
-    for (lines, want) in table {
+    for (number, (lines, want)) in table.iter().enumerate() {
         let text = three_tasks(&rt, rt.alloc(), lines);
-        assert!(rt; outcome_of(rt.alloc(), &text) == want);
-        assert!(rt; checked_outcome_of(rt.alloc(), &text) == want);
+        assert!(rt; outcome_of(rt.alloc(), &text) == *want, "text {number}");
+        assert!(rt;
+            checked_outcome_of(rt.alloc(), &text) == *want,
+            "text {number}"
+        );
     }
 }
 
@@ -133,9 +136,12 @@ fn texts_have_their_verdicts(rt: HostRuntime) {
             Err(4),
         ),
     ];
-    for (text, want) in table {
-        assert!(rt; outcome_of(rt.alloc(), text) == want);
-        assert!(rt; checked_outcome_of(rt.alloc(), text) == want);
+    for (number, (text, want)) in table.iter().enumerate() {
+        assert!(rt; outcome_of(rt.alloc(), text) == *want, "text {number}");
+        assert!(rt;
+            checked_outcome_of(rt.alloc(), text) == *want,
+            "text {number}"
+        );
     }
 }
 

@@ -118,8 +118,11 @@ fn compare_findings(rt: &impl Abort, trace: &CheckedTrace)
     for (task, count, response) in table {
         assert!(rt; task < trace.set().count());
         let found = trace.findings(task);
-        assert!(rt; (found.preemptions, found.migrations) == (count, count));
-        assert!(rt; found.response == response);
+        assert!(rt;
+            (found.preemptions, found.migrations) == (count, count),
+            "task {task}"
+        );
+        assert!(rt; found.response == response, "task {task}");
     }
 }
 

@@ -67,7 +67,10 @@ fn the_narrowest_types(rt: HostRuntime) -> Result<(), NoMemory> {
         assert!(rt; 1 <= scale && scale < 1 << 64);
         let rows = two_rows(rt.alloc(), tick, scale)?;
         let sink = written(&rt, rt.alloc(), &set, scale, &rows, 0, &[]);
-        assert!(rt; sink.taken().windows(line.len()).any(|part| part == line));
+        assert!(rt;
+            sink.taken().windows(line.len()).any(|part| part == line),
+            "a row ends at {tick} of {scale}"
+        );
     }
     Ok(())
 }
@@ -162,7 +165,7 @@ fn a_table_of_no_tasks_is_told(rt: HostRuntime) -> Result<(), NoMemory> {
     let rows_taken: [(&[u64], &[u8]); 2] = [(&[], NONE), (&[3], first)];
     for (fails, taken) in rows_taken {
         let sink = written(&rt, rt.alloc(), &set, 1, &rows, 0, fails);
-        assert!(rt; sink.taken().ends_with(taken));
+        assert!(rt; sink.taken().ends_with(taken), "{} calls fail", fails.len());
     }
     Ok(())
 }

@@ -20,8 +20,8 @@ fn words_are_read_as_numbers(rt: HostRuntime) {
         (b"+3", None),
         (b"3\r", None),
     ];
-    for (word, want) in table {
-        assert!(rt; read_number(word) == want);
+    for (number, (word, want)) in table.iter().enumerate() {
+        assert!(rt; read_number(word) == *want, "word {number}");
     }
 }
 
@@ -42,13 +42,13 @@ fn numbers_are_cut_from_the_front(rt: HostRuntime) {
         (b"7\na", None),
         (b"7", None),
     ];
-    for (text, want) in table {
+    for (row, (text, want)) in table.iter().enumerate() {
         match cut_number(text) {
             Some((number, rest)) => {
-                assert!(rt; Some(number) == want);
-                assert!(rt; rest == b"a".as_slice());
+                assert!(rt; Some(number) == *want, "text {row}");
+                assert!(rt; rest == b"a".as_slice(), "text {row}");
             }
-            None => assert!(rt; want.is_none(), "a number and a space begin the text"),
+            None => assert!(rt; want.is_none(), "a number and a space begin text {row}"),
         }
     }
 }

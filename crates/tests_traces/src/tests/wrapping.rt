@@ -170,7 +170,10 @@ fn compare_merged(rt: &impl Abort, rows: &MergedRows, processor: u32, want: [(u1
     assert!(rt; rows.count(processor) == 2);
     for i in 0..2 {
         let row = rows.row(processor, i);
-        assert!(rt; (row.start, row.end, letter(row.leaf)) == want[i]);
+        assert!(rt;
+            (row.start, row.end, letter(row.leaf)) == want[i],
+            "row {i} of processor {processor}"
+        );
     }
 }
 
@@ -194,7 +197,10 @@ fn counts_up_to_the_limit(rt: HostRuntime) -> Result<(), Fail> {
     ] {
         let set = grouped_set(rt.alloc(), 32, horizon, &[(1, 1, 1, 0)])?;
         let scale = scale_that_fits(&rt, &set);
-        assert!(rt; wrap_rounds(rt.alloc(), &set, scale) == count);
+        assert!(rt;
+            wrap_rounds(rt.alloc(), &set, scale) == count,
+            "horizon {horizon}"
+        );
     }
     Ok(())
 }
