@@ -295,7 +295,11 @@ fn answers_as_the_executive_does(rt: HostRuntime) {
     for case in CASES {
         let plan = plan_of(&rt, rt.alloc(), case.1);
         let processors = plan.tree().processors();
-        assert!(&rt; processors == case.1.0 && 1 <= case.2 && case.2 <= 1024);
+        assert!(&rt;
+            processors == case.1.0 && 1 <= case.2 && case.2 <= 1024,
+            "{}",
+            case.0
+        );
         run::<Brand, _>(
             &rt,
             rt.alloc(),
