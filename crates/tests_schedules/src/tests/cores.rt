@@ -11,7 +11,11 @@ use std::process::Abort;
 /// Makes sure that these are rows of the round from a tick to another.
 fn assert_round(rt: &impl Abort, round: &[Row], start: u128, end: u128) {
     for row in round {
-        assert!(rt; row.start == start && row.end == end);
+        assert!(rt;
+            row.start == start && row.end == end,
+            "processor {} from {start} to {end}",
+            row.processor
+        );
     }
 }
 

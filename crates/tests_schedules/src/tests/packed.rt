@@ -194,7 +194,10 @@ fn compare_pack(rt: &impl Abort, tree: &Tree, pack: NodeId, i: usize, members: &
     for (home, rate) in members {
         if *home == i {
             assert!(rt; found < nodes.len() && nodes[found].0 < tree.nodes());
-            assert!(rt; tree.rate(nodes[found]) == *rate);
+            assert!(rt;
+                tree.rate(nodes[found]) == *rate,
+                "member {found} of pack {i}"
+            );
             found += 1;
         }
     }
@@ -205,7 +208,7 @@ fn compare_pack(rt: &impl Abort, tree: &Tree, pack: NodeId, i: usize, members: &
 fn compare_levels(rt: &impl Abort, alloc: Global, tree: &Tree, first: Level, scale: u128) {
     let mut level = first;
     for n in 0..tree.levels() {
-        assert!(rt; !level.totals.is_empty());
+        assert!(rt; !level.totals.is_empty(), "level {n}");
         compare_level(rt, tree, n, &level);
         level = level_above(rt, alloc, &level, scale);
     }

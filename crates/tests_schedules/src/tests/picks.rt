@@ -22,9 +22,9 @@ fn candidate((end, remain): Member) -> Candidate {
 
 #[test]
 fn picks_the_earliest_deadline(rt: HostRuntime) {
-    for (a, b, c, picked) in MEMBERS {
+    for (number, (a, b, c, picked)) in MEMBERS.iter().enumerate() {
         let candidates = [candidate(*a), candidate(*b), candidate(*c)];
-        assert!(rt; earliest(&candidates) == *picked);
+        assert!(rt; earliest(&candidates) == *picked, "members {number}");
     }
 }
 
@@ -40,10 +40,10 @@ const TICKS: &[(&[bool], &[Option<u32>])] = &[
 #[test]
 fn places_tick_by_tick(rt: HostRuntime) {
     let mut places = Places::new(rt.alloc(), 3, 2).expect(&rt, "there is memory");
-    for (runs, placed) in TICKS {
+    for ((runs, placed), tick) in TICKS.iter().zip(0..TICKS.len()) {
         assert!(rt; runs.len() == 3);
         let mut onto = [None; 2];
         places.place(runs, &mut onto);
-        assert!(rt; onto.as_slice() == *placed);
+        assert!(rt; onto.as_slice() == *placed, "tick {tick}");
     }
 }

@@ -28,7 +28,10 @@ fn assert_running(rt: &impl Abort, plan: &Plan, runs: &[bool], tasks: &[u32]) {
     let mut found = 0;
     for x in 0..plan.tree().nodes() {
         if let Some(task) = running_task(plan, runs, x) {
-            assert!(rt; found < tasks.len() && tasks[found] == task);
+            assert!(rt;
+                found < tasks.len() && tasks[found] == task,
+                "task {task} runs"
+            );
             found += 1;
         }
     }

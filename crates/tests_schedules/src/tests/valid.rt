@@ -54,7 +54,10 @@ fn check_row(rt: &impl Abort, row: &Row, processors: u32, stop: u64) {
 /// At a tick each processor does one thing.
 fn check_tick(rt: &impl Abort, rows: &[Row], processors: u32, tick: u64) {
     for processor in 0..processors {
-        assert!(rt; rows_at(rows, processor, tick) == 1);
+        assert!(rt;
+            rows_at(rows, processor, tick) == 1,
+            "processor {processor} at {tick}"
+        );
     }
 }
 

@@ -51,7 +51,10 @@ fn assert_windows(rt: &impl Abort, plan: &Plan, calendar: &Calendar, turn: &Turn
     assert!(rt; calendar.next() == turn.0);
     for (x, begin, end) in turn.2 {
         assert!(rt; *x < plan.tree().nodes());
-        assert!(rt; calendar.window(NodeId(*x)) == (*begin, *end));
+        assert!(rt;
+            calendar.window(NodeId(*x)) == (*begin, *end),
+            "node {x} from {begin}"
+        );
     }
 }
 
