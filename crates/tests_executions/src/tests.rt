@@ -60,7 +60,10 @@ fn row(rt: &impl Abort, processor: u32, k: usize) -> Row {
 /// Makes sure that these are the first rows of a processor.
 fn assert_first(rt: &impl Abort, rows: &[Row], processor: u32) {
     for (k, found) in rows.iter().enumerate() {
-        assert!(rt; *found == row(rt, processor, k));
+        assert!(rt;
+            *found == row(rt, processor, k),
+            "row {k} of processor {processor}"
+        );
     }
 }
 

@@ -43,7 +43,10 @@ fn assert_round(rt: &impl Abort, rounds: &Rounds, k: u64, rows: &[Row]) {
     let table = rounds.table();
     assert!(rt; k < table.rounds() && rows.len() == table.processors() as usize);
     for p in 0..table.processors() {
-        assert!(rt; table.row(p, k) == rows[p as usize]);
+        assert!(rt;
+            table.row(p, k) == rows[p as usize],
+            "row {k} of processor {p}"
+        );
     }
 }
 

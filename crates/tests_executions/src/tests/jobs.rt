@@ -14,10 +14,13 @@ const CALLS: &[(Result<(), Failed>, u128, u64)] = &[
 
 /// Has a job work five ticks at each call.
 fn assert_works(rt: &impl Abort, job: &mut FailJob) {
-    for (want, used, faults) in CALLS {
+    for (call, (want, used, faults)) in CALLS.iter().enumerate() {
         assert!(rt; job.used() <= 5);
-        assert!(rt; job.work(5) == *want);
-        assert!(rt; job.used() == *used && job.faults() == *faults);
+        assert!(rt; job.work(5) == *want, "call {call}");
+        assert!(rt;
+            job.used() == *used && job.faults() == *faults,
+            "call {call}"
+        );
     }
 }
 

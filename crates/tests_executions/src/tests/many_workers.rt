@@ -108,7 +108,7 @@ fn run_on<X: Threads + Wait + Clock + Abort + Copy + Send + Sync>(
 fn assert_rows(rt: &impl Abort, rows: &[Row], p: u32) {
     assert!(rt; rows.len() == TASKS as usize);
     for (k, found) in rows.iter().enumerate() {
-        assert!(rt; *found == row(p, k));
+        assert!(rt; *found == row(p, k), "row {k} of processor {p}");
     }
 }
 

@@ -20,7 +20,10 @@ fn assert_lane(rt: &impl Abort, rows: &[Row], processor: u32) {
 fn assert_told(rt: &impl Abort, table: &RowTable, processor: u32) {
     for k in 0..table.rounds() {
         assert!(rt; processor < table.processors());
-        assert!(rt; table.row(processor, k) == row(rt, processor, k as usize));
+        assert!(rt;
+            table.row(processor, k) == row(rt, processor, k as usize),
+            "row {k} of processor {processor}"
+        );
     }
 }
 

@@ -70,7 +70,10 @@ fn row(rt: &impl Abort, processor: u32, k: usize) -> Row {
 fn assert_first(rt: &impl Abort, rows: &[Row], processor: u32, count: Option<usize>) {
     assert!(rt; rows.len() == count.unwrap_or(rows.len()));
     for (k, found) in rows.iter().enumerate() {
-        assert!(rt; *found == row(rt, processor, k));
+        assert!(rt;
+            *found == row(rt, processor, k),
+            "row {k} of processor {processor}"
+        );
     }
 }
 
