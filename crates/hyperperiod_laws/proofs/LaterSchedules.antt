@@ -78,14 +78,14 @@ range_within f low high a (suc n) l h =
       | inr off ↦ subst P (sym (passing_off f a n off)) ih
     ]
 
-module _ (tasks : List declared.Task) (t : Tree) (units : ℕ) (r : Recurs tasks t units) (n stop : ℕ) (early : stop + 2 * (units * t.scale) ≤ 2 ^ 33 * t.scale)
+module _ (tasks : List declared.Task) (t : Tree) (units from : ℕ) (r : Recurs tasks t units from) (n stop : ℕ) (after : from ≤ n) (early : stop + 2 * (units * t.scale) ≤ 2 ^ 33 * t.scale)
     (same : places_below (set_boundary tasks) t (n + units * t.scale) ≡ places_below (set_boundary tasks) t n) where
   -- a round from tick n on comes again
   pub round_later : (start end : ℕ) → n ≤ start → start < stop → round_rows tasks t (start + units * t.scale) (end + units * t.scale) ≡ map (later (units * t.scale)) (round_rows tasks t start end)
   round_later start end low high =
       let e : n + (start - n) ≡ start = omega (arith, low) in
       let P : ℕ → Type 0 = λ m. onto_at (set_boundary tasks) t (m + units * t.scale) ≡ onto_at (set_boundary tasks) t m in
-      round_again tasks t units r start (omega (arith, early, high)) end (subst P e (onto_again tasks t units r n (start - n) (omega (arith, low, high, early)) same))
+      round_again tasks t units from r start (omega (arith, after, low)) (omega (arith, early, high)) end (subst P e (onto_again tasks t units from r n (start - n) after (omega (arith, low, high, early)) same))
 
   rows_later : (end event : ℕ) (events : List ℕ) → n ≤ event → event < stop → AreEvents n stop events →
       rows_of tasks t (end + units * t.scale) (event + units * t.scale) (map (λ i. i + units * t.scale) events) ≡ map (later (units * t.scale)) (rows_of tasks t end event events)
@@ -95,20 +95,19 @@ module _ (tasks : List declared.Task) (t : Tree) (units : ℕ) (r : Recurs tasks
       ∙ sym (map-append (later (units * t.scale)) (round_rows tasks t event next) (rows_of tasks t end next events))
 
 -- the rows from tick n up to a later one come again behind those up to `n` and so many units more
-pub schedule_later : (tasks : List declared.Task) (t : Tree) (units : ℕ) → Recurs tasks t units → (n ticks : ℕ) → 0 < n → n + suc ticks + 2 * (units * t.scale) ≤ 2 ^ 33 * t.scale →
+pub schedule_later : (tasks : List declared.Task) (t : Tree) (units from : ℕ) → Recurs tasks t units from → (n ticks : ℕ) → from ≤ n → is_event (set_boundary tasks) t (n + units * t.scale) ≡ true → n + suc ticks + 2 * (units * t.scale) ≤ 2 ^ 33 * t.scale →
     is_event (set_boundary tasks) t n ≡ true → places_below (set_boundary tasks) t (n + units * t.scale) ≡ places_below (set_boundary tasks) t n →
     schedule tasks t (n + units * t.scale + suc ticks) ≡ schedule tasks t (n + units * t.scale) ++ map (later (units * t.scale)) (rows_of tasks t (n + suc ticks) n (events_past tasks t n ticks))
-schedule_later tasks t units r n ticks some early on same =
+schedule_later tasks t units from r n ticks after there early on same =
     let d = units * t.scale in
     let f = is_event (set_boundary tasks) t in
-    let there : f (n + d) ≡ true = event_again tasks t units r n some (omega (arith, early)) ∙ on in
     let next : n + d + 1 ≡ n + 1 + d = omega arith in
     let end : n + d + suc ticks ≡ n + suc ticks + d = omega arith in
     let events : events_past tasks t (n + d) ticks ≡ map (λ i. i + d) (events_past tasks t n ticks) =
     ap (λ z. filter f (range_with_len z ticks)) next
-    ∙ passing_later f d (n + 1) ticks (λ i low high. event_again tasks t units r i (omega (arith, low)) (omega (arith, high, early))) in
+    ∙ passing_later f d (n + 1) ticks (λ i low high. event_again tasks t units from r i (omega (arith, after, low)) (omega (arith, high, early))) in
     schedule_split tasks t (n + d) ticks there
     ∙ ap (λ rows. schedule tasks t (n + d) ++ rows)
     (ap₂ (λ (e : ℕ) (events : List ℕ). rows_of tasks t e (n + d) events) end events
-    ∙ rows_later tasks t units r n (n + suc ticks) early same (n + suc ticks) n (events_past tasks t n ticks) (omega arith) (omega arith)
+    ∙ rows_later tasks t units from r n (n + suc ticks) after early same (n + suc ticks) n (events_past tasks t n ticks) (omega arith) (omega arith)
     (range_within f n (n + suc ticks) (n + 1) ticks (omega arith) (omega arith)))

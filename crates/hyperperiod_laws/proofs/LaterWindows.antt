@@ -1,6 +1,6 @@
 -- Windows so many units later.
 use Rattle.std.proofs.Common.{Bool, ap, arith, false, inl, inr, le_refl, mod-lt, div-add-mod', subst, true, zero, suc, ℕ, ◌*◌, ◌+◌, ◌-◌, ◌/◌, ◌<◌, ◌∙◌, ◌≡◌, ◌≤◌}
-use Rattle.std.proofs.lemmas.Bool.{both_ways, cases_eq, cases_lt}
+use Rattle.std.proofs.lemmas.Bool.{both_ways, cases_lt}
 use native.Mathlib.Nat.{div-eq_of_lt-le}
 use Rattle.sched_base.specs.Counting.{bit, ticks}
 use Rattle.sched_base.proofs.CountingLemmas.{bit_le}
@@ -24,6 +24,23 @@ ticks_later f d (suc n) same =
     let last = ap bit (same n (omega arith)) in
     omega (arith, s, ih, last)
 
+-- and so between two of them
+pub ticks_between : (f : ℕ → Bool) (d a k : ℕ) → ((m : ℕ) → a ≤ m → m < a + k → f (m + d) ≡ f m) → ticks f (a + k + d) + ticks f a ≡ ticks f (a + d) + ticks f (a + k)
+ticks_between f d a zero same =
+    let e : a + 0 + d ≡ a + d = omega arith in
+    let e' : a + 0 ≡ a = omega arith in
+    let s = ap (ticks f) e in
+    let s' = ap (ticks f) e' in
+    omega (arith, s, s')
+ticks_between f d a (suc k) same =
+    let ih = ticks_between f d a k (λ m l h. same m l (omega (arith, h))) in
+    let e : a + suc k + d ≡ suc (a + k + d) = omega arith in
+    let e' : a + suc k ≡ suc (a + k) = omega arith in
+    let s = ap (ticks f) e in
+    let s' = ap (ticks f) e' in
+    let last = ap bit (same (a + k) (omega arith) (omega arith)) in
+    omega (arith, s, s', ih, last)
+
 -- ticks below a number
 pub ticks-le-all : (f : ℕ → Bool) (n : ℕ) → ticks f n ≤ n
 ticks-le-all f zero = omega arith
@@ -33,64 +50,63 @@ ticks-le-all f (suc n) = let ih = ticks-le-all f n in let one = bit_le (f n) in 
 pub begins_here : (b : ℕ → Bool) → HasBoundaries b → (u : ℕ) → b u ≡ true → window_begin b u ≡ u
 begins_here b has u at = same_IsBegin b u (window_begin b u) u (begin_is b has.first u) (record { below = le_refl u; here = at; last = λ v p q. absurd (omega (arith, p, q)) })
 
--- where boundaries come again `units` later, up to a limit, and there is one at `units`
-module _ (b : ℕ → Bool) (has : HasBoundaries b) (units limit : ℕ) (at : b units ≡ true)
-    (later : (u : ℕ) → 0 < u → u + units < limit → b (u + units) ≡ b u) where
-  later_begin : (u : ℕ) → 0 < u → b u ≡ true → u + units < limit → b (u + units) ≡ true
-  later_begin u p e l = later u p l ∙ e
+-- above each unit from `from` on there is a boundary within `units`
+abbrev pub AreWithin : (ℕ → Bool) → ℕ → ℕ → Type 0
+AreWithin b units from = (u : ℕ) → from ≤ u → (v : ℕ) × (u < v) × (v ≤ u + units) × (b v ≡ true)
 
-  -- windows begin so many units later
-  pub begins_later : (u : ℕ) → u + units < limit → window_begin b (u + units) ≡ window_begin b u + units
-  begins_later u l =
+-- so a window ends within `units` of each unit from there on that isn't before it
+pub ends_within : (b : ℕ → Bool) → HasBoundaries b → (units from : ℕ) → AreWithin b units from → (m u : ℕ) → from ≤ m → u ≤ m → window_end b u ≤ m + units
+ends_within b has units from within m u low up =
+    let (v, above, near, at) = within m low in
+    elim (cases_lt v (window_end b u)) [
+      | inl late ↦ absurd (both_ways (b v) ((end_is b has u).first v (omega (arith, above, up)) late) at)
+      | inr soon ↦ omega (arith, soon, near)
+    ]
+
+-- where boundaries from a unit on come again `units` later, up to a limit
+module _ (b : ℕ → Bool) (has : HasBoundaries b) (units limit from : ℕ)
+    (later : (u : ℕ) → from ≤ u → u + units < limit → b (u + units) ≡ b u) where
+  -- so many units later there is no boundary where there is none
+  none_later : (v : ℕ) → from + units ≤ v → v < limit → b (v - units) ≡ false → b v ≡ false
+  none_later v low up off =
+      let e : v - units + units ≡ v = omega (arith, low) in
+      let P : ℕ → Type 0 = λ w. b w ≡ false in
+      subst P e (later (v - units) (omega (arith, low)) (omega (arith, low, up)) ∙ off)
+
+  -- windows that begin from there on begin so many units later
+  pub begins_later : (u : ℕ) → from ≤ window_begin b u → u + units < limit → window_begin b (u + units) ≡ window_begin b u + units
+  begins_later u after l =
       let x = begin_is b has.first u in
       let low = x.below in
       same_IsBegin b (u + units) (window_begin b (u + units)) (window_begin b u + units) (begin_is b has.first (u + units))
       (record {
         below = omega (arith, low);
-        here = elim (cases_eq (window_begin b u) 0) [
-          | inl z ↦ (let e : units ≡ window_begin b u + units = omega (arith, z) in let P : ℕ → Type 0 = λ w. b w ≡ true in subst P e at)
-          | inr ne ↦ later_begin (window_begin b u) (omega (arith, ne)) x.here (omega (arith, low, l))
-        ];
-        last = λ v p q. (
-            let e : v - units + units ≡ v = omega (arith, p) in
-            let P : ℕ → Type 0 = λ w. b w ≡ false in
-            subst P e (later (v - units) (omega (arith, p)) (omega (arith, p, q, l)) ∙ x.last (v - units) (omega (arith, p)) (omega (arith, p, q))));
+        here = later (window_begin b u) after (omega (arith, low, l)) ∙ x.here;
+        last = λ v p q. none_later v (omega (arith, after, p)) (omega (arith, q, l)) (x.last (v - units) (omega (arith, p)) (omega (arith, p, q)));
       })
 
+  -- and one that is open at a unit from there on is open so many units later
+  pub still_later : (w u : ℕ) → from ≤ w → w ≤ u → window_begin b u ≤ w → u + units < limit → window_begin b (u + units) ≤ w + units
+  still_later w u low up begun l =
+      let x = begin_is b has.first u in
+      let y = begin_is b has.first (u + units) in
+      elim (cases_lt (w + units) (window_begin b (u + units))) [
+        | inr soon ↦ soon
+        | inl late ↦
+            (let below = y.below in
+            let off = none_later (window_begin b (u + units)) (omega (arith, low, late)) (omega (arith, below, l))
+            (x.last (window_begin b (u + units) - units) (omega (arith, begun, late)) (omega (arith, below))) in
+            absurd (both_ways (b (window_begin b (u + units))) off y.here))
+      ]
+
   -- and end so many units later
-  pub ends_later : (u : ℕ) → window_end b u + units < limit → window_end b (u + units) ≡ window_end b u + units
-  ends_later u l =
+  pub ends_later : (u : ℕ) → from ≤ u → window_end b u + units < limit → window_end b (u + units) ≡ window_end b u + units
+  ends_later u after l =
       let x = end_is b has u in
       let above = x.above in
       same_IsEnd b (u + units) (window_end b (u + units)) (window_end b u + units) (end_is b has (u + units))
       (record {
         above = omega (arith, above);
-        here = later_begin (window_end b u) (omega (arith, above)) x.here l;
-        first = λ v p q. (
-            let e : v - units + units ≡ v = omega (arith, p) in
-            let P : ℕ → Type 0 = λ w. b w ≡ false in
-            subst P e (later (v - units) (omega (arith, p)) (omega (arith, p, q, l)) ∙ x.first (v - units) (omega (arith, p)) (omega (arith, p, q))));
+        here = later (window_end b u) (omega (arith, after, above)) l ∙ x.here;
+        first = λ v p q. none_later v (omega (arith, after, p)) (omega (arith, q, l)) (x.first (v - units) (omega (arith, p)) (omega (arith, p, q)));
       })
-
-  -- the multiples are boundaries
-  pub multiple_at : (q : ℕ) → 0 < units → q * units < limit → b (q * units) ≡ true
-  multiple_at zero some l = (let e : 0 ≡ 0 * units = omega arith in let P : ℕ → Type 0 = λ w. b w ≡ true in subst P e has.first)
-  multiple_at (suc zero) some l = (let e : units ≡ suc zero * units = omega arith in let P : ℕ → Type 0 = λ w. b w ≡ true in subst P e at)
-  multiple_at (suc (suc q)) some l =
-      let ih = multiple_at (suc q) some (omega (arith, l)) in
-      let e : suc q * units + units ≡ suc (suc q) * units = omega arith in
-      let P : ℕ → Type 0 = λ w. b w ≡ true in
-      subst P e (later_begin (suc q * units) (omega (arith, some)) ih (omega (arith, l)))
-
-  -- so a window ends within `units`
-  pub ends_within : (u : ℕ) → 0 < units → u + units < limit → window_end b u ≤ u + units
-  ends_within u some l =
-      let x = end_is b has u in
-      let d = div-add-mod' u units in
-      let m = mod-lt u some in
-      let next : (u / units + 1) * units ≤ u + units = omega (arith, d) in
-      let past : u < (u / units + 1) * units = omega (arith, d, m) in
-      elim (cases_lt ((u / units + 1) * units) (window_end b u)) [
-        | inl late ↦ absurd (both_ways (b ((u / units + 1) * units)) (x.first ((u / units + 1) * units) past late) (multiple_at (u / units + 1) some (omega (arith, next, l))))
-        | inr soon ↦ omega (arith, soon, next)
-      ]
