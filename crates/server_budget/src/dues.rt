@@ -100,6 +100,14 @@ impl Dues {
         self.tick += ticks;
     }
 
+    /// What is left of the due of node n.
+    pub fn left_of(&self, n: NodeId) -> u128
+        requires { n.0 < length self.now.runs }
+        ensures { result ≡ slice_index self.now.remains n.0 }
+    {
+        remain_at(&self.marks, &self.runs, self.tick, n.0 as usize)
+    }
+
     /// The tick at which node n, which runs, has nothing left.
     pub fn dry(&self, n: NodeId) -> u128
         requires node { n.0 < length self.now.runs }
@@ -140,6 +148,14 @@ fn dry_at(marks: &[u128], runs: &[bool], tick: u128, n: usize) -> u128
     let _tick = tick;
     let _runs = runs.len();
     marks[n]
+}
+
+fn remain_at(marks: &[u128], runs: &[bool], tick: u128, n: usize) -> u128
+    requires ahead { AreAhead tick runs.now marks.now }
+    requires node { n < length runs.now }
+    ensures { result ≡ slice_index (remains_by tick runs.now marks.now) n }
+{
+    if runs[n] { marks[n] - tick } else { marks[n] }
 }
 
 fn start_at(marks: &mut [u128], runs: &mut [bool], tick: u128, n: usize)
