@@ -5,7 +5,7 @@ ghost use Rattle.run_tree.specs.Tree.{IsTree, IsPack, level, member, members};
 ghost use Rattle.tree_select.specs.Selected.{picked};
 ghost use Rattle.tree_select.specs.Marked.{AreLed, AreServed, IsPlaced, IsHanded, served_by};
 
-use crate::marked::{id_of, set_member};
+use crate::marked::{id_of, turn};
 use run_tree::Tree;
 use sched_base::NodeId;
 
@@ -17,12 +17,14 @@ fn served_by(on: bool, picked: Option<u32>) -> Option<u32>
     if on { picked } else { None }
 }
 
-/// Which member of a pack ran and which one runs now, and the place of the latter; None where none does.
+/// Which member of a pack ran and which one runs now, and the place of the latter; None where none does. And whether it is another
+/// one.
 #[derive(Clone, Copy)]
 pub struct Handed {
     pub place: Option<u32>,
     pub node: Option<NodeId>,
     pub before: Option<NodeId>,
+    pub is_other: bool,
 }
 
 // The member at this place of pack p, where there is one.
@@ -58,11 +60,11 @@ fn set_place(
 {
     let _place = (p, k);
     if let Some(m) = node {
-        set_member(tree, m, on, stale, runs);
+        turn(tree, m, on, stale, runs);
     }
 }
 
-// Of pack p, the member at `was` ran, and now the one at `next` does.
+// Of pack p, the member at `was` ran, and now the one at `next` does. Whether it is another one.
 fn hand_on(
     tree: &Tree,
     p: NodeId,
@@ -72,7 +74,7 @@ fn hand_on(
     after: Option<NodeId>,
     stale: &mut [bool],
     runs: &mut [bool],
-)
+) -> bool
     requires tree { IsTree tree.now }
     requires pack { IsPack tree.now p.0 }
     requires was { (j : ℕ) → j < length (members tree.now p.0) → slice_index_or runs.old (member tree.now p.0 j) false ≡ is_at was j }
@@ -82,13 +84,16 @@ fn hand_on(
     requires after_at { option_map (λ n. n.0) after ≡ option_map (member tree.now p.0) next }
     requires stale { length stale.old ≡ length tree.now.nodes }
     requires runs { length runs.old ≡ length tree.now.nodes }
-    ensures { IsHanded tree.now p.0 next stale.old runs.old stale.new runs.new }
+    ensures handed { IsHanded tree.now p.0 next stale.old runs.old stale.new runs.new }
+    ensures same { result ≡ false → was ≡ next }
+    ensures other { result ≡ true → was ≢ next }
 {
     if was == next {
-        return;
+        return false;
     }
     set_place(tree, p, was, before, false, stale, runs);
     set_place(tree, p, next, after, true, stale, runs);
+    true
 }
 
 /// Pack p, of whose members the one at `was` ran, loses its mark, and lets the one run that is picked now, where the pack
@@ -113,6 +118,8 @@ pub fn hand_over(
     ensures result { result.place ≡ served_by (slice_index_or runs.old p.0 false) chosen }
     ensures node { option_map (λ n. n.0) result.node ≡ option_map (member tree.now p.0) result.place }
     ensures before { option_map (λ n. n.0) result.before ≡ option_map (member tree.now p.0) was }
+    ensures same { result.is_other ≡ false → was ≡ result.place }
+    ensures other { result.is_other ≡ true → was ≢ result.place }
     ensures now { (j : ℕ) → j < length (members tree.now p.0) → slice_index_or runs.new (member tree.now p.0 j) false ≡ is_at result.place j }
     ensures led { AreLed tree.now runs.new }
     ensures served { (remains ends : List ℕ) → chosen ≡ picked tree.now remains ends p.0 → AreServed tree.now remains ends stale.old runs.old →
@@ -131,10 +138,11 @@ pub fn hand_over(
     let place = served_by(runs[p.0 as usize], chosen);
     let before = node_at(tree, p, was);
     let node = node_at(tree, p, place);
-    hand_on(tree, p, was, place, before, node, stale, runs);
+    let is_other = hand_on(tree, p, was, place, before, node, stale, runs);
     Handed {
         place,
         node,
         before,
+        is_other,
     }
 }

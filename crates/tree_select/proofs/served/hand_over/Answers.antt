@@ -8,15 +8,15 @@ pub returns-clause-served : goal.returns-clause-served
 returns-clause-served c = λ remains ends is served.
     let long = c.requires.stale in
     let b = c.requires.pack.0 in
-    handed_served c.args.tree.now c.requires.tree remains ends c.args.p.0 c.args.chosen c.args.stale.now c.args.runs.now c.hand_on.new.stale c.hand_on.new.runs c.requires.pack (omega (arith, b, long))
-    (subst (λ (o : Option ℕ). IsHanded c.args.tree.now c.args.p.0 o (set c.args.stale.now c.args.p.0 false) c.args.runs.now c.hand_on.new.stale c.hand_on.new.runs) c.served_by-place.ensures.value c.hand_on.ensures) is served
+    handed_served c.args.tree.now c.requires.tree remains ends c.args.p.0 c.args.chosen c.args.stale.now c.args.runs.now c.hand_on-is_other.new.stale c.hand_on-is_other.new.runs c.requires.pack (omega (arith, b, long))
+    (subst (λ (o : Option ℕ). IsHanded c.args.tree.now c.args.p.0 o (set c.args.stale.now c.args.p.0 false) c.args.runs.now c.hand_on-is_other.new.stale c.hand_on-is_other.new.runs) c.served_by-place.ensures.value c.hand_on-is_other.ensures.handed) is served
 
 pub returns-clause-unmarked : goal.returns-clause-unmarked
 returns-clause-unmarked c = λ q j ne off.
-    handed_unmarked c.args.tree.now c.requires.tree c.args.p.0 c.served_by-place.result c.args.stale.now c.args.runs.now c.hand_on.new.stale c.hand_on.new.runs c.hand_on.ensures q j ne off
+    handed_unmarked c.args.tree.now c.requires.tree c.args.p.0 c.served_by-place.result c.args.stale.now c.args.runs.now c.hand_on-is_other.new.stale c.hand_on-is_other.new.runs c.hand_on-is_other.ensures.handed q j ne off
 
 pub returns-clause-unchanged : goal.returns-clause-unchanged
-returns-clause-unchanged c = λ q j off. (c.hand_on.ensures.unmarked q j off).1
+returns-clause-unchanged c = λ q j off. (c.hand_on-is_other.ensures.handed.unmarked q j off).1
 
 pub returns-clause-within : goal.returns-clause-within
 returns-clause-within c = λ j is. c.requires.chosen j (c.served_by-place.ensures.within j is)
@@ -25,22 +25,22 @@ pub returns-clause-result : goal.returns-clause-result
 returns-clause-result c = c.served_by-place.ensures.value
 
 pub returns-clause-now : goal.returns-clause-now
-returns-clause-now c = c.hand_on.ensures.each
+returns-clause-now c = c.hand_on-is_other.ensures.handed.each
 
 pub returns-clause-led : goal.returns-clause-led
-returns-clause-led c = c.hand_on.ensures.led c.requires.led
+returns-clause-led c = c.hand_on-is_other.ensures.handed.led c.requires.led
 
 pub returns-clause-others : goal.returns-clause-others
-returns-clause-others c = c.hand_on.ensures.others
+returns-clause-others c = c.hand_on-is_other.ensures.handed.others
 
 pub returns-clause-own : goal.returns-clause-own
 returns-clause-own c =
     let long = c.requires.stale in
     let b = c.requires.pack.0 in
-    handed_mark c.args.tree.now c.requires.tree c.args.p.0 c.served_by-place.result c.args.stale.now c.args.runs.now c.hand_on.new.stale c.hand_on.new.runs c.requires.pack (omega (arith, b, long)) c.hand_on.ensures
+    handed_mark c.args.tree.now c.requires.tree c.args.p.0 c.served_by-place.result c.args.stale.now c.args.runs.now c.hand_on-is_other.new.stale c.hand_on-is_other.new.runs c.requires.pack (omega (arith, b, long)) c.hand_on-is_other.ensures.handed
 
 pub returns-clause-marks : goal.returns-clause-marks
-returns-clause-marks c = handed_marks c.args.tree.now c.requires.tree c.args.p.0 c.served_by-place.result c.args.stale.now c.args.runs.now c.hand_on.new.stale c.hand_on.new.runs c.hand_on.ensures
+returns-clause-marks c = handed_marks c.args.tree.now c.requires.tree c.args.p.0 c.served_by-place.result c.args.stale.now c.args.runs.now c.hand_on-is_other.new.stale c.hand_on-is_other.new.runs c.hand_on-is_other.ensures.handed
 
 pub bounds-stale-p : goal.bounds-stale-p
 bounds-stale-p c = let b = c.requires.pack.0 in let long = c.requires.stale in omega (arith, b, long)
@@ -48,26 +48,26 @@ bounds-stale-p c = let b = c.requires.pack.0 in let long = c.requires.stale in o
 pub bounds-runs-p : goal.bounds-runs-p
 bounds-runs-p c = let b = c.requires.pack.0 in let long = c.requires.runs in omega (arith, b, long)
 
-pub hand_on-requires-clause-tree : goal.hand_on-requires-clause-tree
-hand_on-requires-clause-tree c = c.requires.tree
+pub hand_on-is_other-requires-clause-tree : goal.hand_on-is_other-requires-clause-tree
+hand_on-is_other-requires-clause-tree c = c.requires.tree
 
-pub hand_on-requires-clause-pack : goal.hand_on-requires-clause-pack
-hand_on-requires-clause-pack c = c.requires.pack
+pub hand_on-is_other-requires-clause-pack : goal.hand_on-is_other-requires-clause-pack
+hand_on-is_other-requires-clause-pack c = c.requires.pack
 
-pub hand_on-requires-clause-was : goal.hand_on-requires-clause-was
-hand_on-requires-clause-was c = c.requires.was
+pub hand_on-is_other-requires-clause-was : goal.hand_on-is_other-requires-clause-was
+hand_on-is_other-requires-clause-was c = c.requires.was
 
-pub hand_on-requires-clause-runs : goal.hand_on-requires-clause-runs
-hand_on-requires-clause-runs c = c.requires.runs
+pub hand_on-is_other-requires-clause-runs : goal.hand_on-is_other-requires-clause-runs
+hand_on-is_other-requires-clause-runs c = c.requires.runs
 
-pub hand_on-requires-clause-before : goal.hand_on-requires-clause-before
-hand_on-requires-clause-before c = c.requires.within
+pub hand_on-is_other-requires-clause-before : goal.hand_on-is_other-requires-clause-before
+hand_on-is_other-requires-clause-before c = c.requires.within
 
-pub hand_on-requires-clause-before_at : goal.hand_on-requires-clause-before_at
-hand_on-requires-clause-before_at c = c.node_at-before.ensures
+pub hand_on-is_other-requires-clause-before_at : goal.hand_on-is_other-requires-clause-before_at
+hand_on-is_other-requires-clause-before_at c = c.node_at-before.ensures
 
-pub hand_on-requires-clause-after_at : goal.hand_on-requires-clause-after_at
-hand_on-requires-clause-after_at c = c.node_at-node.ensures
+pub hand_on-is_other-requires-clause-after_at : goal.hand_on-is_other-requires-clause-after_at
+hand_on-is_other-requires-clause-after_at c = c.node_at-node.ensures
 
 pub returns-clause-node : goal.returns-clause-node
 returns-clause-node c = c.node_at-node.ensures
