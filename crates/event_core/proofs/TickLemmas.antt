@@ -4,7 +4,7 @@ use Rattle.std.proofs.lemmas.Bool.{cases_eq, cases_lt}
 use Rattle.std.proofs.lemmas.List.{ext_get_or, length-map, get_or-map, length-set, length-replicate, get_or-replicate}
 use Rattle.std.proofs.Math.ListN.{set}
 use Rattle.event_core.specs.Serving.{no_tick}
-use Rattle.event_core.specs.Ticks.{ticks_by, AreInBlocks, ArePlaces, IsFirstTick}
+use Rattle.event_core.specs.Ticks.{no_narrow, ticks_by, AreInBlocks, AreNarrowed, ArePlaces, IsFirstTick}
 
 -- ---- places
 
@@ -194,11 +194,29 @@ least_next ticks from k first next l e was = (
   ],
 )
 
-pub blocks_first : (least ticks : List ℕ) (count blocks : ℕ) → least ≡ replicate blocks no_tick → ticks ≡ replicate count no_tick → count ≤ blocks * 8 → AreInBlocks least ticks 0
+pub blocks_first : (least ticks : List ℕ) (count blocks : ℕ) → least ≡ replicate blocks no_narrow → ticks ≡ replicate count no_narrow → count ≤ blocks * 8 → AreInBlocks least ticks 0
 blocks_first least ticks count blocks el et far = record {
-  long = (let a = long in let b = ap (λ (xs : List ℕ). length xs) el ∙ length-replicate {A = ℕ} blocks no_tick in omega (arith, a, b, far));
+  long = (let a = long in let b = ap (λ (xs : List ℕ). length xs) el ∙ length-replicate {A = ℕ} blocks no_narrow in omega (arith, a, b, far));
   few = omega arith;
-  bound = λ k l. (let a = ap (λ (xs : List ℕ). get_or xs (k / 8) 0) el ∙ get_or-replicate blocks (k / 8) no_tick 0 (omega (arith, l, long, far)) in let b = none k l in omega (arith, a, b));
+  bound = λ k l. (let a = ap (λ (xs : List ℕ). get_or xs (k / 8) 0) el ∙ get_or-replicate blocks (k / 8) no_narrow 0 (omega (arith, l, long, far)) in let b = none k l in omega (arith, a, b));
+  rest = λ k l past. none k l;
+}
+  where
+    long : length ticks ≡ count
+    long = ap (λ (xs : List ℕ). length xs) et ∙ length-replicate {A = ℕ} count no_narrow
+
+    none : (k : ℕ) → k < length ticks → get_or ticks k 0 ≡ no_narrow
+    none k l = ap (λ (xs : List ℕ). get_or xs k 0) et ∙ get_or-replicate count k no_narrow 0 (omega (arith, l, long))
+
+-- no place has a tick
+pub narrowed_first : (narrow ticks : List ℕ) (count : ℕ) → narrow ≡ replicate count no_narrow → ticks ≡ replicate count no_tick → AreNarrowed narrow ticks 0
+narrowed_first narrow ticks count en et = record {
+  long = ap (λ (xs : List ℕ). length xs) en ∙ length-replicate {A = ℕ} count no_narrow ∙ sym long;
+  few = omega arith;
+  each = λ k l. (
+      let a = ap (λ (xs : List ℕ). get_or xs k 0) en ∙ get_or-replicate count k no_narrow 0 (omega (arith, l, long)) in
+      let b = none k l in
+      omega (arith, a, b));
   rest = λ k l past. none k l;
 }
   where
@@ -207,6 +225,80 @@ blocks_first least ticks count blocks el et far = record {
 
     none : (k : ℕ) → k < length ticks → get_or ticks k 0 ≡ no_tick
     none k l = ap (λ (xs : List ℕ). get_or xs k 0) et ∙ get_or-replicate count k no_tick 0 (omega (arith, l, long))
+
+-- one place has another tick
+pub narrowed_set : (narrow ticks narrow' ticks' : List ℕ) (used used' place tick small : ℕ) → AreNarrowed narrow ticks used → place < length ticks → small ≡ min tick no_narrow → narrow' ≡ set narrow place small → ticks' ≡ set ticks place tick →
+    used ≤ used' → place < used' → used' ≤ length ticks → AreNarrowed narrow' ticks' used'
+narrowed_set narrow ticks narrow' ticks' used used' place tick small was l is en et more past few = record {
+  long = ap (λ (xs : List ℕ). length xs) en ∙ length-set narrow place small ∙ was.long ∙ sym long;
+  few = (let e = long in omega (arith, few, e));
+  each = λ k b. elim (cases_eq k place) [
+    | inl same ↦
+        (let a = ap (λ (xs : List ℕ). get_or xs k 0) en ∙ ap (λ (j : ℕ). get_or (set narrow place small) j 0) same ∙ get_or-set_same narrow place small 0 (let e = was.long in omega (arith, l, e)) in
+        let c = ap (λ (xs : List ℕ). get_or xs k 0) et ∙ ap (λ (j : ℕ). get_or (set ticks place tick) j 0) same ∙ get_or-set_same ticks place tick 0 l in
+        omega (arith, a, c, is))
+    | inr ne ↦
+        (let a = ap (λ (xs : List ℕ). get_or xs k 0) en ∙ get_or-set_other narrow place k small 0 ne in
+        let c = ap (λ (xs : List ℕ). get_or xs k 0) et ∙ get_or-set_other ticks place k tick 0 ne in
+        let e = was.each k (let m = long in omega (arith, b, m)) in
+        omega (arith, a, c, e))
+  ];
+  rest = λ k b high. ap (λ (xs : List ℕ). get_or xs k 0) et ∙ get_or-set_other ticks place k tick 0 (λ e. absurd (omega (arith, e, past, high))) ∙ was.rest k (let m = long in omega (arith, b, m)) (omega (arith, more, high));
+}
+  where
+    long : length ticks' ≡ length ticks
+    long = ap (λ (xs : List ℕ). length xs) et ∙ length-set ticks place tick
+
+-- the first of ticks that are narrowed
+pub first_narrowed : (narrow ticks : List ℕ) (used most first : ℕ) → most < no_narrow → AreNarrowed narrow ticks used → IsFirstTick narrow most first → IsFirstTick ticks most first
+first_narrowed narrow ticks used most first early n was = record {
+  below = was.below;
+  all = λ k l. (let a = was.all k (let e = n.long in omega (arith, l, e)) in let e = n.each k l in omega (arith, a, e));
+  one = elim was.one [
+    | inl same ↦ inl same
+    | inr found ↦
+        (let (k, l, e) = found in
+        let low : k < length ticks = (let m = n.long in omega (arith, l, m)) in
+        let b = was.below in
+        let c = n.each k low in
+        inr (k, low, omega (arith, e, b, c, early)))
+  ];
+}
+
+-- the first of all ticks that are used
+pub first_used : (narrow ticks : List ℕ) (used most first : ℕ) → most < no_tick → AreNarrowed narrow ticks used → first ≤ most → ((k : ℕ) → k < used → first ≤ get_or ticks k 0) →
+    ((first ≡ most) ⊎ ((k : ℕ) × (k < length ticks) × (first ≡ get_or ticks k 0))) → IsFirstTick ticks most first
+first_used narrow ticks used most first early n below all one = record {
+  below = below;
+  all = λ k l. elim (cases_lt k used) [
+    | inl low ↦ all k low
+    | inr past ↦ (let r = n.rest k l (omega (arith, past)) in omega (arith, r, below, early))
+  ];
+  one = one;
+}
+
+-- one place more
+pub wide_next : (ticks : List ℕ) (most k first next : ℕ) → k < length ticks → next ≡ min first (get_or ticks k 0) →
+    (first ≤ most) × ((j : ℕ) → j < k → first ≤ get_or ticks j 0) × ((first ≡ most) ⊎ ((j : ℕ) × (j < length ticks) × (first ≡ get_or ticks j 0))) →
+    (next ≤ most) × ((j : ℕ) → j < k + 1 → next ≤ get_or ticks j 0) × ((next ≡ most) ⊎ ((j : ℕ) × (j < length ticks) × (next ≡ get_or ticks j 0)))
+wide_next ticks most k first next l e was = (
+  (let b = was.0 in omega (arith, e, b)),
+  λ j high. elim (cases_eq j k) [
+    | inl same ↦ (let a = ap (λ i. get_or ticks i 0) same in omega (arith, a, e))
+    | inr ne ↦ (let a = was.1 j (omega (arith, high, ne)) in omega (arith, a, e))
+  ],
+  elim (cases_lt first (get_or ticks k 0)) [
+    | inl less ↦ (let same : next ≡ first = omega (arith, e, less) in elim was.2 [ inl most ↦ inl (same ∙ most) | inr found ↦ inr (found.0, found.1, same ∙ found.2) ])
+    | inr more ↦ inr (k, l, omega (arith, e, more))
+  ],
+)
+
+-- what is found and skipped among ticks that are narrowed
+pub here_narrowed : (narrow ticks : List ℕ) (used now k : ℕ) → now < no_narrow → AreNarrowed narrow ticks used → k < length ticks → get_or narrow k 0 ≡ now → get_or ticks k 0 ≡ now
+here_narrowed narrow ticks used now k early n l e = (let c = n.each k l in omega (arith, c, e, early))
+
+pub skipped_narrowed : (narrow ticks : List ℕ) (used now k : ℕ) → now < no_narrow → AreNarrowed narrow ticks used → k < length ticks → get_or narrow k 0 ≢ now → get_or ticks k 0 ≢ now
+skipped_narrowed narrow ticks used now k early n l ne e = ne (let c = n.each k l in omega (arith, c, e, early))
 
 -- the first of a tick and of those in the blocks before one
 pub record IsFirstBelow (ticks : List ℕ) (most block first : ℕ) : Type 0 where
@@ -235,7 +327,7 @@ first_next ticks most block first next less own from was = record {
   ];
 }
 
-pub first_all : (least ticks : List ℕ) (used most block first : ℕ) → AreInBlocks least ticks used → most < no_tick → used ≤ block * 8 → IsFirstBelow ticks most block first → IsFirstTick ticks most first
+pub first_all : (least ticks : List ℕ) (used most block first : ℕ) → AreInBlocks least ticks used → most < no_narrow → used ≤ block * 8 → IsFirstBelow ticks most block first → IsFirstTick ticks most first
 first_all least ticks used most block first h early far was = record {
   below = was.below;
   all = λ k l. elim (cases_lt k used) [

@@ -2,7 +2,7 @@
 ghost use Rattle.std.specs.Prelude.{ℕ, [], ◌≡◌, ◌<◌, ◌≤◌, length, true, None, Some, slice_index_or, slice_set};
 ghost use Rattle.knockout.specs.Knockouts.{never};
 ghost use Rattle.event_core.specs.Serving.{lists, IsServing, IsDrying};
-ghost use Rattle.event_core.specs.Ticks.{ticks_by, AreInBlocks, ArePlaces};
+ghost use Rattle.event_core.specs.Ticks.{ticks_by, AreInBlocks, AreNarrowed, ArePlaces};
 
 use crate::ticks::next_of;
 use knockout::{Knockout, NEVER};
@@ -42,7 +42,8 @@ pub(crate) fn run_dry(
     tree: &Tree,
     number: &[u32],
     nodes: &[u32],
-    least: &[u128],
+    least: &[u64],
+    narrow: &[u64],
     dry: &[u128],
     used: usize,
     ends: &[u128],
@@ -53,7 +54,8 @@ pub(crate) fn run_dry(
     stale: &mut [bool],
 )
     requires places { ArePlaces number.now nodes.now (length dry.now) }
-    requires blocks { AreInBlocks least.now dry.now used }
+    requires narrowed { AreNarrowed narrow.now dry.now used }
+    requires blocks { AreInBlocks least.now narrow.now used }
     requires ready { length ready.old ≡ length tree.now.nodes }
     requires serves { length serves.now ≡ length tree.now.nodes }
     requires stale { length stale.old ≡ length tree.now.nodes }
@@ -65,10 +67,10 @@ pub(crate) fn run_dry(
     let _ends = ends.len();
     let _runs = runs.len();
     let now = dues.now();
-    let mut k = next_of(least, dry, used, now, 0);
+    let mut k = next_of(least, narrow, dry, used, now, 0);
     'dried: while k < used {
         let p = NodeId(nodes[k]);
         take_out(p, serves[p.0 as usize], ready, stale);
-        k = next_of(least, dry, used, now, k + 1);
+        k = next_of(least, narrow, dry, used, now, k + 1);
     }
 }

@@ -12,6 +12,7 @@ mod dried;
 mod firsts;
 mod kept;
 mod laws;
+mod left;
 mod rounds;
 mod rows;
 mod serving;

@@ -1,5 +1,5 @@
 //! Which member of a pack runs, and what is left of its due.
-ghost use Rattle.std.specs.Prelude.{ℕ, List, ◌≡◌, ◌≢◌, ◌+◌, ◌<◌, ◌≤◌, ◌^◌, not, length, false, Some, option_map, slice_index, slice_index_or, slice_set};
+ghost use Rattle.std.specs.Prelude.{ℕ, List, ◌≡◌, ◌≢◌, ◌+◌, ◌<◌, ◌≤◌, ◌^◌, not, length, false, true, Some, option_map, slice_index, slice_index_or, slice_set};
 ghost use Rattle.sched_base.specs.Candidates.{is_at};
 ghost use Rattle.run_tree.specs.Tree.{IsTree, IsPack, IsMember, level, member, members};
 ghost use Rattle.edf_pick.specs.Ready.{AreReady};
@@ -56,11 +56,12 @@ fn set_place(
     }
 }
 
-/// The member of a pack that runs: its place, and the node; None where none does.
+/// The member of a pack that runs: its place, and the node; None where none does. And whether it is another one than before.
 #[derive(Clone, Copy)]
 pub(crate) struct Served {
     pub(crate) place: Option<u32>,
     pub(crate) node: Option<NodeId>,
+    pub(crate) is_other: bool,
 }
 
 // Of pack p, the member at `was` stops, and the one that is handed to starts; nothing happens where it is one member.
@@ -74,11 +75,13 @@ fn change_if(tree: &Tree, p: NodeId, was: Option<u32>, next: Handed, dues: &mut 
     requires nodes { length dues.old.runs ≡ length tree.now.nodes }
     requires runs { (j : ℕ) → j < length (members tree.now p.0) → slice_index_or dues.old.runs (member tree.now p.0 j) false ≡ is_at was j }
     requires fits { AreFitting tree.now dues.old }
+    requires same { next.is_other ≡ false → was ≡ next.place }
+    requires other { next.is_other ≡ true → was ≢ next.place }
     ensures tick { dues.new.tick ≡ dues.old.tick }
     ensures remains { dues.new.remains ≡ dues.old.remains }
     ensures over { IsOver tree.now p.0 next.place dues.old.runs dues.new.runs }
 {
-    if was == next.place {
+    if !next.is_other {
         return;
     }
     set_place(tree, p, was, next.before, false, dues);
@@ -110,6 +113,7 @@ pub(crate) fn serve(
     ensures now { (j : ℕ) → j < length (members tree.now p.0) → slice_index_or runs.new (member tree.now p.0 j) false ≡ is_at result.place j }
     ensures within { (j : ℕ) → result.place ≡ Some j → j < length (members tree.now p.0) }
     ensures node { option_map (λ n. n.0) result.node ≡ option_map (member tree.now p.0) result.place }
+    ensures same { result.is_other ≡ false → was ≡ result.place }
     ensures nodes { length dues.new.runs ≡ length dues.old.runs }
     ensures tick { dues.new.tick ≡ dues.old.tick }
     ensures remains { dues.new.remains ≡ dues.old.remains }
@@ -133,5 +137,6 @@ pub(crate) fn serve(
     Served {
         place: next.place,
         node: next.node,
+        is_other: next.is_other,
     }
 }

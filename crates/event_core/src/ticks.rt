@@ -1,7 +1,7 @@
 //! Ticks of nodes, of which the first is found without looking at all of them.
-ghost use Rattle.std.specs.Prelude.{◌≡◌, ◌≢◌, ◌⊎◌, ℕ, List, ◌*◌, ◌/◌, ◌<◌, ◌≤◌, length, replicate, slice_index, slice_set, IfOk};
+ghost use Rattle.std.specs.Prelude.{◌≡◌, ◌≢◌, ◌⊎◌, ℕ, List, ◌*◌, ◌/◌, ◌<◌, ◌≤◌, length, min, replicate, slice_index, slice_set, IfOk};
 ghost use Rattle.event_core.specs.Serving.{lists, no_tick, IsDrying, IsServing};
-ghost use Rattle.event_core.specs.Ticks.{ticks_by, AreInBlocks, ArePlaces, IsFirstTick};
+ghost use Rattle.event_core.specs.Ticks.{no_narrow, ticks_by, AreInBlocks, AreNarrowed, ArePlaces, IsFirstTick};
 
 use crate::dried::run_dry;
 use knockout::Knockout;
@@ -22,33 +22,64 @@ pub(crate) struct Ticks {
     number: Vec<u32>,
     nodes: Vec<u32>,
     by_place: Vec<u128>,
-    // Of each block a tick before which none of its own comes.
-    least: Vec<u128>,
+    // The ticks at the places, or the greatest number of 64 bits where they are later.
+    narrow: Vec<u64>,
+    // Of each block such a tick before which none of its own comes.
+    least: Vec<u64>,
     // From this place on no node has a tick.
     used: usize,
 }
 
 impl Model for Ticks {
     ghost use Rattle.std.specs.Prelude.{List, ℕ, length};
-    ghost use Rattle.event_core.specs.Ticks.{ticks_by, AreInBlocks, ArePlaces};
+    ghost use Rattle.event_core.specs.Ticks.{ticks_by, AreInBlocks, AreNarrowed, ArePlaces};
 
     ghost Value = { List ℕ };
 
     ghost view = { λ t. ticks_by t.number.items t.by_place.items };
 
-    ghost invariant = { λ t. ArePlaces t.number.items t.nodes.items (length t.by_place.items) × AreInBlocks t.least.items t.by_place.items t.used };
+    ghost invariant = { λ t. ArePlaces t.number.items t.nodes.items (length t.by_place.items)
+        × AreNarrowed t.narrow.items t.by_place.items t.used × AreInBlocks t.least.items t.narrow.items t.used };
+}
+
+// The tick, or the greatest number of 64 bits where it is later.
+fn narrowed(tick: u128) -> u64
+    ensures { result ≡ min tick no_narrow }
+{
+    tick.min(u128::from(u64::MAX)) as u64
+}
+
+// The node at this place gets a tick of 64 bits.
+fn set_narrow(least: &mut [u64], narrow: &mut [u64], used: usize, place: usize, tick: u64) -> usize
+    requires blocks { AreInBlocks least.old narrow.old used }
+    requires place { place < length narrow.old }
+    ensures blocks { AreInBlocks least.new narrow.new result }
+    ensures ticks { narrow.new ≡ slice_set narrow.old place tick }
+    ensures used { (used ≤ result) × (place < result) }
+{
+    narrow[place] = tick;
+    least[place / BLOCK] = least[place / BLOCK].min(tick);
+    used.max(place + 1)
 }
 
 // The node at this place gets a tick.
-fn set_at(least: &mut [u128], ticks: &mut [u128], used: usize, place: usize, tick: u128) -> usize
-    requires blocks { AreInBlocks least.old ticks.old used }
+fn set_at(
+    least: &mut [u64],
+    narrow: &mut [u64],
+    ticks: &mut [u128],
+    used: usize,
+    place: usize,
+    tick: u128,
+) -> usize
+    requires narrowed { AreNarrowed narrow.old ticks.old used }
+    requires blocks { AreInBlocks least.old narrow.old used }
     requires place { place < length ticks.old }
-    ensures blocks { AreInBlocks least.new ticks.new result }
+    ensures narrowed { AreNarrowed narrow.new ticks.new result }
+    ensures blocks { AreInBlocks least.new narrow.new result }
     ensures ticks { ticks.new ≡ slice_set ticks.old place tick }
 {
     ticks[place] = tick;
-    least[place / BLOCK] = least[place / BLOCK].min(tick);
-    used.max(place + 1)
+    set_narrow(least, narrow, used, place, narrowed(tick))
 }
 
 // The place of node p.
@@ -63,31 +94,34 @@ fn place_of(number: &[u32], p: NodeId) -> usize
 fn set_node(
     number: &[u32],
     nodes: &[u32],
-    least: &mut [u128],
+    least: &mut [u64],
+    narrow: &mut [u64],
     ticks: &mut [u128],
     used: usize,
     p: NodeId,
     tick: u128,
 ) -> usize
     requires places { ArePlaces number.now nodes.now (length ticks.old) }
-    requires blocks { AreInBlocks least.old ticks.old used }
+    requires narrowed { AreNarrowed narrow.old ticks.old used }
+    requires blocks { AreInBlocks least.old narrow.old used }
     requires node { p.0 < length (ticks_by number.now ticks.old) }
     ensures places { ArePlaces number.now nodes.now (length ticks.new) }
-    ensures blocks { AreInBlocks least.new ticks.new result }
+    ensures narrowed { AreNarrowed narrow.new ticks.new result }
+    ensures blocks { AreInBlocks least.new narrow.new result }
     ensures ticks { ticks_by number.now ticks.new ≡ slice_set (ticks_by number.now ticks.old) p.0 tick }
 {
     let _nodes = nodes.len();
     let place = place_of(number, p);
-    set_at(least, ticks, used, place, tick)
+    set_at(least, narrow, ticks, used, place, tick)
 }
 
 // The least tick of the places from one to another.
-fn least_of(ticks: &[u128], from: usize, to: usize) -> u128
+fn least_of(ticks: &[u64], from: usize, to: usize) -> u64
     requires some { from < to }
     requires within { to ≤ length ticks.now }
     ensures all { (k : ℕ) → from ≤ k → k < to → result ≤ slice_index ticks.now k }
     ensures one { (k : ℕ) × (k < length ticks.now) × (result ≡ slice_index ticks.now k) }
-    ensures fits { result ≤ no_tick }
+    ensures fits { result ≤ no_narrow }
 {
     let mut first = ticks[from];
     for k in from..to {
@@ -97,7 +131,7 @@ fn least_of(ticks: &[u128], from: usize, to: usize) -> u128
 }
 
 // The first of a tick and of a block's, which isn't looked at where it has none before. Where it is, what is kept of it is then its least.
-fn first_in(least: &mut [u128], ticks: &[u128], used: usize, block: usize, first: u128) -> u128
+fn first_in(least: &mut [u64], ticks: &[u64], used: usize, block: usize, first: u64) -> u64
     requires blocks { AreInBlocks least.old ticks.now used }
     requires block { block * 8 < used }
     ensures blocks { AreInBlocks least.new ticks.now used }
@@ -115,11 +149,11 @@ fn first_in(least: &mut [u128], ticks: &[u128], used: usize, block: usize, first
 }
 
 // The first of a tick and of all others, where these are one block.
-fn first_of_one(least: &mut [u128], ticks: &[u128], used: usize, most: u128) -> u128
+fn first_of_one(least: &mut [u64], ticks: &[u64], used: usize, most: u64) -> u64
     requires blocks { AreInBlocks least.old ticks.now used }
     requires some { 0 < used }
     requires one { used ≤ 8 }
-    requires most { most < no_tick }
+    requires most { most < no_narrow }
     ensures blocks { AreInBlocks least.new ticks.now used }
     ensures first { IsFirstTick ticks.now most result }
 {
@@ -127,7 +161,7 @@ fn first_of_one(least: &mut [u128], ticks: &[u128], used: usize, most: u128) -> 
 }
 
 // The block of which the earliest tick is kept.
-fn first_block(least: &[u128], used: usize) -> usize
+fn first_block(least: &[u64], used: usize) -> usize
     requires some { 0 < used }
     requires blocks { used ≤ length least.now * 8 }
     ensures { result * 8 < used }
@@ -142,7 +176,7 @@ fn first_block(least: &[u128], used: usize) -> usize
 }
 
 // The first of a tick and of the soonest block's. Mostly it is the first of all, so that no other block need be looked at.
-fn first_in_soonest(least: &mut [u128], ticks: &[u128], used: usize, most: u128) -> u128
+fn first_in_soonest(least: &mut [u64], ticks: &[u64], used: usize, most: u64) -> u64
     requires blocks { AreInBlocks least.old ticks.now used }
     ensures blocks { AreInBlocks least.new ticks.now used }
     ensures below { result ≤ most }
@@ -155,10 +189,10 @@ fn first_in_soonest(least: &mut [u128], ticks: &[u128], used: usize, most: u128)
     first_in(least, ticks, used, block, most)
 }
 
-// The first of a tick and of all others.
-fn first_of(least: &mut [u128], ticks: &[u128], used: usize, most: u128) -> u128
+// The first of a tick and of all others, where it has 64 bits.
+fn first_narrow(least: &mut [u64], ticks: &[u64], used: usize, most: u64) -> u64
     requires blocks { AreInBlocks least.old ticks.now used }
-    requires most { most < no_tick }
+    requires most { most < no_narrow }
     ensures blocks { AreInBlocks least.new ticks.now used }
     ensures first { IsFirstTick ticks.now most result }
 {
@@ -173,7 +207,7 @@ fn first_of(least: &mut [u128], ticks: &[u128], used: usize, most: u128) -> u128
 }
 
 // The first place from one to another that has this tick, or the latter where there is none.
-fn next_in(ticks: &[u128], now: u128, from: usize, to: usize) -> usize
+fn next_in(ticks: &[u64], now: u64, from: usize, to: usize) -> usize
     requires from { from ≤ to }
     requires within { to ≤ length ticks.now }
     ensures after { from ≤ result }
@@ -190,7 +224,7 @@ fn next_in(ticks: &[u128], now: u128, from: usize, to: usize) -> usize
 }
 
 // The first place from number `from` on that has this tick, or the number of places that are used, where these are one block.
-fn next_of_one(least: &[u128], ticks: &[u128], used: usize, now: u128, from: usize) -> usize
+fn next_of_one(least: &[u64], ticks: &[u64], used: usize, now: u64, from: usize) -> usize
     requires blocks { AreInBlocks least.now ticks.now used }
     requires some { 0 < used }
     requires one { used ≤ 8 }
@@ -206,8 +240,8 @@ fn next_of_one(least: &[u128], ticks: &[u128], used: usize, now: u128, from: usi
     next_in(ticks, now, from, used)
 }
 
-/// The first place from number `from` on that has this tick, or the number of places that are used where there is none.
-pub(crate) fn next_of(least: &[u128], ticks: &[u128], used: usize, now: u128, from: usize) -> usize
+// The first place from number `from` on that has this tick of 64 bits, or the number of places that are used where there is none.
+fn next_narrow(least: &[u64], ticks: &[u64], used: usize, now: u64, from: usize) -> usize
     requires blocks { AreInBlocks least.now ticks.now used }
     requires from { from ≤ used }
     ensures after { from ≤ result }
@@ -229,6 +263,76 @@ pub(crate) fn next_of(least: &[u128], ticks: &[u128], used: usize, now: u128, fr
         }
     }
     used
+}
+
+// The first of a tick and of all others, whatever these are.
+fn first_wide(ticks: &[u128], used: usize, most: u128) -> u128
+    requires used { used ≤ length ticks.now }
+    ensures below { result ≤ most }
+    ensures all { (k : ℕ) → k < used → result ≤ slice_index ticks.now k }
+    ensures one { (result ≡ most) ⊎ ((k : ℕ) × (k < length ticks.now) × (result ≡ slice_index ticks.now k)) }
+{
+    let mut first = most;
+    for k in 0..used {
+        first = first.min(ticks[k]);
+    }
+    first
+}
+
+// The first of a tick and of all others.
+fn first_of(least: &mut [u64], narrow: &[u64], ticks: &[u128], used: usize, most: u128) -> u128
+    requires narrowed { AreNarrowed narrow.now ticks.now used }
+    requires blocks { AreInBlocks least.old narrow.now used }
+    requires most { most < no_tick }
+    ensures blocks { AreInBlocks least.new narrow.now used }
+    ensures first { IsFirstTick ticks.now most result }
+{
+    if most < u128::from(u64::MAX) {
+        u128::from(first_narrow(least, narrow, used, most as u64))
+    } else {
+        first_wide(ticks, used, most)
+    }
+}
+
+// The first place from one to another that has this tick, whatever it is, or the latter where there is none.
+fn next_wide(ticks: &[u128], now: u128, from: usize, to: usize) -> usize
+    requires from { from ≤ to }
+    requires within { to ≤ length ticks.now }
+    ensures after { from ≤ result }
+    ensures within { result ≤ to }
+    ensures here { result < to → slice_index ticks.now result ≡ now }
+    ensures skipped { (k : ℕ) → k < length ticks.now → from ≤ k → k < result → slice_index ticks.now k ≢ now }
+{
+    for k in from..to {
+        if ticks[k] == now {
+            return k;
+        }
+    }
+    to
+}
+
+/// The first place from number `from` on that has this tick, or the number of places that are used where there is none.
+pub(crate) fn next_of(
+    least: &[u64],
+    narrow: &[u64],
+    ticks: &[u128],
+    used: usize,
+    now: u128,
+    from: usize,
+) -> usize
+    requires narrowed { AreNarrowed narrow.now ticks.now used }
+    requires blocks { AreInBlocks least.now narrow.now used }
+    requires from { from ≤ used }
+    ensures after { from ≤ result }
+    ensures within { result ≤ used }
+    ensures here { result < used → slice_index ticks.now result ≡ now }
+    ensures skipped { (k : ℕ) → k < length ticks.now → from ≤ k → k < result → slice_index ticks.now k ≢ now }
+{
+    if now < u128::from(u64::MAX) {
+        next_narrow(least, narrow, used, now as u64, from)
+    } else {
+        next_wide(ticks, now, from, used)
+    }
 }
 
 // Node x has this place.
@@ -276,6 +380,13 @@ fn no_ticks(alloc: Global, count: usize) -> Result<Vec<u128>, NoMemory>
     Ok(vec![in alloc; u128::MAX; count]?)
 }
 
+// Places without a tick, and so blocks.
+fn no_narrow(alloc: Global, count: usize) -> Result<Vec<u64>, NoMemory>
+    ensures { IfOk result (λ v. v.items ≡ replicate count no_narrow) }
+{
+    Ok(vec![in alloc; u64::MAX; count]?)
+}
+
 impl Ticks {
     /// No node of the tree has a tick.
     pub(crate) fn new(alloc: Global, tree: &Tree) -> Result<Ticks, NoMemory>
@@ -287,9 +398,10 @@ impl Ticks {
         number_all(tree, &mut number, &mut nodes);
         Ok(Ticks {
             by_place: no_ticks(alloc, count)?,
+            narrow: no_narrow(alloc, count)?,
             number,
             nodes,
-            least: no_ticks(alloc, count / BLOCK + 1)?,
+            least: no_narrow(alloc, count / BLOCK + 1)?,
             used: 0,
         })
     }
@@ -303,6 +415,7 @@ impl Ticks {
             &self.number,
             &self.nodes,
             &mut self.least,
+            &mut self.narrow,
             &mut self.by_place,
             self.used,
             p,
@@ -316,7 +429,13 @@ impl Ticks {
         ensures same { self.new ≡ self.old }
         ensures first { IsFirstTick self.old most result }
     {
-        first_of(&mut self.least, &self.by_place, self.used, most)
+        first_of(
+            &mut self.least,
+            &self.narrow,
+            &self.by_place,
+            self.used,
+            most,
+        )
     }
 
     /// Members that ran dry at the present tick are ready no more, and their packs are marked. The ends and who runs are only
@@ -342,6 +461,7 @@ impl Ticks {
             &self.number,
             &self.nodes,
             &self.least,
+            &self.narrow,
             &self.by_place,
             self.used,
             ends,

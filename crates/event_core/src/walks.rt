@@ -76,7 +76,7 @@ fn serve_pack(
     let next = serve(tree, p, ready_at(ready, p), was, dues, stale, runs);
     serves[p.0 as usize] = next.place;
     dry.set(p, dry_of(tree, p, next, dues));
-    was != next.place
+    next.is_other
 }
 
 /// Pack i of a level.

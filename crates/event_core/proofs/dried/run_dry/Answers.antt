@@ -24,7 +24,7 @@ dried-preserved c =
     let number = c.args.number.now in
     let p = get_or c.args.nodes.now c.dried.k 0 in
     let on = c.dried-test.true in
-    let few = c.requires.blocks.few in
+    let few = c.requires.narrowed.few in
     let at = tick_at number c.args.nodes.now c.args.dry.now c.dried.k c.requires.places (omega (arith, on, few)) in
     let here = at.1 ∙ c.dried.invariant.2 on in
     let pack : IsPack t p = dry_is_pack t c.args.dues.now c.args.ends.now s _ c.dried.invariant.0 p at.0 (here ∙ c.now-now.ensures.value) in
@@ -57,7 +57,7 @@ returns c =
     (λ q i e. elim (cases_lt (get_or c.args.number.now q 0) c.args.used) [
       | inl low ↦ omega (arith, low, off)
       | inr past ↦ absurd (let l : q < length c.args.dry.now = (let b = i.0 in omega (arith, b, long, by, numbers)) in
-          let r = c.requires.blocks.rest (get_or number q 0) (c.requires.places.stands q l) (omega (arith, past)) in
+          let r = c.requires.narrowed.rest (get_or number q 0) (c.requires.places.stands q l) (omega (arith, past)) in
           let at = tick_of number c.args.dry.now q (omega (arith, l, numbers)) in
           omega (arith, r, e, early, at))
     ]) c.dried.invariant.0
@@ -65,7 +65,7 @@ returns c =
 pub take_out-requires-clause-member : goal.take_out-requires-clause-member
 take_out-requires-clause-member c = λ j e.
     let on = c.dried-test.true in
-    let few = c.requires.blocks.few in
+    let few = c.requires.narrowed.few in
     let s = lists c.dried.ready c.args.serves.now (ticks_by c.args.number.now c.args.dry.now) c.dried.stale c.args.runs.now in
     let p = get_or c.args.nodes.now c.dried.k 0 in
     let at = tick_at c.args.number.now c.args.nodes.now c.args.dry.now c.dried.k c.requires.places (omega (arith, on, few)) in

@@ -1,4 +1,4 @@
-use Rattle.std.proofs.Common.{ℕ, ◌*◌, ◌<◌}
+use Rattle.std.proofs.Common.{◌*◌, ◌<◌}
 use Rattle.event_core.proofs.ticks.first_block.Given as goal
 
 abbrev pub invariant-loop-block : goal.invariant-loop-block

@@ -1,6 +1,6 @@
 use Rattle.std.proofs.Common.{◌-◌, ◌≤◌}
 use Rattle.event_core.proofs.TickLemmas.{AreSkipped}
-use Rattle.event_core.proofs.ticks.next_of.Given as goal
+use Rattle.event_core.proofs.ticks.next_narrow.Given as goal
 
 abbrev pub invariant-loop-k : goal.invariant-loop-k
 invariant-loop-k l = (l.from ≤ l.k) × AreSkipped l.ticks l.now l.from l.k
