@@ -87,13 +87,13 @@ module _ (p : PlanContents) (h : IsPlan p) (can : CanComeRound p) (ticks : ℕ) 
   running_later =
       let e = turns.are in
       ap (λ d. packs_running (set_boundary p.set.tasks) p.tree (n + d)) e
-      ∙ packs_again p.set.tasks p.tree turns.units (recurs p h can ticks turns) n (early p h can ticks turns n l)
+      ∙ packs_again p.set.tasks p.tree turns.units 0 (recurs p h can ticks turns n l) n (omega arith) (early p h can ticks turns n l)
 
   run_later : (x : ℕ) → x < length p.tree.nodes → runs (set_boundary p.set.tasks) p.tree x (n + ticks) ≡ runs (set_boundary p.set.tasks) p.tree x n
   run_later x in_tree =
       let e = turns.are in
       ap (λ d. runs (set_boundary p.set.tasks) p.tree x (n + d)) e
-      ∙ runs_again p.set.tasks p.tree turns.units (recurs p h can ticks turns) n x (early p h can ticks turns n l) in_tree
+      ∙ runs_again p.set.tasks p.tree turns.units 0 (recurs p h can ticks turns n l) n x (omega arith) (early p h can ticks turns n l) in_tree
 
   among_later : (ms : List ℕ) → ((k : ℕ) → k < length ms → get_or ms k 0 < length p.tree.nodes) → leaf_among (set_boundary p.set.tasks) p.tree (n + ticks) ms ≡ leaf_among (set_boundary p.set.tasks) p.tree n ms
   among_later [] there = refl

@@ -10,9 +10,9 @@ use Rattle.sched_base.specs.Tables.{IsTable, end_of, lane_of, rounds_in, row_lim
 use Rattle.run_tree.specs.Tree.{Tree, dual, leaf, member, members}
 use Rattle.run_tree.specs.TreeOfSet.{is_idle}
 use Rattle.run_tree.specs.Plans.{PlanContents}
-use Rattle.hyperperiod_laws.specs.Hyperperiods.{IdlesApart}
+use Rattle.hyperperiod_laws.specs.Hyperperiods.{IdlesApart, IsLeftAgain}
 use Rattle.event_core.specs.Cores.{CoreContents, IsCoreOf, places_of}
-use Rattle.event_core.specs.Rounds.{IsRoundUpTo, rounds_before, rows_before}
+use Rattle.event_core.specs.Rounds.{IsRoundUpTo, event_at, rounds_before, rows_before}
 use Rattle.merged_rows.specs.Merging.{merged}
 use Rattle.merged_rounds.specs.declared.laps.Lap.{Lap}
 use Rattle.merged_rounds.specs.declared.laps.Later.{Later}
@@ -80,11 +80,17 @@ pub record ComesAgain (p : PlanContents) (from ticks : ℕ) : Type 0 where
   pub turns : AreTurns p ticks
   pub places : places_of p (from + ticks) ≡ places_of p from
 
--- what runs comes round, and these rounds, which begin after tick 0, come again so many ticks later
+-- At tick `from` no task waits, and so many ticks later a round begins, as much is left of each due as there, but for those of idle leaves,
+-- and the places are the same.
+pub record StandsAgain (p : PlanContents) (from ticks : ℕ) : Type 0 where
+  pub turns : AreTurns p ticks
+  pub left : IsLeftAgain p.set p.tree turns.units from
+  pub places : places_of p (from + ticks) ≡ places_of p from
+  pub event : event_at p (from + ticks) ≡ true
+
+-- these rounds come again so many ticks later
 pub record IsLapAgain (p : PlanContents) (when : Later) (rounds : Lap) : Type 0 where
-  pub can : CanComeRound p
-  pub later : 0 < when.from
-  pub again : ComesAgain p when.from when.ticks
+  pub again : StandsAgain p when.from when.ticks
   pub lap : IsLapFrom p when.from rounds
 
 -- pack p doesn't hold two idle leaves, and where it holds an idle leaf alone it is a root

@@ -3,3 +3,4 @@ pub mod Laps
 pub mod Replays
 pub mod Changes
 pub mod Recurrences
+pub mod Standings

@@ -10,8 +10,8 @@ use repeat_laws::first_late;
 use run_tree::{Kind, Plan, Tree};
 use sched_base::{Leaf, NodeId};
 
-// Whether node n is an idle leaf.
-fn is_idle(tree: &Tree, n: NodeId) -> bool
+/// Whether node n is an idle leaf.
+pub(crate) fn is_idle(tree: &Tree, n: NodeId) -> bool
     requires { n.0 < length tree.now.nodes }
     ensures { result ≡ is_idle (leaf tree.now n.0) }
 {
@@ -56,8 +56,8 @@ fn is_apart(tree: &Tree, n: NodeId) -> bool
     first_idle(tree, members, first + 1) == count
 }
 
-// Whether no pack holds two idle leaves, and one that holds an idle leaf alone is a root.
-fn are_idles_apart(tree: &Tree) -> bool
+/// Whether no pack holds two idle leaves, and one that holds an idle leaf alone is a root.
+pub(crate) fn are_idles_apart(tree: &Tree) -> bool
     ensures { result ≡ true → IdlesApart tree.now }
 {
     for n in 0..tree.nodes() {
@@ -69,10 +69,17 @@ fn are_idles_apart(tree: &Tree) -> bool
     true
 }
 
+/// Whether no task of a plan has an offset.
+pub(crate) fn is_on_time(plan: &Plan) -> bool
+    ensures { result ≡ true → AllByRecursion (λ t. t.offset ≡ 0) plan.now.set.tasks }
+{
+    first_late(plan.set().tasks()).is_none()
+}
+
 /// Whether no task of a plan has an offset, and the idle leaves of its tree stand apart: then what runs comes round.
 pub(crate) fn comes_round(plan: &Plan) -> bool
     ensures on_time { result ≡ true → AllByRecursion (λ t. t.offset ≡ 0) plan.now.set.tasks }
     ensures apart { result ≡ true → IdlesApart plan.now.tree }
 {
-    first_late(plan.set().tasks()).is_none() && are_idles_apart(plan.tree())
+    is_on_time(plan) && are_idles_apart(plan.tree())
 }

@@ -4,6 +4,7 @@
 mod apart;
 mod changed;
 mod counts;
+mod hyperperiods;
 mod laps;
 mod looks;
 mod passes;
@@ -12,9 +13,11 @@ mod releases;
 mod replays;
 mod searches;
 mod sources;
+mod standings;
 mod sums;
 mod turns;
 
 pub use counts::round_count;
+pub use hyperperiods::hyperperiod_of;
 pub use passes::merged_of;
 pub use recurrences::{Recurrence, recurrence_of};

@@ -2,21 +2,23 @@
 ghost use Rattle.std.specs.Prelude.{ℕ, ◌≡◌, ◌<◌, ◌≤◌, ◌+◌, ◌*◌, true, false, length, replicate, slice_index_or, IfOk, IfErr, None};
 ghost use Rattle.sched_base.specs.Tables.{row_limit};
 ghost use Rattle.run_tree.specs.Plans.{rounds_of, stop_of};
+ghost use Rattle.hyperperiod_laws.specs.Hyperperiods.{IdlesApart};
 ghost use Rattle.event_core.specs.Cores.{IsCoreOf};
 ghost use Rattle.event_core.specs.Counts.{IsCountFault};
 ghost use Rattle.event_core.specs.Told.{AllReleased};
 ghost use Rattle.merged_rows.specs.Lawful.{AreLawful};
-ghost use Rattle.merged_rounds.specs.Laps.{AreTurns, CanComeRound, IsMerging, IsSumUpTo};
+ghost use Rattle.merged_rounds.specs.Laps.{AreTurns, IsMerging, IsSumUpTo};
 ghost use Rattle.merged_rounds.specs.Passes.{AreMergedOf};
 ghost use Rattle.merged_rounds.specs.Replays.{IsComputed, IsMergingFrom, IsSourceOf};
 
-use crate::apart::comes_round;
+use crate::apart::{are_idles_apart, is_on_time};
 use crate::changed::merge_released;
 use crate::laps::{Later, merge_lap, with_laps};
 use crate::looks::{look_each, no_leaves};
 use crate::releases::last_release;
 use crate::searches::{merge_until_again, turn_of};
 use crate::sources::{Source, source_of, with_turn};
+use crate::standings::standing_at;
 use crate::sums::{RoundSum, all_rounds, no_rounds, with_round};
 use crate::turns::{merge_turn, no_turn};
 use event_core::{Core, CountFault};
@@ -201,7 +203,7 @@ fn merge_rounds(
 {
     let first = no_rounds(alloc, plan)?;
     if let Some(turn) = turn_of(plan) {
-        if comes_round(plan) {
+        if are_idles_apart(plan.tree()) {
             let (sum, mut source) = merge_first(alloc, plan, core, first, turn)?;
             return merge_with_laps(alloc, plan, &mut source, kept, told, sum, turn);
         }
@@ -219,8 +221,8 @@ fn computed(alloc: Global, plan: &Plan, core: Core) -> Result<Source, NoMemory>
     source_of(alloc, plan, core, no_turn(alloc, plan)?, false)
 }
 
-// Goes on for a hyperperiod of so many ticks, where there are more than a few processors, and tells where further rounds come from: by
-// that one's where it is kept.
+// Goes on for a hyperperiod of so many ticks, where there are more than a few processors and no task has an offset, and tells where
+// further rounds come from: by that one's where it is kept.
 fn merge_first(
     alloc: Global,
     plan: &Plan,
@@ -228,7 +230,7 @@ fn merge_first(
     first: RoundSum,
     turn: u128,
 ) -> Result<(RoundSum, Source), CountFault>
-    requires can { CanComeRound plan.now }
+    requires apart { IdlesApart plan.now.tree }
     requires belongs { IsCoreOf plan.now core }
     requires first { core.tick ≡ 0 }
     requires sum { IsSumUpTo plan.now 0 first }
@@ -238,7 +240,7 @@ fn merge_first(
     ensures sum { IfOk result (λ pair. IsSumUpTo plan.now pair.1.tick pair.0) }
     ensures fault { IfErr result (λ fault. IsCountFault plan.now fault) }
 {
-    if plan.tree().processors() <= FEW {
+    if plan.tree().processors() <= FEW || !is_on_time(plan) {
         return Ok((first, computed(alloc, plan, core)?));
     }
     let mut source = computed(alloc, plan, core)?;
@@ -246,7 +248,7 @@ fn merge_first(
     Ok((sum, with_turn(alloc, plan, source, kept, turn)?))
 }
 
-// Goes on up to the end of all rounds, of a plan whose schedule can come round.
+// Goes on up to the end of all rounds, of a plan whose idle leaves stand apart: then its schedule can come round.
 fn merge_with_laps(
     alloc: Global,
     plan: &Plan,
@@ -256,12 +258,13 @@ fn merge_with_laps(
     first: RoundSum,
     turn: u128,
 ) -> Result<RoundSum, CountFault>
-    requires can { CanComeRound plan.now }
+    requires apart { IdlesApart plan.now.tree }
     requires belongs { IsSourceOf plan.now source.old }
     requires sum { IsSumUpTo plan.now source.old.tick first }
     requires kept { kept.old ≡ replicate plan.now.tree.processors None }
     requires told { length told.old ≡ plan.now.tree.processors }
     requires turn { turn ≡ plan.now.tree.scale * plan.now.tree.scale }
+    requires within { turn < stop_of plan.now }
     ensures sum { IfOk result (λ sum. IsSumUpTo plan.now (stop_of plan.now) sum) }
     ensures fault { IfErr result (λ fault. IsCountFault plan.now fault) }
 {
@@ -296,8 +299,8 @@ fn is_lap(plan: &Plan, from: u128, turn: u128, ticks: u128) -> bool
     0 < from && 0 < ticks && from < stop && ticks < stop - from && are_turns(plan, turn, ticks)
 }
 
-// Goes on for one lap of so many ticks, where it ends before all rounds do; and up to the end of all rounds, by that lap where all
-// places are as before it.
+// Goes on for one lap of so many ticks, where it ends before all rounds do, and no task waits; and up to the end of all rounds, by that
+// lap where the schedule stands as before it.
 fn merge_again(
     alloc: Global,
     plan: &Plan,
@@ -308,7 +311,7 @@ fn merge_again(
     turn: u128,
     ticks: u128,
 ) -> Result<RoundSum, CountFault>
-    requires can { CanComeRound plan.now }
+    requires apart { IdlesApart plan.now.tree }
     requires merging { IsMergingFrom plan.now source.old first kept.old }
     requires kept { length kept.old ≡ plan.now.tree.processors }
     requires told { length told.old ≡ plan.now.tree.processors }
@@ -318,13 +321,14 @@ fn merge_again(
 {
     plan.know_lawful();
     let from = source.now();
-    if !is_lap(plan, from, turn, ticks) {
+    if !is_lap(plan, from, turn, ticks) || from < last_release(plan) {
         return merge_to_end(alloc, plan, source, kept, told, first);
     }
     let until = from + ticks;
-    let places = source.places(plan).copy(alloc)?;
+    let before = standing_at(alloc, plan, source)?;
     let (sum, lap) = merge_lap(alloc, plan, source, told, first, until)?;
-    if source.now() == until && source.places(plan).is_same(&places) {
+    let again = before.is_again(alloc, plan, source)?;
+    if again && source.now() == until {
         return with_laps(plan, &lap, Later { from, ticks }, sum);
     }
     forget_nodes(kept);

@@ -2,14 +2,17 @@
 ghost use Rattle.std.specs.Prelude.{ℕ, ◌≡◌, ◌<◌, ◌≤◌, ◌*◌, length, IfErr, IfOk, IfSome};
 ghost use Rattle.run_tree.specs.Plans.{stop_of};
 ghost use Rattle.event_core.specs.Counts.{IsCountFault};
-ghost use Rattle.merged_rounds.specs.Replays.{IsMergingFrom};
+ghost use Rattle.merged_rounds.specs.Replays.{IsMergingFrom, IsSourceOf};
+ghost use Rattle.merged_rounds.specs.Standings.{IsStanding};
 
 use crate::passes::merge_up_to;
+use crate::releases::last_release;
 use crate::sources::Source;
+use crate::standings::{Standing, standing_at};
 use crate::sums::RoundSum;
 use event_core::CountFault;
 use run_tree::Plan;
-use sched_base::{Leaf, NodeId};
+use sched_base::{Leaf, NoMemory, NodeId};
 use std::alloc::Global;
 
 /// The ticks of a hyperperiod, where there are more up to the end of all rounds.
@@ -26,9 +29,69 @@ pub(crate) fn turn_of(plan: &Plan) -> Option<u128>
     }
 }
 
-/// Goes on with rounds up to a multiple of `turn` at which all places are as so many ticks before, which it tells, or up to the last
-/// multiple before the end. Of the places at earlier multiples one is kept, and a later one as soon as it is twice as late. What is told
-/// is a guess.
+// The first multiple of `turn` at which no task waits, where that is before the end of all rounds.
+fn first_turn(plan: &Plan, turn: u128) -> Option<u128>
+    requires within { turn < stop_of plan.now }
+    ensures { IfSome result (λ begin. begin < stop_of plan.now) }
+{
+    let stop = plan.rounds_end();
+    let released = last_release(plan);
+    if turn == 0 || released >= stop {
+        return None;
+    }
+    let before = released / turn * turn;
+    let begin = if before < released {
+        before + turn
+    } else {
+        before
+    };
+    if begin < stop { Some(begin) } else { None }
+}
+
+// Goes on with rounds up to the first that begins at tick `until` or later, where the source isn't there yet.
+fn merge_before(
+    alloc: Global,
+    plan: &Plan,
+    source: &mut Source,
+    kept: &mut [Option<NodeId>],
+    told: &mut [Option<Leaf>],
+    first: RoundSum,
+    until: u128,
+) -> Result<RoundSum, CountFault>
+    requires merging { IsMergingFrom plan.now source.old first kept.old }
+    requires kept { length kept.old ≡ plan.now.tree.processors }
+    requires told { length told.old ≡ plan.now.tree.processors }
+    requires until { until ≤ stop_of plan.now }
+    ensures merging { IfOk result (λ sum. IsMergingFrom plan.now source.new sum kept.new) }
+    ensures fault { IfErr result (λ fault. IsCountFault plan.now fault) }
+{
+    if source.now() >= until {
+        return Ok(first);
+    }
+    merge_up_to(alloc, plan, source, kept, told, first, until)
+}
+
+// Where the schedule stands at the source's tick, once tick `at` is twice as late as where it was seen, and that until then.
+fn later_seen(
+    alloc: Global,
+    plan: &Plan,
+    source: &Source,
+    seen: Standing,
+    at: u128,
+) -> Result<Standing, NoMemory>
+    requires belongs { IsSourceOf plan.now source.now }
+    requires seen { IsStanding plan.now seen }
+    ensures { IfOk result (λ next. IsStanding plan.now next) }
+{
+    if at / 2 < seen.tick {
+        return Ok(seen);
+    }
+    standing_at(alloc, plan, source)
+}
+
+/// Goes on with rounds up to a multiple of `turn` at which the schedule stands as so many ticks before, which it tells, or up to the last
+/// multiple before the end. It looks from the first multiple on at which no task waits. Of where it stood at earlier ones one is kept, and
+/// a later one as soon as it is twice as late. What is told is a guess.
 pub(crate) fn merge_until_again(
     alloc: Global,
     plan: &Plan,
@@ -42,23 +105,25 @@ pub(crate) fn merge_until_again(
     requires kept { length kept.old ≡ plan.now.tree.processors }
     requires told { length told.old ≡ plan.now.tree.processors }
     requires turn { turn ≡ plan.now.tree.scale * plan.now.tree.scale }
+    requires within { turn < stop_of plan.now }
     ensures merging { IfOk result (λ pair. IsMergingFrom plan.now source.new pair.0 kept.new) }
     ensures fault { IfErr result (λ fault. IsCountFault plan.now fault) }
 {
     let stop = plan.rounds_end();
-    let mut sum = first;
-    let mut seen = source.places(plan).copy(alloc)?;
-    let mut seen_at = source.now();
-    let mut at = turn;
+    let Some(begin) = first_turn(plan, turn) else {
+        return Ok((first, None));
+    };
+    let mut sum = merge_before(alloc, plan, source, kept, told, first, begin)?;
+    let mut seen = standing_at(alloc, plan, source)?;
+    let mut at = begin + turn;
     'turns: while at < stop {
         sum = merge_up_to(alloc, plan, source, kept, told, sum, at)?;
-        if at > seen_at && source.places(plan).is_same(&seen) {
-            return Ok((sum, Some(at - seen_at)));
+        let now = source.now();
+        let again = seen.is_again(alloc, plan, source)?;
+        if again && now > seen.tick {
+            return Ok((sum, Some(now - seen.tick)));
         }
-        if at / 2 >= seen_at {
-            seen = source.places(plan).copy(alloc)?;
-            seen_at = at;
-        }
+        seen = later_seen(alloc, plan, source, seen, at)?;
         at += turn;
     }
     Ok((sum, None))

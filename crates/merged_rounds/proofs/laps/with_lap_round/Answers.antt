@@ -30,7 +30,7 @@ with_round-requires-clause-round c =
     ∙ ap (λ (n : ℕ). min (get_or ends c.args.i 0 + c.args.again.ticks) n) stop in
     subst (λ (n : ℕ). IsRoundUpTo p (n + c.args.again.ticks) c.end_of-end.result) (sym start)
     (subst (λ (n : ℕ). IsRoundUpTo p (round_start c.args.again.from ends c.args.i + c.args.again.ticks) n) (sym end)
-    (lap_round p c.rounds_end-stop.ensures.lawful c.requires.again.can c.args.again.from c.args.again.ticks c.requires.again.later c.requires.again.again ends c.args.lap.now.told.items c.requires.again.lap c.args.i c.requires.round early))
+    (lap_round p c.rounds_end-stop.ensures.lawful c.args.again.from c.args.again.ticks c.requires.again.again ends c.args.lap.now.told.items c.requires.again.lap c.args.i c.requires.round early))
 
 pub with_round-requires-clause-told : goal.with_round-requires-clause-told
 with_round-requires-clause-told c =
@@ -43,7 +43,7 @@ with_round-requires-clause-told c =
     let early : round_start c.args.again.from ends c.args.i + c.args.again.ticks < stop_of p = omega (arith, start, stop, on) in
     let many : c.processors.result ≡ p.tree.processors = c.processors.ensures.value ∙ ap (λ (t : Tree). t.processors) c.tree.ensures.value in
     let told : IsAllTold p (round_start c.args.again.from ends c.args.i + c.args.again.ticks) c.end_of-end.result c.told_in-told.result.now =
-    lap_told p c.rounds_end-stop.ensures.lawful c.requires.again.can c.args.again.from c.args.again.ticks c.requires.again.later c.requires.again.again ends all c.requires.again.lap c.args.i c.requires.round early
+    lap_told p c.rounds_end-stop.ensures.lawful c.args.again.from c.args.again.ticks c.requires.again.again ends all c.requires.again.lap c.args.i c.requires.round early
     c.end_of-end.result c.told_in-told.result.now (c.told_in-told.ensures.long ∙ many)
     (λ q l. c.told_in-told.ensures.each q (omega (arith, l, many))
     ∙ ap (λ (ts : List (Option Leaf)). get_or ts (c.args.i * c.processors.result + q) None) c.deref-3.ensures.value

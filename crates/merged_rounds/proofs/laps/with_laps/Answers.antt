@@ -24,7 +24,7 @@ laps-preserved c =
     let ends = c.args.lap.now.ends.items in
     let e : round_start c.args.again.from ends (length ends) + c.laps.shift ≡ c.args.again.from + (c.laps.shift + c.args.again.ticks) = omega (arith, end) in
     record {
-      again = λ l. next_lap p h c.requires.again.can c.args.again.from c.args.again.ticks c.laps.shift c.requires.again.again (c.laps.invariant.again early) l;
+      again = λ l. next_lap p h c.args.again.from c.args.again.ticks c.laps.shift c.requires.again.again (c.laps.invariant.again early) l;
       sum = subst (λ (n : ℕ). IsSumUpTo p (min n (stop_of p)) c.in_ok-sum.sum) e c.in_ok-sum.ensures.sum;
       near = omega (arith, early);
     }

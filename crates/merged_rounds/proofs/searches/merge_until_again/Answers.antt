@@ -7,8 +7,8 @@ use Rattle.merged_rounds.proofs.searches.merge_until_again.Goals as goal
 nearer : (stop old new : ℕ) → old < stop → old < new → stop - new < stop - old
 nearer stop old new a b = omega arith
 
-pub overflow_add-at : goal.overflow_add-at
-overflow_add-at c =
+pub overflow_add-at-in-turns : goal.overflow_add-at-in-turns
+overflow_add-at-in-turns c =
     let fits = stop_fits c.args.plan.now c.rounds_end-stop.ensures.lawful in
     let stop = c.rounds_end-stop.ensures.value in
     let on = c.turns-test.true in
@@ -25,3 +25,10 @@ turns-smaller c =
     let on = c.turns-test.true in
     let positive : 0 < c.args.turn = omega (arith, some, square, turn) in
     nearer (stop_of p) c.turns.at (c.turns.at + c.args.turn) (omega (arith, stop, on)) (omega (arith, positive))
+
+pub overflow_add-at : goal.overflow_add-at
+overflow_add-at c =
+    let fits = stop_fits c.args.plan.now c.rounds_end-stop.ensures.lawful in
+    let within = c.requires.within in
+    let begin = c.in-Some.ensures in
+    omega (arith, fits, within, begin)
