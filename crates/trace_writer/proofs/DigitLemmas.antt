@@ -1,10 +1,11 @@
 -- Digits that are written in parts.
-use Rattle.std.proofs.Common.{ℕ, zero, suc, ◌+◌, ◌-◌, ◌*◌, ◌/◌, ◌%◌, ◌^◌, ◌<◌, ◌≤◌, ◌≡◌, Bool, true, ◌&&◌, T, eqb, eqb→eq, inl, inr, List, [], ◌∷◌, ◌++◌, length, get_or, refl, sym, ap, ◌∙◌, arith, append_assoc, append-nil, eq-zero-or-pos, length-append}
+use Rattle.std.proofs.Common.{ℕ, zero, suc, ◌+◌, ◌-◌, ◌*◌, ◌/◌, ◌%◌, ◌^◌, ◌<◌, ◌≤◌, ◌≡◌, Bool, true, ◌&&◌, T, eqb, eqb→eq, inl, inr, List, [], ◌∷◌, ◌++◌, length, take, get_or, refl, sym, ap, ◌∙◌, arith, append_assoc, append-nil, eq-zero-or-pos, length-append}
 use lib.Ieee.Fits.{and_l, and_r}
 use Rattle.std.specs.Fmt.{decimal}
 use Rattle.std.proofs.Math.Nat.{mul_left_comm}
-use Rattle.std.proofs.lemmas.Fmt.{decimal_step_wide}
-use Rattle.trace_writer.specs.Digits.{low_digits}
+use Rattle.std.proofs.lemmas.Fmt.{decimal_digit, decimal_step_wide}
+use Rattle.std.proofs.lemmas.List.{take_at}
+use Rattle.trace_writer.specs.Digits.{IsRaised, low_digits}
 use Rattle.trace_writer.specs.declared.digits.TheConstants.{PAIRS}
 
 -- 10 to the power of k
@@ -30,28 +31,29 @@ split (suc k) q m some few fits =
     let step' : decimal (10 * a + m) ≡ decimal (a + m / 10) ++ (48 + m % 10) ∷ [] = rw (front, last) at step in
     ap (λ n. decimal (n + m)) e ∙ step' ∙ ap (λ ds. ds ++ (48 + m % 10) ∷ []) rest ∙ append_assoc (decimal q) (low_digits k (m / 10)) _
 
--- a number's last digits are eight of what is in front of its last k digits, and those
-sixteen : (k q m : ℕ) → m < powers k → low_digits (k + 8) (q * powers k + m) ≡ low_digits 8 q ++ low_digits k m
-sixteen zero q m few =
+-- a number's last digits are j of what is in front of its last k digits, and those
+low_parts : (j k q m : ℕ) → m < powers k → low_digits (k + j) (q * powers k + m) ≡ low_digits j q ++ low_digits k m
+low_parts j zero q m few =
     let e : q * 1 + m ≡ q = omega (arith, few) in
-    ap (λ n. low_digits 8 n) e ∙ sym (append-nil (low_digits 8 q))
-sixteen (suc k) q m few =
+    let none : zero + j ≡ j = omega arith in
+    ap (λ i. low_digits i (q * 1 + m)) none ∙ ap (λ n. low_digits j n) e ∙ sym (append-nil (low_digits j q))
+low_parts j (suc k) q m few =
     let a = q * powers k in
     let e : q * (10 * powers k) ≡ 10 * a = mul_left_comm q 10 (powers k) in
     let front : (10 * a + m) / 10 ≡ a + m / 10 = omega arith in
     let last : (10 * a + m) % 10 ≡ m % 10 = omega arith in
-    let more : suc k + 8 ≡ suc (k + 8) = omega arith in
-    let rest : low_digits (k + 8) (a + m / 10) ≡ low_digits 8 q ++ low_digits k (m / 10) = sixteen k q (m / 10) (omega (arith, few)) in
-    ap (λ n. low_digits n (q * (10 * powers k) + m)) more ∙ ap (λ n. low_digits (suc (k + 8)) (n + m)) e
-    ∙ ap (λ n. low_digits (k + 8) n ++ (48 + (10 * a + m) % 10) ∷ []) front ∙ ap (λ n. low_digits (k + 8) (a + m / 10) ++ (48 + n) ∷ []) last
-    ∙ ap (λ ds. ds ++ (48 + m % 10) ∷ []) rest ∙ append_assoc (low_digits 8 q) (low_digits k (m / 10)) _
+    let more : suc k + j ≡ suc (k + j) = omega arith in
+    let rest : low_digits (k + j) (a + m / 10) ≡ low_digits j q ++ low_digits k (m / 10) = low_parts j k q (m / 10) (omega (arith, few)) in
+    ap (λ n. low_digits n (q * (10 * powers k) + m)) more ∙ ap (λ n. low_digits (suc (k + j)) (n + m)) e
+    ∙ ap (λ n. low_digits (k + j) n ++ (48 + (10 * a + m) % 10) ∷ []) front ∙ ap (λ n. low_digits (k + j) (a + m / 10) ++ (48 + n) ∷ []) last
+    ∙ ap (λ ds. ds ++ (48 + m % 10) ∷ []) rest ∙ append_assoc (low_digits j q) (low_digits k (m / 10)) _
 
 -- the last sixteen digits, as two times eight
 pub two_eights : (n : ℕ) (old middle whole : List ℕ) → middle ≡ old ++ low_digits 8 (n / 10 ^ 8) → whole ≡ middle ++ low_digits 8 (n % 10 ^ 8) → whole ≡ old ++ low_digits 16 n
 two_eights n old middle whole front last =
     let e : n / 10 ^ 8 * 10 ^ 8 + n % 10 ^ 8 ≡ n = omega arith in
     last ∙ ap (λ xs. xs ++ low_digits 8 (n % 10 ^ 8)) front ∙ append_assoc old (low_digits 8 (n / 10 ^ 8)) _
-    ∙ ap (λ ys. old ++ ys) (sym (sixteen 8 (n / 10 ^ 8) (n % 10 ^ 8) (omega arith))) ∙ ap (λ m. old ++ low_digits 16 m) e
+    ∙ ap (λ ys. old ++ ys) (sym (low_parts 8 8 (n / 10 ^ 8) (n % 10 ^ 8) (omega arith))) ∙ ap (λ m. old ++ low_digits 16 m) e
 
 -- a number with more than eight digits by its last eight, and what is in front of them
 pub eight_parts : (n : ℕ) → 10 ^ 8 ≤ n → n < 10 ^ 64 → decimal n ≡ decimal (n / 10 ^ 8) ++ low_digits 8 (n % 10 ^ 8)
@@ -92,3 +94,42 @@ pair_below (suc n) p t h =
 
 pub pair_at : (p : ℕ) → p < 100 → (get_or PAIRS (p * 2) 0 ≡ 48 + p / 10) × (get_or PAIRS (p * 2 + 1) 0 ≡ 48 + p % 10)
 pair_at p h = pair_below 100 p tt h
+
+-- ---- numbers of at most eight digits
+
+some_power : (k : ℕ) → 1 ≤ powers k
+some_power zero = omega arith
+some_power (suc k) = let some = some_power k in omega (arith, some)
+
+-- the last digits of a number that has no more are its digits
+all_digits : (c n : ℕ) → n < 10 ^ 64 → n < powers (suc c) → (1 ≤ c → powers c ≤ n) → low_digits (suc c) n ≡ decimal n
+all_digits zero n fits few some =
+    let e : n % 10 ≡ n = omega (arith, few) in
+    ap (λ d. (48 + d) ∷ []) e ∙ sym (decimal_digit n (omega (arith, few)))
+all_digits (suc c) n fits few some =
+    let least = some_power c in
+    let many : 10 * powers c ≤ n = some (omega arith) in
+    let step = decimal_step_wide n (omega (arith, least, many)) fits in
+    let rest : low_digits (suc c) (n / 10) ≡ decimal (n / 10) = all_digits c (n / 10) (omega (arith, fits)) (omega (arith, few)) (λ _. omega (arith, many)) in
+    ap (λ ds. ds ++ (48 + n % 10) ∷ []) rest ∙ sym step
+
+low_length : (k n : ℕ) → length (low_digits k n) ≡ k
+low_length zero n = refl
+low_length (suc k) n = length-append (low_digits k (n / 10)) ((48 + n % 10) ∷ []) ∙ ap (λ l. l + 1) (low_length k (n / 10)) ∙ omega arith
+
+-- one of c + 1 digits, with k times 0 behind them, is one of eight that begins with these
+pub raised_is : (c k n raised : ℕ) → c + k ≡ 7 → raised ≡ n * powers k → raised < 10 ^ 8 → n < 10 ^ 8 → n < powers (suc c) → (1 ≤ c → powers c ≤ n) → IsRaised n (suc c) raised
+raised_is c k n raised eight is few fits short long =
+    let all = all_digits c n (omega (arith, fits)) short long in
+    let count = low_length (suc c) n in
+    let some = some_power k in
+    let parts : low_digits (k + suc c) (n * powers k + 0) ≡ low_digits (suc c) n ++ low_digits k 0 = low_parts (suc c) k n 0 (omega (arith, some)) in
+    let e : n * powers k + 0 ≡ raised = omega (arith, is) in
+    let e' : k + suc c ≡ 8 = omega (arith, eight) in
+    let parts' : low_digits 8 raised ≡ low_digits (suc c) n ++ low_digits k 0 = sym (ap (λ j. low_digits j (n * powers k + 0)) e' ∙ ap (λ m. low_digits 8 m) e) ∙ parts in
+    record {
+      few = few;
+      within = omega (arith, eight);
+      count_is = sym count ∙ ap length all;
+      digits = ap (λ ds. take (suc c) ds) parts' ∙ take_at (low_digits (suc c) n) _ (suc c) count ∙ all;
+    }

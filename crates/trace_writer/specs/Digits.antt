@@ -1,5 +1,5 @@
 -- The digits of a number, in parts.
-use Rattle.std.specs.Prelude.{ℕ, zero, suc, ◌≡◌, ◌<◌, ◌≤◌, ◌+◌, ◌-◌, ◌*◌, ◌/◌, ◌%◌, ◌^◌, ◌==◌, Bool, true, false, List, [], ◌∷◌, ◌++◌, take, decimal}
+use Rattle.std.specs.Prelude.{ℕ, zero, suc, ◌≡◌, ◌<◌, ◌≤◌, ◌+◌, ◌-◌, ◌*◌, ◌/◌, ◌%◌, ◌^◌, ◌==◌, Bool, true, false, List, [], ◌∷◌, ◌++◌, length, take, decimal}
 
 -- the last k digits of a number, those in front that are 0 too
 abbrev pub low_digits : ℕ → ℕ → List ℕ
@@ -19,6 +19,13 @@ front_digits (suc n) = decimal (suc n)
 abbrev pub last_digits : Bool → ℕ → List ℕ
 last_digits true low = decimal low
 last_digits false low = low_digits 8 low
+
+-- the number has so many digits, and they are the first ones of the eight of the other number
+pub record IsRaised (number count raised : ℕ) : Type 0 where
+  pub few : raised < 10 ^ 8
+  pub within : count ≤ 8
+  pub count_is : count ≡ length (decimal number)
+  pub digits : take count (low_digits 8 raised) ≡ decimal number
 
 -- these are the digits of the number: those of the front, and the last ones
 pub record AreHeld (number base top : ℕ) (front : List ℕ) (front_len : ℕ) (last : List ℕ) (last_len : ℕ) : Type 0 where

@@ -1,8 +1,6 @@
 //! Decimal digits, written where they are to stand.
 ghost use Rattle.std.specs.Prelude.{◌≡◌, ◌≤◌, ◌<◌, ◌+◌, ◌*◌, ◌/◌, ◌%◌, ◌^◌, ◌++◌, length, take, decimal};
-ghost use Rattle.trace_writer.specs.Digits.{low_digits, worth_of_four};
-
-use itoa::write_digits;
+ghost use Rattle.trace_writer.specs.Digits.{IsRaised, low_digits, worth_of_four};
 
 /// Eight digits have as many values.
 pub(crate) const EIGHT: u64 = 100_000_000;
@@ -10,14 +8,59 @@ pub(crate) const EIGHT: u64 = 100_000_000;
 /// Sixteen digits have as many values.
 pub(crate) const SIXTEEN: u64 = 10_000_000_000_000_000;
 
+/// What a number is multiplied by, with its last 43 bits dropped, in place of a division by 10^16: 2^117 divided by it.
+const RECIPROCAL: u128 = 16_615_349_947_311_448_411;
+
 /// The digits of the numbers below a hundred, two for each.
 static PAIRS: [u8; 200] =
     *b"0001020304050607080910111213141516171819202122232425262728293031323334353637383940414243444546474849\
     5051525354555657585960616263646566676869707172737475767778798081828384858687888990919293949596979899";
 
+/// What is in front of a number's last sixteen digits, and these.
+#[inline(always)]
+pub(crate) fn cut(number: u128) -> (u128, u64)
+    ensures high { result.0 ≡ number / 10 ^ 16 }
+    ensures low { result.1 ≡ number % 10 ^ 16 }
+{
+    let high = near_front(number);
+    let below = high * u128::from(SIXTEEN);
+    if below <= number && number - below < 2 * u128::from(SIXTEEN) {
+        let rest = (number - below) as u64;
+        return if rest < SIXTEEN {
+            (high, rest)
+        } else {
+            (high + 1, rest - SIXTEEN)
+        };
+    }
+    cut_by_division(number)
+}
+
+// What is in front of a number's last sixteen digits, or one less, where the number is below 2^107; else any number.
+#[inline(always)]
+fn near_front(number: u128) -> u128
+    ensures { result < 2 ^ 64 }
+{
+    // 2^43, 2^64 and, 2^117 divided by the first of them, 2^74
+    let high = number / 8_796_093_022_208 % 18_446_744_073_709_551_616;
+    high * RECIPROCAL / 18_889_465_931_478_580_854_784
+}
+
+// So by a division, which takes longer.
+#[cold]
+#[inline(never)]
+fn cut_by_division(number: u128) -> (u128, u64)
+    ensures high { result.0 ≡ number / 10 ^ 16 }
+    ensures low { result.1 ≡ number % 10 ^ 16 }
+{
+    let high = number / u128::from(SIXTEEN);
+    (high, (number - high * u128::from(SIXTEEN)) as u64)
+}
+
 /// Writes the digits of a number from place `at` on, and says where they end.
+#[inline(always)]
 pub(crate) fn put_number(bytes: &mut [u8], at: usize, number: u128) -> usize
-    requires room { at + 40 ≤ length bytes.old }
+    requires room { at + 24 ≤ length bytes.old }
+    requires few { number < 10 ^ 23 }
     ensures end { result ≡ at + length (decimal number) }
     ensures text { take result bytes.new ≡ take at bytes.old ++ decimal number }
 {
@@ -28,40 +71,16 @@ pub(crate) fn put_number(bytes: &mut [u8], at: usize, number: u128) -> usize
 }
 
 // So of one past 64 bits.
+#[inline(never)]
 fn put_wide(bytes: &mut [u8], at: usize, number: u128) -> usize
-    requires room { at + 40 ≤ length bytes.old }
+    requires room { at + 24 ≤ length bytes.old }
     requires long { 10 ^ 16 ≤ number }
+    requires few { number < 10 ^ 23 }
     ensures end { result ≡ at + length (decimal number) }
     ensures text { take result bytes.new ≡ take at bytes.old ++ decimal number }
 {
     let (high, low) = cut(number);
-    let end = put_high(bytes, at, high);
-    put_sixteen(bytes, end, low);
-    end + 16
-}
-
-/// What is in front of a number's last sixteen digits, and these.
-#[inline(always)]
-pub(crate) fn cut(number: u128) -> (u128, u64)
-    ensures high { result.0 ≡ number / 10 ^ 16 }
-    ensures low { result.1 ≡ number % 10 ^ 16 }
-{
-    let high = number / u128::from(SIXTEEN);
-    (high, (number - high * u128::from(SIXTEEN)) as u64)
-}
-
-// Writes what is in front of the last sixteen digits of a number past 64 bits.
-fn put_high(bytes: &mut [u8], at: usize, high: u128) -> usize
-    requires room { at + 24 ≤ length bytes.old }
-    requires few { high < 10 ^ 23 }
-    ensures end { result ≡ at + length (decimal high) }
-    ensures text { take result bytes.new ≡ take at bytes.old ++ decimal high }
-{
-    let (front, low) = cut(high);
-    if front == 0 {
-        return put_short(bytes, at, low);
-    }
-    let end = put_few(bytes, at, front as u32);
+    let end = put_few(bytes, at, high as u32);
     put_sixteen(bytes, end, low);
     end + 16
 }
@@ -69,7 +88,7 @@ fn put_high(bytes: &mut [u8], at: usize, high: u128) -> usize
 /// Writes the digits of a number within 64 bits from place `at` on, and says where they end.
 #[inline(always)]
 pub(crate) fn put_short(bytes: &mut [u8], at: usize, number: u64) -> usize
-    requires room { at + length (decimal number) ≤ length bytes.old }
+    requires room { at + 24 ≤ length bytes.old }
     ensures end { result ≡ at + length (decimal number) }
     ensures text { take result bytes.new ≡ take at bytes.old ++ decimal number }
 {
@@ -87,7 +106,7 @@ pub(crate) fn put_short(bytes: &mut [u8], at: usize, number: u64) -> usize
 fn put_middle(bytes: &mut [u8], at: usize, number: u64) -> usize
     requires long { 10 ^ 8 ≤ number }
     requires short { number < 10 ^ 16 }
-    requires room { at + length (decimal number) ≤ length bytes.old }
+    requires room { at + 16 ≤ length bytes.old }
     ensures end { result ≡ at + length (decimal number) }
     ensures text { take result bytes.new ≡ take at bytes.old ++ decimal number }
 {
@@ -97,10 +116,10 @@ fn put_middle(bytes: &mut [u8], at: usize, number: u64) -> usize
 }
 
 // So of one with seventeen digits or more.
-#[inline(always)]
+#[inline(never)]
 fn put_long(bytes: &mut [u8], at: usize, number: u64) -> usize
     requires long { 10 ^ 16 ≤ number }
-    requires room { at + length (decimal number) ≤ length bytes.old }
+    requires room { at + 24 ≤ length bytes.old }
     ensures end { result ≡ at + length (decimal number) }
     ensures text { take result bytes.new ≡ take at bytes.old ++ decimal number }
 {
@@ -109,16 +128,58 @@ fn put_long(bytes: &mut [u8], at: usize, number: u64) -> usize
     end + 16
 }
 
-// Writes the digits of a number that has at most eight.
-fn put_few(bytes: &mut [u8], at: usize, number: u32) -> usize
+/// Writes the digits of a number that has at most eight.
+#[inline(always)]
+pub(crate) fn put_few(bytes: &mut [u8], at: usize, number: u32) -> usize
     requires few { number < 10 ^ 8 }
-    requires room { at + length (decimal number) ≤ length bytes.old }
+    requires room { at + 8 ≤ length bytes.old }
     ensures end { result ≡ at + length (decimal number) }
     ensures text { take result bytes.new ≡ take at bytes.old ++ decimal number }
 {
-    let end = at + digit_count(number);
-    write_digits(u64::from(number), bytes, end);
-    end
+    let (count, raised) = raised(number);
+    put_block(bytes, at, &eight_digits(raised), count)
+}
+
+/// How many digits a number has, and the number of eight digits that begins with these.
+#[inline(always)]
+pub(crate) fn raised(number: u32) -> (usize, u32)
+    requires { number < 10 ^ 8 }
+    ensures { IsRaised number result.0 result.1 }
+{
+    if number < 10_000 {
+        raised_of_short(number)
+    } else {
+        raised_of_long(number)
+    }
+}
+
+// So of a number of at most four digits.
+#[inline(always)]
+fn raised_of_short(number: u32) -> (usize, u32)
+    requires { number < 10_000 }
+    ensures { IsRaised number result.0 result.1 }
+{
+    match number {
+        0..=9 => (1, number * 10_000_000),
+        10..=99 => (2, number * 1_000_000),
+        100..=999 => (3, number * 100_000),
+        _ => (4, number * 10_000),
+    }
+}
+
+// So of one of five digits or more.
+#[inline(always)]
+fn raised_of_long(number: u32) -> (usize, u32)
+    requires long { 10_000 ≤ number }
+    requires few { number < 10 ^ 8 }
+    ensures { IsRaised number result.0 result.1 }
+{
+    match number {
+        0..=99_999 => (5, number * 1_000),
+        100_000..=999_999 => (6, number * 100),
+        1_000_000..=9_999_999 => (7, number * 10),
+        _ => (8, number),
+    }
 }
 
 // Writes the last sixteen digits of a number, those in front that are 0 too.
@@ -140,30 +201,6 @@ pub(crate) fn put_eight(bytes: &mut [u8], at: usize, low: u32)
     ensures text { take (at + 8) bytes.new ≡ take at bytes.old ++ low_digits 8 low }
 {
     put_block(bytes, at, &eight_digits(low), 8);
-}
-
-// How many digits the number has.
-fn digit_count(number: u32) -> usize
-    requires { number < 10 ^ 8 }
-    ensures { result ≡ length (decimal number) }
-{
-    if number < 10_000 {
-        digit_count_of_short(number)
-    } else {
-        4 + digit_count_of_short(number / 10_000)
-    }
-}
-
-fn digit_count_of_short(number: u32) -> usize
-    requires { number < 10_000 }
-    ensures { result ≡ length (decimal number) }
-{
-    match number {
-        0..=9 => 1,
-        10..=99 => 2,
-        100..=999 => 3,
-        _ => 4,
-    }
 }
 
 /// Writes the first bytes of a block at a place, and says where they end. The whole block is written, since that many bytes are copied
@@ -208,4 +245,49 @@ fn two_digits(number: u32) -> u64
 {
     let at = number as usize * 2;
     u64::from(PAIRS[at]) + 256 * u64::from(PAIRS[at + 1])
+}
+
+/// Writes a text at a place, and says where it ends. A short one is written by its first and its last bytes, which may be the same ones:
+/// so many bytes are copied faster than a number of them that isn't known.
+#[inline(always)]
+pub(crate) fn put_name(bytes: &mut [u8], at: usize, name: &[u8]) -> usize
+    requires room { at + length name.now ≤ length bytes.old }
+    ensures end { result ≡ at + length name.now }
+    ensures text { take result bytes.new ≡ take at bytes.old ++ name.now }
+{
+    match name.len() {
+        1..=2 => put_ends(bytes, at, name, 1),
+        3..=4 => put_ends(bytes, at, name, 2),
+        5..=8 => put_ends(bytes, at, name, 4),
+        9..=16 => put_ends(bytes, at, name, 8),
+        17..=32 => put_ends(bytes, at, name, 16),
+        _ => put_whole(bytes, at, name),
+    }
+}
+
+// Writes a text by its first bytes and its last ones, so many of each.
+#[inline(always)]
+fn put_ends(bytes: &mut [u8], at: usize, text: &[u8], some: usize) -> usize
+    requires room { at + length text.now ≤ length bytes.old }
+    requires within { some ≤ length text.now }
+    requires whole { length text.now ≤ 2 * some }
+    ensures end { result ≡ at + length text.now }
+    ensures text { take result bytes.new ≡ take at bytes.old ++ text.now }
+{
+    let end = at + text.len();
+    bytes[at..at + some].copy_from_slice(&text[..some]);
+    bytes[end - some..end].copy_from_slice(&text[text.len() - some..]);
+    end
+}
+
+// Writes a text of any length.
+#[inline(never)]
+fn put_whole(bytes: &mut [u8], at: usize, text: &[u8]) -> usize
+    requires room { at + length text.now ≤ length bytes.old }
+    ensures end { result ≡ at + length text.now }
+    ensures text { take result bytes.new ≡ take at bytes.old ++ text.now }
+{
+    let end = at + text.len();
+    bytes[at..end].copy_from_slice(text);
+    end
 }

@@ -107,7 +107,7 @@ fn note_row(finishes: &mut [TaskFinishes], set: &TaskSet, scale: u128, row: &Row
 #[derive(Drop)]
 struct TaskFinishes {
     ends: Vec<u128>,
-    /// The period in which the latest row started, or any other: rows of a processor go on from there.
+    /// The period that the latest row reached, or any other: rows of a processor go on from there.
     at: usize,
 }
 
@@ -149,8 +149,7 @@ impl TaskFinishes {
         ensures done { IsDoneWith scale task.now number row.now self.old self.new }
     {
         let first = first_period(task, scale, self.ends.len(), self.at, row.start);
-        self.at = first;
-        note_each(self.ends.as_mut_slice(), first, scale, task, number, row);
+        self.at = note_each(self.ends.as_mut_slice(), first, scale, task, number, row);
     }
 }
 
@@ -164,8 +163,15 @@ fn begin_each(ends: &mut [u128], scale: u128, task: &Task)
     }
 }
 
-// One row more of the task of this number went by, and no period before `first` goes on past its start.
-fn note_each(ends: &mut [u128], first: usize, scale: u128, task: &Task, _number: u32, row: &Row)
+// One row more of the task of this number went by, and no period before `first` goes on past its start. Says which period it reached last.
+fn note_each(
+    ends: &mut [u128],
+    first: usize,
+    scale: u128,
+    task: &Task,
+    _number: u32,
+    row: &Row,
+) -> usize
     requires scale { scale ≤ 2 ^ 94 }
     requires fits { task.now.offset + length ends.old * task.now.period < 2 ^ 33 }
     requires own { is_of_task _number row.now.leaf ≡ true }
@@ -173,14 +179,18 @@ fn note_each(ends: &mut [u128], first: usize, scale: u128, task: &Task, _number:
     requires past { (k : ℕ) → k < first → period_start scale task.now (k + 1) ≤ row.now.start }
     ensures { IsDoneWith scale task.now _number row.now ends.old ends.new }
 {
+    let mut reached = first;
+    let mut begin = period_start(task, scale, first as u64);
     for k in first..ends.len() {
-        let begin = period_start(task, scale, k as u64);
         if begin >= row.end {
-            return;
+            return reached;
         }
         let end = period_start(task, scale, k as u64 + 1);
         ends[k] = later_end(ends[k], row, end);
+        reached = k;
+        begin = end;
     }
+    reached
 }
 
 // When a period was done that ends at tick `end`, where it was done by `done` before this row of its task.

@@ -55,13 +55,13 @@ pub(crate) fn add_row(page: &mut Page, pen: &mut Pen, set: &TaskSet, row: &Row)
 {
     pen.lead.set(row.processor);
     page.lead(&pen.lead);
-    pen.tick.set(row.start);
+    pen.tick.keep(row.start);
     page.count(&pen.tick);
     page.space();
     pen.tick.set(row.end);
     page.count(&pen.tick);
     page.space();
-    page.text(name_of(set, row.leaf));
+    page.put_name(name_of(set, row.leaf));
     page.end();
 }
 
@@ -80,9 +80,9 @@ pub(crate) fn add_met(
     ensures { page.new ≡ page.old ++ met_line name.now k finish }
 {
     page.text(b"met ");
-    page.text(name);
+    page.put_name(name);
     page.space();
-    period.set(u128::from(k));
+    period.count_to(u128::from(k));
     page.count(period);
     page.space();
     tick.set(finish);

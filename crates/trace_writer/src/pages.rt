@@ -2,6 +2,7 @@
 ghost use Rattle.std.specs.Prelude.{◌≡◌, ◌≤◌, ◌<◌, ◌+◌, ◌++◌, ◌∷◌, [], codes, length, decimal};
 ghost use Rattle.sched_base.specs.Bytes.{line_feed, space};
 
+use crate::digits::put_name;
 use crate::pens::{Count, Lead};
 use std::marker::Model;
 
@@ -69,6 +70,15 @@ impl Page {
         let end = self.len + text.len();
         self.bytes[self.len..end].copy_from_slice(text);
         self.len = end;
+    }
+
+    /// Adds a text of at most 32 bytes.
+    #[inline(always)]
+    pub(crate) fn put_name(&mut self, name: &[u8])
+        requires { length self.old + length name.now ≤ 4096 }
+        ensures { self.new ≡ self.old ++ name.now }
+    {
+        self.len = put_name(&mut self.bytes, self.len, name);
     }
 
     /// Adds a number whose digits are kept.

@@ -4,7 +4,7 @@ ghost use Rattle.sched_base.specs.Bytes.{space};
 ghost use Rattle.trace_writer.specs.Digits.{front_digits, last_digits};
 
 use crate::digits::{
-    EIGHT, SIXTEEN, cut, eight_digits, put_block, put_eight, put_number, put_short,
+    EIGHT, SIXTEEN, cut, eight_digits, put_block, put_eight, put_few, put_number, put_short, raised,
 };
 use std::marker::Model;
 
@@ -27,7 +27,7 @@ pub(crate) struct Count {
     /// The number, with 0 in place of its last sixteen digits.
     top: u128,
     /// The digits before the last eight, where there are any.
-    front: [u8; 40],
+    front: [u8; 32],
     front_len: usize,
     /// The other digits.
     last: LastDigits,
@@ -53,7 +53,7 @@ impl Count {
             number: 0,
             base: 0,
             top: 0,
-            front: [0; 40],
+            front: [0; 32],
             front_len: 0,
             last: LastDigits {
                 bytes: [48; 8],
@@ -62,14 +62,21 @@ impl Count {
         }
     }
 
+    /// Mostly the number that it is.
+    #[inline(always)]
+    pub(crate) fn keep(&mut self, number: u128)
+        ensures { self.new ≡ number }
+    {
+        if number != self.number {
+            self.turn(number);
+        }
+    }
+
     /// Another number.
     #[inline(always)]
     pub(crate) fn set(&mut self, number: u128)
         ensures { self.new ≡ number }
     {
-        if number == self.number {
-            return;
-        }
         if self.base <= number && number - self.base < u128::from(EIGHT) {
             self.go_on(number);
         } else {
@@ -77,15 +84,48 @@ impl Count {
         }
     }
 
-    // Another number with other digits before the last eight.
+    /// Another number, mostly the next one.
+    #[inline(always)]
+    pub(crate) fn count_to(&mut self, number: u128)
+        ensures { self.new ≡ number }
+    {
+        let at = self.last.len - 1;
+        let digit = self.last.bytes[at];
+        if digit < b'9' && 0 < number && number - 1 == self.number {
+            self.last.bytes[at] = digit + 1;
+            self.number = number;
+        } else {
+            self.set(number);
+        }
+    }
+
+    // Any other number.
+    #[inline(never)]
     fn turn(&mut self, number: u128)
         ensures { self.new ≡ number }
     {
-        if 0 < self.top && self.top <= number && number - self.top < u128::from(SIXTEEN) {
+        if number < u128::from(SIXTEEN) {
+            self.turn_short(number as u64);
+        } else if 0 < self.top && self.top <= number && number - self.top < u128::from(SIXTEEN) {
             self.turn_low(number);
         } else {
-            self.turn_all(number);
+            self.turn_long(number);
         }
+    }
+
+    // Another number of at most sixteen digits.
+    #[inline(always)]
+    fn turn_short(&mut self, number: u64)
+        requires { number < 10 ^ 16 }
+        ensures { self.new ≡ number }
+    {
+        let high = number / EIGHT;
+        let base = high * EIGHT;
+        self.front_len = put_some(&mut self.front, high as u32);
+        self.last = last_of((number - base) as u32, base == 0);
+        self.base = u128::from(base);
+        self.top = 0;
+        self.number = u128::from(number);
     }
 
     // Another number that has the same digits before the last sixteen, of which there are some.
@@ -104,9 +144,10 @@ impl Count {
         self.number = number;
     }
 
-    // Another number with any digits.
+    // Another number of more digits.
     #[inline(always)]
-    fn turn_all(&mut self, number: u128)
+    fn turn_long(&mut self, number: u128)
+        requires long { 10 ^ 16 ≤ number }
         ensures { self.new ≡ number }
     {
         let (len, rest) = put_front(&mut self.front, number);
@@ -136,44 +177,31 @@ impl Count {
         ensures end { result ≤ at + 40 }
         ensures text { take result bytes.new ≡ take at bytes.old ++ decimal self.now }
     {
-        let end = put_block(bytes, at, &self.front[..32], self.front_len);
+        let front = self.front;
+        let end = put_block(bytes, at, &front, self.front_len);
         put_block(bytes, end, &self.last.bytes, self.last.len)
-    }
-}
-
-// Writes the digits in front of a number's last eight, and says how many these are; and what the last sixteen are.
-#[inline(always)]
-fn put_front(bytes: &mut [u8], number: u128) -> (usize, u64)
-    requires room { 40 ≤ length bytes.old }
-    ensures few { result.0 ≤ 32 }
-    ensures text { take result.0 bytes.new ≡ front_digits (number / 10 ^ 8) }
-    ensures rest { result.1 ≡ number % 10 ^ 16 }
-{
-    if number <= u128::from(u64::MAX) {
-        let short = number as u64;
-        (put_some(bytes, short / EIGHT), short % SIXTEEN)
-    } else {
-        put_front_of_long(bytes, number)
     }
 }
 
 // Writes the digits of a number, and none of 0. How many these are.
 #[inline(always)]
-fn put_some(bytes: &mut [u8], number: u64) -> usize
-    requires room { 40 ≤ length bytes.old }
+fn put_some(bytes: &mut [u8], number: u32) -> usize
+    requires few { number < 10 ^ 8 }
+    requires room { 32 ≤ length bytes.old }
     ensures few { result ≤ 32 }
     ensures text { take result bytes.new ≡ front_digits number }
 {
     if number == 0 {
         return 0;
     }
-    put_short(bytes, 0, number)
+    put_few(bytes, 0, number)
 }
 
-// So of one past 64 bits, by what is in front of its last sixteen digits.
+// Writes the digits in front of a number's last eight, where there are others in front of its last sixteen. Says how many these are, and what
+// the last sixteen are.
 #[inline(always)]
-fn put_front_of_long(bytes: &mut [u8], number: u128) -> (usize, u64)
-    requires room { 40 ≤ length bytes.old }
+fn put_front(bytes: &mut [u8], number: u128) -> (usize, u64)
+    requires room { 32 ≤ length bytes.old }
     requires long { 10 ^ 16 ≤ number }
     ensures few { result.0 ≤ 32 }
     ensures text { take result.0 bytes.new ≡ front_digits (number / 10 ^ 8) }
@@ -193,9 +221,11 @@ fn last_of(low: u32, alone: bool) -> LastDigits
     ensures text { take result.len result.bytes ≡ last_digits alone low }
 {
     if alone {
-        let mut bytes = [0; 8];
-        let len = put_short(&mut bytes, 0, u64::from(low));
-        LastDigits { bytes, len }
+        let (len, raised) = raised(low);
+        LastDigits {
+            bytes: eight_digits(raised),
+            len,
+        }
     } else {
         LastDigits {
             bytes: eight_digits(low),
@@ -208,7 +238,7 @@ fn last_of(low: u32, alone: bool) -> LastDigits
 #[derive(Drop)]
 pub(crate) struct Lead {
     processor: u32,
-    bytes: [u8; 16],
+    bytes: [u8; 32],
     len: usize,
 }
 
@@ -228,7 +258,11 @@ impl Lead {
     pub(crate) fn of(processor: u32) -> Lead
         ensures { result ≡ processor }
     {
-        let mut bytes = [b'r', b'o', b'w', b' ', 0, 0, 0, 0, 0, 0, 0, 0, 0, 0, 0, 0];
+        let mut bytes = [0; 32];
+        bytes[0] = b'r';
+        bytes[1] = b'o';
+        bytes[2] = b'w';
+        bytes[3] = b' ';
         let end = put_short(&mut bytes, 4, u64::from(processor));
         bytes[end] = b' ';
         Lead {
@@ -253,7 +287,8 @@ impl Lead {
         ensures end { result ≤ at + 16 }
         ensures text { take result bytes.new ≡ take at bytes.old ++ (codes "row " ++ (decimal self.now ++ space ∷ [])) }
     {
-        put_block(bytes, at, &self.bytes, self.len)
+        let block = self.bytes;
+        put_block(bytes, at, &block[..16], self.len)
     }
 }
 

@@ -1,19 +1,14 @@
-use Rattle.std.proofs.Common.{arith}
+use Rattle.std.proofs.Common.{◌/◌, ◌^◌, arith}
+use Rattle.std.proofs.lemmas.Fmt.{length-decimal-le}
 use Rattle.trace_writer.proofs.DigitLemmas.{eight_length, eight_parts, then_written}
 use Rattle.trace_writer.proofs.digits.put_middle.Goals as goal
 
-pub put_few-end-requires-clause-room : goal.put_few-end-requires-clause-room
-put_few-end-requires-clause-room c =
-    let long = eight_length c.args.number c.requires.long (omega arith) in
-    let room = c.requires.room in
-    omega (arith, long, room)
-
 pub put_eight-requires-clause-room : goal.put_eight-requires-clause-room
 put_eight-requires-clause-room c =
-    let long = eight_length c.args.number c.requires.long (omega arith) in
+    let short = length-decimal-le 8 (c.args.number / 10 ^ 8) (omega arith) (omega (arith, c.requires.short)) (omega arith) in
     let room = c.requires.room in
     let end = c.put_few-end.ensures.end in
-    omega (arith, long, room, end)
+    omega (arith, short, room, end)
 
 pub returns-clause-end : goal.returns-clause-end
 returns-clause-end c =

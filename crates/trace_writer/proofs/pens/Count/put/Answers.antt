@@ -1,4 +1,4 @@
-use Rattle.std.proofs.Common.{◌∙◌, ap, ◌++◌, decimal, take, take-take, arith}
+use Rattle.std.proofs.Common.{◌∙◌, ap, ◌++◌, decimal, take, arith}
 use Rattle.trace_writer.proofs.HeldLemmas.{held_digits, put_twice}
 use Rattle.trace_writer.proofs.pens.Count.put.Goals as goal
 
@@ -8,8 +8,6 @@ returns-clause-text c =
     let fits = held.fits in
     let front = c.self.inside.front in
     let len = c.self.inside.front_len in
-    let cut = take-take len 32 front held.front_fits in
-    let first = c.put_block-end.ensures.text ∙ ap (λ ds. take c.args.at c.args.bytes.now ++ ds) cut in
-    put_twice (take c.args.at c.args.bytes.now) _ _ _ _ first c.put_block.ensures.text
+    put_twice (take c.args.at c.args.bytes.now) _ _ _ _ c.put_block-end.ensures.text c.put_block.ensures.text
     ∙ ap (λ ds. take c.args.at c.args.bytes.now ++ ds) (held_digits c.self.inside.number c.self.inside.base c.self.inside.top front len c.self.inside.last.bytes c.self.inside.last.len (omega (arith, fits)) held)
     ∙ ap (λ n. take c.args.at c.args.bytes.now ++ decimal n) c.self.view_is

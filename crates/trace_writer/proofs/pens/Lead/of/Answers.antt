@@ -3,11 +3,6 @@ use Rattle.std.proofs.lemmas.Fmt.{length-decimal-le}
 use Rattle.std.proofs.lemmas.Grind.{take-set_at}
 use Rattle.trace_writer.proofs.pens.Lead.of.Goals as goal
 
-pub put_short-end-requires : goal.put_short-end-requires
-put_short-end-requires c =
-    let short = length-decimal-le 10 c.from.result (omega arith) (omega (arith, c.from.ensures, c.ranges.processor.fits)) (omega arith) in
-    record { room = omega (arith, short) }
-
 pub bounds-bytes-end : goal.bounds-bytes-end
 bounds-bytes-end c =
     let short = length-decimal-le 10 c.from.result (omega arith) (omega (arith, c.from.ensures, c.ranges.processor.fits)) (omega arith) in

@@ -4,7 +4,7 @@ use Rattle.std.proofs.lemmas.Fmt.{length-decimal-le_wide}
 use Rattle.trace_writer.specs.Digits.{low_digits}
 use Rattle.trace_writer.proofs.DigitLemmas.{eight_parts, then_written}
 use Rattle.trace_writer.proofs.HeldLemmas.{front_some}
-use Rattle.trace_writer.proofs.pens.put_front_of_long.Goals as goal
+use Rattle.trace_writer.proofs.pens.put_front.Goals as goal
 
 pub put_eight-requires-clause-room : goal.put_eight-requires-clause-room
 put_eight-requires-clause-room c =
