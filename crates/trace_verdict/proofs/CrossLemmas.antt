@@ -1,5 +1,5 @@
 -- A row that begins near the last one of its task and ends in the period after that in which it begins.
-use Rattle.std.proofs.Common.{ℕ, ◌+◌, ◌-◌, ◌*◌, ◌<◌, ◌≤◌, ◌≡◌, ◌≢◌, true, false, Bool, List, [], ◌∷◌, max, cond, ltb, ◌&&◌, refl, sym, ap, ◌∙◌, subst, arith}
+use Rattle.std.proofs.Common.{ℕ, ◌+◌, ◌-◌, ◌*◌, ◌<◌, ◌≤◌, ◌≡◌, true, false, Bool, List, [], ◌∷◌, max, cond, ltb, ◌&&◌, refl, sym, ap, ◌∙◌, subst, arith}
 use Rattle.std.proofs.lemmas.Bool.{and_from, or_right, eq-eqb, lt-ltb, cond-true}
 use Rattle.sched_base.specs.Counting.{bit}
 use Rattle.sched_base.specs.declared.rows.Row.{Row}

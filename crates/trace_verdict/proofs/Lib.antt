@@ -16,10 +16,12 @@ mod ShortLemmas
 mod SuppliedLemmas
 mod StackLemmas
 mod DealtLemmas
+mod ApartLemmas
 mod ListedLemmas
 pub mod TallyLemmas
 mod ToldLemmas
 mod TimedLemmas
 mod NearLemmas
 mod CrossLemmas
+mod ShortWalkLemmas
 mod FoundLemmas

@@ -1,5 +1,5 @@
 -- Rows in few bytes, one after the other.
-use Rattle.std.proofs.Common.{zero, suc, add-one, ℕ, ◌+◌, ◌<◌, ◌≤◌, ◌≡◌, ◌&&◌, ◌||◌, inl, inr, eqb, leb, ltb, Bool, true, false, List, [], ◌∷◌, length, length-append, map, drop, get_or, Option, Some, None, sym, refl, ap, ◌∙◌, arith}
+use Rattle.std.proofs.Common.{suc, add-one, ℕ, ◌+◌, ◌<◌, ◌≤◌, ◌≡◌, ◌&&◌, inl, inr, Bool, true, false, List, [], ◌∷◌, length, length-append, map, drop, get_or, Option, Some, None, sym, refl, ap, ◌∙◌, arith}
 use Rattle.std.specs.Prelude.{is_some}
 use Rattle.std.proofs.Math.Seq.{drop-cons}
 use Rattle.std.proofs.lemmas.Bool.{cases_lt, or_left, or_right, and_from, eq-eqb, le-leb, lt-ltb}

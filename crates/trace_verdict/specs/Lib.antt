@@ -12,3 +12,4 @@ pub mod Tally
 pub mod TaskOrders
 pub mod Timed
 pub mod RowLists
+pub mod ShortWalks

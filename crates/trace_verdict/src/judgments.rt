@@ -1,5 +1,5 @@
 //! The verdict on the rows of a trace, with the orders that are made for it.
-ghost use Rattle.std.specs.Prelude.{◌≡◌, ◌*◌, true, None, ◌≤◌, ◌^◌, length, not, nat_lt, nat_le, IfOk, IfSome, ◌↔◌};
+ghost use Rattle.std.specs.Prelude.{◌≡◌, ◌*◌, true, None, ◌≤◌, ◌<◌, ◌^◌, min, length, not, nat_lt, nat_le, IfOk, IfSome, ◌↔◌};
 ghost use Rattle.sched_base.specs.Valid.{IsValid};
 ghost use Rattle.trace_verdict.specs.Orders.{processor_key, task_key, entries_from, IsOrder, IsProcessorOrder, IsTaskOrder};
 ghost use Rattle.trace_verdict.specs.Faults.{IsTrace, IsVerdict};
@@ -7,6 +7,7 @@ ghost use Rattle.trace_verdict.specs.Findings.{AreTold};
 ghost use Rattle.trace_verdict.specs.Standing.{stand};
 ghost use Rattle.trace_verdict.specs.Searches.{kind_of, IsFirstHit, IsFirstUnfit};
 
+use crate::apart_tasks::are_tasks_apart;
 use crate::entries::Entry;
 use crate::faults::{FIRST_TASK_LINE, FaultKind, Verdict};
 use crate::findings::{Findings, findings_at};
@@ -254,6 +255,31 @@ pub fn judge_rows(
     judge_unordered(alloc, set, scale, rows)
 }
 
+// The verdict where no two rows of a task overlap, and this row is the first that has a fault by itself or overlaps an earlier one of its processor.
+fn verdict_at(
+    set: &TaskSet,
+    scale: u128,
+    rows: &RowList,
+    _unfit: u32,
+    hit: u32,
+    first: u32,
+) -> Verdict
+    requires trace { IsTrace set.now scale rows.now }
+    requires unfit { IsFirstUnfit set.now scale rows.now _unfit }
+    requires hit { IsFirstHit processor_key rows.now hit }
+    requires apart { IsFirstHit task_key rows.now (length rows.now) }
+    requires first { first ≡ min _unfit hit }
+    requires within { first < length rows.now }
+    ensures verdict { IsVerdict set.now scale rows.now result }
+    ensures fault { result ≡ Verdict.Valid → ⊥ }
+{
+    let kind = row_kind(set, scale, &rows.get(first as usize), hit == first, false);
+    Verdict::Fault {
+        line: FIRST_TASK_LINE + u64::from(set.count()) + u64::from(first),
+        kind,
+    }
+}
+
 // Judges rows that are at fault or stand in another order.
 fn judge_unordered(
     alloc: Global,
@@ -268,6 +294,13 @@ fn judge_unordered(
 {
     let hit = processor_hit(alloc, set, scale, rows)?;
     let unfit = first_unfit(set, scale, rows);
+    let first = unfit.min(hit);
+    if (first as usize) < rows.len() && are_tasks_apart(alloc, rows)? {
+        return Ok(Judged {
+            found: Vec::new(alloc),
+            verdict: verdict_at(set, scale, rows, unfit, hit, first),
+        });
+    }
     let (order, verdict) = judge_tasks(alloc, set, scale, rows, unfit, hit)?;
     Ok(Judged {
         found: order.found,

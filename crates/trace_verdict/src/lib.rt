@@ -1,6 +1,7 @@
 //! The rows of a trace: their orders, and whether they are a valid schedule of a set. The work goes by rows and never by periods.
 #![tactic(auto)]
 
+mod apart_tasks;
 mod clock;
 mod dealing;
 mod dealt_orders;
@@ -14,6 +15,7 @@ mod orders;
 mod row_list;
 mod searches;
 mod short_standing;
+mod short_walks;
 mod standing;
 mod supplied;
 mod supply;

@@ -1,5 +1,5 @@
 //! A list of rows that takes a third of the memory where their ticks have at most 64 bits.
-ghost use Rattle.std.specs.Prelude.{◌≡◌, ◌+◌, ◌*◌, ◌<◌, nat_le, ◌++◌, ◌∷◌, [], length, map, is_some, IfSome, IfOk, OnOk};
+ghost use Rattle.std.specs.Prelude.{◌≡◌, ◌+◌, ◌*◌, ◌<◌, ◌≤◌, nat_le, ◌++◌, ◌∷◌, [], length, map, is_some, IfSome, IfOk, OnOk};
 ghost use Rattle.trace_verdict.specs.Faults.{row_at};
 ghost use Rattle.trace_verdict.specs.Orders.{task_key};
 ghost use Rattle.trace_verdict.specs.RowLists.{leaf_for, row_for};
@@ -82,6 +82,28 @@ impl ShortRow {
         self.start <= tick && self.ticks() <= tick - self.start
     }
 
+    /// Where it ends, if that is by this tick.
+    #[inline(always)]
+    pub(crate) fn end_by(&self, tick: u64) -> Option<u64>
+        ensures end { IfSome result (λ end. end ≡ (row_for self.now).end) }
+        ensures within { IfSome result (λ end. end ≤ tick) }
+    {
+        let ticks = self.ticks();
+        if self.start > tick || ticks > tick - self.start {
+            return None;
+        }
+        Some(self.start + ticks)
+    }
+
+    /// The number of its task, where it is one of a task.
+    #[inline(always)]
+    pub(crate) fn task(&self) -> Option<u32>
+        ensures { result ≡ task_key (row_for self.now) }
+    {
+        let leaf = u32::from(self.owner) % LEAVES;
+        if leaf == IDLE { None } else { Some(leaf) }
+    }
+
     /// Whether it is one of a task.
     #[inline(always)]
     pub(crate) fn is_of_task(&self) -> bool
@@ -128,9 +150,9 @@ fn number_for(leaf: Leaf) -> Option<u32>
     }
 }
 
-// The short row that stands for a row, where one does.
+/// The short row that stands for a row, where one does.
 #[inline(always)]
-fn short_for(row: &Row) -> Option<ShortRow>
+pub(crate) fn short_for(row: &Row) -> Option<ShortRow>
     ensures { IfSome result (λ short. row_for short ≡ row.now) }
 {
     if row.start > MOST_START || row.end < row.start || row.processor >= PROCESSORS {

@@ -107,7 +107,7 @@ impl TaskWalk {
                 processor: 0,
                 start: 0,
                 end: 0,
-                leaf: Leaf::Empty,
+                leaf: Leaf::Idle(0),
             },
             found: Findings::none(),
             count: 0,

@@ -1,17 +1,20 @@
 //! The rows of all tasks, gone through once in the order of time.
-ghost use Rattle.std.specs.Prelude.{ℕ, ◌≡◌, ◌<◌, ◌≤◌, ◌^◌, List, length, slice_index_or, IfOk, IfSome, IsTrue};
+ghost use Rattle.std.specs.Prelude.{ℕ, ◌≡◌, ◌<◌, ◌≤◌, ◌^◌, List, length, map, slice_index_or, IfOk, IfSome, IsTrue};
 ghost use Rattle.sched_base.specs.declared.rows.Row.{Row};
 ghost use Rattle.sched_base.specs.Sets.{SetContents};
 ghost use Rattle.trace_verdict.specs.declared.task_walks.TaskWalk.{TaskWalk};
 ghost use Rattle.trace_verdict.specs.Faults.{IsTrace};
 ghost use Rattle.trace_verdict.specs.Orders.{task_key, entries_from};
+ghost use Rattle.trace_verdict.specs.RowLists.{row_for};
+ghost use Rattle.trace_verdict.specs.ShortWalks.{wide_of};
 ghost use Rattle.trace_verdict.specs.Timed.{HasGone, AreGoing, AreTimed};
 
 use crate::findings::Findings;
 use crate::hands::Hands;
 use crate::orders::task_key;
-use crate::row_list::RowList;
+use crate::row_list::{RowList, ShortRow};
 use crate::searches::task_periods;
+use crate::short_walks::ShortWalk;
 use crate::task_walks::TaskWalk;
 use sched_base::{NoMemory, TaskSet};
 use std::alloc::Global;
@@ -48,6 +51,53 @@ fn go_by(walks: &mut [TaskWalk], rows: &RowList, place: usize) -> bool
     walks[task as usize].step(rows, task, place, &row)
 }
 
+// The walks in 64 bits, where they do for all.
+fn short_walks(alloc: Global, walks: &[TaskWalk]) -> Result<Option<Vec<ShortWalk>>, NoMemory>
+    ensures { IfOk result (λ o. IfSome o (λ v. map wide_of v.items ≡ walks.now)) }
+{
+    let mut all = Vec::new(alloc);
+    for walk in walks {
+        let Some(short) = ShortWalk::of(walk) else {
+            return Ok(None);
+        };
+        all.push(short)?;
+    }
+    Ok(Some(all))
+}
+
+// The walks in numbers of any size.
+fn wide_walks(alloc: Global, walks: &[ShortWalk]) -> Result<Vec<TaskWalk>, NoMemory>
+    ensures { IfOk result (λ v. v.items ≡ map wide_of walks.now) }
+{
+    let mut all = Vec::new(alloc);
+    for walk in walks {
+        all.push(walk.wide())?;
+    }
+    Ok(all)
+}
+
+// The short row at this place goes by, where it is one of a task. It is false where it may not.
+#[inline(always)]
+fn go_by_short(walks: &mut [ShortWalk], _rows: &RowList, short: &[ShortRow], place: usize) -> bool
+    requires short { _rows.now ≡ map row_for short.now }
+    requires each { (i : ℕ) (none : TaskWalk) → i < length walks.old → HasGone _rows.now i (slice_index_or (map wide_of walks.old) i none) }
+    ensures gone { IsTrue result → (s : SetContents) (l : ℕ) → AreGoing s l _rows.now 0 (map wide_of walks.old) →
+        AreGoing s l _rows.now 0 (map wide_of walks.new) }
+    ensures count { length walks.new ≡ length walks.old }
+{
+    if place >= short.len() {
+        return false;
+    }
+    let row = short[place];
+    let Some(task) = row.task() else {
+        return true;
+    };
+    if task as usize >= walks.len() {
+        return false;
+    }
+    walks[task as usize].step(_rows, task, place, &row)
+}
+
 // What the rows that went by tell, where all have gone by and give each task what it is to have.
 fn found_of(
     alloc: Global,
@@ -78,6 +128,35 @@ fn found_of(
     Ok(Some(found))
 }
 
+// What the rows of each task tell, where all are short and no walk needs more than 64 bits.
+fn short_findings(
+    alloc: Global,
+    set: &TaskSet,
+    scale: u128,
+    rows: &RowList,
+    total: u64,
+    short: &[ShortRow],
+    walks: Vec<ShortWalk>,
+) -> Result<Option<Vec<Findings>>, NoMemory>
+    requires trace { IsTrace set.now scale rows.now }
+    requires total { total ≡ length (entries_from task_key 0 rows.now) }
+    requires short { rows.now ≡ map row_for short.now }
+    requires count { length walks.items ≡ length set.now.tasks }
+    requires going { AreGoing set.now scale rows.now 0 (map wide_of walks.items) }
+    ensures { IfOk result (λ o. IfSome o (λ v. AreTimed set.now scale rows.now v.items)) }
+{
+    let mut walks = walks;
+    let mut hands = Hands::new(rows);
+    'rows: for _ in 0..short.len() {
+        let place = hands.next(rows);
+        if !go_by_short(&mut walks, rows, short, place) {
+            return Ok(None);
+        }
+    }
+    let wide = wide_walks(alloc, &walks)?;
+    found_of(alloc, set, scale, rows, total, &wide)
+}
+
 /// What the rows of each task tell, of which there are so many, where each task has what it is to have and no two rows of one overlap. Where it finds
 /// nothing, that says nothing: it goes through the rows as if they stood by processor, those of one in the order of time.
 pub(crate) fn timed_findings(
@@ -92,6 +171,11 @@ pub(crate) fn timed_findings(
     ensures { IfOk result (λ o. IfSome o (λ v. AreTimed set.now scale rows.now v.items)) }
 {
     let mut walks = all_walks(alloc, set, scale)?;
+    if let Some(short) = rows.all_short() {
+        if let Some(walks) = short_walks(alloc, &walks)? {
+            return short_findings(alloc, set, scale, rows, total, short, walks);
+        }
+    }
     let mut hands = Hands::new(rows);
     'rows: for _ in 0..rows.len() {
         let place = hands.next(rows);

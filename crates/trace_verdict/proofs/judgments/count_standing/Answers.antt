@@ -1,12 +1,8 @@
-use Rattle.std.proofs.Common.{◌≡◌, ◌<◌, ◌^◌, ◌∙◌, true, None, map, length, sym, ap, subst}
+use Rattle.std.proofs.Common.{◌<◌, ◌^◌, ◌∙◌, length, ap, subst}
 use Rattle.std.specs.List.{AllByRecursion}
 use Rattle.std.proofs.lemmas.List.{length-map}
-use Rattle.sched_base.specs.declared.rows.Row.{Row}
 use Rattle.trace_verdict.specs.Faults.{IsTraceRow}
-use Rattle.trace_verdict.specs.Orders.{task_key, entries_from}
 use Rattle.trace_verdict.specs.RowLists.{row_for}
-use Rattle.trace_verdict.specs.Searches.{IsFirstUnfit}
-use Rattle.trace_verdict.specs.Standing.{stand}
 use Rattle.trace_verdict.proofs.judgments.count_standing.Goals as goal
 
 pub count_short-requires-clause-each : goal.count_short-requires-clause-each

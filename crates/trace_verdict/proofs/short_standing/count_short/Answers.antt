@@ -1,8 +1,7 @@
 use Rattle.std.proofs.Common.{Fits, w64, ◌≡◌, ◌+◌, ◌<◌, ◌≤◌, ◌^◌, ℕ, Bool, true, false, map, length, get_or, sym, subst, arith}
-use Rattle.std.proofs.lemmas.List.{get_or-map, length-map}
+use Rattle.std.proofs.lemmas.List.{length-map}
 use Rattle.sched_base.specs.Counting.{bit}
-use Rattle.sched_base.specs.declared.rows.Row.{Row}
-use Rattle.trace_verdict.specs.Faults.{row_at, IsTraceRow}
+use Rattle.trace_verdict.specs.Faults.{IsTraceRow}
 use Rattle.trace_verdict.specs.RowLists.{row_for}
 use Rattle.trace_verdict.proofs.IndexLemmas.{all_at}
 use Rattle.trace_verdict.proofs.ShortLemmas.{stands_none, stands_more, stands_all, short_at}
