@@ -10,13 +10,12 @@ use Rattle.sched_base.specs.declared.rows.Row.{Row}
 use Rattle.sched_base.specs.declared.rows.TaskId.{TaskId}
 use Rattle.sched_base.specs.Rows.{is_of_task}
 use Rattle.sched_base.specs.Tables.{Table, lane_of, RowAt, IsTable, end_after, rounds_in, ticks_in, ticks_before, with_round}
-use Rattle.sched_base.proofs.ScheduleLanes.{lane_of-lanes_of, length-lanes_of}
+use Rattle.sched_base.proofs.ScheduleLanes.{length-lanes_of}
 use Rattle.sched_base.proofs.TableLemmas.{lane_within, no_row, row_within}
 use Rattle.sched_base.proofs.TickLemmas.{ticks_before-le}
 use Rattle.sched_laws.proofs.WholeRounds.{length-round}
-use Rattle.run_tree.specs.Plans.{PlanContents, IsPlan, rounds_of, schedule_of, stop_of}
-use Rattle.event_core.specs.Cores.{IsCoreOf}
-use Rattle.event_core.specs.Rounds.{IsRoundStart, IsRoundUpTo, rows_before, rounds_before, rows_of_round}
+use Rattle.run_tree.specs.Plans.{PlanContents, IsPlan, rounds_of, stop_of}
+use Rattle.event_core.specs.Rounds.{IsRoundUpTo, rows_before, rounds_before, rows_of_round}
 use Rattle.event_core.proofs.PlanRounds.{is_round, next_lanes}
 use Rattle.event_core.proofs.RoundsInOrder.{next_rounds, no_rounds}
 use Rattle.book_machine.specs.declared.machine.LaneState.{LaneState}
@@ -30,11 +29,13 @@ use Rattle.plan_rounds.proofs.AgainLemmas.{new_row, row_of_plan}
 use Rattle.plan_rounds.specs.Parts.{RowsKept}
 use Rattle.plan_rounds.proofs.RowLemmas.{RowsKept-set, RowsKept-start}
 use Rattle.book_steps.specs.declared.ring.PendingRow.{PendingRow}
-use Rattle.book_steps.specs.Pending.{AreCounted, AreNoted, ArePending, CanCount, IsPending, PendingContents, PendingKept, all_computed, given_to, last_of, pending, rounds_up_to, with_last}
+use Rattle.book_steps.specs.Pending.{AreCounted, AreNoted, ArePending, CanCount, CanNote, IsPending, PendingContents, PendingKept, all_computed, given_to, last_of, pending, rounds_up_to, with_last}
+use Rattle.book_steps.specs.Sources.{IsSourceOf}
 use Rattle.book_steps.specs.Books.{no_rows}
 use Rattle.book_steps.specs.Turns.{with_ticks}
 use Rattle.book_steps.proofs.HeldRounds.{ArePending-less, ArePending-more, is_held, place_within, room_left}
 use Rattle.book_steps.proofs.BookLemmas.{is_task, length-with_ticks, with_ticks-at}
+use Rattle.book_steps.proofs.SourceLemmas.{at_first, goes_on}
 use Rattle.book_steps.proofs.TickCounts.{place_ticks, row_ticks-some, ticks_in-next}
 
 -- ---- lists
@@ -183,6 +184,13 @@ module _ (tasks round : ℕ) (old : List ℕ) (rows : List Row) (k : ℕ) (new :
   AreNoted-leaf (Idle number) is within = AreNoted-skip (λ task named. absurd (let e : Idle number ≡ Task task = sym is ∙ named in cc))
   AreNoted-leaf Empty is within = AreNoted-skip (λ task named. absurd (let e : Empty ≡ Task task = sym is ∙ named in cc))
 
+-- there is a place for the processor and the task of each row of a round whose ticks can be counted
+pub can_note : (given : List ℕ) (rows : List Row) (places width : ℕ) → CanCount given rows → length rows ≡ width → places ≡ width * length given → CanNote (length given) rows places
+can_note given rows places width can wide all q r task at is =
+    let inside = slice_get_within rows q r at in
+    let there = place_within q width (length given) task.0 (omega (arith, inside, wide)) (can.tasks q r task at is) in
+    omega (arith, there, all)
+
 module _ (p : PlanContents) (h : IsPlan p) where
   abbrev all : List (List Row)
   all = plan_rows p
@@ -204,13 +212,14 @@ module _ (p : PlanContents) (h : IsPlan p) where
       ap (λ ls. made ls (rounds_of p - rounds_before p n)) lanes ∙ ap (made (replicate processors [])) room
 
   module _ (window : ℕ) (s : State) (begins : s ≡ start processors) (r : PendingContents) where
-    pub PendingKept-start : IsCoreOf p r.core → r.core.tick ≡ 0 → r.width ≡ processors → r.held ≡ buffer [] (window * processors) → r.computed ≡ 0
+    pub PendingKept-start : IsSourceOf p r.source → r.source.tick ≡ 0 → r.width ≡ processors → r.held ≡ buffer [] (window * processors) → r.computed ≡ 0
         → r.given ≡ replicate (length p.set.tasks) 0 → r.last ≡ replicate (processors * length p.set.tasks) 0 → PendingKept p window s r
     PendingKept-start belongs first wide held none given last =
-        let lanes : lanes_at p r.core.tick ≡ replicate processors [] = ap (lanes_at p) first ∙ no_lanes p h in
-        let before : rounds_before p r.core.tick ≡ 0 = ap (rounds_before p) first ∙ no_rounds p in
+        let lanes : lanes_at p r.source.tick ≡ replicate processors [] = ap (lanes_at p) first ∙ no_lanes p h in
+        let before : rounds_before p r.source.tick ≡ 0 = ap (rounds_before p) first ∙ no_rounds p in
         record {
-          kept = RowsKept-start p window s (all_computed p r) (AreRoundsOf-first p h (all_computed p r) belongs refl first tt wide lanes (omega (arith, before))) lanes begins;
+          kept = RowsKept-start p window s (all_computed p r) (AreRoundsOf-first p h (all_computed p r) belongs.core (at_first p r.source belongs first) first (goes_on p r.source belongs).0 wide lanes (omega (arith, before))) lanes begins;
+          source = belongs;
           computed = none ∙ sym before;
           counted = omega (arith, none);
           rows = subst (λ (b : Buffer PendingRow). ArePending all processors (least_posted s) r.computed b.items) (sym held) (record {
@@ -242,6 +251,7 @@ module _ (p : PlanContents) (h : IsPlan p) where
     pub PendingKept-same : q < length s.lanes → lane.posted ≡ posted_at s q → (lane.out ≡ true → lane.posted < r.computed) → PendingKept p window next r
     PendingKept-same within same out = record {
       kept = RowsKept-set p window s q lane halted (all_computed p r) k.kept within (omega (arith, same)) (let held = k.kept.posted q in omega (arith, same, held)) (λ o. let below = out o in let is = computed_is window s r k in omega (arith, below, is));
+      source = k.source;
       computed = k.computed;
       counted = k.counted;
       rows = subst (λ n. ArePending all processors n r.computed r.held.items) (least-same s.lanes q lane within same) k.rows;
@@ -272,6 +282,7 @@ module _ (p : PlanContents) (h : IsPlan p) where
       pub PendingKept-stay : least_posted next ≤ least_posted s → PendingKept p window next r
       PendingKept-stay stays = record {
         kept = kept_next;
+        source = k.source;
         computed = k.computed;
         counted = k.counted;
         rows = subst (λ n. ArePending all processors n r.computed r.held.items) (let up = least_stays in omega (arith, up, stays)) k.rows;
@@ -289,6 +300,7 @@ module _ (p : PlanContents) (h : IsPlan p) where
       pub PendingKept-go : least_posted s < least_posted next → PendingKept p window next fewer
       PendingKept-go moved = record {
         kept = kept_next;
+        source = k.source;
         computed = k.computed;
         counted = k.counted;
         rows =
@@ -345,46 +357,46 @@ module _ (p : PlanContents) (h : IsPlan p) where
 
   module _ (window : ℕ) (s : State) (r : PendingContents) (k : PendingKept p window s r) where
     -- the ticks of the next round can be counted
-    pub CanCount-next : (end : ℕ) → IsRoundUpTo p r.core.tick end → CanCount r.given (rows_of_round p r.core.tick end)
+    pub CanCount-next : (end : ℕ) → IsRoundUpTo p r.source.tick end → CanCount r.given (rows_of_round p r.source.tick end)
     CanCount-next end round = record {
-      forward = λ q row at. let up = ((is_round p h r.core.tick end round).forward q row at).0 in omega (arith, up);
+      forward = λ q row at. let up = ((is_round p h r.source.tick end round).forward q row at).0 in omega (arith, up);
       tasks = λ q row task at is.
-          let there = row_of_round r.core.tick end round (all_computed p r) k.kept.rounds refl q row at in
-          let low = names_task p h q (rounds_before p r.core.tick) task.0 row there (ap (is_of_task task.0) is ∙ eq-eqb task.0 task.0 refl) in
+          let there = row_of_round r.source.tick end round (all_computed p r) k.kept.rounds refl q row at in
+          let low = names_task p h q (rounds_before p r.source.tick) task.0 row there (ap (is_of_task task.0) is ∙ eq-eqb task.0 task.0 refl) in
           let many = k.tasks in
           omega (arith, low, many);
       fits = λ t low.
           let so_far = k.given t (let many = k.tasks in omega (arith, low, many)) in
           let count = ap (λ n. ticks_before t n all) k.computed in
-          let more = ticks_to_end r.core.tick end round (all_computed p r) k.kept.rounds refl t in
-          let fits = ticks_fit r.core.tick end round (all_computed p r) k.kept.rounds refl t in
+          let more = ticks_to_end r.source.tick end round (all_computed p r) k.kept.rounds refl t in
+          let fits = ticks_fit r.source.tick end round (all_computed p r) k.kept.rounds refl t in
           omega (arith, so_far, count, more, fits);
     }
 
-    module _ (m : PendingContents) (belongs : IsCoreOf p m.core) (round : IsRoundUpTo p r.core.tick m.core.tick) (same_width : m.width ≡ r.width)
-        (pushed : m.held ≡ buffer (r.held.items ++ map (pending r.given) (rows_of_round p r.core.tick m.core.tick)) r.held.capacity) (one : m.computed ≡ r.computed + 1)
-        (counted : AreCounted r.given (rows_of_round p r.core.tick m.core.tick) m.given)
-        (noted : AreNoted (length r.given) (r.computed + 1) r.last (rows_of_round p r.core.tick m.core.tick) m.last) (below : r.computed < least_posted s + window) (fits : r.computed + 1 < 2 ^ 64) where
+    module _ (m : PendingContents) (belongs : IsSourceOf p m.source) (round : IsRoundUpTo p r.source.tick m.source.tick) (same_width : m.width ≡ r.width)
+        (pushed : m.held ≡ buffer (r.held.items ++ map (pending r.given) (rows_of_round p r.source.tick m.source.tick)) r.held.capacity) (one : m.computed ≡ r.computed + 1)
+        (counted : AreCounted r.given (rows_of_round p r.source.tick m.source.tick) m.given)
+        (noted : AreNoted (length r.given) (r.computed + 1) r.last (rows_of_round p r.source.tick m.source.tick) m.last) (below : r.computed < least_posted s + window) (fits : r.computed + 1 < 2 ^ 64) where
       abbrev begin : ℕ
-      begin = r.core.tick
+      begin = r.source.tick
 
       abbrev more_rows : List Row
-      more_rows = rows_of_round p begin m.core.tick
+      more_rows = rows_of_round p begin m.source.tick
 
       early : rounds_before p begin < rounds_of p
-      early = rounds_left p h begin k.kept.rounds.core.at.event (let up = round.above in let stop = round.below in omega (arith, up, stop))
+      early = rounds_left p h begin k.kept.rounds.begins (let up = round.above in let stop = round.below in omega (arith, up, stop))
 
-      next_round : rounds_before p m.core.tick ≡ rounds_before p begin + 1
-      next_round = next_rounds p begin m.core.tick round
+      next_round : rounds_before p m.source.tick ≡ rounds_before p begin + 1
+      next_round = next_rounds p begin m.source.tick round
 
       are : AreRoundsOf p (all_computed p m)
-      are = AreRoundsOf-next p h (all_computed p r) (all_computed p m) k.kept.rounds belongs (tt, inr refl) round same_width (next_lanes p h begin m.core.tick round)
+      are = AreRoundsOf-next p h (all_computed p r) (all_computed p m) k.kept.rounds belongs.core (goes_on p m.source belongs) round same_width (next_lanes p h begin m.source.tick round)
           (let low = early in let next = next_round in omega (arith, low, next))
 
       -- the new row of a lane
       new_pending : (q : ℕ) (row : Row) → slice_get more_rows q ≡ Some row → IsPending all q r.computed (pending r.given row)
       new_pending q row at =
-          let there = row_of_round begin m.core.tick round (all_computed p r) k.kept.rounds refl q row at in
+          let there = row_of_round begin m.source.tick round (all_computed p r) k.kept.rounds refl q row at in
           record {
             row = subst (λ n. RowAt all q n row) (sym k.computed) there;
             before = λ task is.
@@ -412,8 +424,8 @@ module _ (p : PlanContents) (h : IsPlan p) where
         | inr past ↦ (
             let here : j ≡ r.computed = omega (arith, low, past, one) in
             let inside = lane_within all q j row at in
-            let (new, got) = slice_get-some more_rows q (let many = wide begin m.core.tick round in let lanes = plan_lanes p h in omega (arith, inside, many, lanes)) in
-            let there : RowAt all q j new = subst (λ n. RowAt all q n new) (sym (here ∙ k.computed)) (row_of_round begin m.core.tick round (all_computed p r) k.kept.rounds refl q new got) in
+            let (new, got) = slice_get-some more_rows q (let many = wide begin m.source.tick round in let lanes = plan_lanes p h in omega (arith, inside, many, lanes)) in
+            let there : RowAt all q j new = subst (λ n. RowAt all q n new) (sym (here ∙ k.computed)) (row_of_round begin m.source.tick round (all_computed p r) k.kept.rounds refl q new got) in
             let e : Some new ≡ Some row = sym there ∙ at in
             let same : new ≡ row = cc in
             subst (λ n. n < last_of m.last (length m.given) m.computed q row.leaf) (sym here) (last_new q row row.leaf (subst (λ x. slice_get more_rows q ≡ Some x) same got) refl)
@@ -428,19 +440,20 @@ module _ (p : PlanContents) (h : IsPlan p) where
           out = λ q out. let old = k.kept.out q out in let count = are.count in let before = k.kept.rounds.count in let next = next_round in omega (arith, old, count, before, next);
           in_window = let count = are.count in let next = next_round in let is = k.computed in omega (arith, count, next, is, below);
         };
+        source = belongs;
         computed = let next = next_round in let is = k.computed in omega (arith, one, next, is);
         counted = omega (arith, one, fits);
         rows =
             let up = least_computed window s r k in
             subst (λ (b : Buffer PendingRow). ArePending all processors (least_posted s) m.computed b.items) (sym pushed)
-            (ArePending-more all processors (least_posted s) r.computed r.held.items k.rows r.given more_rows (wide begin m.core.tick round) up new_pending m.computed one);
+            (ArePending-more all processors (least_posted s) r.computed r.held.items k.rows r.given more_rows (wide begin m.source.tick round) up new_pending m.computed one);
         places = ap (λ (b : Buffer PendingRow). b.capacity) pushed ∙ k.places;
         tasks = counted.many ∙ k.tasks;
         given = λ t low.
             let so_far = k.given t low in
             let added = counted.each t (let many = k.tasks in omega (arith, low, many)) in
             let count = ap (λ n. ticks_before t n all) k.computed in
-            let more = ticks_to_end begin m.core.tick round (all_computed p r) k.kept.rounds refl t in
+            let more = ticks_to_end begin m.source.tick round (all_computed p r) k.kept.rounds refl t in
             let is : m.computed ≡ rounds_before p begin + 1 = let c = k.computed in omega (arith, one, c) in
             let all_of = ap (λ n. ticks_before t n all) is in
             omega (arith, so_far, added, count, more, all_of);
@@ -483,14 +496,14 @@ module _ (p : PlanContents) (h : IsPlan p) where
         subst (λ n. IsPending all q n next) (omega (arith, low)) (k.rows.each (posted_at s q - least_posted s) q next inside here)
 
   module _ (window : ℕ) (s : State) (r : PendingContents) (k : PendingKept p window s r) where
-    -- where the core stands at the end all rounds are computed, and before it some are left
-    pub all_rounds : r.core.tick ≡ stop_of p → r.computed ≡ rounds_of p
+    -- where the next round begins at the end all rounds are computed, and before it some are left
+    pub all_rounds : r.source.tick ≡ stop_of p → r.computed ≡ rounds_of p
     all_rounds e = k.computed ∙ ap (rounds_before p) e
 
-    pub some_rounds : r.core.tick ≢ stop_of p → r.computed < rounds_of p
+    pub some_rounds : r.source.tick ≢ stop_of p → r.computed < rounds_of p
     some_rounds other =
-        let early = k.kept.rounds.core.at.early in
-        let left = rounds_left p h r.core.tick k.kept.rounds.core.at.event (omega (arith, early, other)) in
+        let early = k.kept.rounds.early in
+        let left = rounds_left p h r.source.tick k.kept.rounds.begins (omega (arith, early, other)) in
         let is = k.computed in
         omega (arith, left, is)
 

@@ -1,5 +1,5 @@
 -- The rows of a plan that are computed and not yet let go, round by round.
-use Rattle.std.specs.Prelude.{ℕ, ◌≡◌, ◌<◌, ◌≤◌, ◌+◌, ◌-◌, ◌*◌, ◌^◌, List, None, Some, length, slice_get, slice_index, slice_set}
+use Rattle.std.specs.Prelude.{ℕ, ◌≡◌, ◌<◌, ◌≤◌, ◌+◌, ◌-◌, ◌*◌, ◌^◌, List, Some, length, slice_get, slice_index, slice_set}
 use Rattle.sched_base.specs.declared.rows.Leaf.{Leaf}
 use Rattle.sched_base.specs.declared.rows.Leaf.TheVariants.{Task, Wait, Idle, Empty}
 use Rattle.sched_base.specs.declared.rows.Row.{Row}
@@ -7,16 +7,16 @@ use Rattle.sched_base.specs.declared.rows.TaskId.{TaskId}
 use Rattle.sched_base.specs.Lanes.{lanes_of}
 use Rattle.sched_base.specs.Tables.{Table, RowAt, ticks_before, ticks_in}
 use Rattle.run_tree.specs.Plans.{PlanContents, rounds_of}
-use Rattle.event_core.specs.Cores.{CoreContents}
 use Rattle.event_core.specs.Rounds.{rows_before, rounds_before}
 use Rattle.book_machine.specs.Machine.{State, least_posted}
 use Rattle.circular_buffer.specs.Buffer.{Buffer}
 use Rattle.plan_rounds.specs.PlanRows.{RoundsContents, plan_rows}
 use Rattle.plan_rounds.specs.Parts.{RowsKept}
 use Rattle.book_steps.specs.declared.ring.PendingRow.{PendingRow}
+use Rattle.book_steps.specs.Sources.{IsSourceOf, SourceContents, recurrence}
 
 pub record PendingContents : Type 0 where
-  pub core : CoreContents
+  pub source : SourceContents
   -- how many rows of one round there is room for
   pub width : ℕ
   -- the rows of the rounds that are held, round by round and in each processor by processor, and how many places there are
@@ -87,14 +87,21 @@ pub record ArePending (rows : List (List Row)) (m k n : ℕ) (items : List Pendi
 abbrev pub rounds_up_to : PlanContents → ℕ → Table
 rounds_up_to p n = record { lanes = lanes_of p.tree.processors (rows_before p n); room = rounds_of p - rounds_before p n }
 
--- all rounds up to the tick at which the core stands
+-- all rounds up to the tick at which the next one begins
 abbrev pub all_computed : PlanContents → PendingContents → RoundsContents
-all_computed p r = record { core = r.core; tick = r.core.tick; again = None; width = r.width; table = rounds_up_to p r.core.tick }
+all_computed p r = record {
+  core = r.source.core;
+  tick = r.source.tick;
+  again = recurrence p r.source.stage;
+  width = r.width;
+  table = rounds_up_to p r.source.tick;
+}
 
--- what a book keeps of its pending rows: all from the least posted count up to the core's tick, with a place for each row of a window
+-- what a book keeps of its pending rows: all from the least posted count up to the last computed round, with a place for each row of a window
 pub record PendingKept (p : PlanContents) (window : ℕ) (s : State) (r : PendingContents) : Type 0 where
   pub kept : RowsKept p window s (all_computed p r)
-  pub computed : r.computed ≡ rounds_before p r.core.tick
+  pub source : IsSourceOf p r.source
+  pub computed : r.computed ≡ rounds_before p r.source.tick
   pub counted : r.computed < 2 ^ 64
   pub rows : ArePending (plan_rows p) p.tree.processors (least_posted s) r.computed r.held.items
   pub places : r.held.capacity ≡ window * p.tree.processors

@@ -2,11 +2,11 @@
 ghost use Rattle.std.specs.Prelude.{◌≡◌, ◌≤◌, ◌*◌, [], None, length, replicate, IfOk, IfErr};
 ghost use Rattle.sched_base.specs.Limits.{window_limit};
 ghost use Rattle.circular_buffer.specs.Buffer.{buffer};
-ghost use Rattle.event_core.specs.Cores.{IsCoreOf};
 ghost use Rattle.book_machine.specs.Machine.{start};
 ghost use Rattle.plan_rounds.specs.PlanRows.{IsCompiled};
 ghost use Rattle.round_steps.specs.Refusals.{IsRefusedFor};
 ghost use Rattle.book_steps.specs.Books.{IsBookOf, IsSound, begun};
+ghost use Rattle.book_steps.specs.Sources.{IsSourceOf};
 
 use crate::pending::Pending;
 use book_machine::MachineState;
@@ -39,7 +39,7 @@ impl Model for StepBook {
       plan = b.plan;
       window = b.window;
       state = b.state;
-      table = rounds_up_to b.plan b.pending.core.tick;
+      table = rounds_up_to b.plan b.pending.source.tick;
       totals = b.totals.items;
       faults = b.faults.items;
     } };
@@ -59,8 +59,8 @@ struct Parts {
 impl Parts {
     fn new(alloc: Global, plan: &Plan, window: u32) -> Result<Parts, NoMemory>
         requires { window ≤ window_limit }
-        ensures core { IfOk result (λ q. IsCoreOf plan.now q.pending.core) }
-        ensures start { IfOk result (λ q. q.pending.core.tick ≡ 0) }
+        ensures source { IfOk result (λ q. IsSourceOf plan.now q.pending.source) }
+        ensures start { IfOk result (λ q. q.pending.source.tick ≡ 0) }
         ensures width { IfOk result (λ q. q.pending.width ≡ plan.now.tree.processors) }
         ensures held { IfOk result (λ q. q.pending.held ≡ buffer [] (window * plan.now.tree.processors)) }
         ensures computed { IfOk result (λ q. q.pending.computed ≡ 0) }

@@ -5,15 +5,15 @@ ghost use Rattle.sched_base.specs.Limits.{window_limit};
 ghost use Rattle.sched_base.specs.declared.rows.Leaf.TheVariants.{Task};
 ghost use Rattle.sched_base.specs.declared.rows.TaskId.{TaskId as DeclaredTaskId};
 ghost use Rattle.run_tree.specs.Plans.{stop_of};
-ghost use Rattle.event_core.specs.Cores.{IsCoreOf};
 ghost use Rattle.event_core.specs.Rounds.{IsRoundUpTo, rows_of_round};
 ghost use Rattle.circular_buffer.specs.Buffer.{buffer};
 ghost use Rattle.book_steps.specs.declared.ring.PendingRow.{PendingRow as DeclaredRow};
 ghost use Rattle.book_steps.specs.Pending.{AreCounted, AreNoted, CanCount, CanNote, given_to as ticks_given, last_of, pending, with_last};
+ghost use Rattle.book_steps.specs.Sources.{IsSourceOf};
 ghost use Rattle.book_steps.specs.Turns.{with_ticks};
 
 use crate::ring::{PendingRow, Ring};
-use event_core::Core;
+use crate::source::Source;
 use run_tree::Plan;
 use sched_base::{Leaf, NoMemory, Row, blank_rows};
 use std::alloc::Global;
@@ -22,7 +22,7 @@ use std::marker::Model;
 /// The rows of a plan's schedule that are computed and not yet let go: round by round, and those of a round processor by processor.
 #[derive(Drop)]
 pub(crate) struct Pending {
-    core: Core,
+    source: Source,
     // Room for the rows of one round.
     rows: Vec<Row>,
     held: Ring,
@@ -39,15 +39,22 @@ impl Model for Pending {
 
     ghost Value = { PendingContents };
 
-    ghost view = { λ r. record { core = r.core; width = vec_len r.rows; held = r.held; computed = r.computed; given = r.given.items; last = r.last.items } };
+    ghost view = { λ r. record {
+      source = r.source;
+      width = vec_len r.rows;
+      held = r.held;
+      computed = r.computed;
+      given = r.given.items;
+      last = r.last.items;
+    } };
 }
 
 impl Pending {
     /// No row yet, with a place for each row of a window. All memory is taken here.
     pub(crate) fn new(alloc: Global, plan: &Plan, window: u32) -> Result<Pending, NoMemory>
         requires { window ≤ window_limit }
-        ensures core { IfOk result (λ r. IsCoreOf plan.now r.core) }
-        ensures start { IfOk result (λ r. r.core.tick ≡ 0) }
+        ensures source { IfOk result (λ r. IsSourceOf plan.now r.source) }
+        ensures start { IfOk result (λ r. r.source.tick ≡ 0) }
         ensures width { IfOk result (λ r. r.width ≡ plan.now.tree.processors) }
         ensures held { IfOk result (λ r. r.held ≡ buffer [] (window * plan.now.tree.processors)) }
         ensures computed { IfOk result (λ r. r.computed ≡ 0) }
@@ -60,9 +67,9 @@ impl Pending {
         let given = vec![in alloc; 0u128; tasks as usize]?;
         let last = vec![in alloc; 0u64; processors as usize * tasks as usize]?;
         let rows = blank_rows(alloc, processors)?;
-        let core = Core::new(alloc, plan)?;
+        let source = Source::new(alloc, plan)?;
         Ok(Pending {
-            core,
+            source,
             rows,
             held,
             computed: 0,
@@ -73,24 +80,24 @@ impl Pending {
 
     /// Computes one round more.
     pub(crate) fn compute_next(&mut self, plan: &Plan)
-        requires belongs { IsCoreOf plan.now self.old.core }
-        requires early { self.old.core.tick < stop_of plan.now }
+        requires belongs { IsSourceOf plan.now self.old.source }
+        requires early { self.old.source.tick < stop_of plan.now }
         requires width { self.old.width ≡ plan.now.tree.processors }
         requires places { length self.old.held.items + self.old.width ≤ self.old.held.capacity }
         requires counted { self.old.computed + 1 < 2 ^ 64 }
         requires each { length self.old.last ≡ self.old.width * length self.old.given }
-        requires fits { (end : ℕ) → IsRoundUpTo plan.now self.old.core.tick end → CanCount self.old.given (rows_of_round plan.now self.old.core.tick end) }
-        ensures belongs { IsCoreOf plan.now self.new.core }
-        ensures round { IsRoundUpTo plan.now self.old.core.tick self.new.core.tick }
+        requires fits { (end : ℕ) → IsRoundUpTo plan.now self.old.source.tick end → CanCount self.old.given (rows_of_round plan.now self.old.source.tick end) }
+        ensures belongs { IsSourceOf plan.now self.new.source }
+        ensures round { IsRoundUpTo plan.now self.old.source.tick self.new.source.tick }
         ensures width { self.new.width ≡ self.old.width }
         ensures held { self.new.held ≡ buffer (self.old.held.items
-            ++ map (pending self.old.given) (rows_of_round plan.now self.old.core.tick self.new.core.tick)) self.old.held.capacity }
+            ++ map (pending self.old.given) (rows_of_round plan.now self.old.source.tick self.new.source.tick)) self.old.held.capacity }
         ensures computed { self.new.computed ≡ self.old.computed + 1 }
-        ensures given { AreCounted self.old.given (rows_of_round plan.now self.old.core.tick self.new.core.tick) self.new.given }
+        ensures given { AreCounted self.old.given (rows_of_round plan.now self.old.source.tick self.new.source.tick) self.new.given }
         ensures last { AreNoted (length self.old.given) (self.old.computed + 1) self.old.last
-            (rows_of_round plan.now self.old.core.tick self.new.core.tick) self.new.last }
+            (rows_of_round plan.now self.old.source.tick self.new.source.tick) self.new.last }
     {
-        self.core.advance(plan, &mut self.rows);
+        self.source.advance(plan, &mut self.rows);
         push_each(&mut self.held, self.given.as_slice(), self.rows.as_slice());
         self.computed += 1;
         note_each(
@@ -111,9 +118,9 @@ impl Pending {
 
     /// The tick up to which the rounds are computed.
     pub(crate) fn tick(&self) -> u128
-        ensures { result ≡ self.now.core.tick }
+        ensures { result ≡ self.now.source.tick }
     {
-        self.core.now()
+        self.source.now()
     }
 
     // The place of the row of processor q in the held round with this number, counted from the first one that is held.

@@ -14,7 +14,7 @@ module _ (c : After-know_lawful) where
   pending = c.self.invariant.pending
 
   -- the rounds that are seen are those that are counted
-  counted : rounds_before c.self.inside.plan c.self.inside.pending.core.tick ≡ c.self.inside.pending.computed
+  counted : rounds_before c.self.inside.plan c.self.inside.pending.source.tick ≡ c.self.inside.pending.computed
   counted = let is = pending.computed in omega (arith, is)
 
   below : c.self.inside.pending.computed < least_posted c.self.inside.state + c.self.inside.window
@@ -25,18 +25,18 @@ module _ (c : After-know_lawful) where
       omega (arith, low, seen, is)
 
 pub compute_next-requires-clause-belongs : goal.compute_next-requires-clause-belongs
-compute_next-requires-clause-belongs c = c.self.invariant.pending.kept.rounds.core
+compute_next-requires-clause-belongs c = c.self.invariant.pending.source
 
 pub compute_next-requires-clause-early : goal.compute_next-requires-clause-early
 compute_next-requires-clause-early c =
     let r = (goal.at.compute_next-requires-clause-early c).After-know_lawful in
     let p = c.self.inside.plan in
-    let tick = c.self.inside.pending.core.tick in
+    let tick = c.self.inside.pending.source.tick in
     let rounds = (pending r).kept.rounds in
     elim (below_or tick (stop_of p)) [
       | inl before ↦ before
       | inr past ↦ absurd (
-          let up = rounds.core.at.early in
+          let up = rounds.early in
           let last = ap (rounds_before p) (let e : tick ≡ stop_of p = omega (arith, up, past) in e) in
           let left = rw (← c.self.view_is) at c.requires.left in
           let seen = rounds.count in

@@ -10,10 +10,10 @@ module _ (c : After-know_lawful) where
   pending : PendingKept c.self.inside.plan c.self.inside.window c.self.inside.state c.self.inside.pending
   pending = c.self.invariant.pending
 
-  last : c.self.inside.pending.core.tick ≡ stop_of c.self.inside.plan → c.self.inside.pending.computed ≡ rounds_of c.self.inside.plan
+  last : c.self.inside.pending.source.tick ≡ stop_of c.self.inside.plan → c.self.inside.pending.computed ≡ rounds_of c.self.inside.plan
   last = all_rounds c.self.inside.plan c.know_lawful.ensures.lawful c.self.inside.window c.self.inside.state c.self.inside.pending pending
 
-  some : c.self.inside.pending.core.tick ≢ stop_of c.self.inside.plan → c.self.inside.pending.computed < rounds_of c.self.inside.plan
+  some : c.self.inside.pending.source.tick ≢ stop_of c.self.inside.plan → c.self.inside.pending.computed < rounds_of c.self.inside.plan
   some = some_rounds c.self.inside.plan c.know_lawful.ensures.lawful c.self.inside.window c.self.inside.state c.self.inside.pending pending
 
 pub posted-requires : goal.posted-requires

@@ -1,0 +1,8 @@
+use Rattle.std.proofs.Common.{arith}
+use Rattle.book_steps.proofs.SourceLemmas.{IsRepeating-wrapped}
+use Rattle.book_steps.proofs.source.wrapped.Goals as goal
+
+pub returns-clause-again : goal.returns-clause-again
+returns-clause-again c =
+    IsRepeating-wrapped c.args.plan.now c.know_lawful.ensures.lawful c.args.tick c.args.ends.now c.args.shown.now c.args.again c.requires.again c.requires.early
+    (let off = c.if-again-ends.false in omega (arith, off))
