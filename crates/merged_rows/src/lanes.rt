@@ -93,6 +93,8 @@ impl MergedLane {
     }
 
     // Takes room for more rows.
+    #[cold]
+    #[inline(never)]
     fn grow(&mut self) -> Result<(), NoMemory>
         ensures { self.new ≡ self.old }
     {

@@ -19,6 +19,15 @@ use unit_ledger::{LaneSeat, PostLedger, open};
 /// Three tasks that leave room on two processors, one of them with an offset.
 const LATE_TASKS: Set = (2, 12, &[("a", 1, 3, 0), ("b", 1, 4, 1), ("c", 2, 6, 0)]);
 
+/// Two tasks on one processor, whose rounds come again after 12 units, up to the middle of one.
+const ONE_PROCESSOR: Set = (1, 29, &[("a", 2, 4, 0), ("b", 2, 6, 0)]);
+
+/// The same with an offset: no round is kept.
+const ONE_LATE: Set = (1, 29, &[("a", 2, 4, 0), ("b", 2, 6, 3)]);
+
+/// The same up to one hyperperiod: no round comes again.
+const ONE_SHORT: Set = (1, 12, &[("a", 2, 4, 0), ("b", 2, 6, 0)]);
+
 /// How many events are played: enough for all rows of each set.
 const EVENTS: usize = 200;
 
@@ -58,6 +67,11 @@ const CASES: &[Case] = &[
         NEVER,
     ),
     ("late, fails", LATE_TASKS, 3, &[0, 1], 17),
+    ("one, window 1", ONE_PROCESSOR, 1, &[0], NEVER),
+    ("one, far ahead", ONE_PROCESSOR, 1024, &[0], NEVER),
+    ("one, fails", ONE_PROCESSOR, 2, &[0], 21),
+    ("one, late", ONE_LATE, 32, &[0], NEVER),
+    ("one, short", ONE_SHORT, 2, &[0], NEVER),
 ];
 
 /// A row that is out, with the job that works for it.
