@@ -180,6 +180,16 @@ ends() {
     { [ "$status" = "$wanted" ] && [ ! -s "$work/told" ] && [ -s "$work/line" ]; } || fail "$(basename "$1") ends with $status at faulty words"
 }
 
+# tried SECONDS PROGRAM WORD..: runs a program for so many seconds at most; where it fails, its status and all that it said are shown.
+tried() {
+    seconds=$1
+    shift
+    timeout "$seconds" "$@" >"$work/told" 2>"$work/line" && return
+    echo "examples: it ended with $? (124: it took more than $seconds seconds), and said:"
+    cat "$work/told" "$work/line"
+    return 1
+}
+
 # Tries the book call by call, with each allocation refused, and executes sets, with one compiler.
 try_executive() {
     strict="$1 -std=c99 -Wall -Wextra -pedantic -Werror -O2 -I $top/include -pthread"
@@ -187,8 +197,8 @@ try_executive() {
         $strict -Wl,--wrap=malloc,--wrap=realloc,--wrap=free -o "$work/executive_memory" "$top/examples/c/executive_memory.c" "$library" "$kit/c/liblibc_c.a" &&
         $strict -o "$work/executive" "$top/examples/c/executive.c" "$library" "$kit/c/liblibc_c.a" ||
         { fail "$1 does not compile the executive"; return; }
-    timeout 300 "$work/executive_test" || fail "the executive is otherwise than it should be ($1)"
-    timeout 300 "$work/executive_memory" || fail "the executive answers a refused allocation otherwise ($1)"
+    tried 300 "$work/executive_test" || fail "the executive is otherwise than it should be ($1)"
+    tried 300 "$work/executive_memory" || fail "the executive answers a refused allocation otherwise ($1)"
     if [ -x "$program" ]; then
         for set in "$top"/examples/*.toml; do executes "$set"; done
         "$work/executive" "$top/examples/video-wall.toml" 0 2>"$work/line" | "$program" check >"$work/told" || fail "what ran isn't valid ($1)"
@@ -204,21 +214,27 @@ try_executive() {
 # Tries the executive with one C++ compiler.
 try_plus_plus() {
     "$1" -x c++ -std=c++11 -Wall -Wextra -pedantic -Werror -O2 -I "$top/include" -pthread -o "$work/executive_test" "$top/examples/c/executive_test.c" \
-        -x none "$library" "$kit/c/liblibc_c.a" && timeout 300 "$work/executive_test" || fail "the executive is otherwise in C++ ($1)"
+        -x none "$library" "$kit/c/liblibc_c.a" && tried 300 "$work/executive_test" || fail "the executive is otherwise in C++ ($1)"
     echo "examples: the executive was compiled by $1 and tried"
 }
 
-# Tries the executive and the dispatcher with one compiler and sanitizer.
+# Tries the executive and the dispatcher with one compiler and sanitizer. A sanitizer looks for memory where it lay when it was written; where the
+# kernel places programs more freely, it ends them at their start. So they are run in one place, where that is allowed.
 try_sanitizer() {
     strict="$1 -Wall -Wextra -pedantic -Werror -O1 -g -fsanitize=$2 -fno-sanitize-recover=all -I $top/include -pthread"
+    in_place=
+    setarch "$(uname -m)" -R true 2>/dev/null && in_place="setarch $(uname -m) -R"
     echo 'int main(void) { return 0; }' >"$work/empty.c"
-    { $strict -o "$work/empty" "$work/empty.c" && "$work/empty"; } >/dev/null 2>&1 ||
+    # shellcheck disable=SC2086 # none or three words
+    { $strict -o "$work/empty" "$work/empty.c" && $in_place "$work/empty"; } >/dev/null 2>&1 ||
         { echo "examples: $1 has no sanitizer '$2' here, so the executive wasn't tried with it"; return; }
+    # shellcheck disable=SC2086
     $strict -std=c99 -o "$work/executive_test" "$top/examples/c/executive_test.c" "$library" "$kit/c/liblibc_c.a" &&
-        timeout 300 "$work/executive_test" || fail "the executive is at fault by $1 with the sanitizer '$2'"
+        tried 600 $in_place "$work/executive_test" || fail "the executive is at fault by $1 with the sanitizer '$2'"
+    # shellcheck disable=SC2086
     $strict -std=c11 -o "$work/dispatch" "$top/examples/c/dispatch.c" "$library" "$kit/c/liblibc_c.a" &&
-        "$work/dispatch" -u 1000000 "$top/examples/three-tasks.toml" 3 "$top/examples/three-tasks.toml" 2 >"$work/told" 2>"$work/line" ||
-        { cat "$work/line"; fail "the dispatcher is at fault by $1 with the sanitizer '$2'"; }
+        tried 60 $in_place "$work/dispatch" -u 1000000 "$top/examples/three-tasks.toml" 3 "$top/examples/three-tasks.toml" 2 ||
+        fail "the dispatcher is at fault by $1 with the sanitizer '$2'"
     echo "examples: the executive and the dispatcher were tried by $1 with the sanitizer '$2'"
 }
 

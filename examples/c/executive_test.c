@@ -700,7 +700,8 @@ static void try_crews(struct crew_notes *notes)
     WANT(fl_execute(three, THREE, &crew, &ended) == FL_NO_THREAD && ended.error == EINVAL && notes->begun == 0 && notes->rows[0] == 0);
 }
 
-/* Another thread uses the library meanwhile, with the lock that the crew has too. */
+/* Another thread uses the library meanwhile, with the lock that the crew has too. It naps between two calls: a lock is nobody's by turns, and who takes
+   it again at once may keep all others from it for minutes. */
 struct other {
     pthread_mutex_t lock;
     int stop, wrong, calls;
@@ -709,6 +710,7 @@ struct other {
 static void *rate_on(void *argument)
 {
     struct other *other = (struct other *)argument;
+    const struct timespec nap = {0, 20000};
     int stop = 0;
     while (!stop) {
         struct fl_text text;
@@ -718,6 +720,7 @@ static void *rate_on(void *argument)
         other->calls++;
         stop = other->stop;
         pthread_mutex_unlock(&other->lock);
+        nanosleep(&nap, NULL);
     }
     return NULL;
 }
