@@ -7,7 +7,8 @@ use Rattle.clap.specs.declared.builder.command.Command.{Command as CommandOfClap
 use Rattle.clap.specs.declared.builder.action.ArgAction.TheVariants.{Set, SetTrue}
 use Rattle.command_words.specs.declared.command.Command.{Command}
 use Rattle.command_words.specs.declared.command.Command.TheVariants.{Read, Batch, Execute}
-use Rattle.command_words.specs.declared.command.Reading.TheVariants.{Rate, Tree, Trace, TraceMet, TraceWrap, TraceRepeat, Table, TableRepeat, Check, Follow, Draw}
+use Rattle.command_words.specs.declared.command.Reading.TheVariants.{Rate, Tree, Trace, TraceMet, TraceWrap, TraceRepeat}
+use Rattle.command_words.specs.declared.command.Reading.TheVariants.{Table, TableRepeat, Check, Follow, Draw}
 use Rattle.command_words.specs.declared.command.Execution.TheVariants.{Exec, ExecMet, Drill, Jobs, Modes}
 use Rattle.sched_base.specs.Limits.{window_limit}
 use Rattle.command_words.specs.Words.{drawn, number_in}

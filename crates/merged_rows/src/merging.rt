@@ -144,7 +144,7 @@ fn show_told(lanes: &mut [MergedLane], start: u128, told: &[Option<Leaf>]) -> Re
     Ok(())
 }
 
-// The same, where all others than these processors go on.
+// Each processor shows what is told of it, from tick `start` on, where only these processors are told something.
 #[inline(always)]
 fn show_changed(
     lanes: &mut [MergedLane],

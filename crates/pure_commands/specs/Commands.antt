@@ -8,7 +8,8 @@ use Rattle.batch_compile.specs.declared.answers.Answer.{Answer}
 use Rattle.batch_compile.specs.Answers.{IsAnswer}
 use Rattle.command_words.specs.declared.asking.Asked.{Asked}
 use Rattle.command_words.specs.declared.command.Reading.{Reading}
-use Rattle.command_words.specs.declared.command.Reading.TheVariants.{Rate, Tree, Trace, TraceMet, TraceWrap, TraceRepeat, Table, TableRepeat, Check, Follow, Draw}
+use Rattle.command_words.specs.declared.command.Reading.TheVariants.{Rate, Tree, Trace, TraceMet, TraceWrap, TraceRepeat}
+use Rattle.command_words.specs.declared.command.Reading.TheVariants.{Table, TableRepeat, Check, Follow, Draw}
 use Rattle.trace_check.specs.Traces.{Trace as TraceRead}
 use Rattle.trace_check.specs.Reading.{reading}
 use Rattle.trace_draw.specs.Drawing.{IsDrawing}

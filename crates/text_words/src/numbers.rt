@@ -64,7 +64,7 @@ fn front_digits(text: &[u8]) -> (usize, u64)
     read_digits(&text[..text.len().min(SURE)], 0, 0)
 }
 
-// The same with at most 38 digits, of which the first 19 are known.
+// The digits at the front, at most 38 of them, of which the first 19 are known: how many they are, and the number that they write.
 #[inline(never)]
 fn more_digits(text: &[u8], value: u64) -> (usize, u128)
     requires within { 19 ≤ length text.now }
