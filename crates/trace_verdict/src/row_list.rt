@@ -23,6 +23,9 @@ const MOST_START: u128 = u64::MAX as u128;
 /// What the number of ticks of a short row is below.
 const MANY: u128 = 1 << 48;
 
+/// What the last 32 bits of that number are below.
+const LOWS: u64 = 1 << 32;
+
 /// A row that starts at a tick of 64 bits and has ticks of 48, of a task of a small number or of the idle leaf 0, which are all
 /// that a text names.
 #[derive(Clone, Copy)]
@@ -63,7 +66,7 @@ impl ShortRow {
     fn ticks(&self) -> u64
         ensures { result ≡ self.now.high * 4294967296 + self.now.low }
     {
-        u64::from(self.high) * 4_294_967_296 + u64::from(self.low)
+        u64::from(self.high) * LOWS + u64::from(self.low)
     }
 
     /// Where it ends.
@@ -166,8 +169,8 @@ pub(crate) fn short_for(row: &Row) -> Option<ShortRow>
     let leaf = number_for(row.leaf)?;
     Some(ShortRow {
         start: row.start as u64,
-        low: (ticks % 4_294_967_296) as u32,
-        high: (ticks / 4_294_967_296) as u16,
+        low: (ticks % LOWS) as u32,
+        high: (ticks / LOWS) as u16,
         owner: (row.processor * LEAVES + leaf) as u16,
     })
 }
@@ -279,6 +282,14 @@ impl RowList {
                 return Ok(());
             }
         }
+        self.push_wide(row)
+    }
+
+    // Appends a row as it is.
+    #[inline(never)]
+    fn push_wide(&mut self, row: &Row) -> Result<(), AllocError>
+        ensures { OnOk result (self.new ≡ self.old ++ row.now ∷ []) }
+    {
         self.long.reserve(1)?;
         self.long.push_reserved(*row);
         Ok(())

@@ -74,7 +74,7 @@ impl ShortNear {
 }
 
 impl ShortWalk {
-    /// The same in 64 bits, where no number has more.
+    /// The walk in numbers of 64 bits, where none has more.
     pub(crate) fn of(walk: &TaskWalk) -> Option<ShortWalk>
         ensures { IfSome result (λ w. wide_of w ≡ walk.now) }
     {
@@ -97,7 +97,7 @@ impl ShortWalk {
         })
     }
 
-    /// The same in numbers of any size.
+    /// The walk in numbers of any size.
     pub(crate) fn wide(&self) -> TaskWalk
         ensures { result ≡ wide_of self.now }
     {

@@ -129,6 +129,7 @@ fn found_of(
 }
 
 // What the rows of each task tell, where all are short and no walk needs more than 64 bits.
+#[inline(never)]
 fn short_findings(
     alloc: Global,
     set: &TaskSet,
