@@ -1,21 +1,47 @@
 //! Words that stand in line after line: their bytes are compared, so that no number is read twice.
-ghost use Rattle.std.specs.Prelude.{ℕ, ◌≡◌, ◌+◌, ◌≤◌, ◌<◌, length, take, slice_index, Some, IsTrue, IfSome};
-ghost use Rattle.text_words.specs.Words.{number_of, BeginsWith};
+ghost use Rattle.std.specs.Prelude.{ℕ, ◌≡◌, ◌+◌, ◌≤◌, ◌<◌, [], ◌∷◌, ◌++◌, codes, length, take, slice_index, IsTrue, IfSome};
+ghost use Rattle.sched_base.specs.Bytes.{space};
+ghost use Rattle.text_words.specs.Words.{BeginsWith};
+ghost use Rattle.trace_check.specs.KnownWords.{IsSpaced, IsFront, BeginsRowOf};
 
 use text_words::cut_number;
 
-/// A word, and the number that it writes.
+/// A word with the space behind it, and the number that it writes.
 #[derive(Clone, Copy)]
 pub(crate) struct KnownWord<'a> {
     pub word: &'a [u8],
     pub number: u128,
-    ghost known: { number_of word.now ≡ Some number },
+    ghost known: { IsSpaced number word.now },
 }
 
-/// The words of a row line that most often stand in the next one too: its processor, and its end, as the next start.
+/// A word with the space behind it, and the number of 64 bits that it writes.
+#[derive(Clone, Copy)]
+pub(crate) struct ShortWord<'a> {
+    pub word: &'a [u8],
+    pub number: u64,
+    ghost known: { IsSpaced number word.now },
+}
+
+/// The front of a row line up to its start: the word `row` and its processor, with the spaces behind them.
+#[derive(Clone, Copy)]
+pub(crate) struct KnownFront<'a> {
+    pub front: &'a [u8],
+    pub processor: u128,
+    ghost known: { IsFront processor front.now },
+}
+
+/// The front of a row line, of a processor of 32 bits.
+#[derive(Clone, Copy)]
+pub(crate) struct ShortFront<'a> {
+    pub front: KnownFront<'a>,
+    pub processor: u32,
+    ghost same: { front.processor ≡ processor },
+}
+
+/// The words of a row line that most often stand in the next one too: its front, and its end, as the next start.
 #[derive(Clone, Copy)]
 pub(crate) struct LastWords<'a> {
-    pub processor: KnownWord<'a>,
+    pub front: KnownFront<'a>,
     pub end: KnownWord<'a>,
 }
 
@@ -23,8 +49,14 @@ impl<'a> LastWords<'a> {
     /// Those of no line.
     pub fn none() -> LastWords<'a> {
         LastWords {
-            processor: KnownWord::zero(),
-            end: KnownWord::zero(),
+            front: KnownFront {
+                front: b"row 0 ",
+                processor: 0,
+            },
+            end: KnownWord {
+                word: b"0 ",
+                number: 0,
+            },
         }
     }
 }
@@ -67,7 +99,7 @@ fn begins_with_some(text: &[u8], word: &[u8]) -> bool
     requires fits { length word.now ≤ length text.now }
     ensures { IsTrue result → (k : ℕ) → k < length word.now → slice_index text.now k ≡ slice_index word.now k }
 {
-    are_same_four(text, word, 0) & are_same_four(text, word, word.len() - 4)
+    are_same_four(text, word, 0) && are_same_four(text, word, word.len() - 4)
 }
 
 // Whether the text begins with a word of less than four bytes.
@@ -82,6 +114,17 @@ fn begins_with_few(text: &[u8], word: &[u8]) -> bool
         }
     }
     true
+}
+
+// Whether the text begins with a word of eight to sixteen bytes. The last eight may overlap those before them.
+#[inline(always)]
+fn begins_with_sixteen(text: &[u8], word: &[u8]) -> bool
+    requires many { 8 ≤ length word.now }
+    requires most { length word.now ≤ 16 }
+    requires fits { length word.now ≤ length text.now }
+    ensures { IsTrue result → (k : ℕ) → k < length word.now → slice_index text.now k ≡ slice_index word.now k }
+{
+    are_same_eight(text, word, 0) && are_same_eight(text, word, word.len() - 8)
 }
 
 // Whether the text begins with a word of at least eight bytes. The last eight may overlap those before them.
@@ -117,30 +160,115 @@ pub(crate) fn begins_with(text: &[u8], word: &[u8]) -> bool
     if word.len() < 8 {
         return begins_with_some(text, word);
     }
+    if word.len() <= 16 {
+        return begins_with_sixteen(text, word);
+    }
     begins_with_many(text, word)
 }
 
-impl<'a> KnownWord<'a> {
-    /// The number 0.
-    pub fn zero() -> KnownWord<'a> {
-        KnownWord {
-            word: b"0",
-            number: 0,
-        }
+/// What follows the word, where the text begins with it.
+#[inline(always)]
+pub(crate) fn after_known<'a>(text: &'a [u8], word: &[u8]) -> Option<&'a [u8]>
+    ensures { IfSome result (λ rest. text.now ≡ word.now ++ rest.now) }
+{
+    if begins_with(text, word) {
+        Some(&text[word.len()..])
+    } else {
+        None
     }
+}
 
-    /// What follows the word and a space, where the text begins with them.
+/// What follows the word `row` and a space.
+#[inline(always)]
+pub(crate) fn after_row(text: &[u8]) -> Option<&[u8]>
+    ensures { IfSome result (λ rest. text.now ≡ codes "row" ++ space ∷ rest.now) }
+{
+    after_known(text, b"row ")
+}
+
+impl<'a> KnownWord<'a> {
+    /// What follows the word, where the text begins with it.
     #[inline(always)]
     pub fn cut<'b>(&self, text: &'b [u8]) -> Option<&'b [u8]>
         ensures { IfSome result (λ rest. BeginsWith self.now.number text.now rest.now) }
     {
-        let end = self.word.len();
-        if end < text.len() && begins_with(text, self.word) && text[end] == b' ' {
-            Some(&text[end + 1..])
-        } else {
-            None
+        after_known(text, self.word)
+    }
+
+    /// The word, where its number has 64 bits.
+    pub fn short(&self) -> Option<ShortWord<'a>>
+        ensures { IfSome result (λ w. w.number ≡ self.now.number) }
+    {
+        let number = narrow(self.number)?;
+        Some(ShortWord {
+            word: self.word,
+            number,
+        })
+    }
+}
+
+impl<'a> ShortWord<'a> {
+    /// What follows the word, where the text begins with it.
+    #[inline(always)]
+    pub fn cut<'b>(&self, text: &'b [u8]) -> Option<&'b [u8]>
+        ensures { IfSome result (λ rest. BeginsWith self.now.number text.now rest.now) }
+    {
+        after_known(text, self.word)
+    }
+
+    /// The word, of a number of any size.
+    pub fn wide(&self) -> KnownWord<'a>
+        ensures { result.number ≡ self.now.number }
+    {
+        KnownWord {
+            word: self.word,
+            number: u128::from(self.number),
         }
     }
+}
+
+impl<'a> KnownFront<'a> {
+    /// What follows the front, where the text begins with it.
+    #[inline(always)]
+    pub fn cut<'b>(&self, text: &'b [u8]) -> Option<&'b [u8]>
+        ensures { IfSome result (λ rest. BeginsRowOf self.now.processor text.now rest.now) }
+    {
+        after_known(text, self.front)
+    }
+
+    /// The front, where its processor has 32 bits.
+    pub fn short(&self) -> Option<ShortFront<'a>> {
+        if self.processor > u128::from(u32::MAX) {
+            return None;
+        }
+        Some(ShortFront {
+            front: *self,
+            processor: self.processor as u32,
+        })
+    }
+}
+
+/// The number in 64 bits, where it has no more.
+#[inline(always)]
+fn narrow(number: u128) -> Option<u64>
+    ensures { IfSome result (λ n. n ≡ number) }
+{
+    if number <= u128::from(u64::MAX) {
+        Some(number as u64)
+    } else {
+        None
+    }
+}
+
+/// The front of a row line, and what follows it, if the processor has at most 38 digits.
+#[inline(always)]
+pub(crate) fn cut_front<'a>(text: &'a [u8]) -> Option<(KnownFront<'a>, &'a [u8])>
+    ensures { IfSome result (λ p. BeginsRowOf p.0.processor text.now p.1.now) }
+{
+    let rest = after_row(text)?;
+    let (processor, rest) = cut_number(rest)?;
+    let front = &text[..text.len() - rest.len()];
+    Some((KnownFront { front, processor }, rest))
 }
 
 /// The number at the front of a text with its word, and what follows, if they are there and the number has at most 38 digits.
@@ -149,6 +277,17 @@ pub(crate) fn cut_word<'a>(text: &'a [u8]) -> Option<(KnownWord<'a>, &'a [u8])>
     ensures { IfSome result (λ p. BeginsWith p.0.number text.now p.1.now) }
 {
     let (number, rest) = cut_number(text)?;
-    let word = &text[..text.len() - rest.len() - 1];
+    let word = &text[..text.len() - rest.len()];
     Some((KnownWord { word, number }, rest))
+}
+
+/// The number of 64 bits at the front of a text with its word, and what follows, if they are there.
+#[inline(always)]
+pub(crate) fn cut_short<'a>(text: &'a [u8]) -> Option<(ShortWord<'a>, &'a [u8])>
+    ensures { IfSome result (λ p. BeginsWith p.0.number text.now p.1.now) }
+{
+    let (number, rest) = cut_number(text)?;
+    let number = narrow(number)?;
+    let word = &text[..text.len() - rest.len()];
+    Some((ShortWord { word, number }, rest))
 }

@@ -7,7 +7,7 @@ ghost use Rattle.trace_check.specs.WholeRows.{AreRowsOf, NextWhole, RowsEnd, Sto
 use crate::known_words::LastWords;
 use crate::name_table::NameTable;
 use crate::row_lines::{add_ticks, begins_row, row_from, row_of};
-use crate::row_runs::{narrow, run_row, run_words};
+use crate::row_runs::{run_row, run_words};
 use crate::row_words::{RowWords, next_row_words, whole_row_words};
 use sched_base::{NoMemory, Row, TaskSet};
 use std::alloc::{AllocError, Global};
@@ -190,21 +190,23 @@ impl RowReader {
             → AreRowsOf set.now.tasks whole self.new.rows self.new.totals.items p.0.now) }
     {
         let mut rest = text;
-        let mut last = last;
-        let Some(mut tick) = narrow(last.end.number) else {
+        let Some(front) = last.front.short() else {
             return Ok((rest, last));
         };
-        while let Some(words) = run_words(set, &self.table, &last, rest)
-            && let Some(end) = narrow(words.end.number)
-            && let Some(row) = run_row(set, &self.rows, &self.totals, &words, tick, end)
+        let Some(mut end) = last.end.short() else {
+            return Ok((rest, last));
+        };
+        while let Some(words) = run_words(set, &self.table, &front, &end, rest)
+            && let Some(row) = run_row(set, &self.rows, &self.totals, &words)
         {
             add_ticks(set, &self.rows, &mut self.totals, &row);
             self.rows.push(&row)?;
-            last.end = words.end;
-            tick = end;
+            end = words.end;
             rest = words.words.later;
         }
-        Ok((rest, last))
+        let front = front.front;
+        let end = end.wide();
+        Ok((rest, LastWords { front, end }))
     }
 
     /// Reads the row lines at the front that have their line feeds: how many bytes they are, and why no more.

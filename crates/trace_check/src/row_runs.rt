@@ -5,11 +5,11 @@ ghost use Rattle.trace_verdict.specs.Orders.{leaf_key};
 ghost use Rattle.trace_check.specs.RowLines.{leaf_named, row_from, IsRead, AreTotals};
 ghost use Rattle.trace_check.specs.RowWords.{SaysWholeRow};
 
-use crate::known_words::{KnownWord, LastWords, cut_word};
+use crate::known_words::{ShortFront, ShortWord, cut_short};
 use crate::name_table::NameTable;
-use crate::row_lines::{guessed_task, is_idle_name, row_with};
-use crate::row_words::{RowWords, after_row};
-use sched_base::{Leaf, Row, TaskId, TaskSet};
+use crate::row_lines::{guessed_task, is_idle_name, total_fits};
+use crate::row_words::RowWords;
+use sched_base::{Leaf, ROW_LIMIT, Row, TaskId, TaskSet};
 use trace_verdict::RowList;
 
 /// How many bytes are looked at together.
@@ -29,12 +29,17 @@ struct NamedLine<'a> {
     later: &'a [u8],
 }
 
-/// The words of a row line, that of its end, and the leaf that its name names.
+/// The words of a row line, with its numbers in few bits, and the leaf that its name names.
 #[derive(Clone, Copy)]
 pub(crate) struct RunWords<'a> {
     pub words: RowWords<'a>,
-    pub end: KnownWord<'a>,
+    pub processor: u32,
+    pub start: u64,
+    pub end: ShortWord<'a>,
     pub leaf: Leaf,
+    ghost processor_is: { words.processor ≡ processor },
+    ghost start_is: { words.start ≡ start },
+    ghost end_is: { words.end ≡ end.number },
 }
 
 // Where the first line feed may stand; whoever takes it looks. Of eight bytes the first one is found at once: of those that differ from
@@ -103,76 +108,69 @@ fn named_line<'a>(set: &TaskSet, table: &NameTable, text: &'a [u8]) -> Option<Na
     None
 }
 
-/// The words of the first line, where it goes on where the last one ends and has its line feed.
+/// The words of the first line, where it has this front, goes on where the last one ends, and has its line feed.
 #[inline(always)]
 pub(crate) fn run_words<'a>(
     set: &TaskSet,
     table: &NameTable,
-    last: &LastWords<'a>,
+    front: &ShortFront<'a>,
+    last: &ShortWord<'a>,
     text: &'a [u8],
 ) -> Option<RunWords<'a>>
     ensures says { IfSome result (λ r. SaysWholeRow text.now r.words) }
     ensures leaf { IfSome result (λ r. leaf_named set.now.tasks r.words.name.now ≡ Some r.leaf) }
     ensures known { IfSome result (λ r. (j : ℕ) → leaf_key r.leaf ≡ Some j → j < length set.now.tasks) }
-    ensures start { IfSome result (λ r. r.words.start ≡ last.now.end.number) }
-    ensures end { IfSome result (λ r. r.words.end ≡ r.end.number) }
 {
-    if let Some(rest) = after_row(text)
-        && let Some(rest) = last.processor.cut(rest)
-        && let Some(rest) = last.end.cut(rest)
-        && let Some((end, rest)) = cut_word(rest)
+    if let Some(rest) = front.front.cut(text)
+        && let Some(rest) = last.cut(rest)
+        && let Some((end, rest)) = cut_short(rest)
         && let Some(NamedLine { name, leaf, later }) = named_line(set, table, rest)
     {
         let words = RowWords {
-            processor: last.processor.number,
-            start: last.end.number,
-            end: end.number,
+            processor: front.front.processor,
+            start: u128::from(last.number),
+            end: u128::from(end.number),
             name,
             later,
         };
-        return Some(RunWords { words, end, leaf });
+        return Some(RunWords {
+            words,
+            processor: front.processor,
+            start: last.number,
+            end,
+            leaf,
+        });
     }
     None
 }
 
-/// The row of these words, which starts and ends at these ticks.
+/// The row of these words. Its end is told as its start and its ticks, so that no sum of it needs more than 64 bits.
 #[inline(always)]
 pub(crate) fn run_row(
-    set: &TaskSet,
+    _set: &TaskSet,
     rows: &RowList,
     totals: &[u128],
     words: &RunWords<'_>,
-    start: u64,
-    end: u64,
 ) -> Option<Row>
     requires totals { AreTotals rows.now totals.now }
-    requires count { length totals.now ≡ length set.now.tasks }
-    requires leaf { leaf_named set.now.tasks words.now.words.name.now ≡ Some words.now.leaf }
-    requires known { (j : ℕ) → leaf_key words.now.leaf ≡ Some j → j < length set.now.tasks }
-    ensures row { result ≡ row_from set.now.tasks rows.now words.now.words.processor start end words.now.words.name.now }
-    ensures read { IfSome result (IsRead set.now.tasks rows.now) }
+    requires count { length totals.now ≡ length _set.now.tasks }
+    requires leaf { leaf_named _set.now.tasks words.now.words.name.now ≡ Some words.now.leaf }
+    requires known { (j : ℕ) → leaf_key words.now.leaf ≡ Some j → j < length _set.now.tasks }
+    ensures row { IfSome result (λ r. Some r ≡ row_from _set.now.tasks rows.now words.now.words.processor words.now.words.start words.now.words.end words.now.words.name.now) }
+    ensures read { IfSome result (IsRead _set.now.tasks rows.now) }
 {
-    let processor = words.words.processor;
-    row_with(
-        set,
-        rows,
-        totals,
-        processor,
-        u128::from(start),
-        u128::from(end),
-        words.words.name,
-        words.leaf,
-    )
-}
-
-/// The number in 64 bits, where it has no more.
-#[inline(always)]
-pub(crate) fn narrow(number: u128) -> Option<u64>
-    ensures { IfSome result (λ n. n ≡ number) }
-{
-    if number <= u128::from(u64::MAX) {
-        Some(number as u64)
-    } else {
-        None
+    let (start, end) = (words.start, words.end.number);
+    if start >= end || rows.len() as u64 >= ROW_LIMIT {
+        return None;
     }
+    let ticks = u128::from(end - start);
+    if !total_fits(rows, totals, ticks, words.leaf) {
+        return None;
+    }
+    Some(Row {
+        processor: words.processor,
+        leaf: words.leaf,
+        start: u128::from(start),
+        end: u128::from(start) + ticks,
+    })
 }

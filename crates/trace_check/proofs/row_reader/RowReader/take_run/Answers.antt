@@ -1,6 +1,5 @@
-use Rattle.std.proofs.Common.{◌≡◌, ◌∷◌, ◌++◌, Some, drop, length, subst, sym, ap, ◌∙◌, append_assoc}
+use Rattle.std.proofs.Common.{◌++◌, drop, length, subst, sym, ap, ◌∙◌, append_assoc}
 use Rattle.std.proofs.lemmas.List.{take_at}
-use Rattle.trace_check.specs.RowLines.{row_from}
 use Rattle.trace_check.specs.WholeRows.{AreRowsOf}
 use Rattle.trace_check.proofs.RunLemmas.{run_taken}
 use Rattle.trace_check.proofs.WholeRowLemmas.{rows_more}
@@ -37,14 +36,9 @@ loop-words-preserved c =
     let long = c.add_ticks.auto.totals ∙ ap length c.deref_mut.ensures.value in
     let back = take_at new (drop (length new) old.items) old.len (long ∙ sym old.ok.0) in
     let says = c.in-Some-run_words.ensures.says in
-    let gone = c.loop-words.invariant.0.0 in
-    let start : c.loop-words.tick ≡ w.start = sym (c.in-Some-run_words.ensures.start ∙ c.loop-words.invariant.2) in
-    let end : c.in-Some-narrow.end ≡ w.end = c.in-Some-narrow.ensures ∙ sym c.in-Some-run_words.ensures.end in
-    let row : Some c.in-Some-run_row.row ≡ row_from tasks done w.processor w.start w.end w.name.now
-    = c.in-Some-run_row.ensures.row ∙ ap (λ x. row_from tasks done w.processor x c.in-Some-narrow.end w.name.now) start ∙ ap (λ x. row_from tasks done w.processor w.start x w.name.now) end in (
+    let gone = c.loop-words.invariant.0.0 in (
       (gone ++ says.split.0, c.loop-words.invariant.0.1 ∙ ap (λ t. gone ++ t) says.split.1 ∙ sym (append_assoc gone says.split.0 later)),
       λ whole so. subst (λ sums. AreRowsOf tasks whole c.push.new.self sums later) (sym back)
           (rows_more tasks whole c.loop-words.rest.now later done c.push.new.self c.in-Some-run_row.row old.items new (c.loop-words.invariant.1 whole so) c.in-Some-run_row.ensures.read
-          (run_taken tasks done c.in-Some-run_row.row c.loop-words.rest.now w says row) c.in_ok-push.ensures c.add_ticks.ensures long),
-      sym c.in-Some-narrow.ensures,
+          (run_taken tasks done c.in-Some-run_row.row c.loop-words.rest.now w says c.in-Some-run_row.ensures.row) c.in_ok-push.ensures c.add_ticks.ensures long),
     )

@@ -6,7 +6,6 @@ abbrev pub invariant-loop-words : goal.invariant-loop-words
 invariant-loop-words l =
     ((gone : List ℕ) × (l.text ≡ gone ++ l.rest))
     × ((whole : List ℕ) → AreRowsOf l.set.tasks whole l.fn.self.rows l.fn.self.totals.items l.text → AreRowsOf l.set.tasks whole l.self.rows l.self.totals.items l.rest)
-    × (l.last.end.number ≡ l.tick)
 
 abbrev pub decreases-loop-words : goal.decreases-loop-words
 decreases-loop-words l = length l.rest
