@@ -237,7 +237,9 @@ impl<'a> KnownFront<'a> {
     }
 
     /// The front, where its processor has 32 bits.
-    pub fn short(&self) -> Option<ShortFront<'a>> {
+    pub fn short(&self) -> Option<ShortFront<'a>>
+        ensures { IfSome result (λ f. f.processor ≡ self.now.processor) }
+    {
         if self.processor > u128::from(u32::MAX) {
             return None;
         }

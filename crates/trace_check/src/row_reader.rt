@@ -7,7 +7,7 @@ ghost use Rattle.trace_check.specs.WholeRows.{AreRowsOf, NextWhole, RowsEnd, Sto
 use crate::known_words::LastWords;
 use crate::name_table::NameTable;
 use crate::row_lines::{add_ticks, begins_row, row_from, row_of};
-use crate::row_runs::{run_row, run_words};
+use crate::row_runs::{run_row, run_words, short_words};
 use crate::row_words::{RowWords, next_row_words, whole_row_words};
 use sched_base::{NoMemory, Row, TaskSet};
 use std::alloc::{AllocError, Global};
@@ -209,6 +209,33 @@ impl RowReader {
         Ok((rest, LastWords { front, end }))
     }
 
+    // Reads the row lines at the front whose numbers have few bits: what follows them, and the words of the last of them.
+    #[inline(never)]
+    fn take_short<'a>(
+        &mut self,
+        set: &TaskSet,
+        last: LastWords<'a>,
+        text: &'a [u8],
+    ) -> Result<(&'a [u8], LastWords<'a>), AllocError>
+        requires { (whole : List ℕ) × AreRowsOf set.now.tasks whole self.old.rows self.old.totals.items text.now }
+        ensures split { IfOk result (λ p. (gone : List ℕ) × (text.now ≡ gone ++ p.0.now)) }
+        ensures less { IfOk result (λ p. length p.0.now ≤ length text.now) }
+        ensures read { IfOk result (λ p. (whole : List ℕ) → AreRowsOf set.now.tasks whole self.old.rows self.old.totals.items text.now
+            → AreRowsOf set.now.tasks whole self.new.rows self.new.totals.items p.0.now) }
+    {
+        let (mut rest, mut last) = self.take_run(set, last, text)?;
+        while let Some((words, known)) = short_words(set, &self.table, rest)
+            && let Some(row) = run_row(set, &self.rows, &self.totals, &words)
+        {
+            add_ticks(set, &self.rows, &mut self.totals, &row);
+            self.rows.push(&row)?;
+            let (behind, then) = self.take_run(set, known, words.words.later)?;
+            rest = behind;
+            last = then;
+        }
+        Ok((rest, last))
+    }
+
     /// Reads the row lines at the front that have their line feeds: how many bytes they are, and why no more.
     pub fn take(&mut self, set: &TaskSet, text: &[u8]) -> Result<(usize, Stop), AllocError>
         requires { (whole : List ℕ) × AreRowsOf set.now.tasks whole self.old.rows self.old.totals.items text.now }
@@ -225,7 +252,7 @@ impl RowReader {
                 NextLine::Row(row, later) => {
                     add_ticks(set, &self.rows, &mut self.totals, &row);
                     self.rows.push(&row)?;
-                    let (behind, words) = self.take_run(set, last, later)?;
+                    let (behind, words) = self.take_short(set, last, later)?;
                     rest = behind;
                     last = words;
                 }

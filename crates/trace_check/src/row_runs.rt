@@ -5,7 +5,7 @@ ghost use Rattle.trace_verdict.specs.Orders.{leaf_key};
 ghost use Rattle.trace_check.specs.RowLines.{leaf_named, row_from, IsRead, AreTotals};
 ghost use Rattle.trace_check.specs.RowWords.{SaysWholeRow};
 
-use crate::known_words::{ShortFront, ShortWord, cut_short};
+use crate::known_words::{LastWords, ShortFront, ShortWord, cut_front, cut_short};
 use crate::name_table::NameTable;
 use crate::row_lines::{guessed_task, is_idle_name, total_fits};
 use crate::row_words::RowWords;
@@ -140,6 +140,47 @@ pub(crate) fn run_words<'a>(
             end,
             leaf,
         });
+    }
+    None
+}
+
+/// The words of the first line, whatever stands before it, where its numbers have few bits and it has its line feed; and those of them
+/// that may stand in the next one.
+#[inline(never)]
+pub(crate) fn short_words<'a>(
+    set: &TaskSet,
+    table: &NameTable,
+    text: &'a [u8],
+) -> Option<(RunWords<'a>, LastWords<'a>)>
+    ensures says { IfSome result (λ p. SaysWholeRow text.now p.0.words) }
+    ensures leaf { IfSome result (λ p. leaf_named set.now.tasks p.0.words.name.now ≡ Some p.0.leaf) }
+    ensures known { IfSome result (λ p. (j : ℕ) → leaf_key p.0.leaf ≡ Some j → j < length set.now.tasks) }
+{
+    if let Some((front, rest)) = cut_front(text)
+        && let Some(ShortFront { processor, .. }) = front.short()
+        && let Some((start, rest)) = cut_short(rest)
+        && let Some((end, rest)) = cut_short(rest)
+        && let Some(NamedLine { name, leaf, later }) = named_line(set, table, rest)
+    {
+        let words = RowWords {
+            processor: front.processor,
+            start: u128::from(start.number),
+            end: u128::from(end.number),
+            name,
+            later,
+        };
+        let last = LastWords {
+            front,
+            end: end.wide(),
+        };
+        let run = RunWords {
+            words,
+            processor,
+            start: start.number,
+            end,
+            leaf,
+        };
+        return Some((run, last));
     }
     None
 }

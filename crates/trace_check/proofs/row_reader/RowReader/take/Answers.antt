@@ -24,8 +24,8 @@ add_ticks-requires-clause-count c =
     let so = c.loop-row.invariant.1 c.requires.0 c.requires.1 in
     ap length c.deref_mut.ensures.value ∙ so.count
 
-pub take_run-requires : goal.take_run-requires
-take_run-requires c =
+pub take_short-requires : goal.take_short-requires
+take_short-requires c =
     let tasks = c.args.set.now.tasks in
     let later = c.in-Row.later.now in
     let old = c.loop-row.self.totals in
