@@ -7,11 +7,13 @@ ghost use Rattle.trace_verdict.specs.Findings.{AreTold};
 ghost use Rattle.trace_verdict.specs.Standing.{stand};
 ghost use Rattle.trace_verdict.specs.Searches.{kind_of, IsFirstHit, IsFirstUnfit};
 
-use crate::apart_tasks::are_tasks_apart;
+use crate::apart_rows::are_apart;
 use crate::entries::Entry;
 use crate::faults::{FIRST_TASK_LINE, FaultKind, Verdict};
 use crate::findings::{Findings, findings_at};
-use crate::orders::{front_len, order_by_processor, order_by_task, places_of, starts_of, task_key};
+use crate::orders::{
+    RowKey, front_len, order_by_processor, order_by_task, places_of, starts_of, task_key,
+};
 use crate::row_list::RowList;
 use crate::searches::{
     first_processor_hit, first_task_hit, first_unfit, first_unsupplied, is_fit, task_periods,
@@ -295,7 +297,7 @@ fn judge_unordered(
     let hit = processor_hit(alloc, set, scale, rows)?;
     let unfit = first_unfit(set, scale, rows);
     let first = unfit.min(hit);
-    if (first as usize) < rows.len() && are_tasks_apart(alloc, rows)? {
+    if (first as usize) < rows.len() && are_apart(alloc, RowKey::Task, rows)? {
         return Ok(Judged {
             found: Vec::new(alloc),
             verdict: verdict_at(set, scale, rows, unfit, hit, first),
@@ -309,7 +311,7 @@ fn judge_unordered(
 }
 
 // The first row that overlaps an earlier one of its processor, or the number of rows. Where the rows stand in order up to one that
-// overlaps the one before it, it is that one, and no entries are made.
+// overlaps the one before it, it is that one; where it or no row does, no entries are made.
 fn processor_hit(alloc: Global, set: &TaskSet, scale: u128, rows: &RowList) -> Result<u32, NoMemory>
     requires trace { IsTrace set.now scale rows.now }
     ensures hit { IfOk result (λ hit. IsFirstHit processor_key rows.now hit) }
@@ -320,6 +322,9 @@ fn processor_hit(alloc: Global, set: &TaskSet, scale: u128, rows: &RowList) -> R
     }
     if hits_last(rows, front) {
         return Ok(front as u32);
+    }
+    if are_apart(alloc, RowKey::Processor, rows)? {
+        return Ok(rows.len() as u32);
     }
     let entries = order_by_processor(alloc, rows)?;
     Ok(first_processor_hit(set, scale, rows, &entries))

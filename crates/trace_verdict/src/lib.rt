@@ -1,7 +1,7 @@
 //! The rows of a trace: their orders, and whether they are a valid schedule of a set. The work goes by rows and never by periods.
 #![tactic(auto)]
 
-mod apart_tasks;
+mod apart_rows;
 mod clock;
 mod dealing;
 mod dealt_orders;

@@ -45,8 +45,9 @@ pub(crate) enum RowKey {
     Task,
 }
 
-// The key of a row, where it has one.
-fn key_of(by: RowKey, row: &Row) -> Option<u32>
+/// The key of a row, where it has one.
+#[inline(always)]
+pub(crate) fn key_of(by: RowKey, row: &Row) -> Option<u32>
     ensures { result ≡ key_by by row.now }
 {
     match by {
