@@ -65,6 +65,7 @@ fn front_digits(text: &[u8]) -> (usize, u64)
 }
 
 // The digits at the front, at most 38 of them, of which the first 19 are known: how many they are, and the number that they write.
+#[cold]
 #[inline(never)]
 fn more_digits(text: &[u8], value: u64) -> (usize, u128)
     requires within { 19 ≤ length text.now }

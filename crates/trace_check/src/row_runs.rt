@@ -61,6 +61,7 @@ fn place_guessed(text: &[u8]) -> usize {
 }
 
 // The place of the first line feed, found byte by byte.
+#[cold]
 #[inline(never)]
 fn place_by_bytes(text: &[u8]) -> usize {
     for (i, b) in text.iter().enumerate() {

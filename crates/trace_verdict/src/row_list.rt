@@ -1,5 +1,5 @@
 //! A list of rows that takes a third of the memory where their ticks have at most 64 bits.
-ghost use Rattle.std.specs.Prelude.{◌≡◌, ◌+◌, ◌*◌, ◌<◌, ◌≤◌, nat_le, ◌++◌, ◌∷◌, [], length, map, is_some, IfSome, IfOk, OnOk};
+ghost use Rattle.std.specs.Prelude.{◌≡◌, ◌+◌, ◌*◌, ◌<◌, ◌≤◌, nat_le, ◌++◌, ◌∷◌, [], length, map, is_some, vec_len, vec_capacity, IfSome, IfOk, OnOk};
 ghost use Rattle.trace_verdict.specs.Faults.{row_at};
 ghost use Rattle.trace_verdict.specs.Orders.{task_key};
 ghost use Rattle.trace_verdict.specs.RowLists.{leaf_for, row_for};
@@ -175,6 +175,16 @@ pub(crate) fn short_for(row: &Row) -> Option<ShortRow>
     })
 }
 
+// Makes room for a row more.
+#[cold]
+#[inline(never)]
+fn make_room(rows: &mut Vec<ShortRow>) -> Result<(), AllocError>
+    ensures items { OnOk result (rows.new.items ≡ rows.old.items) }
+    ensures room { OnOk result (vec_len rows.new < vec_capacity rows.new) }
+{
+    rows.reserve(1)
+}
+
 /// Rows in the order of their lines: short ones, and from the first on that is none the rows as they are.
 #[derive(Drop)]
 pub struct RowList {
@@ -277,7 +287,9 @@ impl RowList {
     {
         if self.long.is_empty() {
             if let Some(short) = short_for(row) {
-                self.short.reserve(1)?;
+                if self.short.len() == self.short.capacity() {
+                    make_room(&mut self.short)?;
+                }
                 self.short.push_reserved(short);
                 return Ok(());
             }
@@ -286,6 +298,7 @@ impl RowList {
     }
 
     // Appends a row as it is.
+    #[cold]
     #[inline(never)]
     fn push_wide(&mut self, row: &Row) -> Result<(), AllocError>
         ensures { OnOk result (self.new ≡ self.old ++ row.now ∷ []) }
