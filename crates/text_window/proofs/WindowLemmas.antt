@@ -1,12 +1,12 @@
 -- What filling a window gives.
 use Rattle.std.proofs.Common.{ℕ, ◌+◌, ◌-◌, ◌<◌, ◌≤◌, ◌≡◌, List, [], ◌++◌, length, Option, sym, refl, ap, ◌∙◌, arith, append_assoc, append-nil, length-append}
 use Rattle.std.proofs.KnownBytes.{Consumes-nil, Consumes-trans}
-use Rattle.std.specs.Io.KnownBytes.{Consumes}
+use Rattle.std.specs.Io.KnownBytes.{Consumes, IsAtEnd}
 use Rattle.sched_edges.specs.Streams.{GaveAtMost, GaveCount}
 use Rattle.sched_edges.proofs.Pieces.{gave_at_most, rose_later}
 use Rattle.sched_edges.specs.declared.read.TakeFault.{TakeFault}
 use Rattle.sched_edges.specs.declared.read.TakeFault.TheVariants.{Read, TooLong, NoMemory}
-use Rattle.text_window.specs.Windows.{WindowHeld, Fills, StopsFilling}
+use Rattle.text_window.specs.Windows.{WindowHeld, Fills, GaveRest, StopsFilling}
 
 pub fills_none : (left : Option (List ℕ)) (w : WindowHeld) → w.count ≤ w.limit → Fills left left w w
 fills_none left w within = record { more = []; gave = Consumes-nil left; ahead = sym (append-nil w.ahead); count = omega arith; limit = refl; within = within }
@@ -54,3 +54,45 @@ stops_after a b c fa fb fc w u more NoMemory gave n l within later s = tt
 -- and of a window that was filled
 pub filled_stops : (a b c : Option (List ℕ)) (fa fb fc : ℕ) (w v : WindowHeld) (fault : TakeFault) → Fills a b w v → fa ≤ fb → StopsFilling b c fb fc v fault → StopsFilling a c fa fc w fault
 filled_stops a b c fa fb fc w v fault f later s = stops_after a b c fa fb fc w v f.more fault f.gave f.count f.limit f.within later s
+
+-- ---- bytes that are gone past as they come
+
+-- the source gave bytes within the limit, wherever they are now
+pub record Skips (left left' : Option (List ℕ)) (faults faults' : ℕ) (old new : WindowHeld) : Type 0 where
+  pub more : List ℕ
+  pub gave : Consumes left left' more
+  pub count : new.count ≡ old.count + length more
+  pub limit : new.limit ≡ old.limit
+  pub within : new.count ≤ new.limit
+  pub later : faults ≤ faults'
+
+pub skips_none : (left : Option (List ℕ)) (faults : ℕ) (w : WindowHeld) → w.count ≤ w.limit → Skips left left faults faults w w
+skips_none left faults w within = record { more = []; gave = Consumes-nil left; count = omega arith; limit = refl; within = within; later = omega arith }
+
+-- the window `v` was emptied, and then filled
+pub skips_more : (a b c : Option (List ℕ)) (fa fb fc : ℕ) (w v e u : WindowHeld) → Skips a b fa fb w v → e.count ≡ v.count → e.limit ≡ v.limit → Fills b c e u → fb ≤ fc → Skips a c fa fc w u
+skips_more a b c fa fb fc w v e u s count limit f on =
+    let n = s.count in
+    let m = f.count in
+    let later = s.later in
+    record {
+      more = s.more ++ f.more;
+      gave = Consumes-trans a b c s.more f.more s.gave f.gave;
+      count = omega (arith, n, m, count, length-append s.more f.more);
+      limit = f.limit ∙ limit ∙ s.limit;
+      within = f.within;
+      later = omega (arith, later, on);
+    }
+
+pub skips_rest : (a b : Option (List ℕ)) (fa fb : ℕ) (w v : WindowHeld) → Skips a b fa fb w v → IsAtEnd b → (more : List ℕ) × GaveRest a b w more
+skips_rest a b fa fb w v s end =
+    let n = s.count in
+    let l = s.limit in
+    let within = s.within in
+    (s.more, record { gave = s.gave; ended = end; within = omega (arith, n, l, within) })
+
+pub skips_stop : (a b c : Option (List ℕ)) (fa fb fc : ℕ) (w v e : WindowHeld) (fault : TakeFault) → Skips a b fa fb w v → e.count ≡ v.count → e.limit ≡ v.limit → StopsFilling b c fb fc e fault
+    → StopsFilling a c fa fc w fault
+skips_stop a b c fa fb fc w v e fault s count limit stops =
+    let within = s.within in
+    stops_after a b c fa fb fc w e s.more fault s.gave (count ∙ s.count) (limit ∙ s.limit) (omega (arith, within, count, limit)) s.later stops

@@ -4,7 +4,7 @@ ghost use Rattle.sched_base.specs.Bytes.{line_feed};
 ghost use Rattle.std.specs.Io.KnownBytes.{IsAtEnd};
 ghost use Rattle.text_words.specs.Words.{lines_of};
 ghost use Rattle.text_window.specs.Lines.{EndsLine};
-ghost use Rattle.text_window.specs.Windows.{Fills, StopsFilling};
+ghost use Rattle.text_window.specs.Windows.{Fills, GaveRest, StopsFilling};
 
 use sched_edges::{Source, TakeFault, empty_piece, read_piece};
 use std::alloc::{AllocError, Global};
@@ -135,11 +135,30 @@ impl Window {
         Ok(())
     }
 
+    /// Goes past all that is ahead, and reads the source to its end, and never more than one byte past the limit.
+    pub fn skip_all<R: Source>(&mut self, source: &mut R) -> Result<(), TakeFault>
+        requires within { self.old.count ≤ self.old.limit }
+        requires small { self.old.limit < 2 ^ 63 }
+        ensures rest { OnOk result ((more : List ℕ) × GaveRest (R.left source.old) (R.left source.new) self.old more) }
+        ensures stops { IfErr result (StopsFilling (R.left source.old) (R.left source.new) (R.faults source.old) (R.faults source.new) self.old) }
+        ensures later { R.faults source.old ≤ R.faults source.new }
+    {
+        loop {
+            let count = self.bytes.len();
+            self.pass(count);
+            if !self.read_on(source)? {
+                return Ok(());
+            }
+        }
+    }
+
     /// Gives the last line of a source that is at its end its line feed, where it has none.
     pub fn end_line(&mut self) -> Result<(), AllocError>
         ensures lines { OnOk result (lines_of self.new.ahead ≡ lines_of self.old.ahead) }
         ensures ended { OnOk result (EndsLine self.new.ahead) }
         ensures kept { OnOk result ((feed : List ℕ) × (self.new.ahead ≡ self.old.ahead ++ feed)) }
+        ensures count { self.new.count ≡ self.old.count }
+        ensures limit { self.new.limit ≡ self.old.limit }
     {
         if !lacks_feed(&self.bytes) {
             return Ok(());
