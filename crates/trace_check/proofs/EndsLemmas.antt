@@ -105,23 +105,23 @@ end_is scale task t k is =
 -- as a row of the task is taken in: in the period n, where its end is kept
 pub ends_set : (done : List Row) (r : Row) (j n v : ℕ) (old new : TaskReach) → AreEnds done j old → is_of_task j r.leaf ≡ true → new.base ≡ old.base → new.span ≡ old.span
     → new.begin ≡ new.base + new.number * new.span → ((k : ℕ) → (r.start < old.base + (k + 1) * old.span → n ≤ k) × (n ≤ k → r.start < old.base + (k + 1) * old.span))
-    → n < length old.ends.items → v ≡ max r.end (get_or old.ends.items n 0) → new.ends.items ≡ set old.ends.items n v → AreEnds (done ++ r ∷ []) j new
+    → n < length old.ends → v ≡ max r.end (get_or old.ends n 0) → new.ends ≡ set old.ends n v → AreEnds (done ++ r ∷ []) j new
 ends_set done r j n v old new e own base span begin place within value items =
-    let size : length new.ends.items ≡ length old.ends.items = ap length items ∙ length-set old.ends.items n v in
+    let size : length new.ends ≡ length old.ends = ap length items ∙ length-set old.ends n v in
     record {
       some = λ h. (let had = e.some (omega (arith, h, size)) in omega (arith, had, span));
       begin = begin;
       each = λ k h. (
-          let below : k < length old.ends.items = omega (arith, h, size) in
+          let below : k < length old.ends = omega (arith, h, size) in
           let had = e.each k below in
           let tick : old.base + (k + 1) * old.span ≡ new.base + (k + 1) * new.span = ap (λ s. old.base + (k + 1) * s) (sym span) ∙ ap (λ b. b + (k + 1) * new.span) (sym base) in
-          subst (λ b. greatest_to new.ends.items k ≡ reach_rows (done ++ r ∷ []) j b) tick
-          (ap (λ xs. greatest_to xs k) (items ∙ ap (set old.ends.items n) value) ∙ (elim (cases_lt k n) [
+          subst (λ b. greatest_to new.ends k ≡ reach_rows (done ++ r ∷ []) j b) tick
+          (ap (λ xs. greatest_to xs k) (items ∙ ap (set old.ends n) value) ∙ (elim (cases_lt k n) [
             | inl under ↦
-                greatest_kept old.ends.items n k (max r.end (get_or old.ends.items n 0)) under
+                greatest_kept old.ends n k (max r.end (get_or old.ends n 0)) under
                 ∙ (had ∙ sym (reach_late done r j (old.base + (k + 1) * old.span) own (not_early r.start (old.base + (k + 1) * old.span) n k under (place k).0)))
             | inr over ↦
-                greatest_set old.ends.items n k r.end within over
+                greatest_set old.ends n k r.end within over
                 ∙ (ap (max r.end) had ∙ sym (reach_own done r j (old.base + (k + 1) * old.span) own ((place k).1 over)))
           ])));
     }
@@ -135,16 +135,16 @@ ends_set done r j n v old new e own base span begin place within value items =
 -- and where its end isn't kept
 pub ends_past : (done : List Row) (r : Row) (j n : ℕ) (old new : TaskReach) → AreEnds done j old → is_of_task j r.leaf ≡ true → new.base ≡ old.base → new.span ≡ old.span
     → new.begin ≡ new.base + new.number * new.span → ((k : ℕ) → (r.start < old.base + (k + 1) * old.span → n ≤ k) × (n ≤ k → r.start < old.base + (k + 1) * old.span))
-    → length old.ends.items ≤ n → new.ends.items ≡ old.ends.items → AreEnds (done ++ r ∷ []) j new
+    → length old.ends ≤ n → new.ends ≡ old.ends → AreEnds (done ++ r ∷ []) j new
 ends_past done r j n old new e own base span begin place past items =
-    let size : length new.ends.items ≡ length old.ends.items = ap length items in
+    let size : length new.ends ≡ length old.ends = ap length items in
     record {
       some = λ h. (let had = e.some (omega (arith, h, size)) in omega (arith, had, span));
       begin = begin;
       each = λ k h. (
-          let below : k < length old.ends.items = omega (arith, h, size) in
+          let below : k < length old.ends = omega (arith, h, size) in
           let tick : old.base + (k + 1) * old.span ≡ new.base + (k + 1) * new.span = ap (λ s. old.base + (k + 1) * s) (sym span) ∙ ap (λ b. b + (k + 1) * new.span) (sym base) in
-          subst (λ b. greatest_to new.ends.items k ≡ reach_rows (done ++ r ∷ []) j b) tick
+          subst (λ b. greatest_to new.ends k ≡ reach_rows (done ++ r ∷ []) j b) tick
           (ap (λ xs. greatest_to xs k) items ∙ (e.each k below ∙ sym (reach_late done r j (old.base + (k + 1) * old.span) own (elim (cases_lt r.start (old.base + (k + 1) * old.span)) [
             | inl early ↦ (let g = (place k).0 early in absurd (omega (arith, g, below, past)))
             | inr late ↦ late
@@ -152,7 +152,7 @@ ends_past done r j n old new e own base span begin place past items =
     }
 
 -- where no ends are kept nothing is said
-pub ends_none : (done later : List Row) (j : ℕ) (t : TaskReach) → AreEnds done j t → length t.ends.items ≡ 0 → AreEnds later j t
+pub ends_none : (done later : List Row) (j : ℕ) (t : TaskReach) → AreEnds done j t → length t.ends ≡ 0 → AreEnds later j t
 ends_none done later j t e none = record { some = e.some; begin = e.begin; each = λ k h. absurd (omega (arith, h, none)) }
 
 -- a row of another task
@@ -163,7 +163,7 @@ ends_other done r j t e other = record {
   each = λ k h. e.each k h ∙ sym (reach_other done r j (t.base + (k + 1) * t.span) other);
 }
 
-pub ends_new : (j n : ℕ) (t : TaskReach) → (0 < length t.ends.items → 0 < t.span) → t.begin ≡ t.base → t.number ≡ 0 → t.ends.items ≡ replicate n 0 → AreEnds [] j t
+pub ends_new : (j n : ℕ) (t : TaskReach) → (0 < length t.ends → 0 < t.span) → t.begin ≡ t.base → t.number ≡ 0 → t.ends ≡ replicate n 0 → AreEnds [] j t
 ends_new j n t some begin number items =
     let first : t.base ≡ t.base + 0 * t.span = omega arith in
     record {
@@ -173,15 +173,15 @@ ends_new j n t some begin number items =
     }
 
 -- how far the rows reach that start before the end of period k
-pub reach_kept : (rows : List Row) (j : ℕ) (t : TaskReach) (k before : ℕ) → AreEnds rows j t → k < length t.ends.items → before ≡ reach_to rows j t k
-    → max before (get_or t.ends.items k 0) ≡ reach_to rows j t (k + 1)
-reach_kept rows j t zero before e h b = (let first = greatest_first t.ends.items h in let is = e.each 0 h in omega (arith, first, is, b))
+pub reach_kept : (rows : List Row) (j : ℕ) (t : TaskReach) (k before : ℕ) → AreEnds rows j t → k < length t.ends → before ≡ reach_to rows j t k
+    → max before (get_or t.ends k 0) ≡ reach_to rows j t (k + 1)
+reach_kept rows j t zero before e h b = (let first = greatest_first t.ends h in let is = e.each 0 h in omega (arith, first, is, b))
 reach_kept rows j t (suc k) before e h b =
     let had = e.each k (omega (arith, h)) in
     let is = e.each (suc k) h in
-    let next = greatest_next t.ends.items k h in
+    let next = greatest_next t.ends k h in
     let one : suc k + 1 ≡ suc (suc k) = omega arith in
-    subst (λ n. max before (get_or t.ends.items (suc k) 0) ≡ reach_to rows j t n) (sym one) (omega (arith, had, is, next, b))
+    subst (λ n. max before (get_or t.ends (suc k) 0) ≡ reach_to rows j t n) (sym one) (omega (arith, had, is, next, b))
 
 -- ---- all tasks
 
@@ -231,6 +231,11 @@ pub rows_step : (rows : List Row) (i : ℕ) (r : Row) → i < length rows → r 
 rows_step rows i r h is =
     let one : i + 1 ≡ suc i = omega arith in
     ap (λ n. take n rows) one ∙ (take-suc rows i _ h ∙ ap (λ q. take i rows ++ q ∷ []) (sym is))
+
+pub numbers_step : (xs : List ℕ) (k x : ℕ) → k < length xs → x ≡ get_or xs k 0 → take (k + 1) xs ≡ take k xs ++ x ∷ []
+numbers_step xs k x h is =
+    let one : k + 1 ≡ suc k = omega arith in
+    ap (λ n. take n xs) one ∙ (take-suc xs k 0 h ∙ ap (λ q. take k xs ++ q ∷ []) (sym is))
 
 pub own_task : (j : ℕ) (id : TaskId) (leaf : Leaf) → leaf ≡ leaves.Task id → j ≡ id.0 → is_of_task j leaf ≡ true
 own_task j id leaf is here = ap (is_of_task j) is ∙ eq-eqb id.0 j (sym here)

@@ -1,5 +1,5 @@
 -- Reading a source by way of a window.
-use Rattle.std.proofs.Common.{ℕ, ◌+◌, ◌≤◌, ◌≡◌, List, [], ◌++◌, length, take, drop, Option, Result, Ok, Err, IfOk, sym, refl, ap, ◌∙◌, arith, subst, append_assoc, append-nil, length-append}
+use Rattle.std.proofs.Common.{ℕ, ◌+◌, ◌≤◌, ◌<◌, ◌≡◌, inl, inr, Bool, true, false, List, [], ◌++◌, length, take, drop, Option, Result, Ok, Err, IfOk, sym, refl, ap, ◌∙◌, arith, subst, append_assoc, append-nil, length-append}
 use Rattle.std.proofs.KnownBytes.{Consumes-nil, Consumes-trans}
 use Rattle.std.specs.Io.KnownBytes.{Consumes, IsAtEnd}
 use Rattle.sched_base.specs.declared.rows.Row.{Row}
@@ -24,10 +24,13 @@ use Rattle.trace_check.specs.Faults.{NamesBadLine}
 use Rattle.trace_check.specs.Fronts.{IsFront}
 use Rattle.trace_check.specs.Reading.{body, ending, reading, set_of}
 use Rattle.trace_check.specs.RowLines.{rows_from}
-use Rattle.trace_check.specs.Sources.{of_trace, GaveNoTraceText, StopsInRest}
+use Rattle.trace_check.specs.Sources.{of_trace, GaveNoTraceText, StopsInRest, GaveSome, GaveLast, RowsStopAt, StopsInTail}
 use Rattle.trace_check.specs.Steps.{and_then}
-use Rattle.trace_check.specs.TailLines.{first_other, tail_lines, NamesOther}
-use Rattle.trace_check.specs.Traces.{Trace}
+use Rattle.trace_check.specs.declared.source_reading.RowsStop.{RowsStop}
+use Rattle.trace_check.specs.Tails.{MayFollow}
+use Rattle.sched_base.specs.Tables.{row_limit}
+use Rattle.std.proofs.lemmas.Bool.{cases_Bool}
+use Rattle.trace_check.specs.TailLines.{first_other, tail_lines}
 use Rattle.trace_check.specs.WholeRows.{AreAllRows, AreRowsOf, RowsEnd, StopIs}
 use Rattle.trace_check.proofs.WholeRowLemmas.{at_end, rows_behind, rows_end, stop_behind}
 
@@ -95,14 +98,36 @@ going_over a b fa fb w u tasks done sums g end =
     let within = g.within in
     record { gave = g.gave; ended = end; within = omega (arith, n, l, within) }
 
--- no more rows were taken, and the source was read to its end
-pub over_after : (a b c : Option (List ℕ)) (fa fb fc : ℕ) (w u v : WindowHeld) (tasks : List Task) (done : List Row) (sums : List ℕ) (stop : Stop) → Going a b fa fb w u tasks done sums → Fills b c u v
-    → IsAtEnd c → fb ≤ fc → (stop ≡ stops.Cut → ⊥) → StopIs tasks done u.ahead stop
-    → (more : List ℕ) × GaveRest a c w more × RowsEnd tasks (w.ahead ++ more) done sums v.ahead stop
-over_after a b c fa fb fc w u v tasks done sums stop g f end later ne is =
-    let g' = going_filled a b c fa fb fc w u v tasks done sums g f later in
-    let is' : StopIs tasks done v.ahead stop = subst (λ t. StopIs tasks done t stop) (sym f.ahead) (stop_behind tasks done u.ahead f.more stop ne is) in
-    (g'.more, going_over a c fa fc w v tasks done sums g' end, rows_end tasks (w.ahead ++ g'.more) v.ahead done sums stop (at_end tasks (w.ahead ++ g'.more) v.ahead done sums g'.rows) (λ cut. absurd (ne cut)) is')
+-- the source goes on, or is known to be at its end
+pub going_some : (a b : Option (List ℕ)) (fa fb : ℕ) (w u : WindowHeld) (tasks : List Task) (done : List Row) (sums : List ℕ) (ended : Bool) → (g : Going a b fa fb w u tasks done sums)
+    → (ended ≡ true → IsAtEnd b) → GaveSome a b w u ended g.more
+going_some a b fa fb w u tasks done sums ended g end =
+    let n = g.count in
+    let l = g.limit in
+    let within = g.within in
+    record { gave = g.gave; within = omega (arith, n, l, within); at_end = end; count = λ _. n; limit = λ _. l }
+
+pub going_ended : (a b : Option (List ℕ)) (fa fb : ℕ) (w u v : WindowHeld) (tasks : List Task) (done : List Row) (sums : List ℕ) → (g : Going a b fa fb w u tasks done sums)
+    → IsAtEnd b → GaveSome a b w v true g.more
+going_ended a b fa fb w u v tasks done sums g end =
+    let n = g.count in
+    let l = g.limit in
+    let within = g.within in
+    record { gave = g.gave; within = omega (arith, n, l, within); at_end = λ _. end; count = λ (e : true ≡ false). absurd (let x : ⊥ = cc in x); limit = λ (e : true ≡ false). absurd (let x : ⊥ = cc in x) }
+
+-- no more rows are taken, whatever follows
+pub rows_stop : (tasks : List Task) (text rest : List ℕ) (done : List Row) (sums : List ℕ) (stop : Stop) (ended : Bool) → AreRowsOf tasks text done sums rest → (stop ≡ stops.Cut → ⊥) → StopIs tasks done rest stop
+    → RowsStopAt tasks text done sums rest (record { stop = stop; ended = ended })
+rows_stop tasks text rest done sums stop ended so ne is =
+    λ behind may. rows_end tasks (text ++ behind) (rest ++ behind) done sums stop (at_end tasks (text ++ behind) (rest ++ behind) done sums (rows_behind tasks text rest done sums behind so)) (λ cut. absurd (ne cut))
+    (stop_behind tasks done rest behind stop ne is)
+
+-- and where the text is there as a whole
+pub rows_stop_ended : (tasks : List Task) (text rest : List ℕ) (done : List Row) (sums : List ℕ) (stop : Stop) → RowsEnd tasks text done sums rest stop
+    → RowsStopAt tasks text done sums rest (record { stop = stop; ended = true })
+rows_stop_ended tasks text rest done sums stop end =
+    λ behind may. subst (λ b. RowsEnd tasks (text ++ b) done sums (rest ++ b) stop) (sym (may refl))
+    (subst (λ t. RowsEnd tasks t done sums (rest ++ []) stop) (sym (append-nil text)) (subst (λ r. RowsEnd tasks text done sums r stop) (sym (append-nil rest)) end))
 
 -- ---- the row lines and what follows them
 
@@ -124,10 +149,59 @@ body_ending head s lines rest rows f g =
     ap (λ r. and_then r (λ p. ending (6 + length s.tasks + length p.0) (record { set = set_of head s.tasks; scale = head.scale; rows = p.0 }) (first_other (tail_lines head.version (set_of head s.tasks) head.scale p.0) p.1))) g
     ∙ ap (λ w. ending (6 + length s.tasks + length rows) (record { set = w; scale = head.scale; rows = rows }) (first_other (tail_lines head.version w head.scale rows) rest)) (sym f)
 
-pub tail_stops : (left left' : Option (List ℕ)) (faults faults' : ℕ) (w : WindowHeld) (h : Head) (tasks : List Task) (more : List ℕ) (first : ℕ) (t : Trace) (other : Option ℕ) (fault : TraceFault)
-    → GaveRest left left' w more → body h tasks (lines_of (w.ahead ++ more)) ≡ ending first t other → NamesOther first other fault → StopsInRest left left' faults faults' w h tasks (of_trace fault)
-tail_stops left left' faults faults' w h tasks more first t other (BadLine line) rest e s = (more, rest, e ∙ ap (ending first t) s.1 ∙ ap Err (sym s.2))
-tail_stops left left' faults faults' w h tasks more first t other NoMemory rest e s = tt
+-- what a source gave before its end is known, and what it gave then
+pub some_last : (a b c : Option (List ℕ)) (w u : WindowHeld) (ended : Bool) (one two : List ℕ) → GaveSome a b w u ended one → GaveLast b c ended u two → GaveRest a c w (one ++ two)
+some_last a b c w u ended one two s l =
+    record {
+      gave = Consumes-trans a b c one two s.gave l.gave;
+      ended = l.at_end;
+      within = (let long = length-append one two in (elim (cases_Bool ended) [
+        | inl t ↦ (let none : length two ≡ 0 = ap length (l.none t) in let within = s.within in omega (arith, within, long, none))
+        | inr f ↦ (let count = s.count f in let limit = s.limit f in let within = l.within f in omega (arith, within, long, count, limit))
+      ]));
+    }
+
+pub some_within : (a b : Option (List ℕ)) (w u : WindowHeld) (ended : Bool) (one : List ℕ) → GaveSome a b w u ended one → ended ≡ false → u.count ≤ u.limit
+some_within a b w u ended one s f = (let count = s.count f in let limit = s.limit f in let within = s.within in omega (arith, within, count, limit))
+
+pub some_small : (a b : Option (List ℕ)) (w u : WindowHeld) (ended : Bool) (one : List ℕ) (most : ℕ) → GaveSome a b w u ended one → w.limit < most → ended ≡ false → u.limit < most
+some_small a b w u ended one most s small f = (let limit = s.limit f in omega (arith, limit, small))
+
+pub some_stops : (a b c : Option (List ℕ)) (fa fb fc : ℕ) (w u : WindowHeld) (ended : Bool) (one : List ℕ) (fault : TakeFault) → GaveSome a b w u ended one → fa ≤ fb
+    → (ended ≡ false) × StopsFilling b c fb fc u fault → StopsFilling a c fa fc w fault
+some_stops a b c fa fb fc w u ended one fault s later stops =
+    stops_after a b c fa fb fc w u one fault s.gave (s.count stops.0) (s.limit stops.0) (some_within a b w u ended one s stops.0) later stops.1
+
+pub tail_unread : (a b c : Option (List ℕ)) (fa fb fc : ℕ) (w u : WindowHeld) (ended : Bool) (one : List ℕ) (h : Head) (tasks : List Task) (fault : SourceFault) → GaveSome a b w u ended one → fa ≤ fb
+    → StopsInTail b c fb fc u ended fault → StopsInRest a c fa fc w h tasks fault
+tail_unread a b c fa fb fc w u ended one h tasks (source_fault.Unread take_fault.Read) s later stops = some_stops a b c fa fb fc w u ended one take_fault.Read s later stops
+tail_unread a b c fa fb fc w u ended one h tasks (source_fault.Unread (take_fault.TooLong count)) s later stops = some_stops a b c fa fb fc w u ended one (take_fault.TooLong count) s later stops
+tail_unread a b c fa fb fc w u ended one h tasks (source_fault.Unread take_fault.NoMemory) s later stops = tt
+tail_unread a b c fa fb fc w u ended one h tasks (source_fault.BadLine line) s later stops = absurd stops
+
+-- the rows of the text, as far as it is known
+pub rows_known : (tasks : List Task) (text : List ℕ) (done : List Row) (sums rest : List ℕ) (r : RowsStop) → RowsStopAt tasks text done sums rest r → (r.stop ≡ stops.Fault → ⊥)
+    → AreAllRows tasks (text ++ []) done sums (rest ++ [])
+rows_known tasks text done sums rest r at ne = all_rows tasks (text ++ []) done sums (rest ++ []) r.stop (at [] (λ _. refl)) ne
+
+pub rows_few : (tasks : List Task) (text : List ℕ) (done : List Row) (sums rest : List ℕ) (stop : Stop) → RowsEnd tasks text done sums rest stop → length done ≤ row_limit
+rows_few tasks text done sums rest stops.Ends end = end.few
+rows_few tasks text done sums rest stops.Cut end = end.few
+rows_few tasks text done sums rest stops.Fault end = end.1
+
+pub row_told : (h : Head) (tasks : List Task) (ahead one two rest : List ℕ) (done : List Row) (sums : List ℕ) (r : RowsStop) → RowsStopAt tasks (ahead ++ one) done sums rest r → r.stop ≡ stops.Fault
+    → MayFollow r.ended two → body h tasks (lines_of (ahead ++ (one ++ two))) ≡ Err (6 + length tasks + length done)
+row_told h tasks ahead one two rest done sums r at is may =
+    ap (λ t. body h tasks (lines_of t)) (sym (append_assoc ahead one two))
+    ∙ body_stops h tasks (lines_of ((ahead ++ one) ++ two)) (6 + length tasks + length done) (row_at_fault tasks ((ahead ++ one) ++ two) done sums (rest ++ two) r.stop (at two may) is)
+
+pub tail_told : (h : Head) (s : SetContents) (ahead one two rest : List ℕ) (done : List Row) (sums : List ℕ) (r : RowsStop) (other : Option ℕ) → s ≡ set_of h s.tasks
+    → RowsStopAt s.tasks (ahead ++ one) done sums rest r → (r.stop ≡ stops.Fault → ⊥) → MayFollow r.ended two → first_other (tail_lines h.version s h.scale done) (lines_of (rest ++ two)) ≡ other
+    → body h s.tasks (lines_of (ahead ++ (one ++ two))) ≡ ending (6 + length s.tasks + length done) (record { set = s; scale = h.scale; rows = done }) other
+tail_told h s ahead one two rest done sums r other is at ne may told =
+    let all = all_rows s.tasks ((ahead ++ one) ++ two) done sums (rest ++ two) r.stop (at two may) ne in
+    ap (λ t. body h s.tasks (lines_of t)) (sym (append_assoc ahead one two)) ∙ body_ending h s (lines_of ((ahead ++ one) ++ two)) (lines_of (rest ++ two)) done is all.rows
+    ∙ ap (ending (6 + length s.tasks + length done) (record { set = s; scale = h.scale; rows = done })) told
 
 -- ---- from the front of the source on
 

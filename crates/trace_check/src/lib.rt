@@ -9,6 +9,7 @@ mod known_words;
 mod laws;
 mod met_lines;
 mod name_table;
+mod period_ends;
 mod reaches;
 mod reading;
 mod row_lines;
@@ -18,6 +19,7 @@ mod row_words;
 mod source_reading;
 mod tables;
 mod tail_lines;
+mod tail_reading;
 mod task_lines;
 mod traces;
 

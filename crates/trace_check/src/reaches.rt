@@ -1,14 +1,15 @@
 //! How far the rows of each task reach that start before the end of each of its periods: what its `met` lines tell. The rows are
 //! gone through once, in the order of their lines.
-ghost use Rattle.std.specs.Prelude.{ℕ, ◌≡◌, ◌+◌, ◌*◌, ◌<◌, ◌≤◌, ◌^◌, true, List, [], ◌∷◌, ◌++◌, length, IfOk};
+ghost use Rattle.std.specs.Prelude.{ℕ, ◌≡◌, ◌+◌, ◌*◌, ◌<◌, ◌≤◌, ◌^◌, true, List, [], ◌∷◌, ◌++◌, length, IfOk, OnOk};
 ghost use Rattle.sched_base.specs.declared.rows.Row.{Row};
 ghost use Rattle.sched_base.specs.declared.sets.Task.{Task};
 ghost use Rattle.sched_base.specs.Rows.{is_of_task};
 ghost use Rattle.sched_base.specs.Sets.{IsLawfulTask};
 ghost use Rattle.trace_check.specs.Reaches.{reach_rows, reach_to, AreEnds, HaveEnds, IsReachOf, AreReachesOf};
 
+use crate::period_ends::Ends;
 use sched_base::{Leaf, NoMemory, Row, Task, TaskSet};
-use std::alloc::Global;
+use std::alloc::{AllocError, Global};
 use trace_format::ended_count;
 use trace_verdict::RowList;
 
@@ -20,7 +21,7 @@ pub(crate) struct TaskReach {
     pub span: u128,
     pub number: u128,
     pub begin: u128,
-    pub ends: Vec<u128>,
+    pub ends: Ends,
 }
 
 fn is_of_task(row: &Row, task: u32) -> bool
@@ -57,7 +58,7 @@ impl TaskReach {
         let base = u128::from(task.offset) * scale;
         let span = u128::from(task.period) * scale;
         let count = if span == 0 { 0 } else { count };
-        let ends = vec![in alloc; 0u128; count]?;
+        let ends = Ends::new(alloc, count)?;
         Ok(TaskReach {
             base,
             span,
@@ -90,20 +91,21 @@ impl TaskReach {
     }
 
     // Takes in a row of the task.
-    fn add(&mut self, row: &Row)
+    fn add(&mut self, row: &Row) -> Result<(), AllocError>
         requires { (done : List Row) × (j : ℕ) × AreEnds done j self.old }
-        ensures base { self.new.base ≡ self.old.base }
-        ensures span { self.new.span ≡ self.old.span }
-        ensures ends { (done : List Row) (j : ℕ) → is_of_task j row.now.leaf ≡ true → AreEnds done j self.old → AreEnds (done ++ row.now ∷ []) j self.new }
+        ensures base { OnOk result (self.new.base ≡ self.old.base) }
+        ensures span { OnOk result (self.new.span ≡ self.old.span) }
+        ensures ends { OnOk result ((done : List Row) (j : ℕ) → is_of_task j row.now.leaf ≡ true → AreEnds done j self.old
+            → AreEnds (done ++ row.now ∷ []) j self.new) }
     {
-        if self.ends.is_empty() {
-            return;
+        if self.ends.len() == 0 {
+            return Ok(());
         }
         let number = self.seek(row.start);
         if number < self.ends.len() as u128 {
-            let place = number as usize;
-            self.ends[place] = row.end.max(self.ends[place]);
+            self.ends.raise(number as usize, row.end)?;
         }
+        Ok(())
     }
 
     /// The greatest end of the task's rows that start before the end of its period k, which is `end`, where that of those that start
@@ -115,7 +117,7 @@ impl TaskReach {
         ensures { result ≡ reach_to rows.now task self.now (k + 1) }
     {
         if k < self.ends.len() as u64 {
-            before.max(self.ends[k as usize])
+            before.max(self.ends.get(k as usize))
         } else {
             reach_by_rows(rows, task, end)
         }
@@ -123,30 +125,32 @@ impl TaskReach {
 }
 
 // Takes in a row, where it is one of these tasks.
-fn add_row(reaches: &mut [TaskReach], row: &Row)
+fn add_row(reaches: &mut [TaskReach], row: &Row) -> Result<(), AllocError>
     requires { (done : List Row) × HaveEnds done reaches.old }
-    ensures periods { (scale : ℕ) (tasks : List Task) → AreReachesOf scale tasks reaches.old → AreReachesOf scale tasks reaches.new }
-    ensures count { length reaches.new ≡ length reaches.old }
-    ensures ends { (done : List Row) → HaveEnds done reaches.old → HaveEnds (done ++ row.now ∷ []) reaches.new }
+    ensures periods { OnOk result ((scale : ℕ) (tasks : List Task) → AreReachesOf scale tasks reaches.old → AreReachesOf scale tasks reaches.new) }
+    ensures count { OnOk result (length reaches.new ≡ length reaches.old) }
+    ensures ends { OnOk result ((done : List Row) → HaveEnds done reaches.old → HaveEnds (done ++ row.now ∷ []) reaches.new) }
 {
     if let Leaf::Task(id) = row.leaf {
         let place = id.0 as usize;
         if place < reaches.len() {
-            reaches[place].add(row);
+            reaches[place].add(row)?;
         }
     }
+    Ok(())
 }
 
 // Takes in all rows.
-fn add_rows(reaches: &mut [TaskReach], rows: &RowList)
+fn add_rows(reaches: &mut [TaskReach], rows: &RowList) -> Result<(), AllocError>
     requires { HaveEnds [] reaches.old }
-    ensures periods { (scale : ℕ) (tasks : List Task) → AreReachesOf scale tasks reaches.old → AreReachesOf scale tasks reaches.new }
-    ensures count { length reaches.new ≡ length reaches.old }
-    ensures ends { HaveEnds rows.now reaches.new }
+    ensures periods { OnOk result ((scale : ℕ) (tasks : List Task) → AreReachesOf scale tasks reaches.old → AreReachesOf scale tasks reaches.new) }
+    ensures count { OnOk result (length reaches.new ≡ length reaches.old) }
+    ensures ends { OnOk result (HaveEnds rows.now reaches.new) }
 {
     for i in 0..rows.len() {
-        add_row(reaches, &rows.get(i));
+        add_row(reaches, &rows.get(i))?;
     }
+    Ok(())
 }
 
 // How many periods of a task are looked at, where so many are left for it and the tasks that follow.
@@ -193,6 +197,6 @@ pub(crate) fn reaches_of(
     ensures ends { IfOk result (λ v. HaveEnds rows.now v.items) }
 {
     let mut reaches = no_reaches(alloc, set, scale, most)?;
-    add_rows(&mut reaches, rows);
+    add_rows(&mut reaches, rows)?;
     Ok(reaches)
 }

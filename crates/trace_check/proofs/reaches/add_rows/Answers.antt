@@ -14,8 +14,8 @@ pub loop-i-preserved : goal.loop-i-preserved
 loop-i-preserved c =
     let within : c.loop-i.i < length c.args.rows.now = omega (arith, c.loop-i-test.true, c.len-i-end.ensures) in (
       subst (λ rows. HaveEnds rows c.add_row.new.reaches) (sym (rows_step c.args.rows.now c.loop-i.i c.get.result within c.get.ensures))
-          (c.add_row.ensures.ends (take c.loop-i.i c.args.rows.now) c.loop-i.invariant.0),
-      (λ scale tasks p. c.add_row.ensures.periods scale tasks (c.loop-i.invariant.1 scale tasks p)),
+          (c.in_ok-add_row.ensures.ends (take c.loop-i.i c.args.rows.now) c.loop-i.invariant.0),
+      (λ scale tasks p. c.in_ok-add_row.ensures.periods scale tasks (c.loop-i.invariant.1 scale tasks p)),
     )
 
 pub returns-clause-periods : goal.returns-clause-periods

@@ -1,19 +1,32 @@
-use Rattle.std.proofs.Common.{◌++◌, refl, arith}
+use Rattle.std.proofs.Common.{◌++◌, not, refl, sym, subst, arith}
 use Rattle.std.proofs.lemmas.Result.{err_from_is_err_and}
-use Rattle.trace_check.proofs.SourceLemmas.{going_passed, going_filled, going_stops, going_over, over_after}
+use Rattle.trace_check.specs.WholeRows.{StopIs}
+use Rattle.trace_check.proofs.WholeRowLemmas.{stop_behind}
+use Rattle.trace_check.proofs.SourceLemmas.{going_passed, going_filled, going_stops, going_some, going_ended, rows_stop, rows_stop_ended}
+use Rattle.trace_check.proofs.TailSourceLemmas.{not_true_is}
 use Rattle.trace_check.proofs.source_reading.read_rows.Goals as goal
 
-pub returns-in_err-fill_all-clause-stops : goal.returns-in_err-fill_all-clause-stops
-returns-in_err-fill_all-clause-stops g c =
-    let (fault, is, same) = err_from_is_err_and c.from_residual-in_err-fill_all.result c.from_residual-in_err-fill_all.ensures.1 in
+pub returns-in_err-ended-clause-stops : goal.returns-in_err-ended-clause-stops
+returns-in_err-ended-clause-stops g c =
+    let (fault, is, same) = err_from_is_err_and c.from_residual-in_err-ended.result c.from_residual-in_err-ended.ensures.1 in
     let going = going_passed _ _ _ _ _ c.loop-stop.window c.take_from.new.window _ _ _ _ _ c.loop-stop.invariant c.in_ok-stop.ensures.read c.in_ok-stop.ensures.count c.in_ok-stop.ensures.limit in
-    rw (is, same) (going_stops _ _ _ _ _ _ c.args.window.now c.take_from.new.window _ _ _ _ going c.in_err-fill_all.ensures.stops)
+    rw (is, same) (going_stops _ _ _ _ _ _ c.args.window.now c.take_from.new.window _ _ _ _ going c.in_err-ended.ensures.stops)
 
 pub returns-then-not-is_cut-clause-read : goal.returns-then-not-is_cut-clause-read
 returns-then-not-is_cut-clause-read g c =
     let going = going_passed _ _ _ _ _ c.loop-stop.window c.take_from.new.window _ _ _ _ _ c.loop-stop.invariant c.in_ok-stop.ensures.read c.in_ok-stop.ensures.count c.in_ok-stop.ensures.limit in
-    over_after _ _ _ _ _ _ c.args.window.now c.take_from.new.window c.fill_all.new.self _ _ _ c.in_ok-stop.stop going c.in_ok-fill_all.ensures.fills c.in_ok-fill_all.ensures.end c.in_ok-fill_all.ensures.later
-    (c.if-not-is_cut.ensures refl) c.in_ok-stop.ensures.stop
+    let on = going_filled _ _ _ _ _ _ c.args.window.now c.take_from.new.window c.fill.new.self _ _ _ going c.in_ok-ended.ensures.fills c.in_ok-ended.ensures.later in
+    let tasks = c.args.set.now.tasks in
+    let rows = c.take_from.new.self.rows in
+    let stop = c.in_ok-stop.stop in
+    let ended = not c.in_ok-ended.field-0 in
+    let none = c.if-not-is_cut.ensures refl in
+    let ahead = c.in_ok-ended.ensures.fills.ahead in
+    let is = subst (λ t. StopIs tasks rows t stop) (sym ahead) (stop_behind tasks rows c.take_from.new.window.ahead c.in_ok-ended.ensures.fills.more stop none c.in_ok-stop.ensures.stop) in (
+      on.more,
+      going_some _ _ _ _ c.args.window.now c.fill.new.self _ _ _ ended on (λ e. c.in_ok-ended.ensures.end (not_true_is c.in_ok-ended.field-0 e)),
+      rows_stop tasks (c.args.window.now.ahead ++ on.more) c.fill.new.self.ahead rows c.take_from.new.self.totals.items stop ended on.rows none is,
+    )
 
 pub returns-in_err-fill-clause-stops : goal.returns-in_err-fill-clause-stops
 returns-in_err-fill-clause-stops g c =
@@ -24,18 +37,22 @@ returns-in_err-fill-clause-stops g c =
 pub take_last-requires : goal.take_last-requires
 take_last-requires g c =
     let going = going_passed _ _ _ _ _ c.loop-stop.window c.take_from.new.window _ _ _ _ _ c.loop-stop.invariant c.in_ok-stop.ensures.read c.in_ok-stop.ensures.count c.in_ok-stop.ensures.limit in
-    let on = going_filled _ _ _ _ _ _ c.args.window.now c.take_from.new.window c.fill.new.self _ _ _ going c.in_ok-fill.ensures.fills c.in_ok-fill.ensures.later in
+    let on = going_filled _ _ _ _ _ _ c.args.window.now c.take_from.new.window c.fill-in-loop-stop.new.self _ _ _ going c.in_ok-fill.ensures.fills c.in_ok-fill.ensures.later in
     (_, on.rows)
 
 pub returns-then-not-branch-clause-read : goal.returns-then-not-branch-clause-read
 returns-then-not-branch-clause-read g c =
     let going = going_passed _ _ _ _ _ c.loop-stop.window c.take_from.new.window _ _ _ _ _ c.loop-stop.invariant c.in_ok-stop.ensures.read c.in_ok-stop.ensures.count c.in_ok-stop.ensures.limit in
-    let on = going_filled _ _ _ _ _ _ c.args.window.now c.take_from.new.window c.fill.new.self _ _ _ going c.in_ok-fill.ensures.fills c.in_ok-fill.ensures.later in
+    let on = going_filled _ _ _ _ _ _ c.args.window.now c.take_from.new.window c.fill-in-loop-stop.new.self _ _ _ going c.in_ok-fill.ensures.fills c.in_ok-fill.ensures.later in
     let over = c.if-not-branch.true in
     let end = c.in_ok-fill.ensures.end (grind arith) in
-    (on.more, going_over _ _ _ _ c.args.window.now c.fill.new.self _ _ _ on end, c.in_ok-take_last.ensures (c.args.window.now.ahead ++ on.more) on.rows)
+    let text = c.args.window.now.ahead ++ on.more in (
+      on.more,
+      going_ended _ _ _ _ c.args.window.now c.fill-in-loop-stop.new.self c.take_last.new.window _ _ _ on end,
+      rows_stop_ended c.args.set.now.tasks text c.take_last.new.window.ahead c.take_last.new.self.rows c.take_last.new.self.totals.items c.in_ok-stop-2.stop (c.in_ok-stop-2.ensures text on.rows),
+    )
 
 pub loop-stop-preserved : goal.loop-stop-preserved
 loop-stop-preserved g c =
     let going = going_passed _ _ _ _ _ c.loop-stop.window c.take_from.new.window _ _ _ _ _ c.loop-stop.invariant c.in_ok-stop.ensures.read c.in_ok-stop.ensures.count c.in_ok-stop.ensures.limit in
-    going_filled _ _ _ _ _ _ c.args.window.now c.take_from.new.window c.fill.new.self _ _ _ going c.in_ok-fill.ensures.fills c.in_ok-fill.ensures.later
+    going_filled _ _ _ _ _ _ c.args.window.now c.take_from.new.window c.fill-in-loop-stop.new.self _ _ _ going c.in_ok-fill.ensures.fills c.in_ok-fill.ensures.later
