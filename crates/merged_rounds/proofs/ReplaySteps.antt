@@ -12,7 +12,7 @@ use Rattle.sched_base.proofs.ListLemmas.{first_from}
 use Rattle.run_tree.specs.Boundaries.{set_boundary}
 use Rattle.run_tree.specs.Plans.{IsPlan, PlanContents, stop_of}
 use Rattle.run_tree.specs.Schedule.{leaf_on, onto_at, packs_running, shown}
-use Rattle.run_tree.proofs.ScheduleLemmas.{length-places, length-running}
+use Rattle.run_tree.proofs.ScheduleLemmas.{length-running}
 use Rattle.hyperperiod_laws.proofs.LaterPlaces.{shown_on_time}
 use Rattle.cpu_assign.specs.Changed.{AreChanged, ChangeLists, stopping}
 use Rattle.cpu_assign.specs.Noted.{IsNoted}
@@ -76,9 +76,6 @@ module _ (p : PlanContents) (h : IsPlan p) (start : ℕ) (r : Replay) (b : IsRep
 
   pub last_long : length r.places.last ≡ length (packs_running (set_boundary p.set.tasks) p.tree start)
   last_long = ap (λ (w : Placing). length w.last) b.places ∙ length-last p start ∙ sym (length-running (set_boundary p.set.tasks) p.tree start)
-
-  pub onto_long : length r.places.onto ≡ p.tree.processors
-  onto_long = ap (λ (w : Placing). length w.onto) b.places ∙ length-places (set_boundary p.set.tasks) p.tree start
 
   -- all fits
   pub shift_fits : r.shift + turn_end r.lap < 2 ^ 128
@@ -144,7 +141,7 @@ module _ (p : PlanContents) (h : IsPlan p) (start : ℕ) (r : Replay) (b : IsRep
 
     -- a round later
     module _ (r' : Replay) (lap : r'.lap ≡ r.lap) (shows : r'.shows.items ≡ now) (many : length now ≡ packs_of p) (placed : r'.places ≡ place (packs_running (set_boundary p.set.tasks) p.tree start) r.places)
-        (room : r'.changes.room ≡ packs_of p) (onto : length r'.onto.items ≡ p.tree.processors)
+        (room : r'.changes.room ≡ packs_of p)
         (next : r'.next < length ends) (at : round_start 0 ends r'.next + r'.shift ≡ get_or ends r.next 0 + r.shift) (shift : (r'.shift ≡ r.shift) ⊎ (r'.shift ≡ r.shift + turn_end r.lap))
         (behind : (r'.next ≡ 0) ⊎ (r'.next ≡ r.next + 1))
         (end : ℕ) (end_is : end ≡ min (get_or ends r.next 0 + r.shift) (stop_of p)) where
@@ -181,7 +178,6 @@ module _ (p : PlanContents) (h : IsPlan p) (start : ℕ) (r : Replay) (b : IsRep
             ap (λ (w : Placing). is_held w.onto k) placed_end ∙ ap (λ os. is_held os k) (onto_end p h start end round)
             ∙ held_some p start k (get_or now k None) (now_on k in_level) ∙ ap (λ (xs : List (Option Leaf)). is_some (get_or xs k None)) (sym shows);
         room = room;
-        onto = onto;
         long = ap (λ (xs : List (Option Leaf)). length xs) shows ∙ many;
       }
 

@@ -388,8 +388,8 @@ module _ (p : PlanContents) (h : IsPlan p) (can : CanComeRound p) (c : CoreConte
       let e : length kept_ends ≡ suc (length kept_ends - 1) = omega (arith, s) in
       subst (λ (n : ℕ). IsRoundUpTo p (round_start 0 kept_ends (length kept_ends - 1)) n) (sym (ap (round_start 0 kept_ends) e) ∙ end) (lap.turn.round (length kept_ends - 1) (omega (arith, s)))
 
-  pub begins : r.next ≡ 0 → r.shift ≡ c.tick → r.places ≡ c.places → r.changes.room ≡ packs_of p → length r.onto.items ≡ p.tree.processors → r.shows.items ≡ r.lap.last.items → IsReplayOf p c.tick r
-  begins next shift places room onto shows =
+  pub begins : r.next ≡ 0 → r.shift ≡ c.tick → r.places ≡ c.places → r.changes.room ≡ packs_of p → r.shows.items ≡ r.lap.last.items → IsReplayOf p c.tick r
+  begins next shift places room shows =
       let s = some_rounds in
       let last_on : (k : ℕ) → k < packs_of p → IsPackOn p (round_start 0 kept_ends (length kept_ends - 1)) k (get_or r.shows.items k None) =
       (λ k m. subst (λ (xs : List (Option Leaf)). IsPackOn p (round_start 0 kept_ends (length kept_ends - 1)) k (get_or xs k None)) (sym shows) (lap.last k s m)) in
@@ -410,6 +410,5 @@ module _ (p : PlanContents) (h : IsPlan p) (can : CanComeRound p) (c : CoreConte
             ap (λ (w : Placing). is_held w.onto k) (places ∙ b.at.placed) ∙ ap (λ os. is_held os k) (onto_end p h (round_start 0 kept_ends (length kept_ends - 1)) c.tick last_round)
             ∙ held_some p (round_start 0 kept_ends (length kept_ends - 1)) k (get_or r.shows.items k None) (last_on k in_level);
         room = room;
-        onto = onto;
         long = ap (λ (xs : List (Option Leaf)). length xs) shows ∙ lap.long;
       }

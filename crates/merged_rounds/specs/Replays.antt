@@ -144,7 +144,6 @@ pub record IsReplayOf (p : PlanContents) (tick : ℕ) (r : Replay) : Type 0 wher
   pub gone : (k : ℕ) → 0 < r.next → k < packs_of p → IsPackOn p (round_start 0 r.lap.ends.items (r.next - 1)) k (slice_index_or r.shows.items k None)
   pub held : (k : ℕ) → k < packs_of p → is_held r.places.onto k ≡ is_some (slice_index_or r.shows.items k None)
   pub room : r.changes.room ≡ packs_of p
-  pub onto : length r.onto.items ≡ p.tree.processors
   pub long : length r.shows.items ≡ packs_of p
 
 -- the packs that run at tick `start` were placed, and those are known that show something else than before

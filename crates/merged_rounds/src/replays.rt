@@ -28,7 +28,6 @@ pub(crate) struct Replay {
     shift: u128,
     places: Places,
     changes: Changes,
-    onto: Vec<Option<u32>>,
     shows: Vec<Option<Leaf>>,
 }
 
@@ -124,13 +123,6 @@ fn room_for_changes(alloc: Global, plan: &Plan) -> Result<Changes, NoMemory>
     Ok(Changes::new(alloc, plan.tree().packs(0))?)
 }
 
-// Room for the pack on each processor.
-fn room_for_onto(alloc: Global, plan: &Plan) -> Result<Vec<Option<u32>>, NoMemory>
-    ensures { IfOk result (λ v. v.items ≡ replicate plan.now.tree.processors None) }
-{
-    Ok(vec![in alloc; None; plan.tree().processors() as usize]?)
-}
-
 // The round behind round i of a hyperperiod, which begins anew behind its last one, and how many ticks later it begins.
 fn behind(lap: &Turn, i: usize, shift: u128) -> (usize, u128)
     requires round { i < length lap.now.ends.items }
@@ -158,7 +150,6 @@ pub(crate) fn replay_of(
     ensures { IfOk result (λ replay. BeginsAgain plan.now core.now.tick lap → IsReplayOf plan.now core.now.tick replay) }
 {
     plan.know_lawful();
-    let onto = room_for_onto(alloc, plan)?;
     let changes = room_for_changes(alloc, plan)?;
     let places = core.places().copy(alloc)?;
     let shows = Vec::from_slice(alloc, &lap.last)?;
@@ -168,7 +159,6 @@ pub(crate) fn replay_of(
         shift: core.now(),
         places,
         changes,
-        onto,
         shows,
     })
 }
@@ -201,7 +191,7 @@ impl Replay {
             &mut self.shows,
             &mut self.changes,
         );
-        self.places.place_again(&self.changes, &mut self.onto);
+        self.places.place_again(&self.changes);
         let end = end_of(&self.lap.ends, self.next, self.shift, plan.rounds_end());
         let (next, shift) = behind(&self.lap, self.next, self.shift);
         self.next = next;

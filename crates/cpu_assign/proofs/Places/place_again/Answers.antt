@@ -5,9 +5,6 @@ use Rattle.cpu_assign.specs.Changed.{stopping}
 use Rattle.cpu_assign.proofs.StepLemmas.{placing, written}
 use Rattle.cpu_assign.proofs.Places.place_again.Goals as goal
 
-pub place_changed-requires-clause-room : goal.place_changed-requires-clause-room
-place_changed-requires-clause-room c = c.requires.room ∙ sym (ap length c.deref_mut.ensures.value ∙ ap (λ (p : Placing). length p.onto) c.self.view_is)
-
 pub place_changed-requires-clause-noted : goal.place_changed-requires-clause-noted
 place_changed-requires-clause-noted c =
     subst (λ (p : Placing). IsNoted p.onto p.last) (sym (ap₂ placing c.deref_mut.ensures.value c.deref_mut-2.ensures.value)) c.self.invariant

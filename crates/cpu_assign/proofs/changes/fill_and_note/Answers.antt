@@ -1,57 +1,51 @@
-use Rattle.std.proofs.Common.{ap, arith, get_or, None, subst, sym, ◌∙◌, List, Option, ℕ}
-use Rattle.sched_base.specs.Places.{filled}
-use Rattle.cpu_assign.specs.Changed.{still_waiting}
-use Rattle.cpu_assign.specs.Noted.{IsNoted}
-use Rattle.cpu_assign.proofs.ChangeLemmas.{fill_nobody}
-use Rattle.cpu_assign.proofs.NoteLemmas.{noted_same}
+use Rattle.std.proofs.Common.{ap, arith, get_or, inl, inr, not, refl, sym, None, List, Option, ℕ, ◌≡◌, ◌∙◌}
+use Rattle.std.proofs.lemmas.Bool.{both_ways, cases_Bool, cases_eq, not-true}
+use Rattle.sched_base.specs.Places.{is_held}
+use Rattle.sched_base.proofs.PlaceLemmas.{filled_nobody}
+use Rattle.cpu_assign.proofs.BackLemmas.{there_is}
+use Rattle.cpu_assign.proofs.ChangeLemmas.{fill_begun_step, fill_begun_all}
+use Rattle.cpu_assign.proofs.NoteLemmas.{noted_since}
+use Rattle.cpu_assign.proofs.PutLemmas.{put_others}
 use Rattle.cpu_assign.proofs.changes.fill_and_note.Goals as goal
 
-pub returns-then-begun-eq0-clause-onto : goal.returns-then-begun-eq0-clause-onto
-returns-then-begun-eq0-clause-onto c = fill_nobody c.args.onto.now c.args.begun.now (omega arith)
+pub loop-k-init : goal.loop-k-init
+loop-k-init c = (sym (filled_nobody c.args.onto.now), λ p l e. omega arith, omega arith, c.requires.noted, λ j h. refl, λ j off. refl)
 
-pub returns-then-begun-eq0-clause-last : goal.returns-then-begun-eq0-clause-last
-returns-then-begun-eq0-clause-last c = noted_same c.args.onto.now c.args.last.now c.requires.noted
-
-pub copy_from_slice-requires : goal.copy_from_slice-requires
-copy_from_slice-requires c = let same = c.requires.room in omega (arith, same)
-
-pub fill_begun-first-requires-clause-back : goal.fill_begun-first-requires-clause-back
-fill_begun-first-requires-clause-back c = sym c.copy_from_slice.ensures.after
-
-pub fill_begun-first-requires-clause-noted : goal.fill_begun-first-requires-clause-noted
-fill_begun-first-requires-clause-noted c = subst (λ (os : List (Option ℕ)). IsNoted os c.args.last.now) (sym c.copy_from_slice.ensures.after) c.requires.noted
-
-pub fill_begun-first-requires-clause-within : goal.fill_begun-first-requires-clause-within
-fill_begun-first-requires-clause-within c = c.requires.within
-
-pub note_between-requires-clause-noted : goal.note_between-requires-clause-noted
-note_between-requires-clause-noted c = λ p i m e. (c.requires.noted.noted p i (sym (c.fill_begun-first.ensures.rest p m) ∙ e)).1
-
-pub note_between-requires-clause-packs : goal.note_between-requires-clause-packs
-note_between-requires-clause-packs c = λ p i e.
-    let full = c.fill_begun-first.ensures.filled ∙ ap (λ (os : List (Option ℕ)). filled os (still_waiting os c.args.begun.now)) c.copy_from_slice.ensures.after in
-    c.requires.packs p i (ap (λ (os : List (Option ℕ)). get_or os p None) (sym full) ∙ e)
-
-pub note_between-requires-clause-to : goal.note_between-requires-clause-to
-note_between-requires-clause-to c = c.fill_begun-first.ensures.within
-
-pub note_between-requires-clause-order : goal.note_between-requires-clause-order
-note_between-requires-clause-order c = c.fill_begun-first.ensures.order
-
-pub note_between-requires-clause-below : goal.note_between-requires-clause-below
-note_between-requires-clause-below c = λ p i m e. (c.requires.noted.noted p i (sym (c.fill_begun-first.ensures.below p m) ∙ e)).1
-
-pub note_between-requires-clause-once : goal.note_between-requires-clause-once
-note_between-requires-clause-once c = λ p q i low high at at'.
-    let full = sym (c.fill_begun-first.ensures.filled ∙ ap (λ (os : List (Option ℕ)). filled os (still_waiting os c.args.begun.now)) c.copy_from_slice.ensures.after) in
-    let same = c.requires.once p q i (ap (λ (os : List (Option ℕ)). get_or os p None) full ∙ at) (ap (λ (os : List (Option ℕ)). get_or os q None) full ∙ at') in
-    omega (arith, low, high, same)
-
-pub note_between-requires-clause-few : goal.note_between-requires-clause-few
-note_between-requires-clause-few c = let few = c.requires.noted.few_processors in let same = c.fill_begun-first.auto.onto in omega (arith, few, same)
+pub loop-k-preserved : goal.loop-k-preserved
+loop-k-preserved c =
+    let l = c.loop-k-test.true in
+    let back = c.args.onto.now in
+    let begun = c.args.begun.now in
+    let i = get_or begun c.loop-k.k 0 in
+    let fresh : is_held c.loop-k.onto i ≡ is_held back i = c.loop-k.invariant.4 i (λ m b same. c.requires.once m c.loop-k.k b (omega (arith, l)) same) in
+    let puts = c.put_and_note-from.ensures.put in
+    let skips = c.put_and_note-from.ensures.skip in (
+      fill_begun_step back c.args.last.now c.loop-k.onto c.put_and_note-from.new.onto begun c.loop-k.k i (not (is_held c.loop-k.onto i)) c.requires.noted (omega (arith, l)) refl
+          (ap not (fresh ∙ sym (there_is back c.args.last.now i c.requires.noted)))
+          (λ on. puts (not-true (is_held c.loop-k.onto i) on))
+          (λ off. skips (elim (cases_Bool (is_held c.loop-k.onto i)) [ inl held ↦ held | inr free ↦ absurd (both_ways (not (is_held c.loop-k.onto i)) off (ap not free)) ]))
+          c.loop-k.invariant.0,
+      c.put_and_note-from.ensures.held,
+      c.put_and_note-from.ensures.within,
+      c.put_and_note-from.ensures.noted,
+      λ j h. (elim (cases_Bool (is_held c.loop-k.onto i)) [
+        | inl held ↦ ap (λ (os : List (Option ℕ)). is_held os j) (skips held)
+        | inr free ↦ ap (λ (os : List (Option ℕ)). is_held os j) (puts free) ∙ put_others i j c.loop-k.onto (λ same. h c.loop-k.k (omega arith) (sym same))
+      ]) ∙ c.loop-k.invariant.4 j (λ m b. h m (omega (arith, b))),
+      λ j off. elim (cases_Bool (is_held c.loop-k.onto j)) [
+        | inr free ↦ (elim (cases_eq j i) [
+          | inl same ↦ ap (λ (ls : List (Option ℕ)). get_or ls j None) (c.put_and_note-from.ensures.own (ap (is_held c.put_and_note-from.new.onto) (sym same) ∙ off))
+          | inr ne ↦ c.put_and_note-from.ensures.others j ne
+        ]) ∙ c.loop-k.invariant.5 j free
+        | inl held ↦ absurd (both_ways (is_held c.put_and_note-from.new.onto j) off (elim (cases_Bool (is_held c.loop-k.onto i)) [
+          | inl held' ↦ ap (λ (os : List (Option ℕ)). is_held os j) (skips held') ∙ held
+          | inr free ↦ ap (λ (os : List (Option ℕ)). is_held os j) (puts free) ∙ put_others i j c.loop-k.onto (λ same. both_ways (is_held c.loop-k.onto i) free (ap (is_held c.loop-k.onto) (sym same) ∙ held)) ∙ held
+        ]))
+      ],
+    )
 
 pub returns-clause-onto : goal.returns-clause-onto
-returns-clause-onto c = c.fill_begun-first.ensures.filled ∙ ap (λ (os : List (Option ℕ)). filled os (still_waiting os c.args.begun.now)) c.copy_from_slice.ensures.after
+returns-clause-onto c = fill_begun_all c.args.onto.now c.loop-k.onto c.args.begun.now c.loop-k.k (omega arith) c.loop-k.invariant.0
 
 pub returns-clause-last : goal.returns-clause-last
-returns-clause-last c = c.note_between.ensures
+returns-clause-last c = noted_since c.loop-k.onto c.args.last.now c.loop-k.last c.loop-k.invariant.3 c.loop-k.auto.last c.loop-k.invariant.5

@@ -1,11 +1,10 @@
-use Rattle.std.proofs.Common.{ℕ, List, Option, None, ap, length, refl, ◌∙◌}
-use Rattle.std.proofs.lemmas.List.{length-replicate}
+use Rattle.std.proofs.Common.{refl, ◌∙◌}
 use Rattle.merged_rounds.specs.declared.replays.Replay.{Replay}
 use Rattle.merged_rounds.proofs.TurnLemmas.{begins}
 use Rattle.merged_rounds.proofs.replays.replay_of.Goals as goal
 
 pub returns : goal.returns
 returns c = λ again.
-    let r : Replay = record { lap = c.args.lap; next = 0; shift = c.now.result; places = c.in_ok-places.places; changes = c.in_ok-changes.changes; onto = c.in_ok-onto.onto; shows = c.in_ok-shows.shows } in
+    let r : Replay = record { lap = c.args.lap; next = 0; shift = c.now.result; places = c.in_ok-places.places; changes = c.in_ok-changes.changes; shows = c.in_ok-shows.shows } in
     begins c.args.plan.now c.know_lawful.ensures.lawful again.can c.args.core.now c.requires.belongs r again.lap again.end again.turns
-    refl c.now.ensures.value (c.in_ok-places.ensures ∙ c.places.ensures) c.in_ok-changes.ensures (ap (λ (xs : List (Option ℕ)). length xs) c.in_ok-onto.ensures ∙ length-replicate {A = Option ℕ} c.args.plan.now.tree.processors None) (c.in_ok-shows.ensures.items ∙ c.deref.ensures.value)
+    refl c.now.ensures.value (c.in_ok-places.ensures ∙ c.places.ensures) c.in_ok-changes.ensures (c.in_ok-shows.ensures.items ∙ c.deref.ensures.value)

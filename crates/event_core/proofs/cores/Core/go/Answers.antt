@@ -5,7 +5,7 @@ use Rattle.std.proofs.Common.{arith, subst, sym}
 use Rattle.event_core.specs.Cores.{CoreContents, IsCoreOf}
 use Rattle.event_core.specs.States.{contents}
 use Rattle.event_core.proofs.KeptLemmas.{stop_fits}
-use Rattle.event_core.proofs.OneRound.{last_long, onto_long}
+use Rattle.event_core.proofs.OneRound.{last_long}
 use Rattle.event_core.proofs.cores.Core.go.Goals as goal
 
 pub invariant_of-self : goal.invariant_of-self
@@ -19,16 +19,13 @@ invariant_of-self c =
     let due = c.self.invariant.0 in
     let packs = c.self.invariant.1 in
     let room = c.run_round.ensures.room in
-    let onto = c.self.invariant.2 in
     let nodes = old.at.nodes in
     let nodes' = new.at.nodes in
     let last = last_long p h before old.at in
     let last' = last_long p h after new.at in
-    let processors = onto_long p h before old.at in
-    let processors' = onto_long p h after new.at in
     let early = new.at.early in
     let most = stop_fits p h in
-    (omega (arith, due, nodes, nodes'), omega (arith, packs, room, last, last'), omega (arith, onto, processors, processors'), omega (arith, early, most))
+    (omega (arith, due, nodes, nodes'), omega (arith, packs, room, last, last'), omega (arith, early, most))
 
 pub run_round-requires-clause-due : goal.run_round-requires-clause-due
 run_round-requires-clause-due c =
@@ -43,13 +40,6 @@ run_round-requires-clause-room c =
     let room = c.self.invariant.1 in
     let last = last_long c.args.plan.now c.know_lawful.ensures.lawful (contents c.self.inside.state) old.at in
     omega (arith, room, last)
-
-pub run_round-requires-clause-onto : goal.run_round-requires-clause-onto
-run_round-requires-clause-onto c =
-    let old = subst (λ (k : CoreContents). IsCoreOf c.args.plan.now k) (sym c.self.view_is) c.requires.belongs in
-    let room = c.self.invariant.2 in
-    let processors = onto_long c.args.plan.now c.know_lawful.ensures.lawful (contents c.self.inside.state) old.at in
-    omega (arith, room, processors)
 
 pub run_round-requires-clause-plan : goal.run_round-requires-clause-plan
 run_round-requires-clause-plan c = c.know_lawful.ensures.lawful

@@ -1,6 +1,6 @@
 use Rattle.std.proofs.Common.{arith}
 use Rattle.event_core.specs.States.{contents}
-use Rattle.event_core.proofs.OneRound.{last_long, onto_long}
+use Rattle.event_core.proofs.OneRound.{last_long}
 use Rattle.event_core.proofs.cores.Core.new.Goals as goal
 
 pub invariant_of-result : goal.invariant_of-result
@@ -15,7 +15,4 @@ invariant_of-result c =
     let room = c.in_ok-changes.ensures.room in
     let packs = c.pack_count.ensures in
     let last = last_long p h (contents c.in_ok-state.state) at in
-    let onto = c.in_ok-onto.ensures in
-    let some = c.processor_count.ensures.value in
-    let processors = onto_long p h (contents c.in_ok-state.state) at in
-    (omega (arith, due, count, nodes), omega (arith, room, packs, last), omega (arith, onto, some, processors), omega (arith, first))
+    (omega (arith, due, count, nodes), omega (arith, room, packs, last), omega (arith, first))

@@ -6,7 +6,7 @@ use Rattle.run_tree.specs.Schedule.{packs_running}
 use Rattle.event_core.specs.Rounds.{IsRoundUpTo}
 use Rattle.cpu_assign.proofs.StepLemmas.{written}
 use Rattle.merged_rounds.specs.Replays.{AreNotedTo, IsTaken, part_start}
-use Rattle.merged_rounds.proofs.ReplaySteps.{changed_now, end_fits, high_fits, high_is, last_long, low_fits, next_entries, onto_long, ordered_as, replay_on, round_now, taken_as}
+use Rattle.merged_rounds.proofs.ReplaySteps.{changed_now, end_fits, high_fits, high_is, last_long, low_fits, next_entries, ordered_as, replay_on, round_now, taken_as}
 use Rattle.merged_rounds.proofs.replays.Replay.go.Goals as goal
 
 pub part-low-requires : goal.part-low-requires
@@ -32,13 +32,8 @@ take_entries-requires-clause-both c =
 pub take_entries-requires-clause-room : goal.take_entries-requires-clause-room
 take_entries-requires-clause-room c = c.requires.belongs.room ∙ sym c.requires.belongs.long ∙ sym (ap (λ (xs : List (Option Leaf)). length xs) c.deref_mut.ensures.value)
 
-pub place_again-requires-clause-room : goal.place_again-requires-clause-room
-place_again-requires-clause-room c =
-    let b = c.requires.belongs in
-    ap (λ (xs : List (Option ℕ)). length xs) c.deref_mut-2.ensures.value ∙ b.onto ∙ sym (onto_long c.args.plan.now c.know_lawful.ensures.lawful c.args.start c.args.self.now b c.requires.early)
-
-pub place_again-requires-clause-changes : goal.place_again-requires-clause-changes
-place_again-requires-clause-changes c =
+pub place_again-requires : goal.place_again-requires
+place_again-requires c =
     let p = c.args.plan.now in
     let h = c.know_lawful.ensures.lawful in
     let r = c.args.self.now in
@@ -52,7 +47,7 @@ place_again-requires-clause-changes c =
     r.shows.items c.deref_mut.result.now now k c.deref.ensures.value c.deref-2.ensures.value c.part-low.ensures high c.deref_mut.ensures.value (c.take_entries.ensures.taken k)) in
     let noted = subst (λ (xs : List (Option Leaf)). AreNotedTo xs now (length xs) c.take_entries.new.changes) c.deref_mut.ensures.value c.take_entries.ensures.noted in
     let changed = changed_now p h start r b l now taken c.take_entries.new.changes noted in
-    (packs_running (set_boundary p.set.tasks) p.tree start, last_long p h start r b l, changed)
+    record { changes = (packs_running (set_boundary p.set.tasks) p.tree start, last_long p h start r b l, changed) }
 
 pub end_of-end-requires-clause-round : goal.end_of-end-requires-clause-round
 end_of-end-requires-clause-round c = let n = c.requires.belongs.next in let e = ap (λ (xs : List ℕ). length xs) c.deref-3.ensures.value in omega (arith, n, e)
@@ -93,13 +88,11 @@ returns-clause-belongs c =
     let noted = subst (λ (xs : List (Option Leaf)). AreNotedTo xs now (length xs) c.take_entries.new.changes) c.deref_mut.ensures.value c.take_entries.ensures.noted in
     let changed = changed_now p h start r b l now taken c.take_entries.new.changes noted in
     let placed = c.place_again.ensures.places (packs_running (set_boundary p.set.tasks) p.tree start) (last_long p h start r b l) changed in
-    let onto = ap (λ (xs : List (Option ℕ)). length xs) (written r.onto c.deref_mut-2.result.now c.place_again.new.room c.deref_mut-2.ensures.value c.place_again.auto.room)
-    ∙ c.place_again.auto.room ∙ ap (λ (xs : List (Option ℕ)). length xs) c.deref_mut-2.ensures.value ∙ b.onto in
     let shows = written r.shows c.deref_mut.result.now now c.deref_mut.ensures.value c.take_entries.auto.shows in
     let many = c.take_entries.auto.shows ∙ ap (λ (xs : List (Option Leaf)). length xs) c.deref_mut.ensures.value ∙ b.long in
     let end : c.end_of-end.result ≡ min (get_or r.lap.ends.items r.next 0 + r.shift) (stop_of p) =
     c.end_of-end.ensures ∙ ap (λ (xs : List ℕ). min (get_or xs r.next 0 + r.shift) c.rounds_end.result) c.deref-3.ensures.value ∙ ap (λ n. min (get_or r.lap.ends.items r.next 0 + r.shift) n) c.rounds_end.ensures.value in
-    replay_on p h start r b l now taken _ refl shows many placed (c.take_entries.ensures.room ∙ b.room) onto c.behind-next.ensures.within c.behind-next.ensures.at c.behind-next.ensures.shift c.behind-next.ensures.next c.end_of-end.result end
+    replay_on p h start r b l now taken _ refl shows many placed (c.take_entries.ensures.room ∙ b.room) c.behind-next.ensures.within c.behind-next.ensures.at c.behind-next.ensures.shift c.behind-next.ensures.next c.end_of-end.result end
 
 pub returns-clause-placed : goal.returns-clause-placed
 returns-clause-placed c =
