@@ -5,6 +5,7 @@ pub mod LapLemmas
 mod ApartLemmas
 mod ChangeLemmas
 mod MarkLemmas
+mod WordLemmas
 pub mod CountLemmas
 mod ReplayLemmas
 mod ReplaySteps

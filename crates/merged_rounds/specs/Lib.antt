@@ -1,5 +1,6 @@
 pub mod Passes
 pub mod Laps
+pub mod Marks
 pub mod Replays
 pub mod Changes
 pub mod Recurrences

@@ -7,6 +7,7 @@ mod counts;
 mod hyperperiods;
 mod laps;
 mod looks;
+mod marks;
 mod passes;
 mod recurrences;
 mod releases;

@@ -14,6 +14,7 @@ ghost use Rattle.merged_rounds.specs.Replays.{AreHolding, AreKept, AreStill, IsP
 use crate::changed::{first_of, forget_changed, merge_telling, merge_whole, room_for_told};
 use crate::laps::start_of;
 use crate::looks::{forget, no_leaves};
+use crate::marks::Marks;
 use crate::sources::Source;
 use crate::sums::RoundSum;
 use cpu_assign::Places;
@@ -136,7 +137,7 @@ impl Turn {
         start: u128,
         end: u128,
         leaves: &[Option<Leaf>],
-        marks: &[bool],
+        marks: &Marks,
     ) -> Result<(), NoMemory>
         requires can { CanComeRound plan.now }
         requires places { places.now ≡ places_of plan.now end }
@@ -151,13 +152,13 @@ impl Turn {
     {
         plan.know_lawful();
         let _start = start;
+        let count = pack_count(plan);
         let whole = self.is_none();
-        for k in 0..pack_count(plan) {
-            if !whole && !marks[k as usize] {
-                continue;
-            }
+        let mut k = next_kept(marks, whole, 0);
+        'packs: while k < count {
             let leaf = shown_by(places, leaves, k);
             self.keep_pack(k, leaf, whole)?;
+            k = next_kept(marks, whole, k + 1);
         }
         self.close(end)?;
         Ok(())
@@ -194,12 +195,23 @@ fn no_packs(alloc: Global, plan: &Plan) -> Result<Vec<Option<Leaf>>, NoMemory>
     Ok(vec![in alloc; None; plan.tree().packs(0) as usize]?)
 }
 
-// Of no pack of level 0 a mark.
-fn no_marks(alloc: Global, plan: &Plan) -> Result<Vec<bool>, NoMemory>
-    ensures { IfOk result (λ v. vec_len v ≡ packs_of plan.now) }
+// Room for marks of the packs of level 0.
+fn no_marks(alloc: Global, plan: &Plan) -> Result<Marks, NoMemory>
+    ensures { IfOk result (λ m. length m ≡ packs_of plan.now) }
 {
-    plan.know_lawful();
-    Ok(vec![in alloc; false; plan.tree().packs(0) as usize]?)
+    Marks::new(alloc, pack_count(plan))
+}
+
+// The first pack from number `from` on that may show something else: each, or one with a mark. The number of packs, where there is none.
+#[inline(always)]
+fn next_kept(marks: &Marks, whole: bool, from: u32) -> u32
+    requires { from ≤ length marks.now }
+    ensures after { from ≤ result }
+    ensures within { result ≤ length marks.now }
+    ensures later { from < result → whole ≡ false }
+    ensures skipped { (k : ℕ) → from ≤ k → k < result → slice_index_or marks.now k false ≡ false }
+{
+    if whole { from } else { marks.next(from) }
 }
 
 // The pack that each processor holds.
@@ -251,13 +263,14 @@ fn note(changed: &[u32], told: &[Option<Leaf>], leaves: &mut [Option<Leaf>])
 
 // This pack, where there is one, is marked.
 #[inline(always)]
-fn mark(pack: Option<u32>, marks: &mut [bool])
+fn mark(pack: Option<u32>, marks: &mut Marks)
     requires { (k : ℕ) → pack ≡ Some k → k < length marks.old }
+    ensures long { length marks.new ≡ length marks.old }
     ensures own { (k : ℕ) → pack ≡ Some k → slice_index_or marks.new k false ≡ true }
     ensures rest { (k : ℕ) → slice_index_or marks.old k false ≡ true → slice_index_or marks.new k false ≡ true }
 {
     if let Some(k) = pack {
-        marks[k as usize] = true;
+        marks.mark(k);
     }
 }
 
@@ -272,7 +285,7 @@ fn held_by(holds: &[Option<u32>], q: u32) -> Option<u32>
 
 // Marks the packs that these processors held, and those that they hold now.
 #[inline(always)]
-fn mark_changed(changed: &[u32], places: &Places, holds: &mut [Option<u32>], marks: &mut [bool])
+fn mark_changed(changed: &[u32], places: &Places, holds: &mut [Option<u32>], marks: &mut Marks)
     requires within { (j : ℕ) → j < length changed.now → slice_index changed.now j < length holds.old }
     requires long { length holds.old ≡ length places.now.onto }
     requires before { (q k : ℕ) → slice_index_or holds.old q None ≡ Some k → k < length marks.old }
@@ -284,6 +297,7 @@ fn mark_changed(changed: &[u32], places: &Places, holds: &mut [Option<u32>], mar
         slice_index_or holds.new q None ≡ Some k }
     ensures marked { (j k : ℕ) → j < length changed.now → slice_index_or places.now.onto (slice_index changed.now j) None ≡ Some k →
         slice_index_or marks.new k false ≡ true }
+    ensures long { length marks.new ≡ length marks.old }
 {
     for j in 0..changed.len() {
         let q = changed[j];
@@ -301,7 +315,7 @@ fn begin_turn(
     plan: &Plan,
     source: &mut Source,
     told: &mut [Option<Leaf>],
-    marks: &[bool],
+    marks: &Marks,
     first: RoundSum,
 ) -> Result<(RoundSum, Turn, Vec<Option<Leaf>>), CountFault>
     requires can { CanComeRound plan.now }
@@ -332,7 +346,7 @@ fn turn_next(
     changed: &mut [u32],
     leaves: &mut [Option<Leaf>],
     holds: &mut [Option<u32>],
-    marks: &mut [bool],
+    marks: &mut Marks,
     turn: &mut Turn,
     first: RoundSum,
 ) -> Result<RoundSum, CountFault>
@@ -344,6 +358,7 @@ fn turn_next(
     requires room { length changed.old ≡ packs_of plan.now }
     requires marks { length marks.old ≡ packs_of plan.now }
     ensures going { IfOk result (λ sum. IsTurning plan.now source.new sum told.new turn.new leaves.new) }
+    ensures long { IfOk result (λ _. length marks.new ≡ packs_of plan.now) }
     ensures holds { IfOk result (λ _. AreHolding plan.now source.new.tick holds.new) }
     ensures later { IfOk result (λ _. IsRoundUpTo plan.now source.old.tick source.new.tick) }
     ensures fault { IfErr result (λ fault. IsCountFault plan.now fault) }
@@ -355,7 +370,7 @@ fn turn_next(
     note(seen, told, leaves);
     forget_changed(seen, told);
     let end = source.now();
-    marks.fill(false);
+    marks.forget();
     mark_changed(seen, source.places(plan), holds, marks);
     turn.keep_round(plan, source.places(plan), start, end, leaves, marks)?;
     Ok(sum)

@@ -8,5 +8,6 @@ invariant-loop-j l = record {
   rest : (q : ℕ) → IsNone l.changed l.j q → get_or l.holds q None ≡ get_or l.fn.holds q None;
   held : (q k : ℕ) → get_or l.fn.holds q None ≡ Some k → get_or l.marks k false ≡ false → get_or l.holds q None ≡ Some k;
   marked : (j k : ℕ) → j < l.j → get_or l.places.onto (get_or l.changed j 0) None ≡ Some k → get_or l.marks k false ≡ true;
+  long : length l.marks ≡ length l.fn.marks;
   within : (q k : ℕ) → get_or l.holds q None ≡ Some k → k < length l.fn.marks;
 }

@@ -1,4 +1,4 @@
-use Rattle.std.proofs.Common.{◌≡◌, ◌∙◌, Bool, ℕ, List, Option, None, ap, arith, get_or, length, rules, subst, sym}
+use Rattle.std.proofs.Common.{◌≡◌, ◌∙◌, ℕ, List, Option, None, ap, arith, get_or, length, rules, subst, sym}
 use Rattle.sched_base.specs.Places.{Placing}
 use Rattle.run_tree.specs.Boundaries.{set_boundary}
 use Rattle.run_tree.proofs.ScheduleLemmas.{length-places}
@@ -22,7 +22,7 @@ turn_next-requires-clause-holds c =
     subst (λ (xs : List (Option ℕ)). AreHolding c.args.plan.now c.rounds.source.tick xs) (sym c.deref_mut-in-rounds-4.ensures.value) c.rounds.invariant.holds
 
 pub turn_next-requires-clause-marks : goal.turn_next-requires-clause-marks
-turn_next-requires-clause-marks c = ap (λ (xs : List Bool). length xs) c.deref_mut-in-rounds-5.ensures.value ∙ c.rounds.invariant.marks
+turn_next-requires-clause-marks c = c.rounds.invariant.marks
 
 pub rounds-init : goal.rounds-init
 rounds-init c = record {
@@ -38,7 +38,7 @@ rounds-init c = record {
       let many : length c.in_ok-told.told.items ≡ c.args.plan.now.tree.processors = search rules in
       ap (λ (xs : List (Option Leaf)). length xs) told ∙ c.begin_turn.auto.told ∙ ap (λ (xs : List (Option Leaf)). length xs) c.deref_mut.ensures.value ∙ many;
   room = search rules;
-  marks = search rules;
+  marks = c.in_ok-marks.ensures;
 }
 
 pub rounds-preserved : goal.rounds-preserved
@@ -47,13 +47,12 @@ rounds-preserved c =
     let changed = written c.rounds.changed c.deref_mut-in-rounds-2.result.now c.turn_next.new.changed c.deref_mut-in-rounds-2.ensures.value c.turn_next.auto.changed in
     let leaves = written c.rounds.leaves c.deref_mut-in-rounds-3.result.now c.turn_next.new.leaves c.deref_mut-in-rounds-3.ensures.value c.turn_next.auto.leaves in
     let holds = written c.rounds.holds c.deref_mut-in-rounds-4.result.now c.turn_next.new.holds c.deref_mut-in-rounds-4.ensures.value c.turn_next.auto.holds in
-    let marks = written c.rounds.marks c.deref_mut-in-rounds-5.result.now c.turn_next.new.marks c.deref_mut-in-rounds-5.ensures.value c.turn_next.auto.marks in
     record {
       going = both (λ ts xs. IsTurning c.args.plan.now c.turn_next.new.source c.in_ok-sum-2.sum ts c.turn_next.new.turn xs) _ _ _ _ told leaves c.in_ok-sum-2.ensures.going;
       holds = subst (λ (xs : List (Option ℕ)). AreHolding c.args.plan.now c.turn_next.new.source.tick xs) (sym holds) c.in_ok-sum-2.ensures.holds;
       told = ap (λ (xs : List (Option Leaf)). length xs) told ∙ c.turn_next.auto.told ∙ ap (λ (xs : List (Option Leaf)). length xs) c.deref_mut-in-rounds.ensures.value ∙ c.rounds.invariant.told;
       room = ap (λ (xs : List ℕ). length xs) changed ∙ c.turn_next.auto.changed ∙ ap (λ (xs : List ℕ). length xs) c.deref_mut-in-rounds-2.ensures.value ∙ c.rounds.invariant.room;
-      marks = ap (λ (xs : List Bool). length xs) marks ∙ c.turn_next.auto.marks ∙ ap (λ (xs : List Bool). length xs) c.deref_mut-in-rounds-5.ensures.value ∙ c.rounds.invariant.marks;
+      marks = c.in_ok-sum-2.ensures.long;
     }
 
 pub rounds-smaller : goal.rounds-smaller

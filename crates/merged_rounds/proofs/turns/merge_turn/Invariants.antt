@@ -10,7 +10,7 @@ invariant-rounds l = record {
   holds : AreHolding l.plan l.source.tick l.holds.items;
   told : length l.told.items ≡ l.plan.tree.processors;
   room : length l.changed.items ≡ packs_of l.plan;
-  marks : length l.marks.items ≡ packs_of l.plan;
+  marks : length l.marks ≡ packs_of l.plan;
 }
 
 abbrev pub decreases-rounds : goal.decreases-rounds

@@ -28,14 +28,14 @@ pub mark_changed-requires-clause-before : goal.mark_changed-requires-clause-befo
 mark_changed-requires-clause-before c = λ q k at.
     let going = c.requires.going in
     let w = packs_listed c.args.plan.now c.know_lawful.ensures.lawful going.showing.start c.args.source.now.tick going.showing.round c.args.holds.now c.requires.holds q k at in
-    let long = c.fill.ensures.len in
+    let long = c.forget.ensures in
     let marks = c.requires.marks in
     omega (arith, w, long, marks)
 
 pub mark_changed-requires-clause-now : goal.mark_changed-requires-clause-now
 mark_changed-requires-clause-now c = λ q k at.
     let w = packs_held c.args.plan.now c.know_lawful.ensures.lawful c.args.source.now.tick c.merge_telling.new.source.tick c.in_ok-sum.ensures.round q k (ap (λ (w : Placing). get_or w.onto q None) (sym c.places.ensures) ∙ at) in
-    let long = c.fill.ensures.len in
+    let long = c.forget.ensures in
     let marks = c.requires.marks in
     omega (arith, w, long, marks)
 
@@ -107,3 +107,9 @@ returns-clause-going c =
       end = c.in_ok-keep_round.ensures.end ∙ c.now-end.ensures;
       leaves = λ s up. subst (λ (n : ℕ). IsAllTold p n end c.note.new.leaves) (sym (same_start p s start end up e.round)) all;
     }
+
+pub keep_round-requires-clause-marks : goal.keep_round-requires-clause-marks
+keep_round-requires-clause-marks c = c.mark_changed.ensures.long ∙ c.forget.ensures ∙ c.requires.marks
+
+pub returns-clause-long : goal.returns-clause-long
+returns-clause-long c = c.mark_changed.ensures.long ∙ c.forget.ensures ∙ c.requires.marks
