@@ -1,14 +1,16 @@
 -- A pack that is put on a free processor, and noted there.
-use Rattle.std.proofs.Common.{◌≡◌, ◌⊎◌, ℕ, zero, suc, ◌+◌, ◌<◌, ◌≤◌, ◌||◌, ◌&&◌, not, Bool, true, false, List, [], ◌∷◌, filter, length, get_or, Option, Some, None, refl, ap, arith, inl, inr, sym, subst, ◌∙◌}
+use Rattle.std.proofs.Common.{◌≡◌, ◌⊎◌, ℕ, zero, suc, ◌+◌, ◌<◌, ◌≤◌, ◌||◌, ◌&&◌, not, Bool, true, false, List, [], ◌∷◌, filter, find, length, get_or, Option, Some, None, refl, ap, arith, inl, inr, sym, subst, ◌∙◌}
 use Rattle.std.specs.List.{range_with_len}
+use Rattle.std.specs.Option.{option_or}
 use Rattle.std.proofs.lemmas.Bool.{cases_Bool, cases_eq, cases_lt, both_ways, ne_eqb}
 use Rattle.std.proofs.lemmas.List.{get_or-set_other, get_or-set_same}
 use Rattle.std.proofs.lemmas.List.Folds.{list_any_at}
 use Rattle.std.proofs.Math.ListN.{set}
 use Rattle.sched_base.specs.Candidates.{is_at}
-use Rattle.sched_base.specs.Places.{is_running, is_held, waiting}
+use Rattle.sched_base.specs.Places.{is_running, is_held, comes_back, returned, waiting}
 use Rattle.sched_base.proofs.ListLemmas.{passing_on, passing_off}
-use Rattle.cpu_assign.specs.Noted.{IsNoted, put_first}
+use Rattle.cpu_assign.specs.Noted.{AreHeld, IsNoted, put_first}
+use Rattle.cpu_assign.proofs.BackLemmas.{returned_at}
 use Rattle.cpu_assign.proofs.HolderLemmas.{some_is_at, holds_within}
 
 -- a processor holds what it did, or it was free and holds the pack
@@ -98,6 +100,37 @@ module _ (onto last onto' last' : List (Option ℕ)) (i next : ℕ) (put : Bool)
     few_processors = (let few = noted.few_processors in omega (arith, few, long));
     few_packs = (let few = noted.few_packs in omega (arith, few, long'));
   }
+
+-- ---- no processor before a number is free
+
+-- once a pack has left the processor that it held last
+pub held_left : (before last onto onto' : List (Option ℕ)) (first next i : ℕ) → IsNoted before last → ((p j : ℕ) → get_or onto p None ≡ Some j → get_or before p None ≡ Some j) → AreHeld onto first →
+    ((p j : ℕ) → get_or onto p None ≡ Some j → (j ≡ i → ⊥) → get_or onto' p None ≡ Some j) → next ≤ first → ((p : ℕ) → get_or last i None ≡ Some p → next ≤ p) → AreHeld onto' next
+held_left before last onto onto' first next i noted was held others below here p l none = go (get_or onto p None) refl
+  where
+    go : (o : Option ℕ) → get_or onto p None ≡ o → ⊥
+    go None e = held p (omega (arith, l, below)) e
+    go (Some j) e = elim (cases_eq j i) [
+      | inl same ↦
+          (let at : get_or last i None ≡ Some p = ap (λ (x : ℕ). get_or last x None) (sym same) ∙ (noted.noted p j (was p j e)).1 in
+          let after = here p at in
+          omega (arith, l, after))
+      | inr ne ↦ (let both : None ≡ Some j = sym none ∙ others p j e ne in cc)
+    ]
+
+-- once packs have come back
+pub held_back : (runs : List Bool) (last onto back : List (Option ℕ)) (n : ℕ) → back ≡ returned runs last onto 0 onto → AreHeld onto n → n ≤ length onto → AreHeld back n
+held_back runs last onto back n is held within p l none = go (get_or onto p None) refl
+  where
+    go : (o : Option ℕ) → get_or onto p None ≡ o → ⊥
+    go None e = held p l e
+    go (Some j) e =
+        (let there : get_or back p None ≡ option_or (get_or onto p None) (find (comes_back runs last onto (0 + p)) (range_with_len 0 (length runs))) =
+        ap (λ (os : List (Option ℕ)). get_or os p None) is ∙ returned_at runs last onto 0 onto p (omega (arith, l, within)) in
+        let some : option_or (get_or onto p None) (find (comes_back runs last onto (0 + p)) (range_with_len 0 (length runs))) ≡ Some j =
+        ap (λ (o : Option ℕ). option_or o (find (comes_back runs last onto (0 + p)) (range_with_len 0 (length runs)))) e in
+        let both : None ≡ Some j = sym none ∙ there ∙ some in
+        cc)
 
 -- ---- the packs that begin are in order
 

@@ -31,5 +31,8 @@ invariant_of-result c =
     let few_processors = c.ranges.processors in
     let few_packs = c.ranges.packs in
     let onto = c.in_ok-vec.ensures.items_if_clones_equal (only_none _ (λ x same. same)) in
-    let last = c.in_ok-vec-2.ensures.items_if_clones_equal (only_none _ (λ x same. same)) in
-    subst₂ (λ (o : List (Option ℕ)) (l : List (Option ℕ)). IsNoted o l) (sym onto) (sym last) (none_noted c.args.processors c.args.packs (omega (arith, few_processors)) (omega (arith, few_packs)))
+    let last = c.in_ok-vec-2.ensures.items_if_clones_equal (only_none _ (λ x same. same)) in (
+      subst₂ (λ (o : List (Option ℕ)) (l : List (Option ℕ)). IsNoted o l) (sym onto) (sym last) (none_noted c.args.processors c.args.packs (omega (arith, few_processors)) (omega (arith, few_packs))),
+      λ p l none. absurd (omega (arith, l)),
+      omega arith,
+    )

@@ -1,4 +1,4 @@
-use Rattle.std.proofs.Common.{length, ap, ap₂, subst, subst₂, sym, ◌∙◌}
+use Rattle.std.proofs.Common.{arith, length, ap, ap₂, subst, subst₂, sym, ◌∙◌}
 use Rattle.sched_base.specs.Places.{Placing, place}
 use Rattle.cpu_assign.specs.Noted.{IsNoted}
 use Rattle.cpu_assign.proofs.StepLemmas.{placing, written}
@@ -12,13 +12,13 @@ place_all-requires-clause-processors c = c.requires.processors ∙ sym (ap lengt
 
 pub place_all-requires-clause-noted : goal.place_all-requires-clause-noted
 place_all-requires-clause-noted c =
-    subst (λ (p : Placing). IsNoted p.onto p.last) (sym (ap₂ placing c.deref_mut.ensures.value c.deref_mut-2.ensures.value)) c.self.invariant
+    subst (λ (p : Placing). IsNoted p.onto p.last) (sym (ap₂ placing c.deref_mut.ensures.value c.deref_mut-2.ensures.value)) c.self.invariant.0
 
 pub invariant_of-self : goal.invariant_of-self
 invariant_of-self c =
     let onto = written c.self.inside.onto c.deref_mut.result.now c.place_all.new.onto c.deref_mut.ensures.value c.place_all.auto.onto in
     let last = written c.self.inside.last c.deref_mut-2.result.now c.place_all.new.last c.deref_mut-2.ensures.value c.place_all.auto.last in
-    subst₂ IsNoted (sym onto) (sym last) c.place_all.ensures.noted
+    (subst₂ IsNoted (sym onto) (sym last) c.place_all.ensures.noted, λ p l none. absurd (omega (arith, l)), omega arith)
 
 pub returns-clause-places : goal.returns-clause-places
 returns-clause-places c =

@@ -9,7 +9,7 @@ use Rattle.cpu_assign.proofs.PutLemmas.{put_others}
 use Rattle.cpu_assign.proofs.changes.fill_and_note.Goals as goal
 
 pub loop-k-init : goal.loop-k-init
-loop-k-init c = (sym (filled_nobody c.args.onto.now), λ p l e. omega arith, omega arith, c.requires.noted, λ j h. refl, λ j off. refl)
+loop-k-init c = (sym (filled_nobody c.args.onto.now), c.requires.held, c.requires.room, c.requires.noted, λ j h. refl, λ j off. refl)
 
 pub loop-k-preserved : goal.loop-k-preserved
 loop-k-preserved c =
