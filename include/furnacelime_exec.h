@@ -413,10 +413,12 @@ static inline void fl_stop(struct fl_execution *in, struct fl_lane *lane)
 static inline int fl_run(const struct fl_execution *in, const struct fl_lane *lane)
 {
     const struct fl_crew *crew = in->crew;
-    struct fl_row shown = lane->row;
+    struct fl_row shown;
     int why = 0;
-    shown.start = fl_later(shown.start, in->shift);
-    shown.end = fl_later(shown.end, in->shift);
+    shown.start = fl_later(lane->row.start, in->shift);
+    shown.end = fl_later(lane->row.end, in->shift);
+    shown.task = lane->row.task;
+    shown.waits_for = lane->row.waits_for;
     if (crew->gate)
         why = crew->gate(lane->processor, &shown, crew->user);
     if (why == 0 && crew->job && shown.task != FL_NO_TASK)
@@ -427,14 +429,12 @@ static inline int fl_run(const struct fl_execution *in, const struct fl_lane *la
 /* Posts a row that ran and takes the next one, or halts the book. The lock is held. */
 static inline void fl_put_back(struct fl_execution *in, struct fl_lane *lane, int why)
 {
-    const struct fl_row ran = lane->row;
     if (why != 0) {
         fl_halt(&in->exec, lane->processor, (uint32_t)why);
         fl_stop(in, lane);
         return;
     }
     lane->status = fl_post_and_take(&in->exec, lane->processor, &lane->row);
-    fl_note_post(in, lane, &ran);
 }
 
 /* Counts what the book's frame ran. The lock is held. */
@@ -646,6 +646,7 @@ static inline struct fl_lane *fl_pick(struct fl_execution *in, struct fl_worker 
 static inline void fl_run_ready(struct fl_execution *in, struct fl_worker *self, struct fl_lane *lane)
 {
     const int is_timed = in->roams && (in->wanted > 1 || self->rows++ % FL_TIMED == 0);
+    const struct fl_row row = lane->row;
     struct timespec began = {0, 0}, ended = {0, 0};
     int why;
     if (in->ready && in->active < in->wanted && in->roams)
@@ -658,12 +659,42 @@ static inline void fl_run_ready(struct fl_execution *in, struct fl_worker *self,
         ended = fl_now();
     fl_lock(in);
     fl_put_back(in, lane, why);
+    if (why == 0)
+        fl_note_post(in, lane, &row);
     fl_go_on(in, lane);
     if (is_timed)
         fl_judge(in, began, ended);
 }
 
-/* What a thread does: it runs rows until each processor has come to its end. */
+/* Runs rows until each processor has come to its end. The lock is held, but while one runs. */
+static inline void fl_serve_several(struct fl_execution *in, struct fl_worker *self)
+{
+    while (in->working > 0) {
+        struct fl_lane *lane = fl_pick(in, self);
+        if (lane)
+            fl_run_ready(in, self, lane);
+        else
+            fl_rest(in, self);
+    }
+}
+
+/* Runs the rows of the only processor until it has come to its end. It waits for none, none waits for it, and one thread runs them all: so nobody goes by
+ * what is noted of a post. The lock is held, but while a row runs. */
+static inline void fl_serve_one(struct fl_execution *in)
+{
+    struct fl_lane *lane = &in->lanes[0];
+    while (in->working > 0) {
+        int why;
+        fl_unlock(in);
+        why = fl_run(in, lane);
+        fl_lock(in);
+        fl_put_back(in, lane, why);
+        if (lane->status != FL_DONE)
+            fl_go_on(in, lane);
+    }
+}
+
+/* What a thread does. */
 static inline void *fl_serve(void *argument)
 {
     struct fl_worker *self = (struct fl_worker *)argument;
@@ -674,13 +705,10 @@ static inline void *fl_serve(void *argument)
     pthread_mutex_unlock(in->lock);
     fl_await_call(self);
     fl_lock(in);
-    while (in->working > 0) {
-        struct fl_lane *lane = fl_pick(in, self);
-        if (lane)
-            fl_run_ready(in, self, lane);
-        else
-            fl_rest(in, self);
-    }
+    if (in->processors == 1)
+        fl_serve_one(in);
+    else
+        fl_serve_several(in, self);
     fl_unlock(in);
     return NULL;
 }
