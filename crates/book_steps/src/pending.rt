@@ -1,5 +1,5 @@
 //! The rows that are computed and not yet let go, and what computes the next ones.
-ghost use Rattle.std.specs.Prelude.{◌≡◌, ◌≢◌, ◌≤◌, ◌<◌, ◌+◌, ◌-◌, ◌*◌, ◌^◌, ◌++◌, ℕ, [], Some, drop, length, map};
+ghost use Rattle.std.specs.Prelude.{◌≡◌, ◌≢◌, ◌≤◌, ◌<◌, ◌+◌, ◌-◌, ◌*◌, ◌^◌, ◌++◌, ◌∷◌, ℕ, [], Some, drop, length, map};
 ghost use Rattle.std.specs.Prelude.{replicate, slice_get, slice_index, true, false, IfOk};
 ghost use Rattle.sched_base.specs.Limits.{window_limit};
 ghost use Rattle.sched_base.specs.declared.rows.Leaf.TheVariants.{Task};
@@ -8,6 +8,8 @@ ghost use Rattle.run_tree.specs.Plans.{stop_of};
 ghost use Rattle.event_core.specs.Rounds.{IsRoundUpTo, rows_of_round};
 ghost use Rattle.circular_buffer.specs.Buffer.{buffer};
 ghost use Rattle.book_steps.specs.declared.ring.PendingRow.{PendingRow as DeclaredRow};
+ghost use Rattle.book_steps.specs.declared.source.Repeating.{Repeating as DeclaredRepeating};
+ghost use Rattle.book_steps.specs.declared.source.Stage.TheVariants.{Repeats};
 ghost use Rattle.book_steps.specs.Pending.{AreCounted, AreNoted, CanCount, CanNote, given_to as ticks_given, last_of, pending, with_last};
 ghost use Rattle.book_steps.specs.Sources.{IsSourceOf};
 ghost use Rattle.book_steps.specs.Turns.{with_ticks};
@@ -97,7 +99,56 @@ impl Pending {
         ensures last { AreNoted (length self.old.given) (self.old.computed + 1) self.old.last
             (rows_of_round plan.now self.old.source.tick self.new.source.tick) self.new.last }
     {
-        self.source.advance(plan, &mut self.rows);
+        match self.source.again(plan) {
+            Some(row) => self.keep_one(row),
+            None => self.compute_each(plan),
+        }
+    }
+
+    // Keeps the row of a round that has no other.
+    fn keep_one(&mut self, row: Row)
+        requires place { length self.old.held.items < self.old.held.capacity }
+        requires counted { self.old.computed + 1 < 2 ^ 64 }
+        requires noted { CanNote (length self.old.given) (row ∷ []) (length self.old.last) }
+        requires fits { CanCount self.old.given (row ∷ []) }
+        ensures source { self.new.source ≡ self.old.source }
+        ensures width { self.new.width ≡ self.old.width }
+        ensures held { self.new.held ≡ buffer (self.old.held.items ++ pending self.old.given row ∷ []) self.old.held.capacity }
+        ensures computed { self.new.computed ≡ self.old.computed + 1 }
+        ensures given { AreCounted self.old.given (row ∷ []) self.new.given }
+        ensures last { AreNoted (length self.old.given) (self.old.computed + 1) self.old.last (row ∷ []) self.new.last }
+    {
+        self.held.push(PendingRow {
+            row,
+            before: given_to(self.given.as_slice(), row.leaf),
+        });
+        self.computed += 1;
+        note(&mut self.last, self.given.len(), self.computed, 0, row.leaf);
+        add_ticks(&mut self.given, row);
+    }
+
+    // Computes one round more that doesn't come again. It stands apart, since it is long, and what comes again is short.
+    #[inline(never)]
+    fn compute_each(&mut self, plan: &Plan)
+        requires belongs { IsSourceOf plan.now self.old.source }
+        requires computes { (again : DeclaredRepeating) → self.old.source.stage ≢ Repeats again }
+        requires early { self.old.source.tick < stop_of plan.now }
+        requires width { self.old.width ≡ plan.now.tree.processors }
+        requires places { length self.old.held.items + self.old.width ≤ self.old.held.capacity }
+        requires counted { self.old.computed + 1 < 2 ^ 64 }
+        requires each { length self.old.last ≡ self.old.width * length self.old.given }
+        requires fits { (end : ℕ) → IsRoundUpTo plan.now self.old.source.tick end → CanCount self.old.given (rows_of_round plan.now self.old.source.tick end) }
+        ensures belongs { IsSourceOf plan.now self.new.source }
+        ensures round { IsRoundUpTo plan.now self.old.source.tick self.new.source.tick }
+        ensures width { self.new.width ≡ self.old.width }
+        ensures held { self.new.held ≡ buffer (self.old.held.items
+            ++ map (pending self.old.given) (rows_of_round plan.now self.old.source.tick self.new.source.tick)) self.old.held.capacity }
+        ensures computed { self.new.computed ≡ self.old.computed + 1 }
+        ensures given { AreCounted self.old.given (rows_of_round plan.now self.old.source.tick self.new.source.tick) self.new.given }
+        ensures last { AreNoted (length self.old.given) (self.old.computed + 1) self.old.last
+            (rows_of_round plan.now self.old.source.tick self.new.source.tick) self.new.last }
+    {
+        self.source.compute(plan, &mut self.rows);
         push_each(&mut self.held, self.given.as_slice(), self.rows.as_slice());
         self.computed += 1;
         note_each(
@@ -133,9 +184,9 @@ impl Pending {
     }
 
     /// The row of processor q in the held round with this number, counted from the first one that is held.
-    pub(crate) fn row(&self, round: u64, q: u32) -> PendingRow
+    pub(crate) fn row(&self, round: u64, q: u32) -> &PendingRow
         requires { round * self.now.width + q < length self.now.held.items }
-        ensures { slice_get self.now.held.items (round * self.now.width + q) ≡ Some result }
+        ensures { slice_get self.now.held.items (round * self.now.width + q) ≡ Some result.now }
     {
         self.held.row(self.place_of(round, q))
     }

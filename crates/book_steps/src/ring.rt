@@ -56,12 +56,12 @@ impl Ring {
     }
 
     /// The row in this place.
-    pub(crate) fn row(&self, place: usize) -> PendingRow
+    pub(crate) fn row(&self, place: usize) -> &PendingRow
         requires { place < length self.now.items }
-        ensures { slice_get self.now.items place ≡ Some result }
+        ensures { slice_get self.now.items place ≡ Some result.now }
     {
         match self.rows.get(place) {
-            Some(next) => *next,
+            Some(next) => next,
             None => unreachable!(),
         }
     }

@@ -95,36 +95,50 @@ impl Source {
         self.tick
     }
 
-    /// Writes the rows of the next round, one for each processor, and moves to its end. It takes no memory.
-    pub(crate) fn advance(&mut self, plan: &Plan, rows: &mut [Row])
+    /// Moves to the end of the next round where that comes again, and gives its row, the only one.
+    pub(crate) fn again(&mut self, plan: &Plan) -> Option<Row>
         requires source { IsSourceOf plan.now self.old }
+        requires early { self.old.tick < stop_of plan.now }
+        ensures source { IfSome result (λ _. IsSourceOf plan.now self.new) }
+        ensures round { IfSome result (λ _. IsRoundUpTo plan.now self.old.tick self.new.tick) }
+        ensures row { IfSome result (λ row. rows_of_round plan.now self.old.tick self.new.tick ≡ row ∷ []) }
+        ensures none { IfNone result (self.new ≡ self.old) }
+        ensures computes { IfNone result ((again : DeclaredRepeating) → self.old.stage ≢ Repeats again) }
+    {
+        match repeats_at(self.stage) {
+            Some(again) => {
+                let next = wrapped(plan, again, self.tick, &self.ends, &self.shown);
+                let row = repeat(plan, next, self.tick, &self.ends, &self.shown);
+                self.tick = row.end;
+                self.stage = Stage::Repeats(next.behind());
+                Some(row)
+            }
+            None => None,
+        }
+    }
+
+    /// Computes the next round, which doesn't come again: it writes its rows, one for each processor, and moves to its end. It takes no memory.
+    pub(crate) fn compute(&mut self, plan: &Plan, rows: &mut [Row])
+        requires source { IsSourceOf plan.now self.old }
+        requires computes { (again : DeclaredRepeating) → self.old.stage ≢ Repeats again }
         requires early { self.old.tick < stop_of plan.now }
         requires rows { length rows.old ≡ plan.now.tree.processors }
         ensures source { IsSourceOf plan.now self.new }
         ensures round { IsRoundUpTo plan.now self.old.tick self.new.tick }
         ensures rows { rows.new ≡ rows_of_round plan.now self.old.tick self.new.tick }
     {
-        match repeats_at(self.stage) {
-            Some(again) => {
-                let next = wrapped(plan, again, self.tick, &self.ends, &self.shown);
-                self.tick = repeat(plan, next, self.tick, &self.ends, &self.shown, rows);
-                self.stage = Stage::Repeats(next.behind());
-            }
-            None => {
-                let start = self.tick;
-                self.core.advance(plan, rows);
-                self.tick = self.core.now();
-                self.stage = keep(
-                    plan,
-                    &self.core,
-                    self.stage,
-                    start,
-                    rows,
-                    &mut self.ends,
-                    &mut self.shown,
-                );
-            }
-        }
+        let start = self.tick;
+        self.core.advance(plan, rows);
+        self.tick = self.core.now();
+        self.stage = keep(
+            plan,
+            &self.core,
+            self.stage,
+            start,
+            rows,
+            &mut self.ends,
+            &mut self.shown,
+        );
     }
 }
 
@@ -353,30 +367,21 @@ fn leaf_in(shown: &[Option<Leaf>], i: usize) -> Leaf
     }
 }
 
-// Writes the row of the round that comes again from this tick on, and gives its end.
-fn repeat(
-    plan: &Plan,
-    again: Repeating,
-    tick: u128,
-    ends: &[u128],
-    shown: &[Option<Leaf>],
-    rows: &mut [Row],
-) -> u128
+// The row of the round that comes again from this tick on.
+fn repeat(plan: &Plan, again: Repeating, tick: u128, ends: &[u128], shown: &[Option<Leaf>]) -> Row
     requires again { IsRepeating plan.now tick ends.now shown.now again }
     requires within { again.next < length ends.now }
     requires early { tick < stop_of plan.now }
-    requires rows { length rows.old ≡ plan.now.tree.processors }
-    ensures round { IsRoundUpTo plan.now tick result }
-    ensures rows { rows.new ≡ rows_of_round plan.now tick result }
-    ensures again { IsRepeating plan.now result ends.now shown.now (record again { next = again.next + 1 }) }
+    ensures round { IsRoundUpTo plan.now tick result.end }
+    ensures row { rows_of_round plan.now tick result.end ≡ result ∷ [] }
+    ensures again { IsRepeating plan.now result.end ends.now shown.now (record again { next = again.next + 1 }) }
 {
     plan.know_lawful();
     let end = (ends[again.next] + again.passed).min(plan.rounds_end());
-    rows[0] = Row {
+    Row {
         processor: 0,
         leaf: leaf_in(shown, again.next),
         start: tick,
         end,
-    };
-    end
+    }
 }

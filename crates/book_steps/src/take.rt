@@ -124,10 +124,10 @@ impl StepBook {
 
     // Whether one look tells that the next row of processor p waits for none: its task has the ticks of its earlier rows, or all rows of
     // earlier rounds are posted.
-    fn is_clear(&self, p: u32, next: PendingRow) -> bool
+    fn is_clear(&self, p: u32, next: &PendingRow) -> bool
         requires lane { p < length self.now.state.lanes }
-        requires next { IsPending (plan_rows self.now.plan) p (posted_at self.now.state p) next }
-        ensures { IsTrue result → EarlierPosted (plan_rows self.now.plan) self.now.state.lanes p (posted_at self.now.state p) next.row.leaf }
+        requires next { IsPending (plan_rows self.now.plan) p (posted_at self.now.state p) next.now }
+        ensures { IsTrue result → EarlierPosted (plan_rows self.now.plan) self.now.state.lanes p (posted_at self.now.state p) next.now.row.leaf }
     {
         self.plan.know_lawful();
         match next.row.leaf {
@@ -191,16 +191,16 @@ impl StepBook {
         ensures { Hands self.old self.new p result }
     {
         self.plan.know_lawful();
-        let next = self.next_row(p);
+        let row = self.next_row(p).row;
         self.state.hand_out(p);
-        next.row
+        row
     }
 
     /// The row of processor p that is its next to be posted.
-    pub(crate) fn next_row(&self, p: u32) -> PendingRow
+    pub(crate) fn next_row(&self, p: u32) -> &PendingRow
         requires lane { p < length self.now.state.lanes }
         requires held { posted_at self.now.state p < rounds_in self.now.table.lanes }
-        ensures { IsPending (plan_rows self.now.plan) p (posted_at self.now.state p) result }
+        ensures { IsPending (plan_rows self.now.plan) p (posted_at self.now.state p) result.now }
     {
         self.plan.know_lawful();
         self.pending

@@ -1,10 +1,8 @@
-use Rattle.std.proofs.Common.{◌≡◌, ◌+◌, ◌∙◌, ℕ, ap, arith, min, subst, sym}
+use Rattle.std.proofs.Common.{◌≡◌, ◌+◌, ◌∙◌, ◌∷◌, ℕ, [], ap, min, refl, subst, sym}
 use Rattle.std.specs.Prelude.{slice_index}
-use Rattle.std.proofs.lemmas.List.{length-set}
 use Rattle.sched_base.specs.declared.rows.Row.{Row}
 use Rattle.run_tree.specs.Plans.{stop_of}
 use Rattle.event_core.specs.Rounds.{IsRoundUpTo}
-use Rattle.plan_rounds.proofs.AgainLemmas.{slice_get-set_same}
 use Rattle.book_steps.proofs.SourceLemmas.{repeats_round, repeats_rows}
 use Rattle.book_steps.proofs.source.repeat.Goals as goal
 
@@ -16,12 +14,9 @@ returns-clause-round c =
     subst (λ (n : ℕ). IsRoundUpTo p c.args.tick n) (sym end)
     (repeats_round p c.know_lawful.ensures.lawful c.args.tick c.args.ends.now c.args.shown.now c.args.again c.requires.again c.requires.early c.requires.within)
 
-pub returns-clause-rows : goal.returns-clause-rows
-returns-clause-rows c =
+pub returns-clause-row : goal.returns-clause-row
+returns-clause-row c =
     let p = c.args.plan.now in
     let row : Row = record { processor = 0; leaf = c.leaf_in.result; start = c.args.tick; end = c.min-end.result } in
-    let long = c.requires.rows in
-    let alone = c.requires.again.turn.alone in
-    repeats_rows p c.know_lawful.ensures.lawful c.args.tick c.args.ends.now c.args.shown.now c.args.again c.requires.again c.requires.early c.requires.within
-    _ c.leaf_in.result c.min-end.result (length-set c.args.rows.now 0 row ∙ long)
-    (slice_get-set_same c.args.rows.now 0 row (omega (arith, long, alone))) c.leaf_in.ensures
+    sym (repeats_rows p c.know_lawful.ensures.lawful c.args.tick c.args.ends.now c.args.shown.now c.args.again c.requires.again c.requires.early c.requires.within
+    (row ∷ []) c.leaf_in.result c.min-end.result (sym c.requires.again.turn.alone) refl c.leaf_in.ensures)

@@ -36,11 +36,11 @@ module _ (c : After-know_lawful) where
   inside : c.args.p < c.self.inside.plan.tree.processors
   inside = let low = in_all in let many = plan_lanes c.self.inside.plan c.know_lawful.ensures.lawful in omega (arith, low, many)
 
-pub next_row-next-requires-clause-lane : goal.next_row-next-requires-clause-lane
-next_row-next-requires-clause-lane c = let low = within (goal.at.next_row-next-requires-clause-lane c).After-know_lawful in rw (← c.self.view_is) low
+pub next_row-requires-clause-lane : goal.next_row-requires-clause-lane
+next_row-requires-clause-lane c = let low = within (goal.at.next_row-requires-clause-lane c).After-know_lawful in rw (← c.self.view_is) low
 
-pub next_row-next-requires-clause-held : goal.next_row-next-requires-clause-held
-next_row-next-requires-clause-held c = c.requires.held
+pub next_row-requires-clause-held : goal.next_row-requires-clause-held
+next_row-requires-clause-held c = c.requires.held
 
 -- the next row may be taken
 may : (c : After-know_lawful) (next : PendingRow) → IsPending (plan_rows c.args.self.now.plan) c.args.p (posted_at c.args.self.now.state c.args.p) next
@@ -61,7 +61,7 @@ hand_out-requires-clause-counted c =
 pub invariant_of-self : goal.invariant_of-self
 invariant_of-self c =
     let r = (goal.at.invariant_of-self c).After-know_lawful in
-    let legal = may r c.next_row-next.result c.next_row-next.ensures in
+    let legal = may r c.next_row.result.now c.next_row.ensures in
     let q = c.args.p in
     let plan = c.self.inside.plan in
     let lawful = c.know_lawful.ensures.lawful in
@@ -72,7 +72,7 @@ invariant_of-self c =
       some_window = c.self.invariant.some_window;
       small_window = c.self.invariant.small_window;
       pending = PendingKept-same plan lawful c.self.inside.window s q lane s.halted c.self.inside.pending (pending r) (within r) refl (λ _. below r);
-      led = IsLed-next plan lawful c.self.inside.window s c.self.invariant.led (Take (processor q)) (c.next_row-next.result.row, legal);
+      led = IsLed-next plan lawful c.self.inside.window s c.self.invariant.led (Take (processor q)) (c.next_row.result.now.row, legal);
       totals = AreTotals-same plan s c.self.inside.totals.items q lane s.halted (within r) refl c.self.invariant.totals;
       faults = AreFaults-running s c.self.inside.pending.computed q lane c.self.inside.faults.items legal.running c.self.invariant.faults;
     })
@@ -80,7 +80,7 @@ invariant_of-self c =
 pub returns : goal.returns
 returns c =
     let r = (goal.at.returns c).After-know_lawful in
-    let legal = may r c.next_row-next.result c.next_row-next.ensures in
+    let legal = may r c.next_row.result.now c.next_row.ensures in
     record {
       legal = rw (← c.self.view_is) legal;
       book = rw (← c.self.view_is) (rw c.hand_out.ensures refl);

@@ -52,5 +52,5 @@ returns c =
     let r = (goal.at.returns c).After-know_lawful in
     let posted : c.posted.result ≡ posted_at c.self.inside.state c.args.p = c.posted.ensures in
     let least : c.least.result ≡ least_posted c.self.inside.state = c.least.ensures in
-    rw (← c.self.view_is) (next_is c.self.inside.plan c.know_lawful.ensures.lawful c.self.inside.window c.self.inside.state c.self.inside.pending (pending r) c.args.p (inside r) (below r) (within r) c.row.result
+    rw (← c.self.view_is) (next_is c.self.inside.plan c.know_lawful.ensures.lawful c.self.inside.window c.self.inside.state c.self.inside.pending (pending r) c.args.p (inside r) (below r) (within r) c.row.result.now
     (rw (posted, least) at c.row.ensures))

@@ -41,12 +41,12 @@ module _ (c : After-know_lawful) where
       let is = pending.computed in
       omega (arith, low, seen, is)
 
-pub next_row-next-requires-clause-lane : goal.next_row-next-requires-clause-lane
-next_row-next-requires-clause-lane c = let low = within (goal.at.next_row-next-requires-clause-lane c).After-know_lawful in rw (← c.self.view_is) low
+pub next_row-requires-clause-lane : goal.next_row-requires-clause-lane
+next_row-requires-clause-lane c = let low = within (goal.at.next_row-requires-clause-lane c).After-know_lawful in rw (← c.self.view_is) low
 
-pub next_row-next-requires-clause-held : goal.next_row-next-requires-clause-held
-next_row-next-requires-clause-held c =
-    let r = (goal.at.next_row-next-requires-clause-held c).After-know_lawful in
+pub next_row-requires-clause-held : goal.next_row-requires-clause-held
+next_row-requires-clause-held c =
+    let r = (goal.at.next_row-requires-clause-held c).After-know_lawful in
     let low = below r in
     let is = computed_is c.self.inside.plan c.know_lawful.ensures.lawful c.self.inside.window c.self.inside.state c.self.inside.pending (pending r) in
     rw (← c.self.view_is) (omega (arith, low, is))
@@ -59,8 +59,8 @@ at c next is = (rw (← c.self.view_is) at is).row
 pub add_ticks-requires-clause-task : goal.add_ticks-requires-clause-task
 add_ticks-requires-clause-task c task is =
     let r = (goal.at.add_ticks-requires-clause-task c).After-know_lawful in
-    let row = c.next_row-next.result.row in
-    let there = at r c.next_row-next.result c.next_row-next.ensures in
+    let row = c.next_row.result.now.row in
+    let there = at r c.next_row.result.now c.next_row.ensures in
     let named = names_task c.self.inside.plan c.know_lawful.ensures.lawful c.args.p (posted_at c.self.inside.state c.args.p) task.0 row there (is_task row.leaf task is) in
     let many = c.self.invariant.totals.many in
     omega (arith, named, many)
@@ -68,16 +68,16 @@ add_ticks-requires-clause-task c task is =
 pub add_ticks-requires-clause-forward : goal.add_ticks-requires-clause-forward
 add_ticks-requires-clause-forward c =
     let r = (goal.at.add_ticks-requires-clause-forward c).After-know_lawful in
-    let row = c.next_row-next.result.row in
-    let there = at r c.next_row-next.result c.next_row-next.ensures in
+    let row = c.next_row.result.now.row in
+    let there = at r c.next_row.result.now c.next_row.ensures in
     let up = ((plan_table c.self.inside.plan c.know_lawful.ensures.lawful).forward c.args.p (posted_at c.self.inside.state c.args.p) row there).0 in
     omega (arith, up)
 
 pub add_ticks-requires-clause-fits : goal.add_ticks-requires-clause-fits
 add_ticks-requires-clause-fits c task is =
     let r = (goal.at.add_ticks-requires-clause-fits c).After-know_lawful in
-    let row = c.next_row-next.result.row in
-    let there = at r c.next_row-next.result c.next_row-next.ensures in
+    let row = c.next_row.result.now.row in
+    let there = at r c.next_row.result.now c.next_row.ensures in
     let plan = c.self.inside.plan in
     let lawful = c.know_lawful.ensures.lawful in
     let named = names_task plan lawful c.args.p (posted_at c.self.inside.state c.args.p) task.0 row there (is_task row.leaf task is) in
@@ -119,9 +119,9 @@ invariant_of-self c =
     let s = c.self.inside.state in
     let lane : LaneState = record { posted = posted_at s q + 1; out = false } in
     let before : c.least-least.result ≡ least_posted s = c.least-least.ensures in
-    let now : c.least.result ≡ least_posted (posted_state r c.next_row-next.result c.next_row-next.ensures) = c.least.ensures ∙ ap least_posted c.post.ensures in
+    let now : c.least.result ≡ least_posted (posted_state r c.next_row.result.now c.next_row.ensures) = c.least.ensures ∙ ap least_posted c.post.ensures in
     let moved = c.if-least.true in
-    rw (c.post.ensures, c.add_ticks.ensures, c.let_go.ensures) (kept r c.next_row-next.result c.next_row-next.ensures _ refl
+    rw (c.post.ensures, c.add_ticks.ensures, c.let_go.ensures) (kept r c.next_row.result.now c.next_row.ensures _ refl
     (PendingKept-go c.self.inside.plan c.know_lawful.ensures.lawful c.self.inside.window s q lane s.halted c.self.inside.pending (pending r) (within r) (below r) refl refl (omega (arith, before, now, moved))))
 
 pub invariant_of-self-else-least : goal.invariant_of-self-else-least
@@ -131,7 +131,7 @@ invariant_of-self-else-least c =
     let s = c.self.inside.state in
     let lane : LaneState = record { posted = posted_at s q + 1; out = false } in
     let before : c.least-least.result ≡ least_posted s = c.least-least.ensures in
-    let now : c.least.result ≡ least_posted (posted_state r c.next_row-next.result c.next_row-next.ensures) = c.least.ensures ∙ ap least_posted c.post.ensures in
+    let now : c.least.result ≡ least_posted (posted_state r c.next_row.result.now c.next_row.ensures) = c.least.ensures ∙ ap least_posted c.post.ensures in
     let stays = c.if-least.false in
-    rw (c.post.ensures, c.add_ticks.ensures) (kept r c.next_row-next.result c.next_row-next.ensures _ refl
+    rw (c.post.ensures, c.add_ticks.ensures) (kept r c.next_row.result.now c.next_row.ensures _ refl
     (PendingKept-stay c.self.inside.plan c.know_lawful.ensures.lawful c.self.inside.window s q lane s.halted c.self.inside.pending (pending r) (within r) (below r) refl refl (omega (arith, before, now, stays))))

@@ -128,7 +128,7 @@ lowest_with-requires c =
     let is = computed_is c.self.inside.plan c.know_lawful.ensures.lawful c.self.inside.window c.self.inside.state c.self.inside.pending (pending r) in
     record {
       round = rw (← c.self.view_is) (omega (arith, held, posted, is));
-      task = λ task is. rw (← c.self.view_is) (named r c.next_row-next.result (rw (← c.self.view_is) at c.next_row-next.ensures) task is);
+      task = λ task is. rw (← c.self.view_is) (named r c.next_row-next.result.now (rw (← c.self.view_is) at c.next_row-next.ensures) task is);
     }
 
 pub returns-then-is_clear-clause-none : goal.returns-then-is_clear-clause-none
@@ -142,7 +142,7 @@ returns-then-is_clear-clause-none c =
     let close : posted_at c.self.inside.state c.args.p < least_posted c.self.inside.state + c.self.inside.window = omega (arith, most, posted, least, window, near) in
     record {
       in_window = rw (← c.self.view_is) close;
-      next = (c.next_row-next.result.row, c.next_row-next.ensures.row, c.is_clear.ensures c.if-is_clear.true);
+      next = (c.next_row-next.result.now.row, c.next_row-next.ensures.row, c.is_clear.ensures c.if-is_clear.true);
     }
 
 pub returns-else-is_clear-clause-some : goal.returns-else-is_clear-clause-some
@@ -154,7 +154,7 @@ returns-else-is_clear-clause-some c =
     let window = c.from.ensures in
     let near = c.if-round-least.false in
     let close : posted_at c.self.inside.state c.args.p < least_posted c.self.inside.state + c.self.inside.window = omega (arith, most, posted, least, window, near) in
-    waits_in r c.next_row-next.result close c.next_row-next.ensures c.posted-round.result posted c.lowest_with.result c.lowest_with.ensures.some
+    waits_in r c.next_row-next.result.now close c.next_row-next.ensures c.posted-round.result posted c.lowest_with.result c.lowest_with.ensures.some
 
 pub returns-else-is_clear-clause-behind : goal.returns-else-is_clear-clause-behind
 returns-else-is_clear-clause-behind c =
@@ -167,7 +167,7 @@ returns-else-is_clear-clause-behind c =
     let close : posted_at c.self.inside.state c.args.p < least_posted c.self.inside.state + c.self.inside.window = omega (arith, most, posted, least, window, near) in
     let some : 1 ≤ c.args.self.now.window = rw (← c.self.view_is) c.self.invariant.some_window in
     IfSome-by c.lowest_with.result _ _ (λ q. waited_is_behind (plan_rows c.args.self.now.plan) c.args.self.now.window c.args.self.now.state c.args.p q some)
-    (waits_in r c.next_row-next.result close c.next_row-next.ensures c.posted-round.result posted c.lowest_with.result c.lowest_with.ensures.some)
+    (waits_in r c.next_row-next.result.now close c.next_row-next.ensures c.posted-round.result posted c.lowest_with.result c.lowest_with.ensures.some)
 
 pub returns-else-is_clear-clause-none : goal.returns-else-is_clear-clause-none
 returns-else-is_clear-clause-none c =
@@ -182,8 +182,8 @@ returns-else-is_clear-clause-none c =
     IfNone-by c.lowest_with.result _ _ (λ earlier. record {
       in_window = rw (← c.self.view_is) close;
       next = (
-        c.next_row-next.result.row,
+        c.next_row-next.result.now.row,
         c.next_row-next.ensures.row,
-        subst (λ n. EarlierPosted (plan_rows c.args.self.now.plan) c.args.self.now.state.lanes c.args.p n c.next_row-next.result.row.leaf) here earlier,
+        subst (λ n. EarlierPosted (plan_rows c.args.self.now.plan) c.args.self.now.state.lanes c.args.p n c.next_row-next.result.now.row.leaf) here earlier,
       );
     }) c.lowest_with.ensures.none
