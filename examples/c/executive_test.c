@@ -13,12 +13,13 @@
 static int bad;
 #define WANT(x) do { if (!(x)) { bad = 1; printf("executive_test.c line %d: %s\n", __LINE__, #x); } } while (0)
 
-/* Three tasks on two processors, of which one migrates; and five on three, of which one is idle now and then. */
+/* Two tasks on one processor; three on two, of which one migrates; and five on three, of which one is idle now and then. */
+static const char one[] = "processors = 1\nhorizon = 60\ntask = [{name = \"a\", work = 1, period = 3}, {name = \"b\", work = 2, period = 5}]\n";
 static const char three[] = "processors = 2\nhorizon = 12\ntask = [{name = \"a\", work = 2, period = 3}, {name = \"b\", work = 2, period = 3}, "
                             "{name = \"c\", work = 2, period = 3}]\n";
 static const char five[] = "processors = 3\nhorizon = 60\ntask = [{name = \"a\", work = 3, period = 4}, {name = \"b\", work = 3, period = 5}, "
                            "{name = \"c\", work = 4, period = 6}, {name = \"d\", work = 3, period = 10}, {name = \"e\", work = 1, period = 2}]\n";
-enum { THREE = sizeof three - 1, FIVE = sizeof five - 1 };
+enum { ONE = sizeof one - 1, THREE = sizeof three - 1, FIVE = sizeof five - 1 };
 
 /* ---- The statuses of the book. */
 
@@ -475,7 +476,6 @@ static void try_blocking(struct crew_notes *notes)
 /* Without gates: what ran is what the jobs saw, over some windows and up to three frames, on one processor too; and a job that fails. */
 static void try_without_gates(struct crew_notes *notes)
 {
-    static const char one[] = "processors = 1\nhorizon = 60\ntask = [{name = \"a\", work = 1, period = 3}, {name = \"b\", work = 2, period = 5}]\n";
     static const char *const sets[] = {one, three, five};
     static struct fl_ended ended;
     uint32_t window, t;
@@ -656,6 +656,25 @@ static void try_frames(struct crew_notes *notes)
     WANT(fl_execute(open_end, sizeof open_end - 1, &crew, &ended) == FL_DONE && ended.frames == 1);
 }
 
+/* One processor: three frames, and a gate that fails at each row of them. */
+static void try_one(struct crew_notes *notes)
+{
+    static struct fl_ended once, ended;
+    struct fl_crew crew = crew_of(notes, 1);
+    uint64_t row, rows;
+    WANT(fl_execute(one, ONE, &crew, &once) == FL_DONE && !notes->wrong && notes->rows[0] == once.posted[0] && once.waits == 0);
+    for (row = 0, rows = once.posted[0]; row <= 3 * rows; row++) {
+        const int all = row == 3 * rows;
+        crew = crew_of(notes, row % 2 ? 1 : 32);
+        crew.frames = 3;
+        notes->bad_processor = 0;
+        notes->bad_row = row;
+        WANT(fl_execute(one, ONE, &crew, &ended) == (all ? FL_DONE : FL_HALTED) && !notes->wrong && ended.frames == row / rows);
+        WANT(ended.posted[0] == row && ended.ticks[0].low == notes->ticks[0] && ended.ticks[1].low == notes->ticks[1]);
+        WANT(all || (ended.end.start.low == notes->ends[0] && ended.end.why == 7));
+    }
+}
+
 /* What isn't executed: nothing ran, and no gate or job was called. */
 static void try_refusals(struct crew_notes *notes)
 {
@@ -735,7 +754,7 @@ static void try_lock(struct crew_notes *notes)
     for (i = 0; i < 20; i++) {
         struct fl_crew crew = crew_of(notes, 4);
         crew.lock = &other.lock;
-        WANT(fl_execute(five, FIVE, &crew, &ended) == FL_DONE && !notes->wrong);
+        WANT(fl_execute(i % 2 ? one : five, i % 2 ? ONE : FIVE, &crew, &ended) == FL_DONE && !notes->wrong);
     }
     pthread_mutex_lock(&other.lock);
     other.stop = 1;
@@ -774,6 +793,7 @@ int main(void)
     try_uneven_jobs(&notes);
     try_failures(&notes);
     try_frames(&notes);
+    try_one(&notes);
     try_refusals(&notes);
     try_crews(&notes);
     try_lock(&notes);
