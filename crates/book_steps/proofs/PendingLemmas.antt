@@ -30,7 +30,7 @@ use Rattle.plan_rounds.specs.Parts.{RowsKept}
 use Rattle.plan_rounds.proofs.RowLemmas.{RowsKept-set, RowsKept-start}
 use Rattle.book_steps.specs.declared.ring.PendingRow.{PendingRow}
 use Rattle.book_steps.specs.Pending.{AreCounted, AreNoted, ArePending, CanCount, CanNote, IsPending, PendingContents, PendingKept, all_computed, given_to, last_of, pending, rounds_up_to, with_last}
-use Rattle.book_steps.specs.Sources.{IsSourceOf}
+use Rattle.book_steps.specs.Sources.{GoesOnWithPlan}
 use Rattle.book_steps.specs.Books.{no_rows}
 use Rattle.book_steps.specs.Turns.{with_ticks}
 use Rattle.book_steps.proofs.HeldRounds.{ArePending-less, ArePending-more, is_held, place_within, room_left}
@@ -212,7 +212,7 @@ module _ (p : PlanContents) (h : IsPlan p) where
       ap (λ ls. made ls (rounds_of p - rounds_before p n)) lanes ∙ ap (made (replicate processors [])) room
 
   module _ (window : ℕ) (s : State) (begins : s ≡ start processors) (r : PendingContents) where
-    pub PendingKept-start : IsSourceOf p r.source → r.source.tick ≡ 0 → r.width ≡ processors → r.held ≡ buffer [] (window * processors) → r.computed ≡ 0
+    pub PendingKept-start : GoesOnWithPlan p r.source → r.source.tick ≡ 0 → r.width ≡ processors → r.held ≡ buffer [] (window * processors) → r.computed ≡ 0
         → r.given ≡ replicate (length p.set.tasks) 0 → r.last ≡ replicate (processors * length p.set.tasks) 0 → PendingKept p window s r
     PendingKept-start belongs first wide held none given last =
         let lanes : lanes_at p r.source.tick ≡ replicate processors [] = ap (lanes_at p) first ∙ no_lanes p h in
@@ -373,7 +373,7 @@ module _ (p : PlanContents) (h : IsPlan p) where
           omega (arith, so_far, count, more, fits);
     }
 
-    module _ (m : PendingContents) (belongs : IsSourceOf p m.source) (round : IsRoundUpTo p r.source.tick m.source.tick) (same_width : m.width ≡ r.width)
+    module _ (m : PendingContents) (belongs : GoesOnWithPlan p m.source) (round : IsRoundUpTo p r.source.tick m.source.tick) (same_width : m.width ≡ r.width)
         (pushed : m.held ≡ buffer (r.held.items ++ map (pending r.given) (rows_of_round p r.source.tick m.source.tick)) r.held.capacity) (one : m.computed ≡ r.computed + 1)
         (counted : AreCounted r.given (rows_of_round p r.source.tick m.source.tick) m.given)
         (noted : AreNoted (length r.given) (r.computed + 1) r.last (rows_of_round p r.source.tick m.source.tick) m.last) (below : r.computed < least_posted s + window) (fits : r.computed + 1 < 2 ^ 64) where

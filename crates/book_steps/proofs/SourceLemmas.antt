@@ -16,7 +16,7 @@ use Rattle.event_core.specs.Cores.{places_of}
 use Rattle.event_core.specs.Rounds.{IsRoundUpTo, event_at, rows_of_round}
 use Rattle.event_core.specs.Told.{AllReleased}
 use Rattle.event_core.proofs.OneRound.{length-last}
-use Rattle.merged_rounds.specs.Laps.{ComesAgain, StandsAgain, round_start}
+use Rattle.merged_rounds.specs.Laps.{ComesAgain, StandsLaterAgain, round_start}
 use Rattle.merged_rounds.specs.Passes.{leaf_at}
 use Rattle.merged_rounds.specs.Recurrences.{IsRecurrence}
 use Rattle.merged_rounds.proofs.CountLemmas.{rounds_rise}
@@ -27,7 +27,7 @@ use Rattle.book_steps.specs.declared.source.Keeping.{Keeping}
 use Rattle.book_steps.specs.declared.source.Repeating.{Repeating}
 use Rattle.book_steps.specs.declared.source.Stage.{Stage}
 use Rattle.book_steps.specs.declared.source.Stage.TheVariants.{Computes, Begins, Keeps, Repeats}
-use Rattle.book_steps.specs.Sources.{IsKeeping, IsRepeating, IsSourceOf, IsStage, IsTurn, SourceContents, recurrence}
+use Rattle.book_steps.specs.Sources.{IsKeeping, IsRepeating, GoesOnWithPlan, IsStage, ComesRoundAfter, SourceContents, recurrence}
 
 -- ---- what a stage says
 
@@ -59,10 +59,10 @@ module _ (p : PlanContents) (core tick : ℕ) (ends : List ℕ) (shown : List (O
   stage_stands (Keeps k) none is = is.0
   stage_stands (Repeats r) none is = absurd (none r refl)
 
-pub goes_on : (p : PlanContents) (s : SourceContents) → IsSourceOf p s → IfSome (recurrence p s.stage) (λ again. IsRecurrence p again) × (HasComeRound (recurrence p s.stage) s.tick ⊎ (s.core.tick ≡ s.tick))
+pub goes_on : (p : PlanContents) (s : SourceContents) → GoesOnWithPlan p s → IfSome (recurrence p s.stage) (λ again. IsRecurrence p again) × (HasComeRound (recurrence p s.stage) s.tick ⊎ (s.core.tick ≡ s.tick))
 goes_on p s is = stage_on p s.core.tick s.tick s.ends s.shown s.stage is.stage
 
-pub at_first : (p : PlanContents) (s : SourceContents) → IsSourceOf p s → s.tick ≡ 0 → s.core.tick ≡ s.tick
+pub at_first : (p : PlanContents) (s : SourceContents) → GoesOnWithPlan p s → s.tick ≡ 0 → s.core.tick ≡ s.tick
 at_first p s is first = stage_first p s.core.tick s.tick s.ends s.shown s.stage is.stage first
 
 -- ---- the place
@@ -78,7 +78,7 @@ abbrev placing : List (Option ℕ) → List (Option ℕ) → Placing
 placing onto last = record { onto = onto; last = last }
 
 -- with one processor and one pack the places are two numbers
-pub same_places : (p : PlanContents) (ticks : ℕ) → IsTurn p ticks → (m n : ℕ) → slice_index_or (places_of p m).onto 0 None ≡ slice_index_or (places_of p n).onto 0 None
+pub same_places : (p : PlanContents) (ticks : ℕ) → ComesRoundAfter p ticks → (m n : ℕ) → slice_index_or (places_of p m).onto 0 None ≡ slice_index_or (places_of p n).onto 0 None
     → slice_index_or (places_of p m).last 0 None ≡ slice_index_or (places_of p n).last 0 None → places_of p m ≡ places_of p n
 same_places p ticks turn m n on was =
     let wide : (k : ℕ) → length (places_of p k).onto ≡ 1 = λ k. length-places (set_boundary p.set.tasks) p.tree k ∙ turn.alone in
@@ -142,7 +142,7 @@ module _ (p : PlanContents) (h : IsPlan p) (tick : ℕ) (ends : List ℕ) (shown
       ∙ lap_event p r.from ends shown is.lap (r.from + r.ticks) is.end (omega (arith, m, are, scaled)) low
 
   -- so many ticks later the schedule stands again
-  stands : (ticks : ℕ) → ComesAgain p r.from ticks → r.from + ticks < stop_of p → StandsAgain p r.from ticks
+  stands : (ticks : ℕ) → ComesAgain p r.from ticks → r.from + ticks < stop_of p → StandsLaterAgain p r.from ticks
   stands ticks again low = stands_again p h is.turn.can.apart r.from ticks again.turns (released_at_once p r.from is.turn.can.on_time)
       (record { places = again.places; left = inl is.turn.can.on_time })
       (event_later p h is.turn.can ticks again.turns r.from is.later low ∙ begins) low
@@ -152,7 +152,7 @@ module _ (p : PlanContents) (h : IsPlan p) (tick : ℕ) (ends : List ℕ) (shown
   IsRepeating-wrapped over =
       let last : r.next ≡ length ends = let most = is.next in omega (arith, over, most) in
       let at : tick ≡ r.from + r.ticks + r.passed = here ∙ ap (λ i. round_start r.from ends i + r.passed) last ∙ ap (λ n. n + r.passed) is.end in
-      let next : StandsAgain p r.from (r.passed + r.ticks) =
+      let next : StandsLaterAgain p r.from (r.passed + r.ticks) =
       next_lap p h r.from r.ticks r.passed (stands r.ticks is.again (omega (arith, at, early))) (stands r.passed is.shift (omega (arith, at, early))) (omega (arith, at, early)) in
       record {
         turn = is.turn;

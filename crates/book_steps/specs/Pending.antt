@@ -13,7 +13,7 @@ use Rattle.circular_buffer.specs.Buffer.{Buffer}
 use Rattle.plan_rounds.specs.PlanRows.{RoundsContents, plan_rows}
 use Rattle.plan_rounds.specs.Parts.{RowsKept}
 use Rattle.book_steps.specs.declared.ring.PendingRow.{PendingRow}
-use Rattle.book_steps.specs.Sources.{IsSourceOf, SourceContents, recurrence}
+use Rattle.book_steps.specs.Sources.{GoesOnWithPlan, SourceContents, recurrence}
 
 pub record PendingContents : Type 0 where
   pub source : SourceContents
@@ -100,7 +100,7 @@ all_computed p r = record {
 -- what a book keeps of its pending rows: all from the least posted count up to the last computed round, with a place for each row of a window
 pub record PendingKept (p : PlanContents) (window : ℕ) (s : State) (r : PendingContents) : Type 0 where
   pub kept : RowsKept p window s (all_computed p r)
-  pub source : IsSourceOf p r.source
+  pub source : GoesOnWithPlan p r.source
   pub computed : r.computed ≡ rounds_before p r.source.tick
   pub counted : r.computed < 2 ^ 64
   pub rows : ArePending (plan_rows p) p.tree.processors (least_posted s) r.computed r.held.items

@@ -23,7 +23,7 @@ pub record SourceContents : Type 0 where
   pub shown : List (Option Leaf)
 
 -- what runs on the one processor of a plan, in its one pack, comes round after so many ticks
-pub record IsTurn (p : PlanContents) (ticks : ℕ) : Type 0 where
+pub record ComesRoundAfter (p : PlanContents) (ticks : ℕ) : Type 0 where
   pub can : CanComeRound p
   pub turns : AreTurns p ticks
   pub within : ticks < stop_of p
@@ -37,7 +37,7 @@ pub record ArePlaced (places : Placing) (on was : Option ℕ) : Type 0 where
 
 -- the rounds from a tick after 0 up to the present one are kept, and the places at that tick
 pub record IsKeeping (p : PlanContents) (tick : ℕ) (ends : List ℕ) (shown : List (Option Leaf)) (k : Keeping) : Type 0 where
-  pub turn : IsTurn p k.ticks
+  pub turn : ComesRoundAfter p k.ticks
   pub later : 0 < k.from
   pub lap : IsLap p k.from ends shown
   pub end : round_start k.from ends (length ends) ≡ tick
@@ -45,7 +45,7 @@ pub record IsKeeping (p : PlanContents) (tick : ℕ) (ends : List ℕ) (shown : 
 
 -- the rounds of a hyperperiod are kept, and the round of this number comes next, so many ticks later
 pub record IsRepeating (p : PlanContents) (tick : ℕ) (ends : List ℕ) (shown : List (Option Leaf)) (r : Repeating) : Type 0 where
-  pub turn : IsTurn p r.ticks
+  pub turn : ComesRoundAfter p r.ticks
   pub later : 0 < r.from
   pub again : ComesAgain p r.from r.ticks
   pub shift : ComesAgain p r.from r.passed
@@ -58,7 +58,7 @@ pub record IsRepeating (p : PlanContents) (tick : ℕ) (ends : List ℕ) (shown 
 -- what is known at each stage
 abbrev pub IsStage : PlanContents → ℕ → ℕ → List ℕ → List (Option Leaf) → Stage → Type 0
 IsStage p core tick ends shown Computes = core ≡ tick
-IsStage p core tick ends shown (Begins ticks) = (core ≡ tick) × (ends ≡ []) × (shown ≡ []) × IsTurn p ticks
+IsStage p core tick ends shown (Begins ticks) = (core ≡ tick) × (ends ≡ []) × (shown ≡ []) × ComesRoundAfter p ticks
 IsStage p core tick ends shown (Keeps k) = (core ≡ tick) × IsKeeping p tick ends shown k
 IsStage p core tick ends shown (Repeats r) = IsRepeating p tick ends shown r
 
@@ -70,6 +70,6 @@ recurrence p (Keeps k) = None
 recurrence p (Repeats r) = Some (record { from = r.from; ticks = r.ticks; rounds = rounds_before p (r.from + r.ticks) - rounds_before p r.from })
 
 -- it goes on with the rounds of a plan
-pub record IsSourceOf (p : PlanContents) (s : SourceContents) : Type 0 where
+pub record GoesOnWithPlan (p : PlanContents) (s : SourceContents) : Type 0 where
   pub core : IsCoreOf p s.core
   pub stage : IsStage p s.core.tick s.tick s.ends s.shown s.stage

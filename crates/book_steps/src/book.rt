@@ -6,7 +6,7 @@ ghost use Rattle.book_machine.specs.Machine.{start};
 ghost use Rattle.plan_rounds.specs.PlanRows.{IsCompiled};
 ghost use Rattle.round_steps.specs.Refusals.{IsRefusedFor};
 ghost use Rattle.book_steps.specs.Books.{IsBookOf, IsSound, begun};
-ghost use Rattle.book_steps.specs.Sources.{IsSourceOf};
+ghost use Rattle.book_steps.specs.Sources.{GoesOnWithPlan};
 
 use crate::pending::Pending;
 use book_machine::MachineState;
@@ -59,7 +59,7 @@ struct Parts {
 impl Parts {
     fn new(alloc: Global, plan: &Plan, window: u32) -> Result<Parts, NoMemory>
         requires { window ≤ window_limit }
-        ensures source { IfOk result (λ q. IsSourceOf plan.now q.pending.source) }
+        ensures source { IfOk result (λ q. GoesOnWithPlan plan.now q.pending.source) }
         ensures start { IfOk result (λ q. q.pending.source.tick ≡ 0) }
         ensures width { IfOk result (λ q. q.pending.width ≡ plan.now.tree.processors) }
         ensures held { IfOk result (λ q. q.pending.held ≡ buffer [] (window * plan.now.tree.processors)) }

@@ -11,7 +11,7 @@ ghost use Rattle.book_steps.specs.declared.ring.PendingRow.{PendingRow as Declar
 ghost use Rattle.book_steps.specs.declared.source.Repeating.{Repeating as DeclaredRepeating};
 ghost use Rattle.book_steps.specs.declared.source.Stage.TheVariants.{Repeats};
 ghost use Rattle.book_steps.specs.Pending.{AreCounted, AreNoted, CanCount, CanNote, given_to as ticks_given, last_of, pending, with_last};
-ghost use Rattle.book_steps.specs.Sources.{IsSourceOf};
+ghost use Rattle.book_steps.specs.Sources.{GoesOnWithPlan};
 ghost use Rattle.book_steps.specs.Turns.{with_ticks};
 
 use crate::ring::{PendingRow, Ring};
@@ -55,7 +55,7 @@ impl Pending {
     /// No row yet, with a place for each row of a window. All memory is taken here.
     pub(crate) fn new(alloc: Global, plan: &Plan, window: u32) -> Result<Pending, NoMemory>
         requires { window ≤ window_limit }
-        ensures source { IfOk result (λ r. IsSourceOf plan.now r.source) }
+        ensures source { IfOk result (λ r. GoesOnWithPlan plan.now r.source) }
         ensures start { IfOk result (λ r. r.source.tick ≡ 0) }
         ensures width { IfOk result (λ r. r.width ≡ plan.now.tree.processors) }
         ensures held { IfOk result (λ r. r.held ≡ buffer [] (window * plan.now.tree.processors)) }
@@ -82,14 +82,14 @@ impl Pending {
 
     /// Computes one round more.
     pub(crate) fn compute_next(&mut self, plan: &Plan)
-        requires belongs { IsSourceOf plan.now self.old.source }
+        requires belongs { GoesOnWithPlan plan.now self.old.source }
         requires early { self.old.source.tick < stop_of plan.now }
         requires width { self.old.width ≡ plan.now.tree.processors }
         requires places { length self.old.held.items + self.old.width ≤ self.old.held.capacity }
         requires counted { self.old.computed + 1 < 2 ^ 64 }
         requires each { length self.old.last ≡ self.old.width * length self.old.given }
         requires fits { (end : ℕ) → IsRoundUpTo plan.now self.old.source.tick end → CanCount self.old.given (rows_of_round plan.now self.old.source.tick end) }
-        ensures belongs { IsSourceOf plan.now self.new.source }
+        ensures belongs { GoesOnWithPlan plan.now self.new.source }
         ensures round { IsRoundUpTo plan.now self.old.source.tick self.new.source.tick }
         ensures width { self.new.width ≡ self.old.width }
         ensures held { self.new.held ≡ buffer (self.old.held.items
@@ -130,7 +130,7 @@ impl Pending {
     // Computes one round more that doesn't come again. It stands apart, since it is long, and what comes again is short.
     #[inline(never)]
     fn compute_each(&mut self, plan: &Plan)
-        requires belongs { IsSourceOf plan.now self.old.source }
+        requires belongs { GoesOnWithPlan plan.now self.old.source }
         requires computes { (again : DeclaredRepeating) → self.old.source.stage ≢ Repeats again }
         requires early { self.old.source.tick < stop_of plan.now }
         requires width { self.old.width ≡ plan.now.tree.processors }
@@ -138,7 +138,7 @@ impl Pending {
         requires counted { self.old.computed + 1 < 2 ^ 64 }
         requires each { length self.old.last ≡ self.old.width * length self.old.given }
         requires fits { (end : ℕ) → IsRoundUpTo plan.now self.old.source.tick end → CanCount self.old.given (rows_of_round plan.now self.old.source.tick end) }
-        ensures belongs { IsSourceOf plan.now self.new.source }
+        ensures belongs { GoesOnWithPlan plan.now self.new.source }
         ensures round { IsRoundUpTo plan.now self.old.source.tick self.new.source.tick }
         ensures width { self.new.width ≡ self.old.width }
         ensures held { self.new.held ≡ buffer (self.old.held.items

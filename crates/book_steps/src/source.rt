@@ -7,7 +7,7 @@ ghost use Rattle.event_core.specs.Cores.{IsCoreOf, places_of};
 ghost use Rattle.event_core.specs.Rounds.{IsRoundUpTo, rows_of_round};
 ghost use Rattle.book_steps.specs.declared.source.Repeating.{Repeating as DeclaredRepeating};
 ghost use Rattle.book_steps.specs.declared.source.Stage.TheVariants.{Repeats};
-ghost use Rattle.book_steps.specs.Sources.{ArePlaced, IsKeeping, IsRepeating, IsSourceOf, IsStage, IsTurn};
+ghost use Rattle.book_steps.specs.Sources.{ArePlaced, IsKeeping, IsRepeating, GoesOnWithPlan, IsStage, ComesRoundAfter};
 
 use event_core::Core;
 use merged_rounds::hyperperiod_of;
@@ -71,7 +71,7 @@ impl Model for Source {
 impl Source {
     /// The source of a plan's rounds from tick 0 on. All memory is taken here.
     pub(crate) fn new(alloc: Global, plan: &Plan) -> Result<Source, NoMemory>
-        ensures source { IfOk result (IsSourceOf plan.now) }
+        ensures source { IfOk result (GoesOnWithPlan plan.now) }
         ensures start { IfOk result (λ s. s.tick ≡ 0) }
     {
         let stage = first_stage(plan);
@@ -97,9 +97,9 @@ impl Source {
 
     /// Moves to the end of the next round where that comes again, and gives its row, the only one.
     pub(crate) fn again(&mut self, plan: &Plan) -> Option<Row>
-        requires source { IsSourceOf plan.now self.old }
+        requires source { GoesOnWithPlan plan.now self.old }
         requires early { self.old.tick < stop_of plan.now }
-        ensures source { IfSome result (λ _. IsSourceOf plan.now self.new) }
+        ensures source { IfSome result (λ _. GoesOnWithPlan plan.now self.new) }
         ensures round { IfSome result (λ _. IsRoundUpTo plan.now self.old.tick self.new.tick) }
         ensures row { IfSome result (λ row. rows_of_round plan.now self.old.tick self.new.tick ≡ row ∷ []) }
         ensures none { IfNone result (self.new ≡ self.old) }
@@ -119,11 +119,11 @@ impl Source {
 
     /// Computes the next round, which doesn't come again: it writes its rows, one for each processor, and moves to its end. It takes no memory.
     pub(crate) fn compute(&mut self, plan: &Plan, rows: &mut [Row])
-        requires source { IsSourceOf plan.now self.old }
+        requires source { GoesOnWithPlan plan.now self.old }
         requires computes { (again : DeclaredRepeating) → self.old.stage ≢ Repeats again }
         requires early { self.old.tick < stop_of plan.now }
         requires rows { length rows.old ≡ plan.now.tree.processors }
-        ensures source { IsSourceOf plan.now self.new }
+        ensures source { GoesOnWithPlan plan.now self.new }
         ensures round { IsRoundUpTo plan.now self.old.tick self.new.tick }
         ensures rows { rows.new ≡ rows_of_round plan.now self.old.tick self.new.tick }
     {
@@ -202,7 +202,7 @@ fn keep(
 fn first_kept(plan: &Plan, core: &Core, ticks: u128) -> Keeping
     requires belongs { IsCoreOf plan.now core.now }
     requires later { 0 < core.now.tick }
-    requires turn { IsTurn plan.now ticks }
+    requires turn { ComesRoundAfter plan.now ticks }
     ensures { IsKeeping plan.now core.now.tick [] [] result }
 {
     plan.know_lawful();
@@ -295,7 +295,7 @@ fn stage_behind(
 // Whether the pack is at the core's tick where it was when rounds began to be kept.
 fn is_same_place(plan: &Plan, core: &Core, keeping: Keeping) -> bool
     requires belongs { IsCoreOf plan.now core.now }
-    requires turn { IsTurn plan.now keeping.ticks }
+    requires turn { ComesRoundAfter plan.now keeping.ticks }
     requires placed { ArePlaced (places_of plan.now keeping.from) keeping.pack keeping.last }
     ensures { result ≡ true → places_of plan.now core.now.tick ≡ places_of plan.now keeping.from }
 {

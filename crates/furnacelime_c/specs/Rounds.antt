@@ -17,7 +17,7 @@ abbrev pub ticks_of : Halves → ℕ
 ticks_of h = h.high * 2 ^ 64 + h.low
 
 -- what is told of a plan: the ticks of a unit, the tick at which its last round ends, and its processors
-pub record Tells (p : PlanContents) (told : About) : Type 0 where
+pub record IsAboutPlan (p : PlanContents) (told : About) : Type 0 where
   pub scale : ticks_of told.scale ≡ p.tree.scale
   pub end : ticks_of told.end ≡ stop_of p
   pub processors : told.processors ≡ p.tree.processors
@@ -29,14 +29,14 @@ pub record Begins (bytes : List ℕ) (s : StepsHeld) : Type 0 where
 
 -- a handle has the steps of the set of these bytes, and this is told of their plan
 abbrev pub IsOpened : List ℕ → Option StepsHeld → About → Type 0
-IsOpened bytes opened told = (s : StepsHeld) × (opened ≡ Some s) × Begins bytes s × Tells s.plan told
+IsOpened bytes opened told = (s : StepsHeld) × (opened ≡ Some s) × Begins bytes s × IsAboutPlan s.plan told
 
 -- the bytes are refused with the status of this number, and the handle has no steps
 abbrev pub IsNotOpened : List ℕ → Option StepsHeld → ℕ → Type 0
 IsNotOpened bytes opened code = (opened ≡ None) × ((fault : OpenFault) × (code ≡ code_of (status_of fault)) × IsRefusedFor bytes fault)
 
 -- from these steps to those by the next round of the schedule: its ticks, and the task on each processor
-pub record IsRound (old new : StepsHeld) (told : Round) (shown : List ℕ) : Type 0 where
+pub record IsRoundTold (old new : StepsHeld) (told : Round) (shown : List ℕ) : Type 0 where
   pub plan : new.plan ≡ old.plan
   pub start : ticks_of told.start ≡ old.core.tick
   pub end : ticks_of told.end ≡ new.core.tick
@@ -46,7 +46,7 @@ pub record IsRound (old new : StepsHeld) (told : Round) (shown : List ℕ) : Typ
 
 -- a handle's steps went on by a round
 abbrev pub IsNext : Option StepsHeld → Option StepsHeld → Round → List ℕ → Type 0
-IsNext before now told shown = (old new : StepsHeld) × (before ≡ Some old) × (now ≡ Some new) × IsRound old new told shown
+IsNext before now told shown = (old new : StepsHeld) × (before ≡ Some old) × (now ≡ Some new) × IsRoundTold old new told shown
 
 -- all rounds were told before, and the handle's steps are as they were
 abbrev pub IsOver : Option StepsHeld → Option StepsHeld → Type 0

@@ -3,7 +3,7 @@ ghost use Rattle.std.specs.Prelude.{◌≡◌, ◌≢◌, ◌<◌, ◌≤◌, �
 ghost use Rattle.run_tree.specs.Plans.{stop_of};
 ghost use Rattle.round_steps.specs.Refusals.{IsRefusedFor};
 ghost use Rattle.round_steps.specs.Steps.{StepsHeld};
-ghost use Rattle.furnacelime_c.specs.Rounds.{Tells, Begins, IsOpened, IsNotOpened, IsRound, IsNext, IsOver, IsShort};
+ghost use Rattle.furnacelime_c.specs.Rounds.{IsAboutPlan, Begins, IsOpened, IsNotOpened, IsRoundTold, IsNext, IsOver, IsShort};
 
 use crate::numbers::{OVER, WRONG_CALL};
 use c_handles::StepsHandle;
@@ -98,7 +98,7 @@ fn open_boxed(alloc: Global, set: &[u8]) -> Result<Box<Steps>, OpenFault>
 
 // What is told of a plan.
 fn about_of(steps: &Steps) -> About
-    ensures { Tells steps.now.plan result }
+    ensures { IsAboutPlan steps.now.plan result }
 {
     About {
         scale: halves_of(steps.scale()),
@@ -109,7 +109,7 @@ fn about_of(steps: &Steps) -> About
 
 // Goes on by the next round, and tells it.
 fn tell_next(steps: &mut Steps, tasks: &mut [u32], round: &mut Round) -> u8
-    ensures next { result ≡ 0 → IsRound steps.old steps.new round.new tasks.new }
+    ensures next { result ≡ 0 → IsRoundTold steps.old steps.new round.new tasks.new }
     ensures rest { result ≡ 0 → (q : ℕ) → steps.old.plan.tree.processors ≤ q → slice_index tasks.new q ≡ slice_index tasks.old q }
     ensures over { result ≡ 65 → (steps.new ≡ steps.old) × (stop_of steps.old.plan ≤ steps.old.core.tick) }
     ensures short { result ≡ 64 → (steps.new ≡ steps.old) × (length tasks.old < steps.old.plan.tree.processors) }

@@ -14,7 +14,7 @@ use Rattle.merged_rounds.specs.declared.sources.Source.{Source}
 use Rattle.merged_rounds.specs.Replays.{IsSourceOf}
 use Rattle.event_core.specs.Rounds.{IsRoundUpTo, rows_of_round}
 use Rattle.event_core.specs.Told.{AllReleased}
-use Rattle.merged_rows.specs.Columns.{AreTold, ends_showing}
+use Rattle.merged_rows.specs.Columns.{AreChangesTold, ends_showing}
 use Rattle.merged_rounds.specs.declared.sums.RoundSum.{RoundSum}
 use Rattle.merged_rounds.specs.Changes.{AreAllChanged, IsChange, IsNone, IsShowing}
 use Rattle.merged_rounds.specs.Laps.{IsAllTold, IsSumUpTo}
@@ -79,7 +79,7 @@ module _ (p : PlanContents) (start end : ℕ) (changed : List ℕ) where
 
   pub changed_told : (n before : ℕ) (told : List (Option Leaf)) (lanes : List (List Row)) → length told ≡ p.tree.processors → ((q : ℕ) → IsChange p start end changed n q (get_or told q None)) →
       ((q : ℕ) (none : Row) → q < p.tree.processors → IsNone changed n q → leaf_at p start end q none ≡ leaf_at p before start q none) →
-      ((q : ℕ) (none : Row) → q < p.tree.processors → ends_showing (lane_of lanes q) (leaf_at p before start q none) ≡ true) → AreTold lanes told (rows_of_round p start end)
+      ((q : ℕ) (none : Row) → q < p.tree.processors → ends_showing (lane_of lanes q) (leaf_at p before start q none) ≡ true) → AreChangesTold lanes told (rows_of_round p start end)
   changed_told n before told lanes long each still last = record {
     long = length-round p.set.tasks p.tree start end ∙ sym long;
     some = λ q r leaf at is. some_is n q (get_or told q None) leaf r is (each q) ∙ sym (row_shows p start end q r at).1;

@@ -27,8 +27,8 @@ use Rattle.event_core.specs.Cores.{left_of, places_of}
 use Rattle.event_core.specs.Told.{AllReleased}
 use Rattle.merged_rounds.specs.Standings.{StandsAlike}
 use Rattle.event_core.specs.Rounds.{IsRoundStart, IsRoundUpTo, event_at, rows_of_round}
-use Rattle.merged_rows.specs.Columns.{AreTold}
-use Rattle.merged_rounds.specs.Laps.{AreTurns, CanComeRound, ComesAgain, IsAllTold, IsLap, IsLapAgain, IsLapFrom, StandsAgain, lap_end, round_start}
+use Rattle.merged_rows.specs.Columns.{AreChangesTold}
+use Rattle.merged_rounds.specs.Laps.{AreTurns, CanComeRound, ComesAgain, IsAllTold, IsLap, IsLapAgain, IsLapFrom, StandsLaterAgain, lap_end, round_start}
 use Rattle.merged_rounds.specs.declared.laps.Lap.{Lap}
 use Rattle.merged_rounds.specs.Passes.{leaf_at}
 
@@ -44,7 +44,7 @@ row_shows p start end q r at =
     let e' : r ≡ get_or rows q r = cc in
     (omega (arith, l, long), ap (λ (x : Row). x.leaf) e')
 
-pub told_all : (p : PlanContents) (start end : ℕ) (told : List (Option Leaf)) (lanes : List (List Row)) → IsAllTold p start end told → AreTold lanes told (rows_of_round p start end)
+pub told_all : (p : PlanContents) (start end : ℕ) (told : List (Option Leaf)) (lanes : List (List Row)) → IsAllTold p start end told → AreChangesTold lanes told (rows_of_round p start end)
 told_all p start end told lanes all = record {
   long = length-round p.set.tasks p.tree start end ∙ sym all.long;
   some = λ q r leaf at is.
@@ -192,11 +192,11 @@ turns_of p h turn ticks is some none =
     }
 
 -- what is left comes again from where the schedule stands again
-pub recurs_from : (p : PlanContents) (from ticks : ℕ) (again : StandsAgain p from ticks) → Recurs p.set.tasks p.tree again.turns.units from
+pub recurs_from : (p : PlanContents) (from ticks : ℕ) (again : StandsLaterAgain p from ticks) → Recurs p.set.tasks p.tree again.turns.units from
 recurs_from p from ticks again = recurs_by p.set p.tree again.turns.units from again.left
 
 -- where it stands again after a lap it does so after one more
-pub next_lap : (p : PlanContents) → IsPlan p → (from ticks shift : ℕ) → StandsAgain p from ticks → StandsAgain p from shift → from + (shift + ticks) < stop_of p → StandsAgain p from (shift + ticks)
+pub next_lap : (p : PlanContents) → IsPlan p → (from ticks shift : ℕ) → StandsLaterAgain p from ticks → StandsLaterAgain p from shift → from + (shift + ticks) < stop_of p → StandsLaterAgain p from (shift + ticks)
 next_lap p h from ticks shift lap again l =
     let d = again.turns.units * p.tree.scale in
     let c = lap.turns.units * p.tree.scale in
@@ -325,7 +325,7 @@ last_start from end ends = ap (λ i. round_start from (ends ++ end ∷ []) i) (l
 
 -- ---- a round of a lap, later
 
-module _ (p : PlanContents) (h : IsPlan p) (from ticks : ℕ) (again : StandsAgain p from ticks)
+module _ (p : PlanContents) (h : IsPlan p) (from ticks : ℕ) (again : StandsLaterAgain p from ticks)
     (ends : List ℕ) (all : List (Option Leaf)) (lap : IsLap p from ends all) (i : ℕ) (in_lap : i < length ends) (soon : round_start from ends i + ticks < stop_of p) where
   pub lap_round : IsRoundUpTo p (round_start from ends i + ticks) (min (get_or ends i 0 + ticks) (stop_of p))
   lap_round =
@@ -367,7 +367,7 @@ lap_event p from (e ∷ es) all lap end at some early = elim ((lap.round (length
 
 -- where it stands alike so many hyperperiods later, it stands again
 pub stands_again : (p : PlanContents) → IsPlan p → IdlesApart p.tree → (from ticks : ℕ) → AreTurns p ticks → AllReleased p from → StandsAlike p from (from + ticks) →
-    event_at p (from + ticks) ≡ true → from + ticks < stop_of p → StandsAgain p from ticks
+    event_at p (from + ticks) ≡ true → from + ticks < stop_of p → StandsLaterAgain p from ticks
 stands_again p h apart from ticks turns released alike on l = record {
   turns = turns;
   left = record {

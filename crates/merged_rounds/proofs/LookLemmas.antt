@@ -14,7 +14,7 @@ use Rattle.run_tree.specs.Schedule.{shown}
 use Rattle.run_tree.specs.Plans.{PlanContents}
 use Rattle.sched_laws.proofs.WholeRounds.{length-round}
 use Rattle.event_core.specs.Rounds.{rows_of_round}
-use Rattle.merged_rows.specs.Columns.{ends_showing, AreTold}
+use Rattle.merged_rows.specs.Columns.{ends_showing, AreChangesTold}
 use Rattle.merged_rounds.specs.Passes.{shown_for, leaf_at, IsLooked, IsKept}
 
 -- what doesn't wait is shown the same from then on
@@ -69,7 +69,7 @@ module _ (p : PlanContents) (start end : ℕ) (lanes : List (List Row)) (before 
       let e' : r ≡ get_or rows q r = cc in
       ap (λ (x : Row). x.leaf) e'
 
-  pub are_told : length told ≡ p.tree.processors → AreTold lanes told (rows_of_round p start end)
+  pub are_told : length told ≡ p.tree.processors → AreChangesTold lanes told (rows_of_round p start end)
   are_told long = record {
     long = length-round p.set.tasks p.tree start end ∙ sym long;
     some = λ q r leaf at is. sym (row_is q r at ∙ (looked q (within q r at)).other leaf r is);

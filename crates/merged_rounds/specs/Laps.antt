@@ -82,7 +82,7 @@ pub record ComesAgain (p : PlanContents) (from ticks : ℕ) : Type 0 where
 
 -- At tick `from` no task waits, and so many ticks later a round begins, as much is left of each due as there, but for those of idle leaves,
 -- and the places are the same.
-pub record StandsAgain (p : PlanContents) (from ticks : ℕ) : Type 0 where
+pub record StandsLaterAgain (p : PlanContents) (from ticks : ℕ) : Type 0 where
   pub turns : AreTurns p ticks
   pub left : IsLeftAgain p.set p.tree turns.units from
   pub places : places_of p (from + ticks) ≡ places_of p from
@@ -90,7 +90,7 @@ pub record StandsAgain (p : PlanContents) (from ticks : ℕ) : Type 0 where
 
 -- these rounds come again so many ticks later
 pub record IsLapAgain (p : PlanContents) (when : Later) (rounds : Lap) : Type 0 where
-  pub again : StandsAgain p when.from when.ticks
+  pub again : StandsLaterAgain p when.from when.ticks
   pub lap : IsLapFrom p when.from rounds
 
 -- pack p doesn't hold two idle leaves, and where it holds an idle leaf alone it is a root

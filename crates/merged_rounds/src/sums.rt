@@ -5,7 +5,7 @@ ghost use Rattle.sched_base.specs.Tables.{lane_of, row_limit};
 ghost use Rattle.run_tree.specs.Plans.{IsPlan, rounds_of, stop_of};
 ghost use Rattle.event_core.specs.Counts.{IsCountFault};
 ghost use Rattle.event_core.specs.Rounds.{IsRoundUpTo, rows_of_round};
-ghost use Rattle.merged_rows.specs.Columns.{AreTold, ends_showing};
+ghost use Rattle.merged_rows.specs.Columns.{AreChangesTold, ends_showing};
 ghost use Rattle.merged_rows.specs.Lawful.{AreLawful};
 ghost use Rattle.merged_rounds.specs.Passes.{AreMergedOf};
 ghost use Rattle.merged_rounds.specs.Laps.{IsSumUpTo};
@@ -65,7 +65,7 @@ pub(crate) fn with_round(
 ) -> Result<RoundSum, CountFault>
     requires sum { IsSumUpTo plan.now start sum }
     requires round { IsRoundUpTo plan.now start end }
-    requires told { AreTold sum.rows.lanes told.now (rows_of_round plan.now start end) }
+    requires told { AreChangesTold sum.rows.lanes told.now (rows_of_round plan.now start end) }
     ensures sum { IfOk result (λ next. IsSumUpTo plan.now end next) }
     ensures ends { IfOk result (λ next. (q : ℕ) (r : DeclaredRow) → slice_get (rows_of_round plan.now start end) q ≡ Some r →
         ends_showing (lane_of next.rows.lanes q) r.leaf ≡ true) }
@@ -76,7 +76,8 @@ pub(crate) fn with_round(
     Ok(RoundSum { rows, rounds })
 }
 
-/// With the round from `start` up to tick `end`, where there is room for its rows, and the processors are listed of which something is told; one may stand there twice. It costs time for these.
+/// With the round from `start` up to tick `end`, where there is room for its rows. The processors of which something is told are listed, and it costs
+/// time for these alone; one may stand there twice.
 #[inline(always)]
 pub(crate) fn with_changed(
     plan: &Plan,
@@ -88,7 +89,7 @@ pub(crate) fn with_changed(
 ) -> Result<RoundSum, CountFault>
     requires sum { IsSumUpTo plan.now start sum }
     requires round { IsRoundUpTo plan.now start end }
-    requires told { AreTold sum.rows.lanes told.now (rows_of_round plan.now start end) }
+    requires told { AreChangesTold sum.rows.lanes told.now (rows_of_round plan.now start end) }
     requires within { (k : ℕ) → k < length changed.now → slice_index changed.now k < plan.now.tree.processors }
     requires rest { (q : ℕ) → q < length told.now → ((k : ℕ) → k < length changed.now → slice_index changed.now k ≢ q) → slice_index_or told.now q None ≡ None }
     ensures sum { IfOk result (λ next. IsSumUpTo plan.now end next) }

@@ -9,7 +9,7 @@ use Rattle.sched_base.specs.declared.rows.Row.{Row}
 use Rattle.sched_base.specs.Tables.{IsRound, end_after, lane_of, with_round}
 use Rattle.merged_rows.specs.Merging.{shown, merged}
 use Rattle.merged_rows.proofs.MergeLemmas.{goes_on}
-use Rattle.merged_rows.specs.Columns.{Begun, begun_of, rows_up_to, lanes_up_to, shows_last, showing, showing_each, going_on, going_on_each, ends_showing, AreTold}
+use Rattle.merged_rows.specs.Columns.{Begun, begun_of, rows_up_to, lanes_up_to, shows_last, showing, showing_each, going_on, going_on_each, ends_showing, AreChangesTold}
 use Rattle.merged_rows.proofs.PushLemmas.{merged_with, merged_round, round_push}
 
 -- ---- one lane
@@ -231,7 +231,7 @@ one_told p start lane None leaf some none =
     sym (cond-true (shows_last lane leaf) lane (lane ++ new_row start leaf ∷ []) (sym (ends_as p start lane leaf) ∙ none refl))
 one_told p start lane (Some l) leaf some none = ap (showing lane start) (some l refl)
 
-later_told : (first : List Row) (lanes : List (List Row)) (o : Option Leaf) (told : List (Option Leaf)) (r : Row) (rows : List Row) → AreTold (first ∷ lanes) (o ∷ told) (r ∷ rows) → AreTold lanes told rows
+later_told : (first : List Row) (lanes : List (List Row)) (o : Option Leaf) (told : List (Option Leaf)) (r : Row) (rows : List Row) → AreChangesTold (first ∷ lanes) (o ∷ told) (r ∷ rows) → AreChangesTold lanes told rows
 later_told first lanes o told r rows h = record {
   long = (let long = h.long in omega (arith, long));
   some = λ p s leaf at is. h.some (suc p) s leaf at is;
@@ -239,7 +239,7 @@ later_told first lanes o told r rows h = record {
 }
 
 -- each processor goes on as its row does
-pub told_is : (a start : ℕ) (lanes : List (List Begun)) (told : List (Option Leaf)) (rows : List Row) → AreTold (lanes_up_to a start lanes) told rows
+pub told_is : (a start : ℕ) (lanes : List (List Begun)) (told : List (Option Leaf)) (rows : List Row) → AreChangesTold (lanes_up_to a start lanes) told rows
     → going_on_each lanes start told ≡ showing_each lanes start rows
 told_is a start [] told rows h = refl
 told_is a start (lane ∷ lanes) [] [] h = refl

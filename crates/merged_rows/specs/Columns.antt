@@ -67,7 +67,7 @@ ends_showing (r ∷ []) leaf = shown r.leaf == shown leaf
 ends_showing (r ∷ (next ∷ later)) leaf = ends_showing (next ∷ later) leaf
 
 -- Of each processor it is told what its row of a round shows, or nothing where its last row before shows the same.
-pub record AreTold (lanes : List (List Row)) (told : List (Option Leaf)) (rows : List Row) : Type 0 where
+pub record AreChangesTold (lanes : List (List Row)) (told : List (Option Leaf)) (rows : List Row) : Type 0 where
   pub long : length rows ≡ length told
   pub some : (p : ℕ) (r : Row) (leaf : Leaf) → slice_get rows p ≡ Some r → slice_index_or told p None ≡ Some leaf → leaf ≡ r.leaf
   pub none : (p : ℕ) (r : Row) → slice_get rows p ≡ Some r → slice_index_or told p None ≡ None → ends_showing (lane_of lanes p) r.leaf ≡ true

@@ -3,7 +3,7 @@ ghost use Rattle.std.specs.Prelude.{ℕ, ◌≡◌, ◌≢◌, ◌<◌, [], List
 ghost use Rattle.sched_base.specs.declared.rows.Row.{Row as declared_row};
 ghost use Rattle.sched_base.specs.Tables.{IsRound, RowAt, end_after, lane_of, with_round};
 ghost use Rattle.merged_rows.specs.Merging.{merged};
-ghost use Rattle.merged_rows.specs.Columns.{rows_up_to, showing_each, going_on_each, AreTold};
+ghost use Rattle.merged_rows.specs.Columns.{rows_up_to, showing_each, going_on_each, AreChangesTold};
 
 use crate::lanes::MergedLane;
 use sched_base::{Leaf, NoMemory, Row};
@@ -57,7 +57,7 @@ impl MergedRows {
     pub fn with_round(mut self, end: u128, told: &[Option<Leaf>]) -> Result<MergedRows, NoMemory>
         requires whole { length told.now ≡ length self.lanes }
         ensures merged { IfOk result (λ m. (lanes : List (List declared_row)) (rows : List declared_row) → self.lanes ≡ map merged lanes
-            → IsRound self.end rows → end_after self.end rows ≡ end → AreTold self.lanes told.now rows
+            → IsRound self.end rows → end_after self.end rows ≡ end → AreChangesTold self.lanes told.now rows
             → m.lanes ≡ map merged (with_round lanes rows)) }
         ensures end { IfOk result (λ m. m.end ≡ end) }
         ensures processors { IfOk result (λ m. length m.lanes ≡ length self.lanes) }
@@ -81,7 +81,7 @@ impl MergedRows {
         requires rest { (p : ℕ) → p < length told.now → ((k : ℕ) → k < length changed.now → slice_index changed.now k ≢ p)
             → slice_index_or told.now p None ≡ None }
         ensures merged { IfOk result (λ m. (lanes : List (List declared_row)) (rows : List declared_row) → self.lanes ≡ map merged lanes
-            → IsRound self.end rows → end_after self.end rows ≡ end → AreTold self.lanes told.now rows
+            → IsRound self.end rows → end_after self.end rows ≡ end → AreChangesTold self.lanes told.now rows
             → m.lanes ≡ map merged (with_round lanes rows)) }
         ensures end { IfOk result (λ m. m.end ≡ end) }
         ensures processors { IfOk result (λ m. length m.lanes ≡ length self.lanes) }

@@ -21,7 +21,7 @@ use Rattle.mode_join.specs.declared.faults.ModeKind.{ModeKind}
 use Rattle.mode_join.specs.declared.faults.ModeKind.TheVariants as kind
 use Rattle.mode_join.specs.declared.faults.ModeFault.{ModeFault}
 use Rattle.mode_join.specs.declared.faults.ModeFault.TheVariants as fault
-use Rattle.mode_join.specs.Joining.{CanJoin, IsPlanOf, Has, HasAt, IsFirstOf, IsRefused, CanBeJoined, SaysOf, RefusesAs, IsOverloadOf, IsTooLongAfter, processors_of, rank, rows_of}
+use Rattle.mode_join.specs.Joining.{CanJoin, IsPlanOf, Has, HasAt, IsFirstOf, IsFirstFlaw, CanBeJoined, SaysOf, RefusesAs, IsOverloadOf, IsTooLongAfter, processors_of, rank, rows_of}
 use Rattle.mode_join.specs.Modes.{ModesContents, IsMode, AreModes, PeriodsEndIn, sets_of}
 use Rattle.mode_join.proofs.JoinLemmas.{by_number, after_overload, overload_first, too_long_first}
 
@@ -206,7 +206,7 @@ refused_next m are sets set rest split wide (fault.Refused mode k) refuses =
     let at : slice_get all n ≡ Some set = subst (λ j. slice_get all j ≡ Some set) long (get_seam front set rest) in
     let before : take n all ≡ front = subst (λ j. take j all ≡ front) long (take-append_seam front (set ∷ rest)) in
     let wide' : m.processors ≡ processors_of all = wide ∙ ap processors_of split in
-    let there : IsRefused all n k = record {
+    let there : IsFirstFlaw all n k = record {
       has = (set, at, subst (λ xs. Has (processors_of all) xs set k) (sym before) (subst (λ w. Has w front set k) wide' refuses.1.has));
       first = λ other there.
           let same : Some there.0 ≡ Some set = sym there.1 ∙ at in
@@ -215,7 +215,7 @@ refused_next m are sets set rest split wide (fault.Refused mode k) refuses =
           (subst (λ xs. Has (processors_of all) xs set other) before (subst (λ s. Has (processors_of all) (take n all) s other) same' there.2)));
       lowest = λ i other below there. front_is_good m.processors m.modes are.each are.few_rows (set ∷ rest) (sym wide') i other (omega (arith, below, long)) there;
     } in
-    subst (λ xs. IsRefused xs mode k) (sym split) (subst (λ j. IsRefused all j k) (sym refuses.0) there)
+    subst (λ xs. IsFirstFlaw xs mode k) (sym split) (subst (λ j. IsFirstFlaw all j k) (sym refuses.0) there)
 
 -- ---- what the steps of adding a mode give
 

@@ -63,7 +63,7 @@ abbrev pub HasAt : List SetContents → ℕ → ModeKind → Type 0
 HasAt sets j k = (s : SetContents) × (slice_get sets j ≡ Some s) × Has (processors_of sets) (take j sets) s k
 
 -- set j is the first that can't be a mode, and of what is wrong with it this is the first
-pub record IsRefused (sets : List SetContents) (j : ℕ) (k : ModeKind) : Type 0 where
+pub record IsFirstFlaw (sets : List SetContents) (j : ℕ) (k : ModeKind) : Type 0 where
   pub has : HasAt sets j k
   pub first : (other : ModeKind) → HasAt sets j other → rank k ≤ rank other
   pub lowest : (i : ℕ) (other : ModeKind) → i < j → HasAt sets i other → ⊥
@@ -74,7 +74,7 @@ CanBeJoined sets = (j : ℕ) (k : ModeKind) → HasAt sets j k → ⊥
 
 -- what a refusal to join says of the list: which set and why, or nothing where memory was refused
 abbrev pub SaysOf : List SetContents → ModeFault → Type 0
-SaysOf sets (fault.Refused mode k) = IsRefused sets mode k
+SaysOf sets (fault.Refused mode k) = IsFirstFlaw sets mode k
 SaysOf sets fault.NoMemory = Unit {0}
 
 -- a refusal of this set, of which this holds

@@ -9,7 +9,7 @@ use Rattle.task_reader.specs.Pieces.{pieces_of}
 use Rattle.task_reader.specs.Reading.{set_read_from}
 use Rattle.mode_join.specs.declared.faults.ModeKind.{ModeKind}
 use Rattle.mode_join.specs.declared.faults.ModeKind.TheVariants as kind
-use Rattle.mode_join.specs.Joining.{IsRefused, rank}
+use Rattle.mode_join.specs.Joining.{IsFirstFlaw, rank}
 use Rattle.mode_join.specs.Modes.{ModesContents, sets_of}
 use Rattle.pure_commands.specs.declared.mode_refusal.ModeRefusal.{ModeRefusal}
 use Rattle.pure_commands.specs.declared.mode_refusal.ModeRefusal.TheVariants as mode
@@ -101,10 +101,10 @@ kind_at (kind.Period task) = refl
 kind_at (kind.Overload total room) = refl
 kind_at (kind.TooLong rows) = refl
 
-one_kind : (sets : List SetContents) (i j : ℕ) (k l : ModeKind) → IsRefused sets i k → IsRefused sets j l → mode_status (mode.NotJoined k) ≡ mode_status (mode.NotJoined l)
+one_kind : (sets : List SetContents) (i j : ℕ) (k l : ModeKind) → IsFirstFlaw sets i k → IsFirstFlaw sets j l → mode_status (mode.NotJoined k) ≡ mode_status (mode.NotJoined l)
 one_kind sets i j k l a b =
     let same = one_number i j (λ below. b.lowest i k below a.has) (λ below. a.lowest j l below b.has) in
-    let b' : IsRefused sets i l = subst (λ n. IsRefused sets n l) (sym same) b in
+    let b' : IsFirstFlaw sets i l = subst (λ n. IsFirstFlaw sets n l) (sym same) b in
     let up = a.first l b'.has in
     let down = b'.first k a.has in
     let ranks : rank k ≡ rank l = omega (arith, up, down) in
@@ -116,7 +116,7 @@ one_kind sets i j k l a b =
 abbrev Why : List ℕ → Refusal → Type 0
 Why bytes r =
     ((j : ℕ) × (q : ReadSet) × IsFirstBad bytes j q × (status_of r ≡ set_status q))
-    ⊎ ((j : ℕ) × (k : ModeKind) × (sets : List SetContents) × ReadsSets bytes sets × IsRefused sets j k × (status_of r ≡ mode_status (mode.NotJoined k)))
+    ⊎ ((j : ℕ) × (k : ModeKind) × (sets : List SetContents) × ReadsSets bytes sets × IsFirstFlaw sets j k × (status_of r ≡ mode_status (mode.NotJoined k)))
 
 why_mode : (bytes : List ℕ) (j : ℕ) (r : ModeRefusal) → RefusesModes bytes (why.OfMode j r) → Why bytes (why.OfMode j r)
 why_mode bytes j (mode.BadSet q) refuses = inl (j, q, refuses, refl)
@@ -135,7 +135,7 @@ modes_or_refused bytes m r reads refuses =
       | inr unjoined ↦
           let (j, k, sets, other, refused, same) = unjoined in
           let one = same_zip (pieces_of bytes) sets (sets_of m.modes) other reads.read in
-          reads.joined j k (subst (λ (xs : List SetContents). IsRefused xs j k) one refused).has
+          reads.joined j k (subst (λ (xs : List SetContents). IsFirstFlaw xs j k) one refused).has
     ]
 
 -- bytes are refused with one status
@@ -148,4 +148,4 @@ one_modes_status bytes r q a b = go (why_refused bytes r a) (why_refused bytes q
     go (inr x) (inl y) = absurd (none_bad bytes x.2 y.0 y.1 x.3 y.2)
     go (inr x) (inr y) =
         let one = same_zip (pieces_of bytes) x.2 y.2 x.3 y.3 in
-        x.5 ∙ one_kind y.2 x.0 y.0 x.1 y.1 (subst (λ (xs : List SetContents). IsRefused xs x.0 x.1) one x.4) y.4 ∙ sym y.5
+        x.5 ∙ one_kind y.2 x.0 y.0 x.1 y.1 (subst (λ (xs : List SetContents). IsFirstFlaw xs x.0 x.1) one x.4) y.4 ∙ sym y.5

@@ -7,7 +7,7 @@ use Rattle.task_reader.specs.declared.refusals.ReadSet.{ReadSet}
 use Rattle.task_reader.specs.Pieces.{pieces_of}
 use Rattle.task_reader.specs.Reading.{set_read_from}
 use Rattle.mode_join.specs.declared.mode.Mode.{Mode}
-use Rattle.mode_join.specs.Joining.{CanBeJoined, IsRefused}
+use Rattle.mode_join.specs.Joining.{CanBeJoined, IsFirstFlaw}
 use Rattle.mode_join.specs.Modes.{ModesContents, AreModes, PeriodsEndIn, sets_of}
 use Rattle.trace_format.specs.declared.versions.Version.TheVariants.{One}
 use Rattle.pure_commands.specs.declared.mode_refusal.ModeRefusal.TheVariants as mode
@@ -46,5 +46,5 @@ pub record IsFirstBad (bytes : List ℕ) (j : ℕ) (refusal : ReadSet) : Type 0 
 -- the first that can't be a mode
 abbrev pub RefusesModes : List ℕ → Refusal → Type 0
 RefusesModes bytes (OfMode j (mode.BadSet refusal)) = IsFirstBad bytes j refusal
-RefusesModes bytes (OfMode j (mode.NotJoined kind)) = (sets : List SetContents) × ReadsSets bytes sets × IsRefused sets j kind
+RefusesModes bytes (OfMode j (mode.NotJoined kind)) = (sets : List SetContents) × ReadsSets bytes sets × IsFirstFlaw sets j kind
 RefusesModes bytes _ = ⊥

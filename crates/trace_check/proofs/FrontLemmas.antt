@@ -10,7 +10,7 @@ use Rattle.trace_check.specs.declared.head_lines.Head.{Head}
 use Rattle.trace_check.specs.Steps.{and_then, step, next_line, number_after, number_within}
 use Rattle.std.proofs.lemmas.List.{take-take, take_more, take_all}
 use Rattle.trace_check.specs.declared.front.Front.{Front}
-use Rattle.trace_check.specs.Fronts.{IsFront}
+use Rattle.trace_check.specs.Fronts.{IsTextFront}
 use Rattle.trace_check.specs.HeadLines.{head_from, capped}
 use Rattle.trace_check.specs.TaskLines.{task_of, tasks_from, is_scale}
 use Rattle.std.proofs.lemmas.Bool.{eqb-true}
@@ -73,7 +73,7 @@ front_body text first rest more head h tasks ends head_is capped_is tasks_are no
     reading_body (text ++ more) head h (lines_of first ++ L) L tasks whole capped_is (tasks_grow L head.version head.tasks [] (lines_of first) tasks [] named) scale
 
 -- the front of a longer text
-pub front_of_text : (text : List ℕ) (n : ℕ) (f : Front) → n ≤ length text → f.count ≡ n → IsFront (take n text) f → IsFront text f
+pub front_of_text : (text : List ℕ) (n : ℕ) (f : Front) → n ≤ length text → f.count ≡ n → IsTextFront (take n text) f → IsTextFront text f
 front_of_text text n f within is front =
     let least : f.count ≤ n = omega (arith, is) in
     record {
@@ -96,7 +96,7 @@ no_bytes (b ∷ bs) e = absurd (omega (arith, e))
 -- what the code read of the lines before the row lines
 pub front_is : (text first rest : List ℕ) (head h : Head) (s : SetContents) (f : Front) → EndsLine text → head_from (lines_of text) ≡ Ok (h, lines_of first) → head ≡ capped h
     → tasks_from head.version head.tasks [] (lines_of first) ≡ Ok (s.tasks, lines_of rest) → s.processors ≡ head.processors → s.horizon ≡ head.horizon → eqb (length rest) 0 ≡ true
-    → is_scale s.tasks head.scale ≡ true → f.head ≡ head → f.set ≡ s → f.count ≡ length text → IsFront text f
+    → is_scale s.tasks head.scale ≡ true → f.head ≡ head → f.set ≡ s → f.count ≡ length text → IsTextFront text f
 front_is text first rest head h s f ends head_is capped_is tasks_are p o none scale same_head same_set count =
     let nil = no_bytes rest (eqb-true _ _ none) in
     let all : take f.count text ≡ text = ap (λ k. take k text) count ∙ take_all (length text) text (omega arith) in

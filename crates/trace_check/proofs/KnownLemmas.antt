@@ -3,7 +3,7 @@ use Rattle.std.proofs.Common.{ℕ, ◌+◌, ◌-◌, ◌<◌, ◌≤◌, ◌≡�
 use Rattle.std.proofs.Math.Seq.{take-append_seam}
 use Rattle.std.proofs.lemmas.Bool.{cases_lt}
 use Rattle.text_words.specs.Words.{number_of, BeginsWith}
-use Rattle.trace_check.specs.KnownWords.{unspaced, IsSpaced, IsFront, BeginsRowOf}
+use Rattle.trace_check.specs.KnownWords.{unspaced, IsSpaced, IsRowFront, BeginsRowOf}
 
 -- the first eight bytes and the last eight are all of at most sixteen
 pub same_sixteen : (text word : List ℕ) → 8 ≤ length word → length word ≤ 16 → ((k : ℕ) → k < 8 → get_or text (0 + k) 0 ≡ get_or word (0 + k) 0)
@@ -54,10 +54,10 @@ spaced_is n word b =
 pub spaced_begins : (n : ℕ) (word : List ℕ) → IsSpaced n word → BeginsWith n word []
 spaced_begins n word h = (unspaced word, h.0, h.1)
 
-pub front_is : (n : ℕ) (front : List ℕ) → BeginsRowOf n front [] → IsFront n front
+pub front_is : (n : ℕ) (front : List ℕ) → BeginsRowOf n front [] → IsRowFront n front
 front_is n front b =
     let same : drop 4 front ≡ b.behind = ap (drop 4) b.row in
     (b.row ∙ ap (λ m. codes "row" ++ 32 ∷ m) (sym same), subst (IsSpaced n) (sym same) (spaced_is n b.behind b.processor))
 
-pub front_begins : (n : ℕ) (front : List ℕ) → IsFront n front → BeginsRowOf n front []
+pub front_begins : (n : ℕ) (front : List ℕ) → IsRowFront n front → BeginsRowOf n front []
 front_begins n front h = record { behind = drop 4 front; row = h.0; processor = spaced_begins n (drop 4 front) h.1 }

@@ -21,7 +21,7 @@ use Rattle.trace_check.specs.declared.faults.TraceFault.TheVariants.{BadLine, No
 use Rattle.trace_check.specs.declared.front.Front.{Front}
 use Rattle.trace_check.specs.declared.head_lines.Head.{Head}
 use Rattle.trace_check.specs.Faults.{NamesBadLine}
-use Rattle.trace_check.specs.Fronts.{IsFront}
+use Rattle.trace_check.specs.Fronts.{IsTextFront}
 use Rattle.trace_check.specs.Reading.{body, ending, reading, set_of}
 use Rattle.trace_check.specs.RowLines.{rows_from}
 use Rattle.trace_check.specs.Sources.{of_trace, GaveNoTraceText, StopsInRest, GaveSome, GaveLast, RowsStopAt, StopsInTail}
@@ -206,7 +206,7 @@ tail_told h s ahead one two rest done sums r other is at ne may told =
 -- ---- from the front of the source on
 
 -- the whole text of a source whose front was gone past
-pub front_gone : (text front ahead more : List ℕ) (n : ℕ) (f : Front) → IsFront text f → n ≡ f.count → ahead ≡ drop n text → reading (text ++ more) ≡ body f.head f.set.tasks (lines_of (ahead ++ more))
+pub front_gone : (text front ahead more : List ℕ) (n : ℕ) (f : Front) → IsTextFront text f → n ≡ f.count → ahead ≡ drop n text → reading (text ++ more) ≡ body f.head f.set.tasks (lines_of (ahead ++ more))
 front_gone text front ahead more n f is same rest =
     ap (λ t. reading (t ++ more)) (sym (take-append-drop n text)) ∙ ap reading (append_assoc (take n text) (drop n text) more)
     ∙ ap (λ k. reading (take k text ++ (drop n text ++ more))) same ∙ is.whole (drop n text ++ more)

@@ -6,7 +6,7 @@ use Rattle.trace_check.specs.TaskLines.{is_scale}
 use Rattle.trace_check.specs.Reading.{set_of, body, reading}
 
 -- the first bytes of the text are the lines before the row lines, whatever follows them
-pub record IsFront (text : List ℕ) (f : Front) : Type 0 where
+pub record IsTextFront (text : List ℕ) (f : Front) : Type 0 where
   pub within : f.count ≤ length text
   pub whole : (more : List ℕ) → reading (take f.count text ++ more) ≡ body f.head f.set.tasks (lines_of more)
   pub set : f.set ≡ set_of f.head f.set.tasks

@@ -12,8 +12,8 @@ abbrev pub IsSpaced : ℕ → List ℕ → Type 0
 IsSpaced n word = (word ≡ unspaced word ++ space ∷ []) × (number_of (unspaced word) ≡ Some n)
 
 -- `row`, a space, a word that writes this number, and a space
-abbrev pub IsFront : ℕ → List ℕ → Type 0
-IsFront n front = (front ≡ codes "row" ++ space ∷ drop 4 front) × IsSpaced n (drop 4 front)
+abbrev pub IsRowFront : ℕ → List ℕ → Type 0
+IsRowFront n front = (front ≡ codes "row" ++ space ∷ drop 4 front) × IsSpaced n (drop 4 front)
 
 -- the text begins with `row`, a space, a word that writes this number, and a space
 pub record BeginsRowOf (n : ℕ) (text rest : List ℕ) : Type 0 where

@@ -1,7 +1,7 @@
 //! The lines before the row lines, at the front of a text of which more may follow.
 ghost use Rattle.std.specs.Prelude.{◌≡◌, ◌<◌, ◌≤◌, length, IfSome};
 ghost use Rattle.text_window.specs.Lines.{EndsLine};
-ghost use Rattle.trace_check.specs.Fronts.{IsFront};
+ghost use Rattle.trace_check.specs.Fronts.{IsTextFront};
 
 use crate::head_lines::{Head, read_head};
 use crate::task_lines::{is_scale, read_tasks};
@@ -32,7 +32,7 @@ fn front_len(text: &[u8]) -> Option<usize>
 // The head and the set, where this is the text of their lines.
 fn front_of(alloc: Global, text: &[u8]) -> Option<Front>
     requires { EndsLine text.now }
-    ensures front { IfSome result (IsFront text.now) }
+    ensures front { IfSome result (IsTextFront text.now) }
     ensures count { IfSome result (λ f. f.count ≡ length text.now) }
 {
     let Ok((head, rest)) = read_head(text) else {
@@ -53,7 +53,7 @@ fn front_of(alloc: Global, text: &[u8]) -> Option<Front>
 
 /// The lines before the row lines, where they are right and a row line follows. Else nothing, which says nothing of the text.
 pub(crate) fn read_front(alloc: Global, text: &[u8]) -> Option<Front>
-    ensures { IfSome result (IsFront text.now) }
+    ensures { IfSome result (IsTextFront text.now) }
 {
     let count = front_len(text)?;
     let front = &text[..count];

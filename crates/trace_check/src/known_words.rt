@@ -2,7 +2,7 @@
 ghost use Rattle.std.specs.Prelude.{ℕ, ◌≡◌, ◌+◌, ◌≤◌, ◌<◌, [], ◌∷◌, ◌++◌, codes, length, take, slice_index, IsTrue, IfSome};
 ghost use Rattle.sched_base.specs.Bytes.{space};
 ghost use Rattle.text_words.specs.Words.{BeginsWith};
-ghost use Rattle.trace_check.specs.KnownWords.{IsSpaced, IsFront, BeginsRowOf};
+ghost use Rattle.trace_check.specs.KnownWords.{IsSpaced, IsRowFront, BeginsRowOf};
 
 use text_words::cut_number;
 
@@ -27,7 +27,7 @@ pub(crate) struct ShortWord<'a> {
 pub(crate) struct KnownFront<'a> {
     pub front: &'a [u8],
     pub processor: u128,
-    ghost known: { IsFront processor front.now },
+    ghost known: { IsRowFront processor front.now },
 }
 
 /// The front of a row line, of a processor of 32 bits.

@@ -12,7 +12,7 @@ use Rattle.sched_base.specs.Valid.{period_start}
 use Rattle.trace_verdict.specs.Orders.{part, task_key, entries_from}
 use Rattle.trace_verdict.specs.Overlaps.{clash}
 use Rattle.trace_verdict.specs.Faults.{MissesDue}
-use Rattle.trace_verdict.specs.Searches.{IsAllWithin, IsFront, periods_of}
+use Rattle.trace_verdict.specs.Searches.{IsAllWithin, AreFirstWithKey, periods_of}
 use Rattle.trace_verdict.specs.declared.entries.Entry.{Entry}
 use Rattle.trace_verdict.specs.declared.supply.Periods.{Periods}
 use Rattle.trace_verdict.specs.Supply.{AreLawful, bound_at, ticks_in, Follows, IsSupplied, ended_by}
@@ -203,10 +203,10 @@ pub reaches_first : (s : SetContents) (l : ℕ) (rs : List Row) (es : List Entry
 reaches_first s l rs es r = record { rising = r; from = from_all es; same = λ i h. refl; met = λ i k h m. omega (arith, h) }
 
 -- what stands at the front is the part of the next task
-pub reaches_mine : (s : SetContents) (l : ℕ) (rs : List Row) (es : List Entry) (j n : ℕ) (rest mine : List Entry) → Reaches s l rs es j rest → IsFront j rest n → mine ≡ take n rest → mine ≡ part j es
+pub reaches_mine : (s : SetContents) (l : ℕ) (rs : List Row) (es : List Entry) (j n : ℕ) (rest mine : List Entry) → Reaches s l rs es j rest → AreFirstWithKey j rest n → mine ≡ take n rest → mine ≡ part j es
 reaches_mine s l rs es j n rest mine r f e = e ∙ ((split_front j rest n f r.rising r.from).front ∙ r.same j (omega arith))
 
-pub reaches_next : (s : SetContents) (l : ℕ) (rs : List Row) (es : List Entry) (j n : ℕ) (rest mine later : List Entry) (p : Periods) → Reaches s l rs es j rest → IsFront j rest n
+pub reaches_next : (s : SetContents) (l : ℕ) (rs : List Row) (es : List Entry) (j n : ℕ) (rest mine later : List Entry) (p : Periods) → Reaches s l rs es j rest → AreFirstWithKey j rest n
     → IsPermutation (entries_from task_key 0 rs) es → mine ≡ take n rest → later ≡ drop n rest → p ≡ periods_of s l (task_at s.tasks j) → IsSupplied p mine → Reaches s l rs es (j + 1) later
 reaches_next s l rs es j n rest mine later p r f perm front back e supplied =
     let split = split_front j rest n f r.rising r.from in

@@ -13,7 +13,7 @@ use Rattle.trace_verdict.specs.declared.findings.Findings.{Findings}
 use Rattle.trace_verdict.specs.Faults.{row_at, line_of_row, IsTraceRow, IsTrace, IsVerdict}
 use Rattle.trace_verdict.specs.Findings.{AreInPeriods, IsToldOfTask, AreTold, found_at}
 use Rattle.trace_verdict.specs.Orders.{task_key, part, places, IsOrder}
-use Rattle.trace_verdict.specs.Searches.{periods_of, IsFront}
+use Rattle.trace_verdict.specs.Searches.{periods_of, AreFirstWithKey}
 use Rattle.trace_verdict.proofs.HitLemmas.{task_of_key}
 use Rattle.trace_verdict.proofs.IndexLemmas.{all_at}
 use Rattle.trace_verdict.proofs.OverlapLemmas.{Rising}
@@ -79,7 +79,7 @@ pub found_none : (s : SetContents) (l : ℕ) (rows : List Row) (es : List Entry)
 found_none s l rows es r = record { rising = r; from = from_all es; same = λ i h. refl; count = refl; told = λ i h. absurd (omega (arith, h)) }
 
 -- what stands at the front is the part of the next task
-pub found_mine : (s : SetContents) (l : ℕ) (rows : List Row) (es : List Entry) (j n : ℕ) (rest mine : List Entry) (found : List Findings) → FoundTo s l rows es j rest found → IsFront j rest n → mine ≡ take n rest
+pub found_mine : (s : SetContents) (l : ℕ) (rows : List Row) (es : List Entry) (j n : ℕ) (rest mine : List Entry) (found : List Findings) → FoundTo s l rows es j rest found → AreFirstWithKey j rest n → mine ≡ take n rest
     → mine ≡ part j es
 found_mine s l rows es j n rest mine found r f e = e ∙ ((split_front j rest n f r.rising r.from).front ∙ r.same j (omega arith))
 
@@ -93,7 +93,7 @@ told_next s l rows j found f size told one = λ i h.
           subst (λ k. IsToldOfTask s l rows k (found_at (found ++ f ∷ []) k)) here (subst (IsToldOfTask s l rows j) (sym (last_found found f j size)) one))
     ]
 
-pub found_next : (s : SetContents) (l : ℕ) (rows : List Row) (es : List Entry) (j n : ℕ) (rest later : List Entry) (found : List Findings) (f : Findings) → FoundTo s l rows es j rest found → IsFront j rest n
+pub found_next : (s : SetContents) (l : ℕ) (rows : List Row) (es : List Entry) (j n : ℕ) (rest later : List Entry) (found : List Findings) (f : Findings) → FoundTo s l rows es j rest found → AreFirstWithKey j rest n
     → later ≡ drop n rest → IsToldOfTask s l rows j f → FoundTo s l rows es (j + 1) later (found ++ f ∷ [])
 found_next s l rows es j n rest later found f r front back one =
     let split = split_front j rest n front r.rising r.from in

@@ -11,7 +11,7 @@ use Rattle.sched_base.specs.Sets.{SetContents, IsLawful, IsLawfulTask, task_at, 
 use Rattle.trace_verdict.specs.Orders.{entry_of, entries_from, part, IsOrder}
 use Rattle.trace_verdict.specs.Overlaps.{clash, IsLong}
 use Rattle.trace_verdict.specs.Faults.{row_at, IsTraceRow}
-use Rattle.trace_verdict.specs.Searches.{IsFront, IsFirstHit}
+use Rattle.trace_verdict.specs.Searches.{AreFirstWithKey, IsFirstHit}
 use Rattle.trace_verdict.specs.declared.entries.Entry.{Entry}
 use Rattle.trace_verdict.proofs.OverlapLemmas.{Before, Rising}
 use Rattle.trace_verdict.proofs.EntryLemmas.{AllByRecursion-append}
@@ -92,7 +92,7 @@ pub record Split (j : ℕ) (es : List Entry) (n : ℕ) : Type 0 where
   pub others : (i : ℕ) → j < i → part i (drop n es) ≡ part i es
   pub rising : Rising (drop n es)
 
-pub split_front : (j : ℕ) (es : List Entry) (n : ℕ) → IsFront j es n → Rising es → From j es → Split j es n
+pub split_front : (j : ℕ) (es : List Entry) (n : ℕ) → AreFirstWithKey j es n → Rising es → From j es → Split j es n
 split_front j [] zero f r from = record { front = refl; rest = tt; others = λ i h. refl; rising = tt }
 split_front j [] (suc n) f r from = absurd (omega (arith, f.within))
 split_front j (e ∷ es) zero f r from =

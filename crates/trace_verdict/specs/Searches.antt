@@ -81,7 +81,7 @@ abbrev pub key_at : List Entry → ℕ → ℕ
 key_at entries i = (slice_index_or entries i (record { key = 0; start = 0; place = 0; end = 0 })).key
 
 -- the first n entries are those at the front that have this key
-pub record IsFront (key : ℕ) (entries : List Entry) (n : ℕ) : Type 0 where
+pub record AreFirstWithKey (key : ℕ) (entries : List Entry) (n : ℕ) : Type 0 where
   pub within : n ≤ length entries
   pub has : (k : ℕ) → k < n → key_at entries k ≡ key
   pub ends : n < length entries → key_at entries n ≢ key

@@ -1,7 +1,7 @@
 //! The rows of a trace in the orders of processors and of tasks.
 ghost use Rattle.std.specs.Prelude.{◌≡◌, ◌<◌, ◌^◌, ◌++◌, length, IfOk, OnOk, IsSorted};
 ghost use Rattle.trace_verdict.specs.Orders.{entry_cmp, processor_key, task_key, key_by, entry_of, entries_from, places, IsOrder, AreStarts};
-ghost use Rattle.trace_verdict.specs.Searches.{IsFront};
+ghost use Rattle.trace_verdict.specs.Searches.{AreFirstWithKey};
 
 use crate::dealt_orders::dealt_order;
 use crate::entries::Entry;
@@ -105,7 +105,7 @@ pub fn places_of(alloc: Global, entries: &[Entry]) -> Result<Vec<u32>, NoMemory>
 
 /// How many entries at the front have this key.
 pub fn front_len(entries: &[Entry], key: u32) -> usize
-    ensures { IsFront key entries.now result }
+    ensures { AreFirstWithKey key entries.now result }
 {
     for (i, entry) in entries.iter().enumerate() {
         if entry.key != key {

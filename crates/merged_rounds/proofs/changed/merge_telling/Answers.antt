@@ -3,7 +3,7 @@ use Rattle.sched_base.specs.declared.rows.Row.{Row}
 use Rattle.event_core.specs.Rounds.{rows_of_round}
 use Rattle.event_core.specs.Told.{AllReleased}
 use Rattle.event_core.proofs.SettledPacks.{same_start}
-use Rattle.merged_rows.specs.Columns.{AreTold}
+use Rattle.merged_rows.specs.Columns.{AreChangesTold}
 use Rattle.merged_rounds.specs.Changes.{IsChange}
 use Rattle.merged_rounds.specs.Laps.{IsSumUpTo}
 use Rattle.merged_rounds.proofs.ChangeLemmas.{change_as, changed_told, released_later, showing_on}
@@ -22,8 +22,8 @@ with_changed-requires-clause-told c =
     let told = changed_told p start end seen (length seen) c.requires.showing.start c.look_changed.new.told c.args.first.rows.lanes long each
     (λ q none l no. c.go_telling-count.ensures.others q c.requires.showing.start none l (λ t. no t.0 (let m = t.1 in omega (arith, m, many)) (c.first_of-seen.ensures.each t.0 t.1 ∙ t.2)) c.requires.showing.released c.requires.showing.round)
     c.requires.showing.last in
-    subst (λ (n : ℕ). AreTold c.args.first.rows.lanes c.look_changed.new.told (rows_of_round p c.now-start.result n)) (sym c.now-end.ensures)
-    (subst (λ (n : ℕ). AreTold c.args.first.rows.lanes c.look_changed.new.told (rows_of_round p n end)) (sym c.now-start.ensures) told)
+    subst (λ (n : ℕ). AreChangesTold c.args.first.rows.lanes c.look_changed.new.told (rows_of_round p c.now-start.result n)) (sym c.now-end.ensures)
+    (subst (λ (n : ℕ). AreChangesTold c.args.first.rows.lanes c.look_changed.new.told (rows_of_round p n end)) (sym c.now-start.ensures) told)
 
 pub returns-clause-showing : goal.returns-clause-showing
 returns-clause-showing c =

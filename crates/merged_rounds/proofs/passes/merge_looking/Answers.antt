@@ -1,7 +1,7 @@
 use Rattle.std.proofs.Common.{◌≡◌, ℕ, ◌<◌, ap, arith, get_or, length, subst, sym, List, None, slice_get, ◌∙◌}
 use Rattle.sched_base.specs.declared.rows.Row.{Row}
 use Rattle.event_core.specs.Rounds.{IsRoundUpTo, rows_of_round}
-use Rattle.merged_rows.specs.Columns.{AreTold}
+use Rattle.merged_rows.specs.Columns.{AreChangesTold}
 use Rattle.merged_rounds.specs.Laps.{IsSumUpTo}
 use Rattle.merged_rounds.specs.Passes.{IsLooked}
 use Rattle.merged_rounds.proofs.LookLemmas.{are_told, kept_on}
@@ -45,8 +45,8 @@ with_round-requires-clause-told c =
     (λ q l. subst (λ (n : ℕ). IsLooked p n end q (get_or c.rounds.kept q None) (get_or c.look_each.new.kept q None) (get_or c.look_each.new.told q None)) c.now-start.ensures.value (c.look_each.ensures q l)) in
     let long : length c.look_each.new.told ≡ p.tree.processors = (let a = c.requires.told in let b = c.rounds.auto.told in omega (arith, a, b)) in
     let told = are_told p start end c.rounds.sum.rows.lanes c.rounds.kept c.look_each.new.kept c.look_each.new.told c.rounds.invariant.kept looked long in
-    subst (λ (n : ℕ). AreTold c.rounds.sum.rows.lanes c.look_each.new.told (rows_of_round p c.now-start.result n)) (sym c.now-end.ensures.value)
-    (subst (λ (n : ℕ). AreTold c.rounds.sum.rows.lanes c.look_each.new.told (rows_of_round p n end)) (sym c.now-start.ensures.value) told)
+    subst (λ (n : ℕ). AreChangesTold c.rounds.sum.rows.lanes c.look_each.new.told (rows_of_round p c.now-start.result n)) (sym c.now-end.ensures.value)
+    (subst (λ (n : ℕ). AreChangesTold c.rounds.sum.rows.lanes c.look_each.new.told (rows_of_round p n end)) (sym c.now-start.ensures.value) told)
 
 pub rounds-preserved : goal.rounds-preserved
 rounds-preserved c =

@@ -2,7 +2,7 @@ use Rattle.std.proofs.lemmas.Result.{IfOk-from_err}
 use Rattle.std.proofs.Common.{◌≡◌, ◌≤◌, ◌+◌, ◌∷◌, ◌++◌, [], length, subst, sym, ◌∙◌, ap, arith}
 use Rattle.std.proofs.lemmas.List.{length-drop}
 use Rattle.trace_verdict.specs.Orders.{AreStarts}
-use Rattle.trace_verdict.specs.Searches.{IsFront}
+use Rattle.trace_verdict.specs.Searches.{AreFirstWithKey}
 use Rattle.trace_verdict.proofs.OverlapLemmas.{Rising-from_sorted}
 use Rattle.trace_verdict.proofs.StartLemmas.{Started, started_none, started_more, take_rest}
 use Rattle.trace_verdict.proofs.orders.starts_of.Goals as goal
@@ -25,7 +25,7 @@ pub loop-key-preserved : goal.loop-key-preserved
 loop-key-preserved c =
     subst (λ v. Started (c.loop-key.key + 1) (c.loop-key.at + c.front_len-at.result) v c.args.entries.now) (sym c.in_ok-push-2.ensures.items)
     (started_more c.loop-key.key c.loop-key.at c.front_len-at.result c.loop-key.starts.items c.args.entries.now c.loop-key.invariant
-    (subst (λ es. IsFront c.loop-key.key es c.front_len-at.result) (take_rest c.loop-key.at c.args.entries.now) c.front_len-at.ensures))
+    (subst (λ es. AreFirstWithKey c.loop-key.key es c.front_len-at.result) (take_rest c.loop-key.at c.args.entries.now) c.front_len-at.ensures))
 
 pub returns : goal.returns
 returns c =

@@ -1,7 +1,7 @@
 use Rattle.std.proofs.Common.{arith, ◌≡◌, ◌∙◌, ◌++◌, ap, sym, subst, length, map, take, drop}
 use Rattle.sched_base.specs.Tables.{IsRound, end_after}
 use Rattle.merged_rows.specs.Merging.{merged}
-use Rattle.merged_rows.specs.Columns.{MergedContents, lanes_up_to, showing_each, going_on_each, AreTold}
+use Rattle.merged_rows.specs.Columns.{MergedContents, lanes_up_to, showing_each, going_on_each, AreChangesTold}
 use Rattle.merged_rows.proofs.ColumnLemmas.{length-lanes_up_to, length-going_on_each, told_is, with_next, written_back}
 use Rattle.merged_rows.proofs.merging.MergedRows.with_changed.Goals as goal
 
@@ -21,7 +21,7 @@ returns-clause-merged c = λ lanes rows is round to told.
     let start = c.self.inside.end in
     let end = c.args.end in
     let said = c.args.told.now in
-    let told' : AreTold (lanes_up_to 0 start held.items) said rows = subst (λ (m : MergedContents). AreTold m.lanes said rows) (sym c.self.view_is) told in
+    let told' : AreChangesTold (lanes_up_to 0 start held.items) said rows = subst (λ (m : MergedContents). AreChangesTold m.lanes said rows) (sym c.self.view_is) told in
     let whole : length rows ≡ length held.items = told.long ∙ c.requires.whole ∙ ap (λ (m : MergedContents). length m.lanes) (sym c.self.view_is) ∙ length-lanes_up_to 0 start held.items in
     let round' : IsRound start rows = subst (λ (m : MergedContents). IsRound m.end rows) (sym c.self.view_is) round in
     let to' : end_after start rows ≡ end = subst (λ (m : MergedContents). end_after m.end rows ≡ end) (sym c.self.view_is) to in
