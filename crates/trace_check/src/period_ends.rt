@@ -7,9 +7,9 @@ use std::marker::Model;
 /// Some numbers. They are short ones, until one is raised past 64 bits: then they are all long ones.
 #[derive(Drop)]
 pub(crate) struct Ends {
-    alloc: Global,
     short: Vec<u64>,
     long: Vec<u128>,
+    alloc: Global,
 }
 
 impl Model for Ends {
@@ -27,9 +27,9 @@ impl Ends {
     {
         let short = vec![in alloc; 0u64; count]?;
         Ok(Ends {
-            alloc,
             short,
             long: Vec::new(alloc),
+            alloc,
         })
     }
 
