@@ -44,22 +44,13 @@ pub struct Waiters {
 }
 
 /// Where the worker of one lane sleeps. Each has a line of the processor's cache of its own.
+#[derive(Drop)]
 struct Sleeper {
     /// How often it was woken. The worker sleeps on it.
     calls: AtomicU64,
     /// How often it had been woken when the worker last looked into the book. Only the lane's own worker changes it.
     seen: AtomicU64,
     _rest_of_line: [u64; 6],
-}
-
-impl Drop for Sleeper {
-    fn drop(self) {
-        let Self {
-            calls: _,
-            seen: _,
-            _rest_of_line: _,
-        } = self;
-    }
 }
 
 impl Drop for Waiters {
