@@ -108,3 +108,16 @@ pub fn cut_number(text: &[u8]) -> Option<(u128, &[u8])>
     let (count, value) = more_digits(text, value);
     cut_digits(text, count, value)
 }
+
+/// The number at the front of a text and what follows the space after it, if they are there and the number has at most 18
+/// digits, as most have. It costs less than `cut_number`.
+#[inline(always)]
+pub fn cut_short_number(text: &[u8]) -> Option<(u64, &[u8])>
+    ensures { IfSome result (λ p. BeginsWith p.0 text.now p.1.now) }
+{
+    let (count, value) = front_digits(text);
+    if count >= SURE || count == text.len() || text[count] != b' ' || !leads(&text[..count]) {
+        return None;
+    }
+    Some((value, &text[count + 1..]))
+}

@@ -4,7 +4,7 @@ ghost use Rattle.sched_base.specs.Bytes.{space};
 ghost use Rattle.text_words.specs.Words.{BeginsWith};
 ghost use Rattle.trace_check.specs.KnownWords.{IsSpaced, IsRowFront, BeginsRowOf};
 
-use text_words::cut_number;
+use text_words::{cut_number, cut_short_number};
 
 /// A word with the space behind it, and the number that it writes.
 #[derive(Clone, Copy)]
@@ -283,13 +283,12 @@ pub(crate) fn cut_word<'a>(text: &'a [u8]) -> Option<(KnownWord<'a>, &'a [u8])>
     Some((KnownWord { word, number }, rest))
 }
 
-/// The number of 64 bits at the front of a text with its word, and what follows, if they are there.
+/// The number at the front of a text with its word, and what follows, if they are there and the number has at most 18 digits.
 #[inline(always)]
 pub(crate) fn cut_short<'a>(text: &'a [u8]) -> Option<(ShortWord<'a>, &'a [u8])>
     ensures { IfSome result (λ p. BeginsWith p.0.number text.now p.1.now) }
 {
-    let (number, rest) = cut_number(text)?;
-    let number = narrow(number)?;
+    let (number, rest) = cut_short_number(text)?;
     let word = &text[..text.len() - rest.len()];
     Some((ShortWord { word, number }, rest))
 }

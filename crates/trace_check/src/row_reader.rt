@@ -209,7 +209,8 @@ impl RowReader {
         Ok((rest, LastWords { front, end }))
     }
 
-    // Reads the row lines at the front whose numbers have few bits: what follows them, and the words of the last of them.
+    // Reads the row lines at the front whose numbers have few bits, where the last end has: what follows them, and the words of the
+    // last of them.
     #[inline(never)]
     fn take_short<'a>(
         &mut self,
@@ -223,6 +224,9 @@ impl RowReader {
         ensures read { IfOk result (λ p. (whole : List ℕ) → AreRowsOf set.now.tasks whole self.old.rows self.old.totals.items text.now
             → AreRowsOf set.now.tasks whole self.new.rows self.new.totals.items p.0.now) }
     {
+        if last.end.short().is_none() {
+            return Ok((text, last));
+        }
         let (mut rest, mut last) = self.take_run(set, last, text)?;
         while let Some((words, known)) = short_words(set, &self.table, rest)
             && let Some(row) = run_row(set, &self.rows, &self.totals, &words)
