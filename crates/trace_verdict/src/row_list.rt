@@ -294,17 +294,17 @@ impl RowList {
                 return Ok(());
             }
         }
-        self.push_wide(row)
+        self.push_wide(*row)
     }
 
     // Appends a row as it is.
     #[cold]
     #[inline(never)]
-    fn push_wide(&mut self, row: &Row) -> Result<(), AllocError>
-        ensures { OnOk result (self.new ≡ self.old ++ row.now ∷ []) }
+    fn push_wide(&mut self, row: Row) -> Result<(), AllocError>
+        ensures { OnOk result (self.new ≡ self.old ++ row ∷ []) }
     {
         self.long.reserve(1)?;
-        self.long.push_reserved(*row);
+        self.long.push_reserved(row);
         Ok(())
     }
 
