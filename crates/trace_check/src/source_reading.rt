@@ -30,6 +30,9 @@ use trace_verdict::{FIRST_TASK_LINE, RowList};
 /// How many bytes are ahead before the lines before the row lines are read. Right ones have fewer.
 const FRONT_ROOM: usize = 32_768;
 
+/// How many bytes behind the row lines are ahead before they are read, so that it is known whether they are few.
+const TAIL_ROOM: usize = 32_768;
+
 /// Why no more row lines are taken of a source, and whether it is known to be at its end.
 #[derive(Clone, Copy)]
 struct RowsStop {
@@ -55,7 +58,7 @@ fn read_rows<R: Source>(
     loop {
         let stop = rows.take_from(set, window)?;
         if !stop.is_cut() {
-            let ended = !window.fill(source, FRONT_ROOM)?;
+            let ended = !window.fill(source, TAIL_ROOM)?;
             return Ok(RowsStop { stop, ended });
         }
         let least = 2 * window.ahead().len() + 1;
