@@ -84,12 +84,12 @@ skips_more a b c fa fb fc w v e u s count limit f on =
       later = omega (arith, later, on);
     }
 
-pub skips_rest : (a b : Option (List ℕ)) (fa fb : ℕ) (w v : WindowHeld) → Skips a b fa fb w v → IsAtEnd b → (more : List ℕ) × GaveRest a b w more
+pub skips_rest : (a b : Option (List ℕ)) (fa fb : ℕ) (w v : WindowHeld) → Skips a b fa fb w v → IsAtEnd b → (more : List ℕ) × GaveRest a b w more × (v.count ≡ w.count + length more)
 skips_rest a b fa fb w v s end =
     let n = s.count in
     let l = s.limit in
     let within = s.within in
-    (s.more, record { gave = s.gave; ended = end; within = omega (arith, n, l, within) })
+    (s.more, record { gave = s.gave; ended = end; within = omega (arith, n, l, within) }, n)
 
 pub skips_stop : (a b c : Option (List ℕ)) (fa fb fc : ℕ) (w v e : WindowHeld) (fault : TakeFault) → Skips a b fa fb w v → e.count ≡ v.count → e.limit ≡ v.limit → StopsFilling b c fb fc e fault
     → StopsFilling a c fa fc w fault

@@ -1,5 +1,5 @@
 //! The window.
-ghost use Rattle.std.specs.Prelude.{ℕ, ◌≡◌, ◌≤◌, ◌<◌, ◌^◌, List, [], ◌∷◌, ◌++◌, drop, length, IfOk, IfErr, OnOk, true, false};
+ghost use Rattle.std.specs.Prelude.{ℕ, ◌≡◌, ◌≤◌, ◌<◌, ◌+◌, ◌^◌, List, [], ◌∷◌, ◌++◌, drop, length, IfOk, IfErr, OnOk, true, false};
 ghost use Rattle.sched_base.specs.Bytes.{line_feed};
 ghost use Rattle.std.specs.Io.KnownBytes.{IsAtEnd};
 ghost use Rattle.text_words.specs.Words.{lines_of};
@@ -139,7 +139,9 @@ impl Window {
     pub fn skip_all<R: Source>(&mut self, source: &mut R) -> Result<(), TakeFault>
         requires within { self.old.count ≤ self.old.limit }
         requires small { self.old.limit < 2 ^ 63 }
-        ensures rest { OnOk result ((more : List ℕ) × GaveRest (R.left source.old) (R.left source.new) self.old more) }
+        ensures rest { OnOk result ((more : List ℕ) × GaveRest (R.left source.old) (R.left source.new) self.old more
+            × (self.new.count ≡ self.old.count + length more)) }
+        ensures limit { OnOk result (self.new.limit ≡ self.old.limit) }
         ensures stops { IfErr result (StopsFilling (R.left source.old) (R.left source.new) (R.faults source.old) (R.faults source.new) self.old) }
         ensures later { R.faults source.old ≤ R.faults source.new }
     {

@@ -51,7 +51,7 @@ returns-then-taken-2-clause-read g c =
     let now = set_now _ _ _ _ _ _ false _ _ _ _ _ c.if-at_end.false going in
     let other = set_other c.loop-at_end.at_end false (left_at t taken.place) c.ahead.result.now c.loop-at_end.window.ahead c.pass.new.self.ahead taken.gone c.if-at_end.false c.ahead.ensures c.pass.ensures.ahead
     (c.take-taken.ensures.other c.if-taken-2.true) in
-    tail_skipped _ _ _ _ _ _ _ _ _ _ _ now other c.in_ok-skip_all.ensures.rest
+    tail_skipped _ _ _ _ _ _ _ _ _ _ _ now other (c.in_ok-skip_all.ensures.rest.0, c.in_ok-skip_all.ensures.rest.1)
 
 pub returns-in_err-at_end-clause-stops : goal.returns-in_err-at_end-clause-stops
 returns-in_err-at_end-clause-stops g c =

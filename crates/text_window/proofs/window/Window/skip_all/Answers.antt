@@ -12,6 +12,11 @@ returns-then-not-branch-clause-rest g c =
     let on = skips_more _ _ _ _ _ _ c.args.self.now c.loop.self c.pass.new.self c.read_on.new.self c.loop.invariant c.pass.ensures.count c.pass.ensures.limit c.in_ok-read_on.ensures.fills c.in_ok-read_on.ensures.later in
     skips_rest _ _ _ _ c.args.self.now c.read_on.new.self on (c.in_ok-read_on.ensures.end c.if-not-branch.true)
 
+pub returns-then-not-branch-clause-limit : goal.returns-then-not-branch-clause-limit
+returns-then-not-branch-clause-limit g c =
+    let on = skips_more _ _ _ _ _ _ c.args.self.now c.loop.self c.pass.new.self c.read_on.new.self c.loop.invariant c.pass.ensures.count c.pass.ensures.limit c.in_ok-read_on.ensures.fills c.in_ok-read_on.ensures.later in
+    on.limit
+
 pub loop-preserved : goal.loop-preserved
 loop-preserved g c =
     skips_more _ _ _ _ _ _ c.args.self.now c.loop.self c.pass.new.self c.read_on.new.self c.loop.invariant c.pass.ensures.count c.pass.ensures.limit c.in_ok-read_on.ensures.fills c.in_ok-read_on.ensures.later
