@@ -31,7 +31,7 @@ put_others i j (Some k ∷ onto) ne = ap (λ (b : Bool). is_at (Some k) j || b) 
 pub is_held_at : (onto : List (Option ℕ)) (p i : ℕ) → get_or onto p None ≡ Some i → is_held onto i ≡ true
 is_held_at onto p i at = list_any_at (λ o. is_at o i) onto p None (holds_within onto p i at) (some_is_at (get_or onto p None) i at)
 
--- the pack is noted where it was put, and no other list changes
+-- nothing is noted anew, or the pack where it was put
 abbrev pub IsPutNoted : List (Option ℕ) → List (Option ℕ) → List (Option ℕ) → Bool → ℕ → ℕ → Type 0
 IsPutNoted onto' last last' put next i = (last' ≡ last) ⊎ ((put ≡ true) × ((p : ℕ) × (p + 1 ≡ next) × (get_or onto' p None ≡ Some i) × (last' ≡ set last i (Some p))))
 
