@@ -661,7 +661,10 @@ static inline void fl_run_ready(struct fl_execution *in, struct fl_worker *self,
     fl_put_back(in, lane, why);
     if (why == 0)
         fl_note_post(in, lane, &row);
-    fl_go_on(in, lane);
+    if (lane->status == FL_DONE)
+        fl_lay_out(in, lane);
+    else
+        fl_go_on(in, lane);
     if (is_timed)
         fl_judge(in, began, ended);
 }
