@@ -198,7 +198,8 @@ pub(crate) fn run_row(
     requires count { length totals.now ≡ length _set.now.tasks }
     requires leaf { leaf_named _set.now.tasks words.now.words.name.now ≡ Some words.now.leaf }
     requires known { (j : ℕ) → leaf_key words.now.leaf ≡ Some j → j < length _set.now.tasks }
-    ensures row { IfSome result (λ r. Some r ≡ row_from _set.now.tasks rows.now words.now.words.processor words.now.words.start words.now.words.end words.now.words.name.now) }
+    ensures row { IfSome result (λ r. Some r
+        ≡ row_from _set.now.tasks rows.now words.now.words.processor words.now.words.start words.now.words.end words.now.words.name.now) }
     ensures read { IfSome result (IsRead _set.now.tasks rows.now) }
 {
     let (start, end) = (words.start, words.end.number);

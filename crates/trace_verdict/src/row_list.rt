@@ -1,5 +1,6 @@
 //! A list of rows that takes a third of the memory where their ticks have at most 64 bits.
-ghost use Rattle.std.specs.Prelude.{◌≡◌, ◌+◌, ◌*◌, ◌<◌, ◌≤◌, nat_le, ◌++◌, ◌∷◌, [], length, map, is_some, vec_len, vec_capacity, IfSome, IfOk, OnOk};
+ghost use Rattle.std.specs.Prelude.{◌≡◌, ◌+◌, ◌*◌, ◌<◌, ◌≤◌, nat_le, ◌++◌, ◌∷◌, [], length, map, is_some, IfSome, IfOk, OnOk};
+ghost use Rattle.std.specs.Prelude.{vec_len, vec_capacity};
 ghost use Rattle.trace_verdict.specs.Faults.{row_at};
 ghost use Rattle.trace_verdict.specs.Orders.{task_key};
 ghost use Rattle.trace_verdict.specs.RowLists.{leaf_for, row_for};
