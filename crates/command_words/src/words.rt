@@ -30,11 +30,11 @@ pub fn reading_of(alloc: Global, words: &[String]) -> Result<Option<Reading>, No
     ensures some { IfOk result (λ reading. IfSome reading DrawsSomeUnit) }
 {
     match read_line(alloc, words)? {
+        None => Ok(None),
         Some(Command::Read(reading)) if is_reading(reading, words) => Ok(Some(reading)),
         Some(Command::Read(_)) => Ok(None),
         Some(Command::Batch) => Ok(None),
         Some(Command::Execute(_)) => Ok(None),
-        None => Ok(None),
     }
 }
 
