@@ -22,10 +22,10 @@ const LATE_TASKS: Set = (2, 12, &[("a", 1, 3, 0), ("b", 1, 4, 1), ("c", 2, 6, 0)
 /// Two tasks on one processor, whose rounds come again after 12 units, up to the middle of one.
 const ONE_PROCESSOR: Set = (1, 29, &[("a", 2, 4, 0), ("b", 2, 6, 0)]);
 
-/// The same with an offset: no round is kept.
+/// Two tasks on one processor, one of them with an offset: no round is kept.
 const ONE_LATE: Set = (1, 29, &[("a", 2, 4, 0), ("b", 2, 6, 3)]);
 
-/// The same up to one hyperperiod: no round comes again.
+/// Two tasks on one processor up to one hyperperiod: no round comes again.
 const ONE_SHORT: Set = (1, 12, &[("a", 2, 4, 0), ("b", 2, 6, 0)]);
 
 /// How many events are played: enough for all rows of each set.

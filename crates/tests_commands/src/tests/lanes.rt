@@ -133,7 +133,7 @@ pub(super) enum Did {
     Unread(usize),
     /// No gate was called, and no job worked.
     Nothing,
-    /// The same, and the source has so many bytes still to give.
+    /// No gate was called and no job worked, and the source has so many bytes still to give.
     NothingRead(usize),
     /// The jobs worked these ticks.
     Worked(&'static [u128]),

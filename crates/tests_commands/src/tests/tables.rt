@@ -116,7 +116,7 @@ const PARTS: &[ShownCase] = &[
         ],
         "",
     ),
-    // Its rows don't come again.
+    // A set whose rows don't come again.
     (
         &[RESTLESS],
         "",
