@@ -11,8 +11,8 @@ pub row_line_is : (tasks : List Task) (r : Row)
 unfolding row_line line_of
 row_line_is tasks r = refl
 
--- the first words, three numbers and a name after what is there
+-- the first words and the start, and then the end and a name, after what is there
 pub row_in_pieces : (page p start end name : List ℕ)
-    → ((((((page ++ (codes "row " ++ (p ++ 32 ∷ []))) ++ start) ++ 32 ∷ []) ++ end) ++ 32 ∷ []) ++ name) ++ 10 ∷ []
+    → (page ++ ((codes "row " ++ (p ++ 32 ∷ [])) ++ (start ++ 32 ∷ []))) ++ ((end ++ 32 ∷ []) ++ (name ++ 10 ∷ []))
     ≡ page ++ (codes "row " ++ (p ++ (32 ∷ (start ++ (32 ∷ (end ++ (32 ∷ (name ++ 10 ∷ []))))))))
 row_in_pieces page p start end name = simp append_assoc

@@ -1,5 +1,6 @@
 -- The digits of a number, in parts.
-use Rattle.std.specs.Prelude.{ℕ, zero, suc, ◌≡◌, ◌<◌, ◌≤◌, ◌+◌, ◌-◌, ◌*◌, ◌/◌, ◌%◌, ◌^◌, ◌==◌, Bool, true, false, List, [], ◌∷◌, ◌++◌, length, take, decimal}
+use Rattle.std.specs.Prelude.{ℕ, zero, suc, ◌≡◌, ◌<◌, ◌≤◌, ◌+◌, ◌*◌, ◌/◌, ◌%◌, ◌^◌, List, [], ◌∷◌, ◌++◌, length, take, decimal}
+use Rattle.sched_base.specs.Bytes.{space}
 
 -- the last k digits of a number, those in front that are 0 too
 abbrev pub low_digits : ℕ → ℕ → List ℕ
@@ -15,11 +16,6 @@ abbrev pub front_digits : ℕ → List ℕ
 front_digits zero = []
 front_digits (suc n) = decimal (suc n)
 
--- a number's last digits: all where there are no others, else eight
-abbrev pub last_digits : Bool → ℕ → List ℕ
-last_digits true low = decimal low
-last_digits false low = low_digits 8 low
-
 -- the number has so many digits, and they are the first ones of the eight of the other number
 pub record IsRaised (number count raised : ℕ) : Type 0 where
   pub few : raised < 10 ^ 8
@@ -27,12 +23,14 @@ pub record IsRaised (number count raised : ℕ) : Type 0 where
   pub count_is : count ≡ length (decimal number)
   pub digits : take count (low_digits 8 raised) ≡ decimal number
 
--- these are the digits of the number: those of the front, and the last ones
-pub record AreHeld (number base top : ℕ) (front : List ℕ) (front_len : ℕ) (last : List ℕ) (last_len : ℕ) : Type 0 where
-  pub fits : number < 2 ^ 128
-  pub whole : base ≡ number / 10 ^ 8 * 10 ^ 8
-  pub above : top ≡ number / 10 ^ 16 * 10 ^ 16
-  pub front_fits : front_len ≤ 32
-  pub last_fits : last_len ≤ 8
-  pub front_is : take front_len front ≡ front_digits (number / 10 ^ 8)
-  pub last_is : take last_len last ≡ last_digits (base == 0) (number - base)
+-- the text begins with the digits of what is in front of a number's last eight digits
+pub record IsFront (number len : ℕ) (text : List ℕ) : Type 0 where
+  pub few : len ≤ 16
+  pub digits : take len text ≡ front_digits number
+
+-- the text begins with the number's digits, with a space behind them, and with those of such a front
+pub record IsHeld (number high high_len : ℕ) (text : List ℕ) (len : ℕ) : Type 0 where
+  pub front : IsFront high high_len text
+  pub few : len ≤ 40
+  pub digits : take len text ≡ decimal number
+  pub word : take (len + 1) text ≡ decimal number ++ space ∷ []

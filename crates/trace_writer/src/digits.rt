@@ -6,7 +6,7 @@ ghost use Rattle.trace_writer.specs.Digits.{IsRaised, low_digits, worth_of_four}
 pub(crate) const EIGHT: u64 = 100_000_000;
 
 /// Sixteen digits have as many values.
-pub(crate) const SIXTEEN: u64 = 10_000_000_000_000_000;
+const SIXTEEN: u64 = 10_000_000_000_000_000;
 
 /// What a number is multiplied by, with its last 43 bits dropped, in place of a division by 10^16: 2^117 divided by it.
 const RECIPROCAL: u128 = 16_615_349_947_311_448_411;
@@ -16,9 +16,9 @@ static PAIRS: [u8; 200] =
     *b"0001020304050607080910111213141516171819202122232425262728293031323334353637383940414243444546474849\
     5051525354555657585960616263646566676869707172737475767778798081828384858687888990919293949596979899";
 
-/// What is in front of a number's last sixteen digits, and these.
+// What is in front of a number's last sixteen digits, and these.
 #[inline(always)]
-pub(crate) fn cut(number: u128) -> (u128, u64)
+fn cut(number: u128) -> (u128, u64)
     ensures high { result.0 ≡ number / 10 ^ 16 }
     ensures low { result.1 ≡ number % 10 ^ 16 }
 {
@@ -57,8 +57,24 @@ fn cut_by_division(number: u128) -> (u128, u64)
 }
 
 /// Writes the digits of a number from place `at` on, and says where they end.
-#[inline(always)]
 pub(crate) fn put_number(bytes: &mut [u8], at: usize, number: u128) -> usize
+    requires room { at + 40 ≤ length bytes.old }
+    ensures end { result ≡ at + length (decimal number) }
+    ensures few { result ≤ at + 39 }
+    ensures text { take result bytes.new ≡ take at bytes.old ++ decimal number }
+{
+    if number <= u128::from(u64::MAX) {
+        return put_short(bytes, at, number as u64);
+    }
+    let (high, low) = cut(number);
+    let end = put_high(bytes, at, high);
+    put_sixteen(bytes, end, low);
+    end + 16
+}
+
+// So of one with 23 digits at most.
+#[inline(always)]
+fn put_high(bytes: &mut [u8], at: usize, number: u128) -> usize
     requires room { at + 24 ≤ length bytes.old }
     requires few { number < 10 ^ 23 }
     ensures end { result ≡ at + length (decimal number) }
@@ -70,7 +86,7 @@ pub(crate) fn put_number(bytes: &mut [u8], at: usize, number: u128) -> usize
     put_wide(bytes, at, number)
 }
 
-// So of one past 64 bits.
+// So of such a one past 64 bits.
 #[inline(never)]
 fn put_wide(bytes: &mut [u8], at: usize, number: u128) -> usize
     requires room { at + 24 ≤ length bytes.old }
@@ -140,9 +156,9 @@ pub(crate) fn put_few(bytes: &mut [u8], at: usize, number: u32) -> usize
     put_block(bytes, at, &eight_digits(raised), count)
 }
 
-/// How many digits a number has, and the number of eight digits that begins with these.
+// How many digits a number has, and the number of eight digits that begins with these.
 #[inline(always)]
-pub(crate) fn raised(number: u32) -> (usize, u32)
+fn raised(number: u32) -> (usize, u32)
     requires { number < 10 ^ 8 }
     ensures { IsRaised number result.0 result.1 }
 {
@@ -217,9 +233,9 @@ pub(crate) fn put_block(bytes: &mut [u8], at: usize, block: &[u8], len: usize) -
     at + len
 }
 
-/// The last eight digits of a number, those in front that are 0 too.
+// The last eight digits of a number, those in front that are 0 too.
 #[inline(always)]
-pub(crate) fn eight_digits(low: u32) -> [u8; 8]
+fn eight_digits(low: u32) -> [u8; 8]
     requires { low < 100_000_000 }
     ensures { result ≡ low_digits 8 low }
 {

@@ -54,15 +54,10 @@ pub(crate) fn add_row(page: &mut Page, pen: &mut Pen, set: &TaskSet, row: &Row)
     ensures { page.new ≡ page.old ++ row_line set.now.tasks row.now }
 {
     pen.lead.set(row.processor);
-    page.lead(&pen.lead);
     pen.tick.keep(row.start);
-    page.count(&pen.tick);
-    page.space();
+    page.begin_row(&pen.lead, &pen.tick);
     pen.tick.set(row.end);
-    page.count(&pen.tick);
-    page.space();
-    page.put_name(name_of(set, row.leaf));
-    page.end();
+    page.end_row(&pen.tick, name_of(set, row.leaf));
 }
 
 /// Adds the line of a period to a page that has room for any.
@@ -82,9 +77,8 @@ pub(crate) fn add_met(
     page.text(b"met ");
     page.put_name(name);
     page.space();
-    period.count_to(u128::from(k));
-    page.count(period);
-    page.space();
+    period.set(u128::from(k));
+    page.word(period);
     tick.set(finish);
     page.count(tick);
     page.end();

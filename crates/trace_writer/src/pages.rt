@@ -84,21 +84,44 @@ impl Page {
     /// Adds a number whose digits are kept.
     #[inline(always)]
     pub(crate) fn count(&mut self, count: &Count)
-        requires { length self.old + 40 ≤ 4096 }
+        requires { length self.old + 48 ≤ 4096 }
         ensures text { self.new ≡ self.old ++ decimal count.now }
         ensures short { length self.new ≤ length self.old + 40 }
     {
         self.len = count.put(&mut self.bytes, self.len);
     }
 
-    /// Adds the first words of a row's line.
+    /// Adds such a number and a space.
     #[inline(always)]
-    pub(crate) fn lead(&mut self, lead: &Lead)
-        requires { length self.old + 16 ≤ 4096 }
-        ensures text { self.new ≡ self.old ++ (codes "row " ++ (decimal lead.now ++ space ∷ [])) }
-        ensures short { length self.new ≤ length self.old + 16 }
+    pub(crate) fn word(&mut self, count: &Count)
+        requires { length self.old + 48 ≤ 4096 }
+        ensures text { self.new ≡ self.old ++ (decimal count.now ++ space ∷ []) }
+        ensures short { length self.new ≤ length self.old + 41 }
     {
-        self.len = lead.put(&mut self.bytes, self.len);
+        self.len = count.put_word(&mut self.bytes, self.len);
+    }
+
+    /// Adds a row's line up to its start, with the space behind it.
+    #[inline(always)]
+    pub(crate) fn begin_row(&mut self, lead: &Lead, start: &Count)
+        requires { length self.old + 64 ≤ 4096 }
+        ensures text { self.new ≡ self.old ++ ((codes "row " ++ (decimal lead.now ++ space ∷ [])) ++ (decimal start.now ++ space ∷ [])) }
+        ensures short { length self.new ≤ length self.old + 57 }
+    {
+        let at = lead.put(&mut self.bytes, self.len);
+        self.len = start.put_word(&mut self.bytes, at);
+    }
+
+    /// Adds the rest of a row's line, from its end on.
+    #[inline(always)]
+    pub(crate) fn end_row(&mut self, end: &Count, name: &[u8])
+        requires { length self.old + length name.now + 48 ≤ 4096 }
+        ensures { self.new ≡ self.old ++ ((decimal end.now ++ space ∷ []) ++ (name.now ++ line_feed ∷ [])) }
+    {
+        let at = end.put_word(&mut self.bytes, self.len);
+        let feed = put_name(&mut self.bytes, at, name);
+        self.bytes[feed] = b'\n';
+        self.len = feed + 1;
     }
 
     /// Adds the space between two words.

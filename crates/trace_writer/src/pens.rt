@@ -1,47 +1,41 @@
 //! What is kept from one line to the next.
-ghost use Rattle.std.specs.Prelude.{◌≡◌, ◌≤◌, ◌<◌, ◌+◌, ◌-◌, ◌/◌, ◌%◌, ◌^◌, ◌++◌, ◌∷◌, ◌==◌, [], codes, length, take, decimal};
+ghost use Rattle.std.specs.Prelude.{◌≡◌, ◌≤◌, ◌<◌, ◌+◌, ◌*◌, ◌^◌, ◌++◌, ◌∷◌, [], codes, length, take, decimal};
 ghost use Rattle.sched_base.specs.Bytes.{space};
-ghost use Rattle.trace_writer.specs.Digits.{front_digits, last_digits};
+ghost use Rattle.trace_writer.specs.Digits.{IsFront};
 
-use crate::digits::{
-    EIGHT, SIXTEEN, cut, eight_digits, put_block, put_eight, put_few, put_number, put_short, raised,
-};
+use crate::digits::{EIGHT, put_block, put_eight, put_few, put_number, put_short};
 use std::marker::Model;
 
-/// The last digits of a number: the first so many of these bytes.
+/// What is in front of a number's last eight digits, and how many digits that has: 0 has none.
 #[derive(Clone, Copy)]
-struct LastDigits {
-    bytes: [u8; 8],
+struct Front {
+    number: u64,
     len: usize,
 }
 
-/// A number whose decimal digits are kept: as long as those before the last eight stay, these alone are made anew for the next one, and
-/// as long as those before the last sixteen stay, these.
+/// A number as it stands in a line: its decimal digits, with a space behind them. As long as the digits before the last eight stay, these
+/// alone are made anew for the next number, and as long as those before the last sixteen stay, these.
 ///
 /// It is seen as the number.
 #[derive(Drop)]
 pub(crate) struct Count {
     number: u128,
-    /// The number, with 0 in place of its last eight digits.
-    base: u128,
-    /// The number, with 0 in place of its last sixteen digits.
-    top: u128,
-    /// The digits before the last eight, where there are any.
-    front: [u8; 32],
-    front_len: usize,
-    /// The other digits.
-    last: LastDigits,
+    /// Of a number within 64 bits; else 0.
+    front: Front,
+    text: [u8; 48],
+    /// How many digits there are.
+    len: usize,
 }
 
 impl Model for Count {
     ghost use Rattle.std.specs.Prelude.{ℕ};
-    ghost use Rattle.trace_writer.specs.Digits.{AreHeld};
+    ghost use Rattle.trace_writer.specs.Digits.{IsHeld};
 
     ghost Value = { ℕ };
 
     ghost view = { λ c. c.number };
 
-    ghost invariant = { λ c. AreHeld c.number c.base c.top c.front c.front_len c.last.bytes c.last.len };
+    ghost invariant = { λ c. IsHeld c.number c.front.number c.front.len c.text c.len };
 }
 
 impl Count {
@@ -49,16 +43,13 @@ impl Count {
     pub(crate) fn zero() -> Count
         ensures { result ≡ 0 }
     {
+        let mut text = [b' '; 48];
+        text[0] = b'0';
         Count {
             number: 0,
-            base: 0,
-            top: 0,
-            front: [0; 32],
-            front_len: 0,
-            last: LastDigits {
-                bytes: [48; 8],
-                len: 1,
-            },
+            front: Front { number: 0, len: 0 },
+            text,
+            len: 1,
         }
     }
 
@@ -68,7 +59,7 @@ impl Count {
         ensures { self.new ≡ number }
     {
         if number != self.number {
-            self.turn(number);
+            self.set(number);
         }
     }
 
@@ -77,168 +68,129 @@ impl Count {
     pub(crate) fn set(&mut self, number: u128)
         ensures { self.new ≡ number }
     {
-        if self.base <= number && number - self.base < u128::from(EIGHT) {
-            self.go_on(number);
-        } else {
-            self.turn(number);
-        }
-    }
-
-    /// Another number, mostly the next one.
-    #[inline(always)]
-    pub(crate) fn count_to(&mut self, number: u128)
-        ensures { self.new ≡ number }
-    {
-        let at = self.last.len - 1;
-        let digit = self.last.bytes[at];
-        if digit < b'9' && 0 < number && number - 1 == self.number {
-            self.last.bytes[at] = digit + 1;
-            self.number = number;
-        } else {
-            self.set(number);
-        }
-    }
-
-    // Any other number.
-    #[inline(never)]
-    fn turn(&mut self, number: u128)
-        ensures { self.new ≡ number }
-    {
-        if number < u128::from(SIXTEEN) {
-            self.turn_short(number as u64);
-        } else if 0 < self.top && self.top <= number && number - self.top < u128::from(SIXTEEN) {
-            self.turn_low(number);
-        } else {
-            self.turn_long(number);
-        }
-    }
-
-    // Another number of at most sixteen digits.
-    #[inline(always)]
-    fn turn_short(&mut self, number: u64)
-        requires { number < 10 ^ 16 }
-        ensures { self.new ≡ number }
-    {
-        let high = number / EIGHT;
-        let base = high * EIGHT;
-        self.front_len = put_some(&mut self.front, high as u32);
-        self.last = last_of((number - base) as u32, base == 0);
-        self.base = u128::from(base);
-        self.top = 0;
-        self.number = u128::from(number);
-    }
-
-    // Another number that has the same digits before the last sixteen, of which there are some.
-    #[inline(always)]
-    fn turn_low(&mut self, number: u128)
-        requires long { 10 ^ 16 ≤ self.old }
-        requires same { number / 10 ^ 16 ≡ self.old / 10 ^ 16 }
-        ensures { self.new ≡ number }
-    {
-        let rest = (number - self.top) as u64;
-        let middle = rest / EIGHT;
-        let low = rest - middle * EIGHT;
-        put_eight(&mut self.front, self.front_len - 8, middle as u32);
-        self.last = last_of(low as u32, false);
-        self.base = number - u128::from(low);
+        let (front, len) = put_digits(&mut self.text, self.front, number);
+        self.text[len] = b' ';
         self.number = number;
-    }
-
-    // Another number of more digits.
-    #[inline(always)]
-    fn turn_long(&mut self, number: u128)
-        requires long { 10 ^ 16 ≤ number }
-        ensures { self.new ≡ number }
-    {
-        let (len, rest) = put_front(&mut self.front, number);
-        let low = (rest % EIGHT) as u32;
-        let base = number - u128::from(low);
-        self.front_len = len;
-        self.last = last_of(low, base == 0);
-        self.base = base;
-        self.top = number - u128::from(rest);
-        self.number = number;
-    }
-
-    // Another number that has the same digits before the last eight.
-    #[inline(always)]
-    fn go_on(&mut self, number: u128)
-        requires { number / 10 ^ 8 ≡ self.old / 10 ^ 8 }
-        ensures { self.new ≡ number }
-    {
-        self.last = last_of((number - self.base) as u32, self.base == 0);
-        self.number = number;
+        self.front = front;
+        self.len = len;
     }
 
     /// Writes the digits from place `at` on, and says where they end.
     #[inline(always)]
     pub(crate) fn put(&self, bytes: &mut [u8], at: usize) -> usize
-        requires room { at + 40 ≤ length bytes.old }
+        requires room { at + 48 ≤ length bytes.old }
         ensures end { result ≤ at + 40 }
         ensures text { take result bytes.new ≡ take at bytes.old ++ decimal self.now }
     {
-        let front = self.front;
-        let end = put_block(bytes, at, &front, self.front_len);
-        put_block(bytes, end, &self.last.bytes, self.last.len)
+        let text = self.text;
+        put_block(bytes, at, &text, self.len)
     }
+
+    /// Writes the digits and the space from place `at` on, and says where they end.
+    #[inline(always)]
+    pub(crate) fn put_word(&self, bytes: &mut [u8], at: usize) -> usize
+        requires room { at + 48 ≤ length bytes.old }
+        ensures end { result ≤ at + 41 }
+        ensures text { take result bytes.new ≡ take at bytes.old ++ (decimal self.now ++ space ∷ []) }
+    {
+        let text = self.text;
+        put_block(bytes, at, &text, self.len + 1)
+    }
+}
+
+// Writes the digits of a number over those of another one that has this front. Says what the number's front is, and how many digits there are.
+#[inline(always)]
+fn put_digits(text: &mut [u8], front: Front, number: u128) -> (Front, usize)
+    requires room { 48 ≤ length text.old }
+    requires front { IsFront front.number front.len text.old }
+    ensures front { IsFront result.0.number result.0.len text.new }
+    ensures within { result.0.len ≤ result.1 }
+    ensures few { result.1 ≤ 40 }
+    ensures text { take result.1 text.new ≡ decimal number }
+{
+    if number <= u128::from(u64::MAX) {
+        return put_after_front(text, front, number as u64);
+    }
+    let len = put_number(text, 0, number);
+    (Front { number: 0, len: 0 }, len)
+}
+
+// So of a number within 64 bits.
+#[inline(always)]
+fn put_after_front(text: &mut [u8], front: Front, number: u64) -> (Front, usize)
+    requires room { 48 ≤ length text.old }
+    requires front { IsFront front.number front.len text.old }
+    ensures front { IsFront result.0.number result.0.len text.new }
+    ensures within { result.0.len ≤ result.1 }
+    ensures few { result.1 ≤ 40 }
+    ensures text { take result.1 text.new ≡ decimal number }
+{
+    let high = number / EIGHT;
+    let low = (number - high * EIGHT) as u32;
+    let front = turn_front(text, front, high);
+    let len = put_last(text, front, low);
+    (front, len)
+}
+
+// Writes the digits of what is in front of a number's last eight digits over those of another one.
+#[inline(always)]
+fn turn_front(text: &mut [u8], front: Front, number: u64) -> Front
+    requires room { 48 ≤ length text.old }
+    requires few { number < 10 ^ 16 }
+    requires front { IsFront front.number front.len text.old }
+    ensures front { IsFront result.number result.len text.new }
+    ensures number { result.number ≡ number }
+{
+    if number == front.number {
+        return front;
+    }
+    if EIGHT <= front.number && number / EIGHT == front.number / EIGHT {
+        put_eight(text, front.len - 8, (number % EIGHT) as u32);
+        return Front {
+            number,
+            len: front.len,
+        };
+    }
+    let len = put_front(text, number);
+    Front { number, len }
 }
 
 // Writes the digits of a number, and none of 0. How many these are.
 #[inline(always)]
-fn put_some(bytes: &mut [u8], number: u32) -> usize
-    requires few { number < 10 ^ 8 }
-    requires room { 32 ≤ length bytes.old }
-    ensures few { result ≤ 32 }
-    ensures text { take result bytes.new ≡ front_digits number }
+fn put_front(text: &mut [u8], number: u64) -> usize
+    requires few { number < 10 ^ 16 }
+    requires room { 48 ≤ length text.old }
+    ensures { IsFront number result text.new }
 {
     if number == 0 {
         return 0;
     }
-    put_few(bytes, 0, number)
+    put_short(text, 0, number)
 }
 
-// Writes the digits in front of a number's last eight, where there are others in front of its last sixteen. Says how many these are, and what
-// the last sixteen are.
+// Writes a number's last digits behind its front: all of them where it has no others, else eight. Says how many digits the number has.
 #[inline(always)]
-fn put_front(bytes: &mut [u8], number: u128) -> (usize, u64)
-    requires room { 32 ≤ length bytes.old }
-    requires long { 10 ^ 16 ≤ number }
-    ensures few { result.0 ≤ 32 }
-    ensures text { take result.0 bytes.new ≡ front_digits (number / 10 ^ 8) }
-    ensures rest { result.1 ≡ number % 10 ^ 16 }
+fn put_last(text: &mut [u8], front: Front, low: u32) -> usize
+    requires room { 48 ≤ length text.old }
+    requires low { low < 10 ^ 8 }
+    requires front { IsFront front.number front.len text.old }
+    ensures front { IsFront front.number front.len text.new }
+    ensures within { front.len ≤ result }
+    ensures few { result ≤ 40 }
+    ensures text { take result text.new ≡ decimal (front.number * 10 ^ 8 + low) }
 {
-    let (high, rest) = cut(number);
-    let end = put_number(bytes, 0, high);
-    put_eight(bytes, end, (rest / EIGHT) as u32);
-    (end + 8, rest)
-}
-
-// The last digits of a number and how many these are: all of them where it has no others, else eight.
-#[inline(always)]
-fn last_of(low: u32, alone: bool) -> LastDigits
-    requires { low < 10 ^ 8 }
-    ensures few { result.len ≤ 8 }
-    ensures text { take result.len result.bytes ≡ last_digits alone low }
-{
-    if alone {
-        let (len, raised) = raised(low);
-        LastDigits {
-            bytes: eight_digits(raised),
-            len,
-        }
-    } else {
-        LastDigits {
-            bytes: eight_digits(low),
-            len: 8,
-        }
+    if front.number == 0 {
+        return put_few(text, 0, low);
     }
+    put_eight(text, front.len, low);
+    front.len + 8
 }
 
 /// The first word of a row's line and its processor, with a space after each. It is seen as the processor.
 #[derive(Drop)]
 pub(crate) struct Lead {
     processor: u32,
-    bytes: [u8; 32],
+    bytes: [u8; 48],
     len: usize,
 }
 
@@ -258,12 +210,12 @@ impl Lead {
     pub(crate) fn of(processor: u32) -> Lead
         ensures { result ≡ processor }
     {
-        let mut bytes = [0; 32];
+        let mut bytes = [0; 48];
         bytes[0] = b'r';
         bytes[1] = b'o';
         bytes[2] = b'w';
         bytes[3] = b' ';
-        let end = put_short(&mut bytes, 4, u64::from(processor));
+        let end = put_number(&mut bytes, 4, u128::from(processor));
         bytes[end] = b' ';
         Lead {
             processor,

@@ -7,16 +7,11 @@ pub returns : goal.returns
 returns c =
     let r = c.args.row.now in
     rw (
-      c.end.ensures,
-      c.put_name.ensures,
+      c.end_row.ensures,
       c.name_of.ensures.name,
-      c.space-2.ensures,
-      c.count-2.ensures.text,
       c.set-2.ensures,
-      c.space.ensures,
-      c.count.ensures.text,
+      c.begin_row.ensures.text,
       c.keep.ensures,
-      c.lead.ensures.text,
       c.set.ensures,
       row_line_is c.args.set.now.tasks r,
     )
