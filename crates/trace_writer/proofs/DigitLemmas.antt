@@ -1,12 +1,10 @@
 -- Digits that are written in parts.
-use Rattle.std.proofs.Common.{ℕ, zero, suc, ◌+◌, ◌-◌, ◌*◌, ◌/◌, ◌%◌, ◌^◌, ◌<◌, ◌≤◌, ◌≡◌, Bool, true, ◌&&◌, T, eqb, eqb→eq, inl, inr, List, [], ◌∷◌, ◌++◌, length, take, get_or, refl, sym, ap, ◌∙◌, arith, append_assoc, append-nil, eq-zero-or-pos, length-append}
-use lib.Ieee.Fits.{and_l, and_r}
+use Rattle.std.proofs.Common.{ℕ, zero, suc, ◌+◌, ◌*◌, ◌/◌, ◌%◌, ◌^◌, ◌<◌, ◌≤◌, ◌≡◌, List, [], ◌∷◌, ◌++◌, length, take, refl, sym, ap, ◌∙◌, arith, append_assoc, append-nil, length-append}
 use Rattle.std.specs.Fmt.{decimal}
 use Rattle.std.proofs.Math.Nat.{mul_left_comm}
 use Rattle.std.proofs.lemmas.Fmt.{decimal_digit, decimal_step_wide}
 use Rattle.std.proofs.lemmas.List.{take_at}
 use Rattle.trace_writer.specs.Digits.{IsRaised, low_digits}
-use Rattle.trace_writer.specs.declared.digits.TheConstants.{PAIRS}
 
 -- 10 to the power of k
 abbrev pub powers : ℕ → ℕ
@@ -76,24 +74,6 @@ sixteen_length n long fits = ap length (sixteen_parts n long fits) ∙ length-ap
 -- the digits in front were written, and then the others
 pub then_written : (front back all old middle whole : List ℕ) → all ≡ front ++ back → middle ≡ old ++ front → whole ≡ middle ++ back → whole ≡ old ++ all
 then_written front back all old middle whole parts first last = last ∙ ap (λ xs. xs ++ back) first ∙ append_assoc old front back ∙ ap (λ ys. old ++ ys) (sym parts)
-
--- ---- the digits of numbers below a hundred
-
--- the pairs of the numbers below n are their two digits
-abbrev are_pairs : ℕ → Bool
-are_pairs zero = true
-are_pairs (suc p) = (eqb (get_or PAIRS (p * 2) 0) (48 + p / 10) && eqb (get_or PAIRS (p * 2 + 1) 0) (48 + p % 10)) && are_pairs p
-
-pair_below : (n p : ℕ) → T (are_pairs n) → p < n → (get_or PAIRS (p * 2) 0 ≡ 48 + p / 10) × (get_or PAIRS (p * 2 + 1) 0 ≡ 48 + p % 10)
-pair_below zero p t h = absurd (omega arith)
-pair_below (suc n) p t h =
-    elim (eq-zero-or-pos (n - p)) [
-      | inl z ↦ let e : p ≡ n = omega arith in let a = and_l _ (are_pairs n) t in rw e (eqb→eq _ _ (and_l _ _ a), eqb→eq _ _ (and_r _ _ a))
-      | inr g ↦ pair_below n p (and_r _ (are_pairs n) t) (omega arith)
-    ]
-
-pub pair_at : (p : ℕ) → p < 100 → (get_or PAIRS (p * 2) 0 ≡ 48 + p / 10) × (get_or PAIRS (p * 2 + 1) 0 ≡ 48 + p % 10)
-pair_at p h = pair_below 100 p tt h
 
 -- ---- numbers of at most eight digits
 

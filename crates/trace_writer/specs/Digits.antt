@@ -11,6 +11,10 @@ low_digits (suc k) n = low_digits k (n / 10) ++ (48 + n % 10) ∷ []
 abbrev pub worth_of_four : ℕ → ℕ
 worth_of_four n = 48 + n / 1000 + 256 * (48 + n / 100 % 10) + 65536 * (48 + n / 10 % 10) + 16777216 * (48 + n % 10)
 
+-- four numbers as one, sixteen bits for each, the first one lowest
+abbrev pub side_by_side : ℕ → ℕ → ℕ → ℕ → ℕ
+side_by_side a b c d = a + 65536 * (b + 65536 * (c + 65536 * d))
+
 -- the digits of what is in front of a number's last eight digits: none where it is 0
 abbrev pub front_digits : ℕ → List ℕ
 front_digits zero = []

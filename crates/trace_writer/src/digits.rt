@@ -1,6 +1,6 @@
 //! Decimal digits, written where they are to stand.
-ghost use Rattle.std.specs.Prelude.{◌≡◌, ◌≤◌, ◌<◌, ◌+◌, ◌*◌, ◌/◌, ◌%◌, ◌^◌, ◌++◌, length, take, decimal};
-ghost use Rattle.trace_writer.specs.Digits.{IsRaised, low_digits, worth_of_four};
+ghost use Rattle.std.specs.Prelude.{ℕ, ◌≡◌, ◌≤◌, ◌<◌, ◌+◌, ◌*◌, ◌/◌, ◌%◌, ◌^◌, ◌++◌, length, take, decimal};
+ghost use Rattle.trace_writer.specs.Digits.{IsRaised, low_digits, side_by_side, worth_of_four};
 
 /// Eight digits have as many values.
 pub(crate) const EIGHT: u64 = 100_000_000;
@@ -11,10 +11,8 @@ const SIXTEEN: u64 = 10_000_000_000_000_000;
 /// What a number is multiplied by, with its last 43 bits dropped, in place of a division by 10^16: 2^117 divided by it.
 const RECIPROCAL: u128 = 16_615_349_947_311_448_411;
 
-/// The digits of the numbers below a hundred, two for each.
-static PAIRS: [u8; 200] =
-    *b"0001020304050607080910111213141516171819202122232425262728293031323334353637383940414243444546474849\
-    5051525354555657585960616263646566676869707172737475767778798081828384858687888990919293949596979899";
+/// Eight bytes `0`.
+const ZEROS: u64 = 3_472_328_296_227_680_304;
 
 // What is in front of a number's last sixteen digits, and these.
 #[inline(always)]
@@ -239,28 +237,56 @@ fn eight_digits(low: u32) -> [u8; 8]
     requires { low < 100_000_000 }
     ensures { result ≡ low_digits 8 low }
 {
-    let front = four_digits(low / 10_000);
-    let back = four_digits(low % 10_000);
-    (front + back * 4_294_967_296).to_le_bytes()
+    word_of_eight(low).to_le_bytes()
 }
 
-// Four digits as the bytes of a number, the first digit lowest.
+// Eight digits as the bytes of a number, the first digit lowest.
 #[inline(always)]
-fn four_digits(number: u32) -> u64
-    requires { number < 10_000 }
-    ensures { result ≡ worth_of_four number }
+fn word_of_eight(low: u32) -> u64
+    requires { low < 100_000_000 }
+    ensures { result ≡ worth_of_four (low / 10_000) + worth_of_four (low % 10_000) * 4_294_967_296 }
 {
-    two_digits(number / 100) + two_digits(number % 100) * 65_536
+    let pairs = pairs_of(low / 10_000, low % 10_000);
+    ZEROS + pairs * 256 - tens_of(pairs) * 2_559
 }
 
-// Two digits as the bytes of a number, the first digit lowest.
+// Four digits and four more by twos, side by side.
 #[inline(always)]
-fn two_digits(number: u32) -> u64
-    requires { number < 100 }
-    ensures { result ≡ 48 + number / 10 + 256 * (48 + number % 10) }
+fn pairs_of(first: u32, second: u32) -> u64
+    requires first { first < 10_000 }
+    requires second { second < 10_000 }
+    ensures { result ≡ side_by_side (first / 100) (first % 100) (second / 100) (second % 100) }
 {
-    let at = number as usize * 2;
-    u64::from(PAIRS[at]) + 256 * u64::from(PAIRS[at + 1])
+    let halves = u64::from(first) + u64::from(second) * 4_294_967_296;
+    halves * 65_536 - hundreds_of(first, second) * 6_553_599
+}
+
+// How many hundreds two numbers of four digits have, 32 bits for each.
+#[inline(always)]
+fn hundreds_of(first: u32, second: u32) -> u64
+    requires first { first < 10_000 }
+    requires second { second < 10_000 }
+    ensures { result ≡ first / 100 + second / 100 * 4_294_967_296 }
+{
+    let halves = u64::from(first) + u64::from(second) * 4_294_967_296;
+    // 10486 hundredths are 2^20, nearly
+    let both = halves * 10_486 / 1_048_576;
+    both % 128 + both / 4_294_967_296 * 4_294_967_296
+}
+
+// How many tens four numbers of two digits have that stand side by side, and in the same way.
+#[inline(always)]
+fn tens_of(pairs: u64) -> u64
+    requires { pairs < 100 * 2 ^ 48 }
+    ensures { (a b c d : ℕ) → a < 100 → b < 100 → c < 100 → d < 100 → pairs ≡ side_by_side a b c d
+        → result ≡ side_by_side (a / 10) (b / 10) (c / 10) (d / 10) }
+{
+    // 103 tenths are 2^10, nearly
+    let all = pairs * 103 / 1_024;
+    all % 16
+        + all / 65_536 % 16 * 65_536
+        + all / 4_294_967_296 % 16 * 4_294_967_296
+        + all / 281_474_976_710_656 * 281_474_976_710_656
 }
 
 /// Writes a text at a place, and says where it ends. A short one is written by its first and its last bytes, which may be the same ones:
