@@ -1,5 +1,5 @@
 -- Packs that may show something else than before, by their marks.
-use Rattle.std.proofs.Common.{◌≡◌, ℕ, ◌-◌, ◌<◌, ◌≤◌, inl, inr, Bool, true, false, List, [], ◌∷◌, zero, suc, length, get_or, Option, None, Some, refl, sym, ap, subst, ◌∙◌, arith}
+use Rattle.std.proofs.Common.{◌≡◌, ℕ, ◌-◌, ◌<◌, ◌≤◌, ◌⊎◌, inl, inr, Bool, true, false, List, [], ◌∷◌, zero, suc, length, get_or, Option, None, Some, refl, sym, ap, subst, ◌∙◌, arith}
 use Rattle.std.proofs.lemmas.Bool.{both_ways}
 use Rattle.sched_base.specs.declared.rows.Leaf.{Leaf}
 use Rattle.sched_base.specs.declared.rows.Leaf.TheVariants.{Empty}
@@ -13,10 +13,11 @@ use Rattle.event_core.specs.Cores.{places_of}
 use Rattle.event_core.specs.Rounds.{IsRoundUpTo}
 use Rattle.event_core.proofs.RowsGone.{as_many, pack_within}
 use Rattle.event_core.proofs.SettledPacks.{same_start}
-use Rattle.merged_rounds.specs.Changes.{IsChange, IsNone}
+use Rattle.merged_rounds.specs.Changes.{IsNone}
 use Rattle.merged_rounds.specs.declared.turns.Turn.{Turn}
 use Rattle.merged_rounds.specs.Laps.{CanComeRound, IsAllTold, round_start}
 use Rattle.merged_rounds.specs.Replays.{AreHolding, AreStill, IsPackOn, IsTurnOf, packs_of, turn_end}
+use Rattle.merged_rounds.proofs.ChangeLemmas.{among}
 use Rattle.merged_rounds.proofs.ReplayLemmas.{leaf_of, onto_end}
 use Rattle.merged_rounds.proofs.ReplaySteps.{held_by, held_there}
 
@@ -59,13 +60,13 @@ module _ (p : PlanContents) (start end : ℕ) (seen changed : List ℕ) (n : ℕ
   pub none_seen : (q : ℕ) → IsNone changed n q → IsNone seen (length seen) q
   none_seen q away k m e = let l : k < n = omega (arith, m, many_seen) in away k l (sym (same k l) ∙ e)
 
-  holds_by : (q : ℕ) (o : Option Leaf) → q < p.tree.processors → IsChange p start end changed n q o → get_or holds' q None ≡ get_or (places_of p end).onto q None
-  holds_by q o l (inl (j, m, at, is)) =
+  holds_by : (q : ℕ) → q < p.tree.processors → ((k : ℕ) × (k < n) × (get_or changed k 0 ≡ q)) ⊎ IsNone changed n q → get_or holds' q None ≡ get_or (places_of p end).onto q None
+  holds_by q l (inl (j, m, at)) =
       subst (λ (i : ℕ). get_or holds' i None ≡ get_or (places_of p end).onto i None) (same j m ∙ at) (each j (omega (arith, m, many_seen)))
-  holds_by q o l (inr (none, away)) = rest q (none_seen q away) ∙ holding.each q l ∙ sym (placed q l away)
+  holds_by q l (inr away) = rest q (none_seen q away) ∙ holding.each q l ∙ sym (placed q l away)
 
-  pub holds_now : (told : List (Option Leaf)) → ((q : ℕ) → IsChange p start end changed n q (get_or told q None)) → length holds' ≡ length holds → AreHolding p end holds'
-  holds_now told each_told long = record { long = long ∙ holding.long; each = λ q l. holds_by q (get_or told q None) l (each_told q) }
+  pub holds_now : length holds' ≡ length holds → AreHolding p end holds'
+  holds_now long = record { long = long ∙ holding.long; each = λ q l. holds_by q l (among changed n q) }
 
 module _ (p : PlanContents) (h : IsPlan p) (can : CanComeRound p) (before start end : ℕ) (gone : IsRoundUpTo p before start) (leaves leaves' shows : List (Option Leaf))
     (all : IsAllTold p before start leaves) (on : (k : ℕ) → k < packs_of p → IsPackOn p before k (get_or shows k None)) (long : length shows ≡ packs_of p) (holds holds' : List (Option ℕ)) (holding : AreHolding p start holds)

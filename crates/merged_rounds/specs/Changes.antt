@@ -1,5 +1,5 @@
 -- Rounds of which it is known on which processors they may show something else than the ones before.
-use Rattle.std.specs.Prelude.{ℕ, ◌≡◌, ◌≢◌, ◌<◌, ◌≤◌, ◌⊎◌, true, List, length, Option, None, Some, slice_index, slice_index_or}
+use Rattle.std.specs.Prelude.{ℕ, ◌≡◌, ◌≢◌, ◌<◌, ◌≤◌, true, List, length, Option, None, Some, slice_index, slice_index_or}
 use Rattle.sched_base.specs.declared.rows.Leaf.{Leaf}
 use Rattle.sched_base.specs.declared.rows.Row.{Row}
 use Rattle.sched_base.specs.Tables.{lane_of}
@@ -35,17 +35,19 @@ pub record AreAllChanged (p : PlanContents) (start end : ℕ) (changed : List �
   pub others : (q before : ℕ) (none : Row) → q < p.tree.processors → IsNone changed n q → IsRoundUpTo p before start →
       leaf_at p start end q none ≡ leaf_at p before start q none
 
--- Processor q is one of the first n that changed, and this tells what it shows in the round from `start` up to `end`; or it is none of
--- them, and nothing is told.
-abbrev pub IsChange : PlanContents → ℕ → ℕ → List ℕ → ℕ → ℕ → Option Leaf → Type 0
-IsChange p start end changed n q told =
-    ((k : ℕ) × (k < n) × (slice_index changed k ≡ q) × ((none : Row) → told ≡ Some (leaf_at p start end q none))) ⊎ ((told ≡ None) × IsNone changed n q)
+-- of the first n of these processors it is told what they show in the round from `start` up to `end`, and of the others what it was
+pub record AreTold (p : PlanContents) (start end : ℕ) (changed : List ℕ) (n : ℕ) (before now : List (Option Leaf)) : Type 0 where
+  pub each : (k : ℕ) (none : Row) → k < n → slice_index_or now (slice_index changed k) None ≡ Some (leaf_at p start end (slice_index changed k) none)
+  pub rest : (q : ℕ) → IsNone changed n q → slice_index_or now q None ≡ slice_index_or before q None
 
--- The rounds up to the source's tick are merged and kept, nothing is told, and these are the leaves that processors show in the last one.
-pub record IsTurning (p : PlanContents) (source : Source) (so_far : RoundSum) (told : List (Option Leaf)) (kept : Turn)
-    (by_processor : List (Option Leaf)) : Type 0 where
+-- of each processor it is told what it shows in the round that ends at this tick
+pub record AreTheLeaves (p : PlanContents) (tick : ℕ) (told : List (Option Leaf)) : Type 0 where
+  pub long : length told ≡ p.tree.processors
+  pub all : (start : ℕ) → IsRoundUpTo p start tick → IsAllTold p start tick told
+
+-- The rounds up to the source's tick are merged and kept, and these are the leaves that processors show in the last one.
+pub record IsTurning (p : PlanContents) (source : Source) (so_far : RoundSum) (kept : Turn) (by_processor : List (Option Leaf)) : Type 0 where
   pub showing : IsShowing p source so_far
-  pub none : (q : ℕ) → slice_index_or told q None ≡ None
   pub turn : IsTurnOf p kept
   pub end : turn_end kept ≡ source.tick
-  pub leaves : (start : ℕ) → IsRoundUpTo p start source.tick → IsAllTold p start source.tick by_processor
+  pub leaves : AreTheLeaves p source.tick by_processor

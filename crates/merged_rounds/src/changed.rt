@@ -1,18 +1,18 @@
 //! The rounds of a plan in which no task waits, by the processors that may show something else than before.
-ghost use Rattle.std.specs.Prelude.{ℕ, ◌≡◌, ◌<◌, ◌≤◌, ◌⊎◌, length, IfErr, IfOk, None, slice_index, slice_index_or, vec_len};
+ghost use Rattle.std.specs.Prelude.{ℕ, ◌≡◌, ◌<◌, ◌≤◌, length, IfErr, IfOk, None, slice_index, slice_index_or, vec_len};
 ghost use Rattle.run_tree.specs.Plans.{stop_of};
 ghost use Rattle.run_tree.specs.Schedule.{packs_at};
 ghost use Rattle.event_core.specs.Cores.{places_of};
 ghost use Rattle.event_core.specs.Counts.{IsCountFault};
 ghost use Rattle.event_core.specs.Rounds.{IsRoundUpTo};
 ghost use Rattle.event_core.specs.Told.{AllReleased};
-ghost use Rattle.merged_rounds.specs.Changes.{AreAllChanged, IsChange, IsNone, IsShowing};
+ghost use Rattle.merged_rounds.specs.Changes.{AreAllChanged, AreTheLeaves, AreTold, IsNone, IsShowing};
 ghost use Rattle.merged_rounds.specs.Laps.{IsAllTold, IsSumUpTo};
 ghost use Rattle.merged_rounds.specs.Replays.{IsSourceOf};
 
-use crate::looks::{forget, look_all};
+use crate::looks::look_all;
 use crate::sources::Source;
-use crate::sums::{RoundSum, with_changed, with_round};
+use crate::sums::{RoundSum, add_changed, add_round};
 use event_core::CountFault;
 use run_tree::Plan;
 use sched_base::{Leaf, NoMemory};
@@ -49,24 +49,11 @@ fn look_changed(
     requires round { IsRoundUpTo plan.now start source.now.tick }
     requires within { (k : ℕ) → k < length changed.now → slice_index changed.now k < plan.now.tree.processors }
     requires told { length told.old ≡ plan.now.tree.processors }
-    requires none { (q : ℕ) → slice_index_or told.old q None ≡ None }
-    ensures { (q : ℕ) → IsChange plan.now start source.now.tick changed.now (length changed.now) q (slice_index_or told.new q None) }
+    ensures { AreTold plan.now start source.now.tick changed.now (length changed.now) told.old told.new }
 {
     for k in 0..changed.len() {
         let q = changed[k];
         told[q as usize] = Some(source.leaf_on(plan, start, q));
-    }
-}
-
-/// Nothing is told of any processor, where it was of these at most.
-#[inline(always)]
-pub(crate) fn forget_changed(changed: &[u32], told: &mut [Option<Leaf>])
-    requires within { (k : ℕ) → k < length changed.now → slice_index changed.now k < length told.old }
-    requires rest { (q : ℕ) → (slice_index_or told.old q None ≡ None) ⊎ ((k : ℕ) × (k < length changed.now) × (slice_index changed.now k ≡ q)) }
-    ensures { (q : ℕ) → slice_index_or told.new q None ≡ None }
-{
-    for k in 0..changed.len() {
-        told[changed[k] as usize] = None;
     }
 }
 
@@ -91,30 +78,31 @@ pub(crate) fn merge_whole(
     source.go(plan);
     look_all(plan, source, start, told);
     let end = source.now();
-    let sum = with_round(plan, first, start, end, told)?;
+    let mut sum = first;
+    add_round(plan, &mut sum, start, end, told)?;
     Ok(sum)
 }
 
-/// Goes on with one round, of which the processors are looked at that are told: how many they are, and of each it is told what it shows.
+/// Goes on with one round, of which the processors are looked at that are told: how many they are. What each processor shows is told.
 #[inline(always)]
 pub(crate) fn merge_telling(
     plan: &Plan,
     source: &mut Source,
     told: &mut [Option<Leaf>],
     changed: &mut [u32],
-    first: RoundSum,
-) -> Result<(RoundSum, usize), CountFault>
-    requires showing { IsShowing plan.now source.old first }
+    sum: &mut RoundSum,
+) -> Result<usize, CountFault>
+    requires showing { IsShowing plan.now source.old sum.old }
     requires early { source.old.tick < stop_of plan.now }
-    requires told { length told.old ≡ plan.now.tree.processors }
-    requires none { (q : ℕ) → slice_index_or told.old q None ≡ None }
+    requires told { AreTheLeaves plan.now source.old.tick told.old }
     requires room { length changed.old ≡ length (packs_at plan.now.tree 0) }
-    ensures showing { IfOk result (λ pair. IsShowing plan.now source.new pair.0) }
+    ensures showing { IfOk result (λ _. IsShowing plan.now source.new sum.new) }
     ensures round { IfOk result (λ _. IsRoundUpTo plan.now source.old.tick source.new.tick) }
-    ensures changed { IfOk result (λ pair. AreAllChanged plan.now source.old.tick source.new.tick changed.new pair.1) }
-    ensures placed { IfOk result (λ pair. (q : ℕ) → q < plan.now.tree.processors → IsNone changed.new pair.1 q →
+    ensures changed { IfOk result (λ count. AreAllChanged plan.now source.old.tick source.new.tick changed.new count) }
+    ensures placed { IfOk result (λ count. (q : ℕ) → q < plan.now.tree.processors → IsNone changed.new count q →
         slice_index_or (places_of plan.now source.new.tick).onto q None ≡ slice_index_or (places_of plan.now source.old.tick).onto q None) }
-    ensures told { IfOk result (λ pair. (q : ℕ) → IsChange plan.now source.old.tick source.new.tick changed.new pair.1 q (slice_index_or told.new q None)) }
+    ensures told { IfOk result (λ _. AreTheLeaves plan.now source.new.tick told.new) }
+    ensures still { IfOk result (λ count. (q : ℕ) → IsNone changed.new count q → slice_index_or told.new q None ≡ slice_index_or told.old q None) }
     ensures fault { IfErr result (λ fault. IsCountFault plan.now fault) }
 {
     let start = source.now();
@@ -122,11 +110,11 @@ pub(crate) fn merge_telling(
     let seen = first_of(changed, count);
     look_changed(plan, source, start, seen, told);
     let end = source.now();
-    let sum = with_changed(plan, first, start, end, seen, told)?;
-    Ok((sum, count))
+    add_changed(plan, sum, start, end, seen, told)?;
+    Ok(count)
 }
 
-// Goes on with rounds up to the first that begins at tick `until` or later, or to the end of all. What is told of one is forgotten then.
+// Goes on with rounds up to the first that begins at tick `until` or later, or to the end of all. What each processor shows is told.
 fn merge_changed(
     plan: &Plan,
     source: &mut Source,
@@ -137,8 +125,7 @@ fn merge_changed(
 ) -> Result<RoundSum, CountFault>
     requires showing { IsShowing plan.now source.old first }
     requires until { until ≤ stop_of plan.now }
-    requires told { length told.old ≡ plan.now.tree.processors }
-    requires none { (q : ℕ) → slice_index_or told.old q None ≡ None }
+    requires told { AreTheLeaves plan.now source.old.tick told.old }
     requires room { length changed.old ≡ length (packs_at plan.now.tree 0) }
     ensures showing { IfOk result (λ sum. IsShowing plan.now source.new sum) }
     ensures reached { IfOk result (λ _. until ≤ source.new.tick) }
@@ -146,9 +133,7 @@ fn merge_changed(
 {
     let mut sum = first;
     'rounds: while source.now() < until {
-        let (next, count) = merge_telling(plan, source, told, changed, sum)?;
-        forget_changed(first_of(changed, count), told);
-        sum = next;
+        let _count = merge_telling(plan, source, told, changed, &mut sum)?;
     }
     Ok(sum)
 }
@@ -178,6 +163,5 @@ pub(crate) fn merge_released(
     }
     let mut changed = room_for_told(alloc, plan)?;
     let sum = merge_whole(plan, source, told, first)?;
-    forget(told);
     merge_changed(plan, source, told, &mut changed, sum, until)
 }

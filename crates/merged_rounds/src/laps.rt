@@ -7,7 +7,7 @@ ghost use Rattle.merged_rounds.specs.Replays.{IsSourceOf};
 
 use crate::looks::look_all;
 use crate::sources::Source;
-use crate::sums::{RoundSum, with_round};
+use crate::sums::{RoundSum, add_round};
 use event_core::CountFault;
 use run_tree::Plan;
 use sched_base::{Leaf, NoMemory};
@@ -78,7 +78,7 @@ pub(crate) fn merge_lap(
         source.go(plan);
         look_all(plan, source, start, told);
         let end = source.now();
-        sum = with_round(plan, sum, start, end, told)?;
+        add_round(plan, &mut sum, start, end, told)?;
         lap = keep_round(lap, end, told)?;
     }
     Ok((sum, lap))
@@ -111,30 +111,30 @@ pub(crate) fn end_of(ends: &[u128], i: usize, shift: u128, stop: u128) -> u128
     (ends[i] + shift).min(stop)
 }
 
-// With round i of a lap that comes again: cut at the end of all rounds, and no round behind that.
+// Adds round i of a lap that comes again: cut at the end of all rounds, and no round behind that.
 #[inline(always)]
-fn with_lap_round(
+fn add_lap_round(
     plan: &Plan,
     lap: &Lap,
     again: Later,
-    sum: RoundSum,
+    sum: &mut RoundSum,
     i: usize,
-) -> Result<RoundSum, CountFault>
+) -> Result<(), CountFault>
     requires again { IsLapAgain plan.now again lap.now }
     requires early { again.ticks ≤ stop_of plan.now }
     requires round { i < length lap.now.ends.items }
-    requires sum { IsSumUpTo plan.now (min (round_start again.from lap.now.ends.items i + again.ticks) (stop_of plan.now)) sum }
-    ensures sum { IfOk result (λ sum. IsSumUpTo plan.now (min (round_start again.from lap.now.ends.items (i + 1) + again.ticks) (stop_of plan.now)) sum) }
+    requires sum { IsSumUpTo plan.now (min (round_start again.from lap.now.ends.items i + again.ticks) (stop_of plan.now)) sum.old }
+    ensures sum { IfOk result (λ _. IsSumUpTo plan.now (min (round_start again.from lap.now.ends.items (i + 1) + again.ticks) (stop_of plan.now)) sum.new) }
     ensures fault { IfErr result (λ fault. IsCountFault plan.now fault) }
 {
     let stop = plan.rounds_end();
     let start = start_of(&lap.ends, again.from, i) + again.ticks;
     if start >= stop {
-        return Ok(sum);
+        return Ok(());
     }
     let end = end_of(&lap.ends, i, again.ticks, stop);
     let told = told_in(&lap.told, plan.tree().processors() as usize, i);
-    with_round(plan, sum, start, end, told)
+    add_round(plan, sum, start, end, told)
 }
 
 // With the rounds of a lap that comes again, up to the end of all rounds.
@@ -147,7 +147,7 @@ fn with_lap(plan: &Plan, lap: &Lap, again: Later, first: RoundSum) -> Result<Rou
 {
     let mut sum = first;
     for i in 0..lap.ends.len() {
-        sum = with_lap_round(plan, lap, again, sum, i)?;
+        add_lap_round(plan, lap, again, &mut sum, i)?;
     }
     Ok(sum)
 }

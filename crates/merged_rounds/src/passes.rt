@@ -19,7 +19,7 @@ use crate::releases::last_release;
 use crate::searches::{merge_until_again, turn_of};
 use crate::sources::{Source, source_of, with_turn};
 use crate::standings::standing_at;
-use crate::sums::{RoundSum, all_rounds, no_rounds, with_round};
+use crate::sums::{RoundSum, add_round, all_rounds, no_rounds};
 use crate::turns::{merge_turn, no_turn};
 use event_core::{Core, CountFault};
 use merged_rows::MergedRows;
@@ -60,9 +60,6 @@ fn forget_nodes(kept: &mut [Option<NodeId>])
     }
 }
 
-// With so few processors it costs least to look at each of them in each round.
-const FEW: u32 = 2;
-
 /// Goes on with rounds up to the first that begins at tick `until` or later, or to the end of all. Of each processor a node is kept
 /// that shows what it did last; `told` is overwritten.
 pub(crate) fn merge_up_to(
@@ -84,9 +81,6 @@ pub(crate) fn merge_up_to(
 {
     if source.replays(plan) {
         return merge_changes(alloc, plan, source, kept, told, first, until);
-    }
-    if plan.tree().processors() <= FEW {
-        return merge_computed(plan, source, kept, told, first, until);
     }
     let released = until.min(last_release(plan));
     let sum = merge_computed(plan, source, kept, told, first, released)?;
@@ -163,7 +157,7 @@ fn merge_looking(
         core.go(plan);
         look_each(plan, core, start, kept, told);
         let end = core.now();
-        sum = with_round(plan, sum, start, end, told)?;
+        add_round(plan, &mut sum, start, end, told)?;
     }
     Ok(sum)
 }
@@ -220,6 +214,9 @@ fn computed(alloc: Global, plan: &Plan, core: Core) -> Result<Source, NoMemory>
 {
     source_of(alloc, plan, core, no_turn(alloc, plan)?, false)
 }
+
+// With so few processors it costs most to keep rounds: they are computed again.
+const FEW: u32 = 2;
 
 // Goes on for a hyperperiod of so many ticks, where there are more than a few processors and no task has an offset, and tells where
 // further rounds come from: by that one's where it is kept.

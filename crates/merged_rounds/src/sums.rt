@@ -1,11 +1,11 @@
 //! The rounds so far, merged and counted.
-ghost use Rattle.std.specs.Prelude.{ℕ, ◌≡◌, ◌≢◌, ◌<◌, ◌≤◌, ◌+◌, ◌*◌, true, length, IfErr, IfOk, None, Some, slice_get, slice_index, slice_index_or};
+ghost use Rattle.std.specs.Prelude.{ℕ, ◌≡◌, ◌<◌, ◌≤◌, ◌+◌, ◌*◌, true, length, IfErr, IfOk, Some, slice_get, slice_index};
 ghost use Rattle.sched_base.specs.declared.rows.Row.{Row as DeclaredRow};
 ghost use Rattle.sched_base.specs.Tables.{lane_of, row_limit};
 ghost use Rattle.run_tree.specs.Plans.{IsPlan, rounds_of, stop_of};
 ghost use Rattle.event_core.specs.Counts.{IsCountFault};
 ghost use Rattle.event_core.specs.Rounds.{IsRoundUpTo, rows_of_round};
-ghost use Rattle.merged_rows.specs.Columns.{AreChangesTold, ends_showing};
+ghost use Rattle.merged_rows.specs.Columns.{AreChangesTold, AreShown, ends_showing};
 ghost use Rattle.merged_rows.specs.Lawful.{AreLawful};
 ghost use Rattle.merged_rounds.specs.Passes.{AreMergedOf};
 ghost use Rattle.merged_rounds.specs.Laps.{IsSumUpTo};
@@ -53,53 +53,54 @@ fn next_count(plan: &Plan, sum: &RoundSum, start: u128, end: u128) -> Result<u64
     Ok(count)
 }
 
-/// With the round from `start` up to tick `end`, where there is room for its rows. Of each processor it is told what it shows there,
-/// or nothing where its last row shows the same. The start is only spoken of.
+/// Adds the round from `start` up to tick `end`, where there is room for its rows. Of each processor it is told what it shows there, or
+/// nothing where its last row shows the same. The start is only spoken of.
 #[inline(always)]
-pub(crate) fn with_round(
+pub(crate) fn add_round(
     plan: &Plan,
-    sum: RoundSum,
+    sum: &mut RoundSum,
     start: u128,
     end: u128,
     told: &[Option<Leaf>],
-) -> Result<RoundSum, CountFault>
-    requires sum { IsSumUpTo plan.now start sum }
+) -> Result<(), CountFault>
+    requires sum { IsSumUpTo plan.now start sum.old }
     requires round { IsRoundUpTo plan.now start end }
-    requires told { AreChangesTold sum.rows.lanes told.now (rows_of_round plan.now start end) }
-    ensures sum { IfOk result (λ next. IsSumUpTo plan.now end next) }
-    ensures ends { IfOk result (λ next. (q : ℕ) (r : DeclaredRow) → slice_get (rows_of_round plan.now start end) q ≡ Some r →
-        ends_showing (lane_of next.rows.lanes q) r.leaf ≡ true) }
+    requires told { AreChangesTold sum.old.rows.lanes told.now (rows_of_round plan.now start end) }
+    ensures sum { IfOk result (λ _. IsSumUpTo plan.now end sum.new) }
+    ensures ends { IfOk result (λ _. (q : ℕ) (r : DeclaredRow) → slice_get (rows_of_round plan.now start end) q ≡ Some r →
+        ends_showing (lane_of sum.new.rows.lanes q) r.leaf ≡ true) }
     ensures fault { IfErr result (λ fault. IsCountFault plan.now fault) }
 {
-    let rounds = next_count(plan, &sum, start, end)?;
-    let rows = sum.rows.with_round(end, told)?;
-    Ok(RoundSum { rows, rounds })
+    let rounds = next_count(plan, sum, start, end)?;
+    sum.rows.add_round(end, told)?;
+    sum.rounds = rounds;
+    Ok(())
 }
 
-/// With the round from `start` up to tick `end`, where there is room for its rows. The processors of which something is told are listed, and it costs
-/// time for these alone; one may stand there twice.
+/// Adds the round from `start` up to tick `end`, where there is room for its rows, given what each processor shows there. Those are listed
+/// that may show something else than their last rows, and it costs time for these alone; one may stand there twice.
 #[inline(always)]
-pub(crate) fn with_changed(
+pub(crate) fn add_changed(
     plan: &Plan,
-    sum: RoundSum,
+    sum: &mut RoundSum,
     start: u128,
     end: u128,
     changed: &[u32],
-    told: &[Option<Leaf>],
-) -> Result<RoundSum, CountFault>
-    requires sum { IsSumUpTo plan.now start sum }
+    shown: &[Option<Leaf>],
+) -> Result<(), CountFault>
+    requires sum { IsSumUpTo plan.now start sum.old }
     requires round { IsRoundUpTo plan.now start end }
-    requires told { AreChangesTold sum.rows.lanes told.now (rows_of_round plan.now start end) }
+    requires shown { AreShown sum.old.rows.lanes changed.now shown.now (rows_of_round plan.now start end) }
     requires within { (k : ℕ) → k < length changed.now → slice_index changed.now k < plan.now.tree.processors }
-    requires rest { (q : ℕ) → q < length told.now → ((k : ℕ) → k < length changed.now → slice_index changed.now k ≢ q) → slice_index_or told.now q None ≡ None }
-    ensures sum { IfOk result (λ next. IsSumUpTo plan.now end next) }
-    ensures ends { IfOk result (λ next. (q : ℕ) (r : DeclaredRow) → slice_get (rows_of_round plan.now start end) q ≡ Some r →
-        ends_showing (lane_of next.rows.lanes q) r.leaf ≡ true) }
+    ensures sum { IfOk result (λ _. IsSumUpTo plan.now end sum.new) }
+    ensures ends { IfOk result (λ _. (q : ℕ) (r : DeclaredRow) → slice_get (rows_of_round plan.now start end) q ≡ Some r →
+        ends_showing (lane_of sum.new.rows.lanes q) r.leaf ≡ true) }
     ensures fault { IfErr result (λ fault. IsCountFault plan.now fault) }
 {
-    let rounds = next_count(plan, &sum, start, end)?;
-    let rows = sum.rows.with_changed(end, changed, told)?;
-    Ok(RoundSum { rows, rounds })
+    let rounds = next_count(plan, sum, start, end)?;
+    sum.rows.add_changed(end, changed, shown)?;
+    sum.rounds = rounds;
+    Ok(())
 }
 
 /// The merged rows of all rounds.

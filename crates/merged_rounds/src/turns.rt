@@ -11,9 +11,9 @@ ghost use Rattle.merged_rounds.specs.Changes.{IsNone, IsTurning};
 ghost use Rattle.merged_rounds.specs.Laps.{CanComeRound, IsAllTold, IsSumUpTo};
 ghost use Rattle.merged_rounds.specs.Replays.{AreHolding, AreKept, AreStill, IsPackOn, IsSourceOf, IsTurnOf, packs_of, part_start, turn_end};
 
-use crate::changed::{first_of, forget_changed, merge_telling, merge_whole, room_for_told};
+use crate::changed::{first_of, merge_telling, merge_whole, room_for_told};
 use crate::laps::start_of;
-use crate::looks::{forget, no_leaves};
+use crate::looks::no_leaves;
 use crate::marks::Marks;
 use crate::sources::Source;
 use crate::sums::RoundSum;
@@ -221,13 +221,6 @@ fn holds_of(alloc: Global, places: &Places) -> Result<Vec<Option<u32>>, NoMemory
     Ok(Vec::from_slice(alloc, places.onto())?)
 }
 
-// A copy of what is told.
-fn copy_of(alloc: Global, told: &[Option<Leaf>]) -> Result<Vec<Option<Leaf>>, NoMemory>
-    ensures { IfOk result (λ v. v.items ≡ told.now) }
-{
-    Ok(Vec::from_slice(alloc, told)?)
-}
-
 // What pack k shows by what each processor shows: that of the one that it is on.
 #[inline(always)]
 fn shown_by(places: &Places, leaves: &[Option<Leaf>], k: u32) -> Option<Leaf>
@@ -243,21 +236,6 @@ fn shown_by(places: &Places, leaves: &[Option<Leaf>], k: u32) -> Option<Leaf>
     match places.last_of(k) {
         None => None,
         Some(q) => leaves[q as usize],
-    }
-}
-
-// Each of these processors shows what is told of it.
-#[inline(always)]
-fn note(changed: &[u32], told: &[Option<Leaf>], leaves: &mut [Option<Leaf>])
-    requires within { (k : ℕ) → k < length changed.now → slice_index changed.now k < length leaves.old }
-    requires long { length told.now ≡ length leaves.old }
-    ensures each { (k : ℕ) → k < length changed.now →
-        slice_index_or leaves.new (slice_index changed.now k) None ≡ slice_index_or told.now (slice_index changed.now k) None }
-    ensures rest { (q : ℕ) → IsNone changed.now (length changed.now) q → slice_index_or leaves.new q None ≡ slice_index_or leaves.old q None }
-{
-    for k in 0..changed.len() {
-        let q = changed[k] as usize;
-        leaves[q] = told[q];
     }
 }
 
@@ -309,7 +287,7 @@ fn mark_changed(changed: &[u32], places: &Places, holds: &mut [Option<u32>], mar
     }
 }
 
-// The first round of a turn, of which each processor is looked at; `told` is forgotten. And what each processor shows in it.
+// The first round of a turn, of which each processor is looked at, and it is told what it shows.
 fn begin_turn(
     alloc: Global,
     plan: &Plan,
@@ -317,7 +295,7 @@ fn begin_turn(
     told: &mut [Option<Leaf>],
     marks: &Marks,
     first: RoundSum,
-) -> Result<(RoundSum, Turn, Vec<Option<Leaf>>), CountFault>
+) -> Result<(RoundSum, Turn), CountFault>
     requires can { CanComeRound plan.now }
     requires belongs { IsSourceOf plan.now source.old }
     requires first { source.old.tick ≡ 0 }
@@ -325,17 +303,15 @@ fn begin_turn(
     requires sum { IsSumUpTo plan.now source.old.tick first }
     requires told { length told.old ≡ plan.now.tree.processors }
     requires marks { length marks.now ≡ packs_of plan.now }
-    ensures going { IfOk result (λ all. IsTurning plan.now source.new all.0 told.new all.1 all.2.items) }
+    ensures going { IfOk result (λ pair. IsTurning plan.now source.new pair.0 pair.1 told.new) }
     ensures fault { IfErr result (λ fault. IsCountFault plan.now fault) }
 {
     let start = source.now();
     let mut turn = no_turn(alloc, plan)?;
     let sum = merge_whole(plan, source, told, first)?;
-    let leaves = copy_of(alloc, told)?;
-    forget(told);
     let end = source.now();
-    turn.keep_round(plan, source.places(plan), start, end, &leaves, marks)?;
-    Ok((sum, turn, leaves))
+    turn.keep_round(plan, source.places(plan), start, end, told, marks)?;
+    Ok((sum, turn))
 }
 
 // One round more of a turn.
@@ -344,20 +320,18 @@ fn turn_next(
     source: &mut Source,
     told: &mut [Option<Leaf>],
     changed: &mut [u32],
-    leaves: &mut [Option<Leaf>],
     holds: &mut [Option<u32>],
     marks: &mut Marks,
     turn: &mut Turn,
-    first: RoundSum,
-) -> Result<RoundSum, CountFault>
+    sum: &mut RoundSum,
+) -> Result<(), CountFault>
     requires can { CanComeRound plan.now }
-    requires going { IsTurning plan.now source.old first told.old turn.old leaves.old }
+    requires going { IsTurning plan.now source.old sum.old turn.old told.old }
     requires holds { AreHolding plan.now source.old.tick holds.old }
     requires early { source.old.tick < stop_of plan.now }
-    requires told { length told.old ≡ plan.now.tree.processors }
     requires room { length changed.old ≡ packs_of plan.now }
     requires marks { length marks.old ≡ packs_of plan.now }
-    ensures going { IfOk result (λ sum. IsTurning plan.now source.new sum told.new turn.new leaves.new) }
+    ensures going { IfOk result (λ _. IsTurning plan.now source.new sum.new turn.new told.new) }
     ensures long { IfOk result (λ _. length marks.new ≡ packs_of plan.now) }
     ensures holds { IfOk result (λ _. AreHolding plan.now source.new.tick holds.new) }
     ensures later { IfOk result (λ _. IsRoundUpTo plan.now source.old.tick source.new.tick) }
@@ -365,15 +339,13 @@ fn turn_next(
 {
     plan.know_lawful();
     let start = source.now();
-    let (sum, count) = merge_telling(plan, source, told, changed, first)?;
+    let count = merge_telling(plan, source, told, changed, sum)?;
     let seen = first_of(changed, count);
-    note(seen, told, leaves);
-    forget_changed(seen, told);
     let end = source.now();
     marks.forget();
     mark_changed(seen, source.places(plan), holds, marks);
-    turn.keep_round(plan, source.places(plan), start, end, leaves, marks)?;
-    Ok(sum)
+    turn.keep_round(plan, source.places(plan), start, end, told, marks)?;
+    Ok(())
 }
 
 /// Goes on with rounds from tick 0 up to the first that begins at tick `until` or later, or until so much is kept of them as there is room
@@ -400,21 +372,18 @@ pub(crate) fn merge_turn(
     let mut changed = room_for_told(alloc, plan)?;
     let mut marks = no_marks(alloc, plan)?;
     let mut told = no_leaves(alloc, plan)?;
-    let (mut sum, mut turn, mut leaves) = begin_turn(
-        alloc, plan, source, &mut told, &marks, first,
-    )?;
+    let (mut sum, mut turn) = begin_turn(alloc, plan, source, &mut told, &marks, first)?;
     let mut holds = holds_of(alloc, source.places(plan))?;
     'rounds: while source.now() < until && turn.packs.len() < MOST_KEPT {
-        sum = turn_next(
+        turn_next(
             plan,
             source,
             &mut told,
             &mut changed,
-            &mut leaves,
             &mut holds,
             &mut marks,
             &mut turn,
-            sum,
+            &mut sum,
         )?;
     }
     Ok((sum, turn))

@@ -2,10 +2,14 @@
 use Rattle.std.proofs.Common.{◌≡◌, ◌≢◌, ℕ, zero, suc, ◌+◌, ◌<◌, ◌⊎◌, inl, inr, true, List, [], ◌∷◌, ◌++◌, None, Some, length, length-set, set, get_or, get_or-set_same, get_or-set_other, Option, eq-eqb, refl, sym, ap, ◌∙◌, arith}
 use Rattle.std.proofs.lemmas.Bool.{cases_Bool, cases_eq, cases_lt, cond-true, cond-false}
 use Rattle.std.proofs.lemmas.List.{ext_get_or}
+use Rattle.std.specs.Prelude.{slice_get}
+use Rattle.std.proofs.lemmas.Option.{slice_get-get_or}
 use Rattle.sched_base.specs.declared.rows.Leaf.{Leaf}
+use Rattle.sched_base.specs.declared.rows.Leaf.TheVariants.{Empty as empty_leaf}
+use Rattle.sched_base.specs.declared.rows.Row.{Row}
 use Rattle.merged_rows.specs.Merging.{shown}
-use Rattle.merged_rows.specs.Columns.{Begun, shows_last, showing, going_on, going_on_each}
-use Rattle.merged_rows.proofs.ColumnLemmas.{length-going_on_each, new_row}
+use Rattle.merged_rows.specs.Columns.{Begun, shows_last, showing, going_on, lanes_up_to, rows_up_to, showing_each, ends_showing, AreGoingOn, AreShown}
+use Rattle.merged_rows.proofs.ColumnLemmas.{lane_here, length-showing_each, new_row, one_shown}
 
 -- ---- one lane
 
@@ -27,20 +31,7 @@ going_twice lane start (Some leaf) = elim (cases_Bool (shows_last lane leaf)) [
 
 -- ---- all lanes
 
-going_at : (lanes : List (List Begun)) (start : ℕ) (told : List (Option Leaf)) (p : ℕ) → p < length lanes → length told ≡ length lanes →
-    get_or (going_on_each lanes start told) p [] ≡ going_on (get_or lanes p []) start (get_or told p None)
-going_at [] start told p l long = absurd (omega (arith, l))
-going_at (lane ∷ lanes) start [] p l long = absurd (omega (arith, long))
-going_at (lane ∷ lanes) start (o ∷ told) zero l long = refl
-going_at (lane ∷ lanes) start (o ∷ told) (suc p) l long = going_at lanes start told p (omega (arith, l)) (omega (arith, long))
-
--- The first n of these processors, and maybe others, go on as is told of them.
-pub record AreOn (first : List (List Begun)) (start : ℕ) (changed : List ℕ) (told : List (Option Leaf)) (lanes : List (List Begun)) (n : ℕ) : Type 0 where
-  pub long : length lanes ≡ length first
-  pub each : (p : ℕ) → p < length first → (get_or lanes p [] ≡ going_on (get_or first p []) start (get_or told p None))
-      ⊎ ((get_or lanes p [] ≡ get_or first p []) × ((k : ℕ) → k < n → get_or changed k 0 ≢ p))
-
-pub on_none : (first : List (List Begun)) (start : ℕ) (changed : List ℕ) (told : List (Option Leaf)) → AreOn first start changed told first 0
+pub on_none : (first : List (List Begun)) (start : ℕ) (changed : List ℕ) (told : List (Option Leaf)) → AreGoingOn first start changed told first 0
 on_none first start changed told = record { long = refl; each = λ p l. inr (refl, λ k m. absurd (omega (arith, m))) }
 
 set_same : (lanes : List (List Begun)) (p : ℕ) (lane : List Begun) → p < length lanes → get_or (set lanes p lane) p [] ≡ lane
@@ -56,7 +47,7 @@ any_default (x ∷ xs) zero d e l = refl
 any_default (x ∷ xs) (suc p) d e l = any_default xs p d e (omega (arith, l))
 
 pub on_step : (first : List (List Begun)) (start : ℕ) (changed : List ℕ) (told : List (Option Leaf)) (lanes lanes' : List (List Begun)) (n p : ℕ) (d : List Begun) (d' : Option Leaf) → p ≡ get_or changed n 0 → p < length first →
-    length told ≡ length first → lanes' ≡ set lanes p (going_on (get_or lanes p d) start (get_or told p d')) → AreOn first start changed told lanes n → AreOn first start changed told lanes' (n + 1)
+    length told ≡ length first → lanes' ≡ set lanes p (going_on (get_or lanes p d) start (get_or told p d')) → AreGoingOn first start changed told lanes n → AreGoingOn first start changed told lanes' (n + 1)
 on_step first start changed told lanes lanes' n p d d' at l whole is h = record {
   long = ap length is ∙ length-set lanes p _ ∙ h.long;
   each = λ q m. elim (cases_eq q p) [
@@ -91,17 +82,35 @@ on_step first start changed told lanes lanes' n p d d' at l whole is h = record 
     other q m ne (inl on) = inl (ap (λ ls. get_or ls q []) is ∙ set_other lanes p q _ ne ∙ on)
     other q m ne (inr was) = inr (ap (λ ls. get_or ls q []) is ∙ set_other lanes p q _ ne ∙ was.0, λ k b. later q k ne was.1 b)
 
-pub on_all : (first : List (List Begun)) (start : ℕ) (changed : List ℕ) (told : List (Option Leaf)) (lanes : List (List Begun)) (n : ℕ) → n ≡ length changed → length told ≡ length first →
-    ((p : ℕ) → p < length told → ((k : ℕ) → k < length changed → get_or changed k 0 ≢ p) → get_or told p None ≡ None) → AreOn first start changed told lanes n → lanes ≡ going_on_each first start told
-on_all first start changed told lanes n all long rest h =
+showing_at : (lanes : List (List Begun)) (start : ℕ) (rows : List Row) (p : ℕ) (none : Row) → p < length lanes → p < length rows →
+    get_or (showing_each lanes start rows) p [] ≡ showing (get_or lanes p []) start (get_or rows p none).leaf
+showing_at [] start rows p none l m = absurd (omega (arith, l))
+showing_at (lane ∷ lanes) start [] p none l m = absurd (omega (arith, m))
+showing_at (lane ∷ lanes) start (r ∷ rows) zero none l m = refl
+showing_at (lane ∷ lanes) start (r ∷ rows) (suc p) none l m = showing_at lanes start rows p none (omega (arith, l)) (omega (arith, m))
+
+-- where it is known of each processor what its row shows, and the others go on, all of them show what their rows do
+pub on_shown : (first : List (List Begun)) (start : ℕ) (changed : List ℕ) (told : List (Option Leaf)) (lanes : List (List Begun)) (rows : List Row) → length rows ≡ length first →
+    AreShown (lanes_up_to 0 start first) changed told rows → AreGoingOn first start changed told lanes (length changed) → lanes ≡ showing_each first start rows
+on_shown first start changed told lanes rows whole shows h =
     let same = h.long in
-    let more = length-going_on_each first start told in
-    ext_get_or [] lanes (going_on_each first start told) (omega (arith, same, more)) (λ p l.
+    let more = length-showing_each first start rows in
+    ext_get_or [] lanes (showing_each first start rows) (omega (arith, same, more)) (λ p l.
     let m : p < length first = omega (arith, l, same) in
-    one p m ∙ sym (going_at first start told p m long))
+    one p m)
   where
-    one : (p : ℕ) → p < length first → get_or lanes p [] ≡ going_on (get_or first p []) start (get_or told p None)
-    one p m = elim (h.each p m) [
-      | inl on ↦ on
-      | inr was ↦ was.0 ∙ ap (going_on (get_or first p []) start) (sym (rest p (omega (arith, m, long)) (λ k b. was.1 k (omega (arith, b, all)))))
-    ]
+    known : (p : ℕ) (r : Row) → p < length first → slice_get rows p ≡ Some r →
+        (get_or lanes p [] ≡ going_on (get_or first p []) start (get_or told p None)) ⊎ ((get_or lanes p [] ≡ get_or first p []) × ((k : ℕ) → k < length changed → get_or changed k 0 ≢ p)) →
+        (get_or lanes p [] ≡ going_on (get_or first p []) start (get_or told p None)) ⊎ ((get_or lanes p [] ≡ get_or first p []) × (ends_showing (rows_up_to p start (get_or first p [])) r.leaf ≡ true))
+    known p r m at (inl on) = inl on
+    known p r m at (inr was) =
+        inr (was.0, ap (λ xs. ends_showing xs r.leaf) (sym (lane_here start first p (get_or first p []) m (any_default first p [] (get_or first p []) m))) ∙ shows.rest p r at was.1)
+
+    at_row : (p : ℕ) (r : Row) → p < length first → slice_get rows p ≡ Some r → get_or lanes p [] ≡ showing (get_or first p []) start r.leaf
+    at_row p r m at = one_shown p start (get_or first p []) (get_or lanes p []) (get_or told p None) r.leaf (shows.each p r at) (known p r m at (h.each p m))
+
+    one : (p : ℕ) → p < length first → get_or lanes p [] ≡ get_or (showing_each first start rows) p []
+    one p m =
+        let none : Row = record { processor = 0; start = 0; end = 0; leaf = empty_leaf } in
+        let r = get_or rows p none in
+        at_row p r m (slice_get-get_or rows p none (omega (arith, m, whole))) ∙ sym (showing_at first start rows p none m (omega (arith, m, whole)))

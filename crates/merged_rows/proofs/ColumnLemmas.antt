@@ -1,7 +1,8 @@
 -- Rows by where they begin: one row more, one round more.
-use Rattle.std.proofs.Common.{◌≡◌, ℕ, zero, suc, ◌+◌, ◌-◌, ◌<◌, inl, inr, true, false, List, [], ◌∷◌, ◌++◌, ◌&&◌, Some, None, length, map, take, drop, set, get_or, replicate, Option, eqb, eq-eqb, refl, sym, ap, ◌∙◌, arith, add-one}
+use Rattle.std.proofs.Common.{◌≡◌, ℕ, zero, suc, ◌+◌, ◌-◌, ◌<◌, ◌⊎◌, inl, inr, true, false, List, [], ◌∷◌, ◌++◌, ◌&&◌, Some, None, length, map, take, drop, set, get_or, replicate, Option, eqb, eq-eqb, refl, sym, ap, ◌∙◌, arith, add-one}
 use Rattle.std.specs.Prelude.{slice_get}
-use Rattle.std.proofs.lemmas.Bool.{cases_Bool, cond-true, cond-false}
+use Rattle.std.proofs.lemmas.Bool.{cases_Bool, cond-true, cond-false, ne_eqb}
+use Rattle.std.proofs.lemmas.Bool.Decides.{eqb_tells}
 use Rattle.std.proofs.lemmas.List.{take_at}
 use Rattle.std.proofs.lemmas.Option.{slice_get-get_or}
 use Rattle.sched_base.specs.declared.rows.Leaf.{Leaf}
@@ -9,7 +10,7 @@ use Rattle.sched_base.specs.declared.rows.Row.{Row}
 use Rattle.sched_base.specs.Tables.{IsRound, end_after, lane_of, with_round}
 use Rattle.merged_rows.specs.Merging.{shown, merged}
 use Rattle.merged_rows.proofs.MergeLemmas.{goes_on}
-use Rattle.merged_rows.specs.Columns.{Begun, begun_of, rows_up_to, lanes_up_to, shows_last, showing, showing_each, going_on, going_on_each, ends_showing, AreChangesTold}
+use Rattle.merged_rows.specs.Columns.{Begun, begun_of, rows_up_to, lanes_up_to, last_mark, shows_last, showing, showing_each, going_on, going_on_each, ends_showing, AreChangesTold}
 use Rattle.merged_rows.proofs.PushLemmas.{merged_with, merged_round, round_push}
 
 -- ---- one lane
@@ -217,6 +218,24 @@ pub going_more : (lanes : List (List Begun)) (start : ℕ) (told : List (Option 
     → set (going_on_each lanes start (take p told)) p (going_on (get_or lanes p lane) start (get_or told p o)) ≡ going_on_each lanes start (take (p + 1) told)
 going_more lanes start told p lane o a b = rw add-one (going_next lanes start told p lane o a b)
 
+-- ---- what the last row shows
+
+both_more : (a b : ℕ) → eqb (a + 1) (b + 1) ≡ eqb a b
+both_more a b = elim (eqb_tells a b) [
+  | inl on ↦ eq-eqb (a + 1) (b + 1) (ap (λ n. n + 1) on.1) ∙ sym on.0
+  | inr off ↦ ne_eqb (a + 1) (b + 1) (λ e. off.1 (omega (arith, e))) ∙ sym off.0
+]
+
+pub shows_by_mark : (lane : List Begun) (leaf : Leaf) → eqb (last_mark lane) (shown leaf + 1) ≡ shows_last lane leaf
+shows_by_mark [] leaf = ne_eqb 0 (shown leaf + 1) (λ e. absurd (omega (arith, e)))
+shows_by_mark (b ∷ []) leaf = both_more (shown b.leaf) (shown leaf)
+shows_by_mark (b ∷ (c ∷ lane)) leaf = shows_by_mark (c ∷ lane) leaf
+
+pub mark_pushed : (lane : List Begun) (start : ℕ) (leaf : Leaf) → last_mark (lane ++ new_row start leaf ∷ []) ≡ shown leaf + 1
+mark_pushed [] start leaf = refl
+mark_pushed (b ∷ []) start leaf = refl
+mark_pushed (b ∷ (c ∷ lane)) start leaf = mark_pushed (c ∷ lane) start leaf
+
 -- ---- what is told
 
 ends_as : (p end : ℕ) (lane : List Begun) (leaf : Leaf) → ends_showing (rows_up_to p end lane) leaf ≡ shows_last lane leaf
@@ -248,6 +267,13 @@ told_is a start (lane ∷ lanes) (o ∷ told) [] h = absurd (let long = h.long i
 told_is a start (lane ∷ lanes) (o ∷ told) (r ∷ rows) h =
     ap (λ x. x ∷ going_on_each lanes start told) (one_told a start lane o r.leaf (λ leaf is. h.some 0 r leaf refl is) (λ is. h.none 0 r refl is))
     ∙ ap (λ xs. showing lane start r.leaf ∷ xs) (told_is (a + 1) start lanes told rows (later_told (rows_up_to a start lane) (lanes_up_to (a + 1) start lanes) o told r rows h))
+
+-- each processor shows what its row does, or goes on where its last row shows the same
+pub one_shown : (a start : ℕ) (lane now : List Begun) (o : Option Leaf) (leaf : Leaf) → o ≡ Some leaf → (now ≡ going_on lane start o) ⊎ ((now ≡ lane) × (ends_showing (rows_up_to a start lane) leaf ≡ true)) →
+    now ≡ showing lane start leaf
+one_shown a start lane now o leaf is (inl on) = on ∙ ap (going_on lane start) is
+one_shown a start lane now o leaf is (inr was) =
+    was.0 ∙ sym (cond-true (shows_last lane leaf) lane (lane ++ new_row start leaf ∷ []) (sym (ends_as a start lane leaf) ∙ was.1))
 
 -- processors with no row
 pub none_up_to : (a end n : ℕ) → lanes_up_to a end (replicate n []) ≡ replicate n []

@@ -1,6 +1,6 @@
 -- Merged rows by where they begin and what they show.
-use Rattle.std.specs.Prelude.{ℕ, ◌≡◌, ◌+◌, ◌==◌, Bool, true, false, if◌then◌else◌, List, [], ◌∷◌, ◌++◌, length, Option, None, Some}
-use Rattle.std.specs.Prelude.{slice_get, slice_index_or}
+use Rattle.std.specs.Prelude.{ℕ, ◌≡◌, ◌≢◌, ◌+◌, ◌<◌, ◌⊎◌, ◌==◌, Bool, true, false, if◌then◌else◌, List, [], ◌∷◌, ◌++◌, length, Option, None, Some}
+use Rattle.std.specs.Prelude.{slice_get, slice_index, slice_index_or}
 use Rattle.sched_base.specs.declared.rows.Leaf.{Leaf}
 use Rattle.sched_base.specs.declared.rows.Row.{Row}
 use Rattle.sched_base.specs.Tables.{lane_of}
@@ -39,6 +39,12 @@ shows_last [] leaf = false
 shows_last (b ∷ []) leaf = shown b.leaf == shown leaf
 shows_last (b ∷ (next ∷ later)) leaf = shows_last (next ∷ later) leaf
 
+-- a number for what the last row shows: 0 where there is none, and else what is printed and one more
+abbrev pub last_mark : List Begun → ℕ
+last_mark [] = 0
+last_mark (b ∷ []) = shown b.leaf + 1
+last_mark (b ∷ (next ∷ later)) = last_mark (next ∷ later)
+
 -- the processor shows this leaf from here on: where the last row shows the same, it goes on
 abbrev pub showing : List Begun → ℕ → Leaf → List Begun
 showing lane start leaf = if shows_last lane leaf then lane else lane ++ record { start = start; leaf = leaf } ∷ []
@@ -71,3 +77,15 @@ pub record AreChangesTold (lanes : List (List Row)) (told : List (Option Leaf)) 
   pub long : length rows ≡ length told
   pub some : (p : ℕ) (r : Row) (leaf : Leaf) → slice_get rows p ≡ Some r → slice_index_or told p None ≡ Some leaf → leaf ≡ r.leaf
   pub none : (p : ℕ) (r : Row) → slice_get rows p ≡ Some r → slice_index_or told p None ≡ None → ends_showing (lane_of lanes p) r.leaf ≡ true
+
+-- Each of the first n of these processors, and maybe others, goes on as is told of it; each other one stays as it was.
+pub record AreGoingOn (first : List (List Begun)) (start : ℕ) (changed : List ℕ) (told : List (Option Leaf)) (lanes : List (List Begun)) (n : ℕ) : Type 0 where
+  pub long : length lanes ≡ length first
+  pub each : (p : ℕ) → p < length first → (slice_index_or lanes p [] ≡ going_on (slice_index_or first p []) start (slice_index_or told p None))
+      ⊎ ((slice_index_or lanes p [] ≡ slice_index_or first p []) × ((k : ℕ) → k < n → slice_index changed k ≢ p))
+
+-- Of each processor it is known what its row of a round shows, and for one that isn't among these its last row before shows the same.
+pub record AreShown (lanes : List (List Row)) (changed : List ℕ) (leaves : List (Option Leaf)) (rows : List Row) : Type 0 where
+  pub long : length rows ≡ length leaves
+  pub each : (p : ℕ) (r : Row) → slice_get rows p ≡ Some r → slice_index_or leaves p None ≡ Some r.leaf
+  pub rest : (p : ℕ) (r : Row) → slice_get rows p ≡ Some r → ((k : ℕ) → k < length changed → slice_index changed k ≢ p) → ends_showing (lane_of lanes p) r.leaf ≡ true

@@ -2,7 +2,7 @@
 ghost use Rattle.std.specs.Prelude.{◌≡◌, ◌<◌, [], ◌∷◌, ◌++◌, length, OnOk, OnErr, Some, slice_get};
 ghost use Rattle.merged_rows.specs.Columns.{Begun, going_on, shows_last, showing};
 
-use crate::neighbours::is_shown_alike;
+use crate::neighbours::shown_mark;
 use crate::starts::Starts;
 use sched_base::{Leaf, NoMemory};
 use std::alloc::Global;
@@ -23,17 +23,19 @@ fn more_rows(count: usize) -> usize {
 pub(crate) struct MergedLane {
     starts: Starts,
     leaves: Vec<Leaf>,
+    // What the last row shows, as `shown_mark` tells it, or 0 where there is none.
+    last: u64,
 }
 
 impl Model for MergedLane {
     ghost use Rattle.std.specs.Prelude.{◌≡◌, List, length};
-    ghost use Rattle.merged_rows.specs.Columns.{Begun, begun_of};
+    ghost use Rattle.merged_rows.specs.Columns.{Begun, begun_of, last_mark};
 
     ghost Value = { List Begun };
 
     ghost view = { λ l. begun_of l.starts l.leaves.items };
 
-    ghost invariant = { λ l. length l.starts ≡ length l.leaves.items };
+    ghost invariant = { λ l. (length l.starts ≡ length l.leaves.items) × (l.last ≡ last_mark (begun_of l.starts l.leaves.items)) };
 }
 
 impl MergedLane {
@@ -44,6 +46,7 @@ impl MergedLane {
         MergedLane {
             starts: Starts::new(alloc),
             leaves: Vec::new(alloc),
+            last: 0,
         }
     }
 
@@ -75,10 +78,7 @@ impl MergedLane {
     fn shows(&self, leaf: Leaf) -> bool
         ensures { result ≡ shows_last self.now leaf }
     {
-        match self.leaves.last() {
-            Some(last) => is_shown_alike(*last, leaf),
-            None => false,
-        }
+        self.last == shown_mark(leaf)
     }
 
     // Takes room for more rows where there is none.
@@ -112,6 +112,7 @@ impl MergedLane {
         self.leaves.reserve(1)?;
         self.starts.push(start)?;
         self.leaves.push_reserved(leaf);
+        self.last = shown_mark(leaf);
         Ok(())
     }
 

@@ -1,9 +1,9 @@
 //! The merged rows of all processors.
-ghost use Rattle.std.specs.Prelude.{ℕ, ◌≡◌, ◌≢◌, ◌<◌, [], List, None, Some, length, map, replicate, slice_get, slice_index, slice_index_or, IfOk, OnOk};
+ghost use Rattle.std.specs.Prelude.{ℕ, ◌≡◌, ◌<◌, [], List, Some, length, map, replicate, slice_get, slice_index, IfOk, OnOk};
 ghost use Rattle.sched_base.specs.declared.rows.Row.{Row as declared_row};
 ghost use Rattle.sched_base.specs.Tables.{IsRound, RowAt, end_after, lane_of, with_round};
 ghost use Rattle.merged_rows.specs.Merging.{merged};
-ghost use Rattle.merged_rows.specs.Columns.{rows_up_to, showing_each, going_on_each, AreChangesTold};
+ghost use Rattle.merged_rows.specs.Columns.{rows_up_to, showing_each, going_on_each, AreChangesTold, AreGoingOn, AreShown};
 
 use crate::lanes::MergedLane;
 use sched_base::{Leaf, NoMemory, Row};
@@ -62,33 +62,45 @@ impl MergedRows {
         ensures end { IfOk result (λ m. m.end ≡ end) }
         ensures processors { IfOk result (λ m. length m.lanes ≡ length self.lanes) }
     {
-        show_told(self.lanes.as_mut_slice(), self.end, told)?;
-        self.end = end;
+        self.add_round(end, told)?;
         Ok(self)
     }
 
-    /// With the next round, up to tick `end`, as `with_round`, where the processors are listed of which something is told; one may stand
-    /// there twice. It costs time for these.
+    /// Adds the next round, as `with_round` does. After an error the rows are of no use.
     #[inline(always)]
-    pub fn with_changed(
-        mut self,
+    pub fn add_round(&mut self, end: u128, told: &[Option<Leaf>]) -> Result<(), NoMemory>
+        requires whole { length told.now ≡ length self.old.lanes }
+        ensures merged { OnOk result ((lanes : List (List declared_row)) (rows : List declared_row) → self.old.lanes ≡ map merged lanes
+            → IsRound self.old.end rows → end_after self.old.end rows ≡ end → AreChangesTold self.old.lanes told.now rows
+            → self.new.lanes ≡ map merged (with_round lanes rows)) }
+        ensures end { OnOk result (self.new.end ≡ end) }
+        ensures processors { OnOk result (length self.new.lanes ≡ length self.old.lanes) }
+    {
+        show_told(self.lanes.as_mut_slice(), self.end, told)?;
+        self.end = end;
+        Ok(())
+    }
+
+    /// Adds the next round, up to tick `end`, given what its processors show. Those are listed that may show something else than their last
+    /// row; one may stand there twice. It costs time for these. After an error the rows are of no use.
+    #[inline(always)]
+    pub fn add_changed(
+        &mut self,
         end: u128,
         changed: &[u32],
-        told: &[Option<Leaf>],
-    ) -> Result<MergedRows, NoMemory>
-        requires whole { length told.now ≡ length self.lanes }
-        requires within { (k : ℕ) → k < length changed.now → slice_index changed.now k < length self.lanes }
-        requires rest { (p : ℕ) → p < length told.now → ((k : ℕ) → k < length changed.now → slice_index changed.now k ≢ p)
-            → slice_index_or told.now p None ≡ None }
-        ensures merged { IfOk result (λ m. (lanes : List (List declared_row)) (rows : List declared_row) → self.lanes ≡ map merged lanes
-            → IsRound self.end rows → end_after self.end rows ≡ end → AreChangesTold self.lanes told.now rows
-            → m.lanes ≡ map merged (with_round lanes rows)) }
-        ensures end { IfOk result (λ m. m.end ≡ end) }
-        ensures processors { IfOk result (λ m. length m.lanes ≡ length self.lanes) }
+        shown: &[Option<Leaf>],
+    ) -> Result<(), NoMemory>
+        requires whole { length shown.now ≡ length self.old.lanes }
+        requires within { (k : ℕ) → k < length changed.now → slice_index changed.now k < length self.old.lanes }
+        ensures merged { OnOk result ((lanes : List (List declared_row)) (rows : List declared_row) → self.old.lanes ≡ map merged lanes
+            → IsRound self.old.end rows → end_after self.old.end rows ≡ end → AreShown self.old.lanes changed.now shown.now rows
+            → self.new.lanes ≡ map merged (with_round lanes rows)) }
+        ensures end { OnOk result (self.new.end ≡ end) }
+        ensures processors { OnOk result (length self.new.lanes ≡ length self.old.lanes) }
     {
-        show_changed(self.lanes.as_mut_slice(), self.end, changed, told)?;
+        show_changed(self.lanes.as_mut_slice(), self.end, changed, shown)?;
         self.end = end;
-        Ok(self)
+        Ok(())
     }
 
     /// With the next round, where its rows are at hand: one for each processor in order. Memory is taken as `with_round` takes it.
@@ -144,7 +156,7 @@ fn show_told(lanes: &mut [MergedLane], start: u128, told: &[Option<Leaf>]) -> Re
     Ok(())
 }
 
-// Each processor shows what is told of it, from tick `start` on, where only these processors are told something.
+// Each of these processors shows what is told of it, from tick `start` on.
 #[inline(always)]
 fn show_changed(
     lanes: &mut [MergedLane],
@@ -154,8 +166,7 @@ fn show_changed(
 ) -> Result<(), NoMemory>
     requires whole { length told.now ≡ length lanes.old }
     requires within { (k : ℕ) → k < length changed.now → slice_index changed.now k < length lanes.old }
-    requires rest { (p : ℕ) → p < length told.now → ((k : ℕ) → k < length changed.now → slice_index changed.now k ≢ p) → slice_index_or told.now p None ≡ None }
-    ensures shown { OnOk result (lanes.new ≡ going_on_each lanes.old start told.now) }
+    ensures shown { OnOk result (AreGoingOn lanes.old start changed.now told.now lanes.new (length changed.now)) }
 {
     for k in 0..changed.len() {
         let p = changed[k] as usize;

@@ -1,29 +1,32 @@
-use Rattle.std.proofs.Common.{◌≡◌, ℕ, ap, arith, get_or, length, slice_get, None, sym, subst, List, ◌∙◌}
+use Rattle.std.proofs.Common.{◌≡◌, ◌<◌, ◌∙◌, ℕ, ap, arith, length, slice_get, subst, sym, List}
 use Rattle.sched_base.specs.declared.rows.Row.{Row}
 use Rattle.event_core.specs.Rounds.{rows_of_round}
 use Rattle.event_core.specs.Told.{AllReleased}
 use Rattle.event_core.proofs.SettledPacks.{same_start}
-use Rattle.merged_rows.specs.Columns.{AreChangesTold}
-use Rattle.merged_rounds.specs.Changes.{IsChange}
-use Rattle.merged_rounds.specs.Laps.{IsSumUpTo}
-use Rattle.merged_rounds.proofs.ChangeLemmas.{change_as, changed_told, released_later, showing_on}
+use Rattle.merged_rows.specs.Columns.{AreShown}
+use Rattle.merged_rounds.specs.Changes.{AreTold, IsNone}
+use Rattle.merged_rounds.specs.Laps.{IsAllTold, IsSumUpTo}
+use Rattle.merged_rounds.specs.Passes.{leaf_at}
+use Rattle.merged_rounds.proofs.ChangeLemmas.{changed_shown, released_later, showing_on, the_leaves, told_now}
 use Rattle.merged_rounds.proofs.changed.merge_telling.Goals as goal
 
-pub with_changed-requires-clause-told : goal.with_changed-requires-clause-told
-with_changed-requires-clause-told c =
+pub add_changed-requires-clause-shown : goal.add_changed-requires-clause-shown
+add_changed-requires-clause-shown c =
     let p = c.args.plan.now in
     let start = c.args.source.now.tick in
     let end = c.go_telling-count.new.self.tick in
     let seen = c.first_of-seen.result.now in
-    let each : (q : ℕ) → IsChange p start end seen (length seen) q (get_or c.look_changed.new.told q None) =
-    (λ q. subst (λ (n : ℕ). IsChange p n end seen (length seen) q (get_or c.look_changed.new.told q None)) c.now-start.ensures (c.look_changed.ensures q)) in
     let many = c.first_of-seen.ensures.long in
-    let long : length c.look_changed.new.told ≡ p.tree.processors = c.look_changed.auto.told ∙ c.requires.told in
-    let told = changed_told p start end seen (length seen) c.requires.showing.start c.look_changed.new.told c.args.first.rows.lanes long each
-    (λ q none l no. c.go_telling-count.ensures.others q c.requires.showing.start none l (λ t. no t.0 (let m = t.1 in omega (arith, m, many)) (c.first_of-seen.ensures.each t.0 t.1 ∙ t.2)) c.requires.showing.released c.requires.showing.round)
-    c.requires.showing.last in
-    subst (λ (n : ℕ). AreChangesTold c.args.first.rows.lanes c.look_changed.new.told (rows_of_round p c.now-start.result n)) (sym c.now-end.ensures)
-    (subst (λ (n : ℕ). AreChangesTold c.args.first.rows.lanes c.look_changed.new.told (rows_of_round p n end)) (sym c.now-start.ensures) told)
+    let showing = c.requires.showing in
+    let still : (q : ℕ) (none : Row) → q < p.tree.processors → IsNone seen (length seen) q → leaf_at p start end q none ≡ leaf_at p showing.start start q none =
+    (λ q none l no. c.go_telling-count.ensures.others q showing.start none l (λ t. no t.0 (let m = t.1 in omega (arith, m, many)) (c.first_of-seen.ensures.each t.0 t.1 ∙ t.2)) showing.released showing.round) in
+    let told : AreTold p start end seen (length seen) c.args.told.now c.look_changed.new.told =
+    subst (λ (n : ℕ). AreTold p n end seen (length seen) c.args.told.now c.look_changed.new.told) c.now-start.ensures c.look_changed.ensures in
+    let all : IsAllTold p start end c.look_changed.new.told =
+    told_now p start end seen (length seen) showing.start c.args.told.now c.look_changed.new.told (c.requires.told.all showing.start showing.round) c.look_changed.auto.told told still in
+    let shown = changed_shown p start end seen showing.start c.look_changed.new.told c.args.sum.now.rows.lanes all still showing.last in
+    subst (λ (n : ℕ). AreShown c.args.sum.now.rows.lanes seen c.look_changed.new.told (rows_of_round p c.now-start.result n)) (sym c.now-end.ensures)
+    (subst (λ (n : ℕ). AreShown c.args.sum.now.rows.lanes seen c.look_changed.new.told (rows_of_round p n end)) (sym c.now-start.ensures) shown)
 
 pub returns-clause-showing : goal.returns-clause-showing
 returns-clause-showing c =
@@ -34,9 +37,9 @@ returns-clause-showing c =
     ap (λ n. rows_of_round p n c.now-end.result) c.now-start.ensures ∙ ap (rows_of_round p start) c.now-end.ensures in
     let showing = c.requires.showing in
     let above = showing.round.above in
-    showing_on p c.go_telling-count.new.self c.in_ok-sum.sum start c.go_telling-count.ensures.belongs c.go_telling-count.ensures.round
-    (released_later p showing.start start (omega (arith, above)) showing.released) (subst (λ (n : ℕ). IsSumUpTo p n c.in_ok-sum.sum) c.now-end.ensures c.in_ok-sum.ensures.sum)
-    (λ q r at. c.in_ok-sum.ensures.ends q r (ap (λ (rs : List Row). slice_get rs q) rows ∙ at))
+    showing_on p c.go_telling-count.new.self c.add_changed.new.sum start c.go_telling-count.ensures.belongs c.go_telling-count.ensures.round
+    (released_later p showing.start start (omega (arith, above)) showing.released) (subst (λ (n : ℕ). IsSumUpTo p n c.add_changed.new.sum) c.now-end.ensures c.in_ok-add_changed.ensures.sum)
+    (λ q r at. c.in_ok-add_changed.ensures.ends q r (ap (λ (rs : List Row). slice_get rs q) rows ∙ at))
 
 pub returns-clause-changed : goal.returns-clause-changed
 returns-clause-changed c = record {
@@ -49,12 +52,22 @@ returns-clause-changed c = record {
 }
 
 pub returns-clause-told : goal.returns-clause-told
-returns-clause-told c = λ q.
+returns-clause-told c =
     let p = c.args.plan.now in
     let start = c.args.source.now.tick in
     let end = c.go_telling-count.new.self.tick in
     let seen = c.first_of-seen.result.now in
-    let each : IsChange p start end seen (length seen) q (get_or c.look_changed.new.told q None) =
-    subst (λ (n : ℕ). IsChange p n end seen (length seen) q (get_or c.look_changed.new.told q None)) c.now-start.ensures (c.look_changed.ensures q) in
     let many = c.first_of-seen.ensures.long in
-    change_as p start end seen c.go_telling-count.new.told c.go_telling-count.result q (get_or c.look_changed.new.told q None) c.first_of-seen.ensures.each (subst (λ (n : ℕ). IsChange p start end seen n q (get_or c.look_changed.new.told q None)) many each)
+    let showing = c.requires.showing in
+    let still : (q : ℕ) (none : Row) → q < p.tree.processors → IsNone seen (length seen) q → leaf_at p start end q none ≡ leaf_at p showing.start start q none =
+    (λ q none l no. c.go_telling-count.ensures.others q showing.start none l (λ t. no t.0 (let m = t.1 in omega (arith, m, many)) (c.first_of-seen.ensures.each t.0 t.1 ∙ t.2)) showing.released showing.round) in
+    let told : AreTold p start end seen (length seen) c.args.told.now c.look_changed.new.told =
+    subst (λ (n : ℕ). AreTold p n end seen (length seen) c.args.told.now c.look_changed.new.told) c.now-start.ensures c.look_changed.ensures in
+    let all : IsAllTold p start end c.look_changed.new.told =
+    told_now p start end seen (length seen) showing.start c.args.told.now c.look_changed.new.told (c.requires.told.all showing.start showing.round) c.look_changed.auto.told told still in
+    the_leaves p start end c.look_changed.new.told c.go_telling-count.ensures.round all
+
+pub returns-clause-still : goal.returns-clause-still
+returns-clause-still c = λ q away.
+    let many = c.first_of-seen.ensures.long in
+    c.look_changed.ensures.rest q (λ k m e. (let l : k < c.go_telling-count.result = omega (arith, m, many) in away k l (sym (c.first_of-seen.ensures.each k l) ∙ e)))

@@ -12,16 +12,16 @@ look_all-requires-clause-belongs c = c.go.ensures.belongs
 pub look_all-requires-clause-round : goal.look_all-requires-clause-round
 look_all-requires-clause-round c = subst (λ (n : ℕ). IsRoundUpTo c.args.plan.now n c.go.new.self.tick) (sym c.now-start.ensures) c.go.ensures.round
 
-pub with_round-requires-clause-sum : goal.with_round-requires-clause-sum
-with_round-requires-clause-sum c = subst (λ (n : ℕ). IsSumUpTo c.args.plan.now n c.args.first) (sym c.now-start.ensures) c.requires.sum
+pub add_round-requires-clause-sum : goal.add_round-requires-clause-sum
+add_round-requires-clause-sum c = subst (λ (n : ℕ). IsSumUpTo c.args.plan.now n c.args.first) (sym c.now-start.ensures) c.requires.sum
 
-pub with_round-requires-clause-round : goal.with_round-requires-clause-round
-with_round-requires-clause-round c =
+pub add_round-requires-clause-round : goal.add_round-requires-clause-round
+add_round-requires-clause-round c =
     subst (λ (n : ℕ). IsRoundUpTo c.args.plan.now c.now-start.result n) (sym c.now-end.ensures)
     (subst (λ (n : ℕ). IsRoundUpTo c.args.plan.now n c.go.new.self.tick) (sym c.now-start.ensures) c.go.ensures.round)
 
-pub with_round-requires-clause-told : goal.with_round-requires-clause-told
-with_round-requires-clause-told c =
+pub add_round-requires-clause-told : goal.add_round-requires-clause-told
+add_round-requires-clause-told c =
     told_all c.args.plan.now c.now-start.result c.now-end.result c.look_all.new.told c.args.first.rows.lanes
     (subst (λ (n : ℕ). IsAllTold c.args.plan.now c.now-start.result n c.look_all.new.told) (sym c.now-end.ensures) c.look_all.ensures)
 
@@ -32,5 +32,5 @@ returns-clause-showing c =
     let end = c.go.new.self.tick in
     let rows : rows_of_round p c.now-start.result c.now-end.result ≡ rows_of_round p start end =
     ap (λ n. rows_of_round p n c.now-end.result) c.now-start.ensures ∙ ap (rows_of_round p start) c.now-end.ensures in
-    showing_on p c.go.new.self c.in_ok-sum.sum start c.go.ensures.belongs c.go.ensures.round c.requires.released (subst (λ (n : ℕ). IsSumUpTo p n c.in_ok-sum.sum) c.now-end.ensures c.in_ok-sum.ensures.sum)
-    (λ q r at. c.in_ok-sum.ensures.ends q r (ap (λ (rs : List Row). slice_get rs q) rows ∙ at))
+    showing_on p c.go.new.self c.add_round.new.sum start c.go.ensures.belongs c.go.ensures.round c.requires.released (subst (λ (n : ℕ). IsSumUpTo p n c.add_round.new.sum) c.now-end.ensures c.in_ok-add_round.ensures.sum)
+    (λ q r at. c.in_ok-add_round.ensures.ends q r (ap (λ (rs : List Row). slice_get rs q) rows ∙ at))

@@ -29,16 +29,16 @@ look_all-requires-clause-round c = subst (λ (n : ℕ). IsRoundUpTo c.args.plan.
 pub look_all-requires-clause-told : goal.look_all-requires-clause-told
 look_all-requires-clause-told c = c.rounds.auto.told ∙ c.requires.told
 
-pub with_round-requires-clause-sum : goal.with_round-requires-clause-sum
-with_round-requires-clause-sum c = subst (λ (n : ℕ). IsSumUpTo c.args.plan.now n c.rounds.sum) (sym c.now-start.ensures) c.rounds.invariant.sum
+pub add_round-requires-clause-sum : goal.add_round-requires-clause-sum
+add_round-requires-clause-sum c = subst (λ (n : ℕ). IsSumUpTo c.args.plan.now n c.rounds.sum) (sym c.now-start.ensures) c.rounds.invariant.sum
 
-pub with_round-requires-clause-round : goal.with_round-requires-clause-round
-with_round-requires-clause-round c =
+pub add_round-requires-clause-round : goal.add_round-requires-clause-round
+add_round-requires-clause-round c =
     subst (λ (n : ℕ). IsRoundUpTo c.args.plan.now c.now-start.result n) (sym c.now-end.ensures)
     (subst (λ (n : ℕ). IsRoundUpTo c.args.plan.now n c.go.new.self.tick) (sym c.now-start.ensures) c.go.ensures.round)
 
-pub with_round-requires-clause-told : goal.with_round-requires-clause-told
-with_round-requires-clause-told c =
+pub add_round-requires-clause-told : goal.add_round-requires-clause-told
+add_round-requires-clause-told c =
     told_all c.args.plan.now c.now-start.result c.now-end.result c.look_all.new.told c.rounds.sum.rows.lanes
     (subst (λ (n : ℕ). IsAllTold c.args.plan.now c.now-start.result n c.look_all.new.told) (sym c.now-end.ensures) c.look_all.ensures)
 
@@ -55,7 +55,7 @@ rounds-preserved c =
     let ends_are : c.in_ok-lap.lap.ends.items ≡ ends ++ end ∷ [] = c.in_ok-lap.ensures.ends ∙ ap (λ n. ends ++ n ∷ []) c.now-end.ensures in
     record {
       belongs = c.go.ensures.belongs;
-      sum = subst (λ (n : ℕ). IsSumUpTo p n c.in_ok-sum.sum) c.now-end.ensures c.in_ok-sum.ensures.sum;
+      sum = subst (λ (n : ℕ). IsSumUpTo p n c.add_round.new.sum) c.now-end.ensures c.in_ok-add_round.ensures.sum;
       lap = subst (λ (es : List ℕ). IsLap p first es c.in_ok-lap.lap.told.items) (sym ends_are)
           (subst (λ (ts : List (Option Leaf)). IsLap p first (ends ++ end ∷ []) ts) (sym c.in_ok-lap.ensures.told) lap);
       end = ap (λ (es : List ℕ). round_start first es (length es)) ends_are ∙ last_start first end ends;

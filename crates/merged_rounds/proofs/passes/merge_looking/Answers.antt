@@ -28,16 +28,16 @@ look_each-requires-clause-kept c = c.rounds.auto.kept ∙ c.requires.kept
 pub look_each-requires-clause-told : goal.look_each-requires-clause-told
 look_each-requires-clause-told c = c.rounds.auto.told ∙ c.requires.told
 
-pub with_round-requires-clause-sum : goal.with_round-requires-clause-sum
-with_round-requires-clause-sum c = subst (λ (n : ℕ). IsSumUpTo c.args.plan.now n c.rounds.sum) (sym c.now-start.ensures.value) c.rounds.invariant.sum
+pub add_round-requires-clause-sum : goal.add_round-requires-clause-sum
+add_round-requires-clause-sum c = subst (λ (n : ℕ). IsSumUpTo c.args.plan.now n c.rounds.sum) (sym c.now-start.ensures.value) c.rounds.invariant.sum
 
-pub with_round-requires-clause-round : goal.with_round-requires-clause-round
-with_round-requires-clause-round c =
+pub add_round-requires-clause-round : goal.add_round-requires-clause-round
+add_round-requires-clause-round c =
     subst (λ (n : ℕ). IsRoundUpTo c.args.plan.now c.now-start.result n) (sym c.now-end.ensures.value)
     (subst (λ (n : ℕ). IsRoundUpTo c.args.plan.now n c.go.new.self.tick) (sym c.now-start.ensures.value) c.go.ensures.round)
 
-pub with_round-requires-clause-told : goal.with_round-requires-clause-told
-with_round-requires-clause-told c =
+pub add_round-requires-clause-told : goal.add_round-requires-clause-told
+add_round-requires-clause-told c =
     let p = c.args.plan.now in
     let start = c.rounds.core.tick in
     let end = c.go.new.self.tick in
@@ -60,10 +60,10 @@ rounds-preserved c =
     ap (λ n. rows_of_round p n c.now-end.result) c.now-start.ensures.value ∙ ap (rows_of_round p start) c.now-end.ensures.value in
     record {
       belongs = c.go.ensures.belongs;
-      sum = subst (λ (n : ℕ). IsSumUpTo p n c.in_ok-sum.sum) c.now-end.ensures.value c.in_ok-sum.ensures.sum;
-      kept = kept_on p start end c.rounds.sum.rows.lanes c.rounds.kept c.look_each.new.kept c.look_each.new.told c.rounds.invariant.kept looked c.in_ok-sum.sum.rows.lanes
+      sum = subst (λ (n : ℕ). IsSumUpTo p n c.add_round.new.sum) c.now-end.ensures.value c.in_ok-add_round.ensures.sum;
+      kept = kept_on p start end c.rounds.sum.rows.lanes c.rounds.kept c.look_each.new.kept c.look_each.new.told c.rounds.invariant.kept looked c.add_round.new.sum.rows.lanes
           (let above = round.above in omega (arith, above))
-          (λ q r at. c.in_ok-sum.ensures.ends q r (ap (λ (rs : List Row). slice_get rs q) rows ∙ at));
+          (λ q r at. c.in_ok-add_round.ensures.ends q r (ap (λ (rs : List Row). slice_get rs q) rows ∙ at));
     }
 
 pub rounds-smaller : goal.rounds-smaller

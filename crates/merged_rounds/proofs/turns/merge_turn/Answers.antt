@@ -1,4 +1,4 @@
-use Rattle.std.proofs.Common.{◌≡◌, ◌∙◌, ℕ, List, Option, None, ap, arith, get_or, length, rules, subst, sym}
+use Rattle.std.proofs.Common.{◌∙◌, ℕ, List, Option, None, ap, arith, get_or, length, rules, subst, sym}
 use Rattle.sched_base.specs.Places.{Placing}
 use Rattle.run_tree.specs.Boundaries.{set_boundary}
 use Rattle.run_tree.proofs.ScheduleLemmas.{length-places}
@@ -8,18 +8,13 @@ use Rattle.merged_rounds.specs.Changes.{IsTurning}
 use Rattle.merged_rounds.specs.Replays.{AreHolding}
 use Rattle.merged_rounds.proofs.turns.merge_turn.Goals as goal
 
--- what holds of two lists holds of those that are the same
-both : (P : List (Option Leaf) → List (Option Leaf) → Type 0) (a b c d : List (Option Leaf)) → b ≡ a → d ≡ c → P a c → P b d
-both P a b c d same too h = subst (λ (xs : List (Option Leaf)). P xs d) (sym same) (subst (λ (xs : List (Option Leaf)). P a xs) (sym too) h)
-
 pub turn_next-requires-clause-going : goal.turn_next-requires-clause-going
 turn_next-requires-clause-going c =
-    subst (λ (ts : List (Option Leaf)). IsTurning c.args.plan.now c.rounds.source c.rounds.sum ts c.rounds.turn c.deref_mut-in-rounds-3.result.now) (sym c.deref_mut-in-rounds.ensures.value)
-    (subst (λ (xs : List (Option Leaf)). IsTurning c.args.plan.now c.rounds.source c.rounds.sum c.rounds.told.items c.rounds.turn xs) (sym c.deref_mut-in-rounds-3.ensures.value) c.rounds.invariant.going)
+    subst (λ (ts : List (Option Leaf)). IsTurning c.args.plan.now c.rounds.source c.rounds.sum c.rounds.turn ts) (sym c.deref_mut-in-rounds.ensures.value) c.rounds.invariant.going
 
 pub turn_next-requires-clause-holds : goal.turn_next-requires-clause-holds
 turn_next-requires-clause-holds c =
-    subst (λ (xs : List (Option ℕ)). AreHolding c.args.plan.now c.rounds.source.tick xs) (sym c.deref_mut-in-rounds-4.ensures.value) c.rounds.invariant.holds
+    subst (λ (xs : List (Option ℕ)). AreHolding c.args.plan.now c.rounds.source.tick xs) (sym c.deref_mut-in-rounds-3.ensures.value) c.rounds.invariant.holds
 
 pub turn_next-requires-clause-marks : goal.turn_next-requires-clause-marks
 turn_next-requires-clause-marks c = c.rounds.invariant.marks
@@ -28,15 +23,11 @@ pub rounds-init : goal.rounds-init
 rounds-init c = record {
   going =
       let told = written c.in_ok-told.told c.deref_mut.result.now c.begin_turn.new.told c.deref_mut.ensures.value c.begin_turn.auto.told in
-      subst (λ (ts : List (Option Leaf)). IsTurning c.args.plan.now c.begin_turn.new.source c.in_ok-sum.sum ts c.in_ok-sum.turn c.in_ok-sum.leaves.items) (sym told) c.in_ok-sum.ensures.going;
+      subst (λ (ts : List (Option Leaf)). IsTurning c.args.plan.now c.begin_turn.new.source c.in_ok-sum.sum c.in_ok-sum.turn ts) (sym told) c.in_ok-sum.ensures.going;
   holds = record {
     long = ap (λ (xs : List (Option ℕ)). length xs) c.in_ok-holds.ensures ∙ ap (λ (w : Placing). length w.onto) c.places.ensures ∙ length-places (set_boundary c.args.plan.now.set.tasks) c.args.plan.now.tree c.begin_turn.new.source.tick;
     each = λ q l. ap (λ (xs : List (Option ℕ)). get_or xs q None) c.in_ok-holds.ensures ∙ ap (λ (w : Placing). get_or w.onto q None) c.places.ensures;
   };
-  told =
-      let told = written c.in_ok-told.told c.deref_mut.result.now c.begin_turn.new.told c.deref_mut.ensures.value c.begin_turn.auto.told in
-      let many : length c.in_ok-told.told.items ≡ c.args.plan.now.tree.processors = search rules in
-      ap (λ (xs : List (Option Leaf)). length xs) told ∙ c.begin_turn.auto.told ∙ ap (λ (xs : List (Option Leaf)). length xs) c.deref_mut.ensures.value ∙ many;
   room = search rules;
   marks = c.in_ok-marks.ensures;
 }
@@ -45,18 +36,16 @@ pub rounds-preserved : goal.rounds-preserved
 rounds-preserved c =
     let told = written c.rounds.told c.deref_mut-in-rounds.result.now c.turn_next.new.told c.deref_mut-in-rounds.ensures.value c.turn_next.auto.told in
     let changed = written c.rounds.changed c.deref_mut-in-rounds-2.result.now c.turn_next.new.changed c.deref_mut-in-rounds-2.ensures.value c.turn_next.auto.changed in
-    let leaves = written c.rounds.leaves c.deref_mut-in-rounds-3.result.now c.turn_next.new.leaves c.deref_mut-in-rounds-3.ensures.value c.turn_next.auto.leaves in
-    let holds = written c.rounds.holds c.deref_mut-in-rounds-4.result.now c.turn_next.new.holds c.deref_mut-in-rounds-4.ensures.value c.turn_next.auto.holds in
+    let holds = written c.rounds.holds c.deref_mut-in-rounds-3.result.now c.turn_next.new.holds c.deref_mut-in-rounds-3.ensures.value c.turn_next.auto.holds in
     record {
-      going = both (λ ts xs. IsTurning c.args.plan.now c.turn_next.new.source c.in_ok-sum-2.sum ts c.turn_next.new.turn xs) _ _ _ _ told leaves c.in_ok-sum-2.ensures.going;
-      holds = subst (λ (xs : List (Option ℕ)). AreHolding c.args.plan.now c.turn_next.new.source.tick xs) (sym holds) c.in_ok-sum-2.ensures.holds;
-      told = ap (λ (xs : List (Option Leaf)). length xs) told ∙ c.turn_next.auto.told ∙ ap (λ (xs : List (Option Leaf)). length xs) c.deref_mut-in-rounds.ensures.value ∙ c.rounds.invariant.told;
+      going = subst (λ (ts : List (Option Leaf)). IsTurning c.args.plan.now c.turn_next.new.source c.turn_next.new.sum c.turn_next.new.turn ts) (sym told) c.in_ok-turn_next.ensures.going;
+      holds = subst (λ (xs : List (Option ℕ)). AreHolding c.args.plan.now c.turn_next.new.source.tick xs) (sym holds) c.in_ok-turn_next.ensures.holds;
       room = ap (λ (xs : List ℕ). length xs) changed ∙ c.turn_next.auto.changed ∙ ap (λ (xs : List ℕ). length xs) c.deref_mut-in-rounds-2.ensures.value ∙ c.rounds.invariant.room;
-      marks = c.in_ok-sum-2.ensures.long;
+      marks = c.in_ok-turn_next.ensures.long;
     }
 
 pub rounds-smaller : goal.rounds-smaller
 rounds-smaller c =
-    let up = c.in_ok-sum-2.ensures.later.above in
-    let below = c.in_ok-sum-2.ensures.later.below in
+    let up = c.in_ok-turn_next.ensures.later.above in
+    let below = c.in_ok-turn_next.ensures.later.below in
     omega (arith, up, below)

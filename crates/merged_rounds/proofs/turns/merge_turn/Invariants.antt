@@ -6,9 +6,8 @@ use Rattle.merged_rounds.proofs.turns.merge_turn.Given as goal
 
 abbrev pub invariant-rounds : goal.invariant-rounds
 invariant-rounds l = record {
-  going : IsTurning l.plan l.source l.sum l.told.items l.turn l.leaves.items;
+  going : IsTurning l.plan l.source l.sum l.turn l.told.items;
   holds : AreHolding l.plan l.source.tick l.holds.items;
-  told : length l.told.items ≡ l.plan.tree.processors;
   room : length l.changed.items ≡ packs_of l.plan;
   marks : length l.marks ≡ packs_of l.plan;
 }

@@ -3,19 +3,18 @@ use Rattle.sched_base.specs.Places.{Placing}
 use Rattle.run_tree.specs.Boundaries.{set_boundary}
 use Rattle.run_tree.proofs.ScheduleLemmas.{length-places}
 use Rattle.event_core.specs.Cores.{places_of}
-use Rattle.event_core.proofs.SettledPacks.{same_start}
+use Rattle.merged_rounds.specs.Changes.{IsNone}
 use Rattle.merged_rounds.specs.Laps.{IsAllTold}
 use Rattle.merged_rounds.specs.Replays.{AreHolding, AreStill}
-use Rattle.merged_rounds.proofs.ChangeLemmas.{all_noted}
 use Rattle.merged_rounds.proofs.MarkLemmas.{holds_now, last_on, packs_held, packs_listed, still_now}
 use Rattle.merged_rounds.proofs.turns.turn_next.Goals as goal
 
 pub mark_changed-requires-clause-within : goal.mark_changed-requires-clause-within
 mark_changed-requires-clause-within c = λ j l.
     let many = c.first_of-seen.ensures.long in
-    let m : j < c.in_ok-sum.count = omega (arith, l, many) in
+    let m : j < c.in_ok-count.count = omega (arith, l, many) in
     let e = c.first_of-seen.ensures.each j m in
-    let w = c.in_ok-sum.ensures.changed.processors j m in
+    let w = c.in_ok-count.ensures.changed.processors j m in
     let long = c.requires.holds.long in
     omega (arith, e, w, long)
 
@@ -34,7 +33,7 @@ mark_changed-requires-clause-before c = λ q k at.
 
 pub mark_changed-requires-clause-now : goal.mark_changed-requires-clause-now
 mark_changed-requires-clause-now c = λ q k at.
-    let w = packs_held c.args.plan.now c.know_lawful.ensures.lawful c.args.source.now.tick c.merge_telling.new.source.tick c.in_ok-sum.ensures.round q k (ap (λ (w : Placing). get_or w.onto q None) (sym c.places.ensures) ∙ at) in
+    let w = packs_held c.args.plan.now c.know_lawful.ensures.lawful c.args.source.now.tick c.merge_telling.new.source.tick c.in_ok-count.ensures.round q k (ap (λ (w : Placing). get_or w.onto q None) (sym c.places.ensures) ∙ at) in
     let long = c.forget.ensures in
     let marks = c.requires.marks in
     omega (arith, w, long, marks)
@@ -44,12 +43,9 @@ keep_round-requires-clause-leaves c =
     let p = c.args.plan.now in
     let start = c.args.source.now.tick in
     let end = c.merge_telling.new.source.tick in
-    let going = c.requires.going in
-    let e = c.in_ok-sum.ensures in
-    let all : IsAllTold p start end c.note.new.leaves =
-    all_noted p start end going.showing.start c.first_of-seen.result.now c.merge_telling.new.changed c.in_ok-sum.count c.merge_telling.new.told c.args.leaves.now c.note.new.leaves going.showing.round
-    (going.leaves going.showing.start going.showing.round) e.changed e.told c.first_of-seen.ensures.long c.first_of-seen.ensures.each c.note.auto.leaves c.note.ensures.each c.note.ensures.rest in
-    subst (λ (n : ℕ). IsAllTold p c.now-start.result n c.note.new.leaves) (sym c.now-end.ensures) (subst (λ (n : ℕ). IsAllTold p n end c.note.new.leaves) (sym c.now-start.ensures) all)
+    let told = c.merge_telling.new.told in
+    let all : IsAllTold p start end told = c.in_ok-count.ensures.told.all start c.in_ok-count.ensures.round in
+    subst (λ (n : ℕ). IsAllTold p c.now-start.result n told) (sym c.now-end.ensures) (subst (λ (n : ℕ). IsAllTold p n end told) (sym c.now-start.ensures) all)
 
 pub keep_round-requires-clause-still : goal.keep_round-requires-clause-still
 keep_round-requires-clause-still c = λ some.
@@ -57,22 +53,24 @@ keep_round-requires-clause-still c = λ some.
     let start = c.args.source.now.tick in
     let end = c.merge_telling.new.source.tick in
     let seen = c.first_of-seen.result.now in
-    let e = c.in_ok-sum.ensures in
+    let e = c.in_ok-count.ensures in
     let m = c.mark_changed.ensures in
     let onto = ap (λ (w : Placing). w.onto) c.places.ensures in
     let each : (j : ℕ) → j < length seen → get_or c.mark_changed.new.holds (get_or seen j 0) None ≡ get_or (places_of p end).onto (get_or seen j 0) None =
     (λ j l. m.each j l ∙ ap (λ (os : List (Option ℕ)). get_or os (get_or seen j 0) None) onto) in
     let now : AreHolding p end c.mark_changed.new.holds =
-    holds_now p start end seen c.merge_telling.new.changed c.in_ok-sum.count c.first_of-seen.ensures.long c.first_of-seen.ensures.each c.args.holds.now c.mark_changed.new.holds c.requires.holds e.placed each m.rest
-    c.merge_telling.new.told e.told c.mark_changed.auto.holds in
+    holds_now p start end seen c.merge_telling.new.changed c.in_ok-count.count c.first_of-seen.ensures.long c.first_of-seen.ensures.each c.args.holds.now c.mark_changed.new.holds c.requires.holds e.placed each m.rest c.mark_changed.auto.holds in
+    let many = c.first_of-seen.ensures.long in
+    let not_seen : (q : ℕ) → IsNone seen (length seen) q → get_or c.merge_telling.new.told q None ≡ get_or c.args.told.now q None =
+    (λ q away. e.still q (λ k l at. away k (omega (arith, l, many)) (c.first_of-seen.ensures.each k l ∙ at))) in
     let going = c.requires.going in
     let before = going.showing.start in
     let gone = going.showing.round in
     let turn = c.args.turn.now in
-    subst (λ (w : Placing). AreStill w.onto c.note.new.leaves turn.last.items c.mark_changed.new.marks 0) (sym c.places-2.ensures)
-    (still_now p c.know_lawful.ensures.lawful c.requires.can before start end gone c.args.leaves.now c.note.new.leaves turn.last.items (going.leaves before gone) (last_on p turn before start going.turn going.end gone some) going.turn.long
+    subst (λ (w : Placing). AreStill w.onto c.merge_telling.new.told turn.last.items c.mark_changed.new.marks 0) (sym c.places-2.ensures)
+    (still_now p c.know_lawful.ensures.lawful c.requires.can before start end gone c.args.told.now c.merge_telling.new.told turn.last.items (going.leaves.all before gone) (last_on p turn before start going.turn going.end gone some) going.turn.long
     c.args.holds.now c.mark_changed.new.holds c.requires.holds now c.mark_changed.new.marks seen m.rest m.held
-    (λ j k l at. m.marked j k l (ap (λ (os : List (Option ℕ)). get_or os (get_or seen j 0) None) onto ∙ at)) c.note.ensures.rest)
+    (λ j k l at. m.marked j k l (ap (λ (os : List (Option ℕ)). get_or os (get_or seen j 0) None) onto ∙ at)) not_seen)
 
 pub returns-clause-holds : goal.returns-clause-holds
 returns-clause-holds c =
@@ -80,33 +78,22 @@ returns-clause-holds c =
     let start = c.args.source.now.tick in
     let end = c.merge_telling.new.source.tick in
     let seen = c.first_of-seen.result.now in
-    let e = c.in_ok-sum.ensures in
+    let e = c.in_ok-count.ensures in
     let m = c.mark_changed.ensures in
     let onto = ap (λ (w : Placing). w.onto) c.places.ensures in
     let each : (j : ℕ) → j < length seen → get_or c.mark_changed.new.holds (get_or seen j 0) None ≡ get_or (places_of p end).onto (get_or seen j 0) None =
     (λ j l. m.each j l ∙ ap (λ (os : List (Option ℕ)). get_or os (get_or seen j 0) None) onto) in
     let now : AreHolding p end c.mark_changed.new.holds =
-    holds_now p start end seen c.merge_telling.new.changed c.in_ok-sum.count c.first_of-seen.ensures.long c.first_of-seen.ensures.each c.args.holds.now c.mark_changed.new.holds c.requires.holds e.placed each m.rest
-    c.merge_telling.new.told e.told c.mark_changed.auto.holds in
+    holds_now p start end seen c.merge_telling.new.changed c.in_ok-count.count c.first_of-seen.ensures.long c.first_of-seen.ensures.each c.args.holds.now c.mark_changed.new.holds c.requires.holds e.placed each m.rest c.mark_changed.auto.holds in
     now
 
 pub returns-clause-going : goal.returns-clause-going
-returns-clause-going c =
-    let p = c.args.plan.now in
-    let start = c.args.source.now.tick in
-    let end = c.merge_telling.new.source.tick in
-    let going = c.requires.going in
-    let e = c.in_ok-sum.ensures in
-    let all : IsAllTold p start end c.note.new.leaves =
-    all_noted p start end going.showing.start c.first_of-seen.result.now c.merge_telling.new.changed c.in_ok-sum.count c.merge_telling.new.told c.args.leaves.now c.note.new.leaves going.showing.round
-    (going.leaves going.showing.start going.showing.round) e.changed e.told c.first_of-seen.ensures.long c.first_of-seen.ensures.each c.note.auto.leaves c.note.ensures.each c.note.ensures.rest in
-    record {
-      showing = e.showing;
-      none = c.forget_changed.ensures;
-      turn = c.in_ok-keep_round.ensures.turn;
-      end = c.in_ok-keep_round.ensures.end ∙ c.now-end.ensures;
-      leaves = λ s up. subst (λ (n : ℕ). IsAllTold p n end c.note.new.leaves) (sym (same_start p s start end up e.round)) all;
-    }
+returns-clause-going c = record {
+  showing = c.in_ok-count.ensures.showing;
+  turn = c.in_ok-keep_round.ensures.turn;
+  end = c.in_ok-keep_round.ensures.end ∙ c.now-end.ensures;
+  leaves = c.in_ok-count.ensures.told;
+}
 
 pub keep_round-requires-clause-marks : goal.keep_round-requires-clause-marks
 keep_round-requires-clause-marks c = c.mark_changed.ensures.long ∙ c.forget.ensures ∙ c.requires.marks

@@ -1,5 +1,6 @@
-use Rattle.std.proofs.Common.{ap, arith, get_or, refl, set}
-use Rattle.merged_rows.proofs.ChangedLemmas.{on_none, on_step, on_all}
+use Rattle.std.proofs.Common.{◌≡◌, ℕ, ap, arith, get_or, length, refl, set, subst}
+use Rattle.merged_rows.proofs.ChangedLemmas.{on_none, on_step}
+use Rattle.merged_rows.specs.Columns.{AreGoingOn}
 use Rattle.merged_rows.proofs.merging.show_changed.Goals as goal
 
 pub loop-k-init : goal.loop-k-init
@@ -14,4 +15,6 @@ loop-k-preserved c =
     on_step c.args.lanes.now c.args.start c.args.changed.now c.args.told.now c.loop-k.lanes _ c.loop-k.k p _ _ refl within whole (ap (set c.loop-k.lanes p) c.in_ok-go_on.ensures.shown) c.loop-k.invariant
 
 pub returns : goal.returns
-returns c = record { shown = on_all c.args.lanes.now c.args.start c.args.changed.now c.args.told.now c.loop-k.lanes c.loop-k.k (omega arith) c.requires.whole c.requires.rest c.loop-k.invariant }
+returns c =
+    let all : c.loop-k.k ≡ length c.args.changed.now = omega arith in
+    record { shown = subst (λ (n : ℕ). AreGoingOn c.args.lanes.now c.args.start c.args.changed.now c.args.told.now c.loop-k.lanes n) all c.loop-k.invariant }

@@ -5,7 +5,7 @@ use Rattle.run_tree.specs.Tree.{Tree}
 use Rattle.event_core.specs.Rounds.{IsRoundUpTo}
 use Rattle.merged_rounds.specs.Laps.{IsAllTold, IsSumUpTo, round_start}
 use Rattle.merged_rounds.proofs.LapLemmas.{lap_over, lap_round, lap_told, told_all}
-use Rattle.merged_rounds.proofs.laps.with_lap_round.Goals as goal
+use Rattle.merged_rounds.proofs.laps.add_lap_round.Goals as goal
 
 pub returns-then-start-stop-clause-sum : goal.returns-then-start-stop-clause-sum
 returns-then-start-stop-clause-sum c =
@@ -14,11 +14,11 @@ returns-then-start-stop-clause-sum c =
     let start : c.start_of.result ≡ round_start c.args.again.from ends c.args.i = c.start_of.ensures ∙ ap (λ (es : List ℕ). round_start c.args.again.from es c.args.i) c.deref.ensures.value in
     let stop = c.rounds_end-stop.ensures.value in
     let past = c.if-start-stop.true in
-    subst (λ (n : ℕ). IsSumUpTo p n c.args.sum)
+    subst (λ (n : ℕ). IsSumUpTo p n c.args.sum.now)
     (lap_over p c.args.again.from ends c.args.lap.now.told.items c.requires.again.lap c.args.i c.args.again.ticks c.requires.round (omega (arith, start, stop, past))) c.requires.sum
 
-pub with_round-requires-clause-round : goal.with_round-requires-clause-round
-with_round-requires-clause-round c =
+pub add_round-requires-clause-round : goal.add_round-requires-clause-round
+add_round-requires-clause-round c =
     let p = c.args.plan.now in
     let ends = c.args.lap.now.ends.items in
     let start : c.start_of.result ≡ round_start c.args.again.from ends c.args.i = c.start_of.ensures ∙ ap (λ (es : List ℕ). round_start c.args.again.from es c.args.i) c.deref.ensures.value in
@@ -32,8 +32,8 @@ with_round-requires-clause-round c =
     (subst (λ (n : ℕ). IsRoundUpTo p (round_start c.args.again.from ends c.args.i + c.args.again.ticks) n) (sym end)
     (lap_round p c.rounds_end-stop.ensures.lawful c.args.again.from c.args.again.ticks c.requires.again.again ends c.args.lap.now.told.items c.requires.again.lap c.args.i c.requires.round early))
 
-pub with_round-requires-clause-told : goal.with_round-requires-clause-told
-with_round-requires-clause-told c =
+pub add_round-requires-clause-told : goal.add_round-requires-clause-told
+add_round-requires-clause-told c =
     let p = c.args.plan.now in
     let ends = c.args.lap.now.ends.items in
     let all = c.args.lap.now.told.items in
@@ -48,5 +48,5 @@ with_round-requires-clause-told c =
     (λ q l. c.told_in-told.ensures.each q (omega (arith, l, many))
     ∙ ap (λ (ts : List (Option Leaf)). get_or ts (c.args.i * c.processors.result + q) None) c.deref-3.ensures.value
     ∙ ap (λ (m : ℕ). get_or all (c.args.i * m + q) None) many) in
-    told_all p (c.start_of.result + c.args.again.ticks) c.end_of-end.result c.told_in-told.result.now c.args.sum.rows.lanes
+    told_all p (c.start_of.result + c.args.again.ticks) c.end_of-end.result c.told_in-told.result.now c.args.sum.now.rows.lanes
     (subst (λ (n : ℕ). IsAllTold p (n + c.args.again.ticks) c.end_of-end.result c.told_in-told.result.now) (sym start) told)

@@ -4,18 +4,17 @@ use Rattle.sched_laws.proofs.WholeRounds.{length-round}
 use Rattle.event_core.specs.Rounds.{rows_before, rows_of_round}
 use Rattle.merged_rounds.specs.declared.sums.RoundSum.{RoundSum}
 use Rattle.merged_rounds.proofs.SumLemmas.{ends_on, lanes_whole, round_here, round_to, sum_on}
-use Rattle.merged_rounds.proofs.sums.with_changed.Goals as goal
+use Rattle.merged_rounds.proofs.sums.add_changed.Goals as goal
 
-pub with_changed-requires : goal.with_changed-requires
-with_changed-requires c =
+pub add_changed-requires : goal.add_changed-requires
+add_changed-requires c =
     let p = c.args.plan.now in
-    let told = c.requires.told.long in
+    let told = c.requires.shown.long in
     let rows = length-round p.set.tasks p.tree c.args.start c.args.end in
-    let lanes = lanes_whole p c.in_ok-rounds.ensures.lawful c.args.start c.args.end c.requires.round c.args.sum c.requires.sum in
+    let lanes = lanes_whole p c.in_ok-rounds.ensures.lawful c.args.start c.args.end c.requires.round c.args.sum.now c.requires.sum in
     record {
       whole = omega (arith, told, rows, lanes);
       within = λ k l. (let w = c.requires.within k l in omega (arith, w, lanes));
-      rest = c.requires.rest;
     }
 
 pub returns-clause-sum : goal.returns-clause-sum
@@ -25,12 +24,12 @@ returns-clause-sum c =
     let start = c.args.start in
     let end = c.args.end in
     let round = c.requires.round in
-    let sum = c.args.sum in
+    let sum = c.args.sum.now in
     let before = c.requires.sum in
-    let next : RoundSum = record { rows = c.in_ok-rows.rows; rounds = c.in_ok-rounds.rounds } in
-    let lanes = c.in_ok-rows.ensures.merged (lanes_of p.tree.processors (rows_before p start)) (rows_of_round p start end) before.lanes
-    (round_here p h start end round sum before) (round_to p h start end round sum before) c.requires.told in
-    sum_on p h start end round sum before next lanes c.in_ok-rounds.ensures.count c.in_ok-rounds.ensures.few c.in_ok-rows.ensures.end
+    let next : RoundSum = record { rows = c.add_changed.new.self; rounds = c.in_ok-rounds.rounds } in
+    let lanes = c.in_ok-add_changed.ensures.merged (lanes_of p.tree.processors (rows_before p start)) (rows_of_round p start end) before.lanes
+    (round_here p h start end round sum before) (round_to p h start end round sum before) c.requires.shown in
+    sum_on p h start end round sum before next lanes c.in_ok-rounds.ensures.count c.in_ok-rounds.ensures.few c.in_ok-add_changed.ensures.end
 
 pub returns-clause-ends : goal.returns-clause-ends
 returns-clause-ends c =
@@ -39,9 +38,9 @@ returns-clause-ends c =
     let start = c.args.start in
     let end = c.args.end in
     let round = c.requires.round in
-    let sum = c.args.sum in
+    let sum = c.args.sum.now in
     let before = c.requires.sum in
-    let next : RoundSum = record { rows = c.in_ok-rows.rows; rounds = c.in_ok-rounds.rounds } in
-    let lanes = c.in_ok-rows.ensures.merged (lanes_of p.tree.processors (rows_before p start)) (rows_of_round p start end) before.lanes
-    (round_here p h start end round sum before) (round_to p h start end round sum before) c.requires.told in
+    let next : RoundSum = record { rows = c.add_changed.new.self; rounds = c.in_ok-rounds.rounds } in
+    let lanes = c.in_ok-add_changed.ensures.merged (lanes_of p.tree.processors (rows_before p start)) (rows_of_round p start end) before.lanes
+    (round_here p h start end round sum before) (round_to p h start end round sum before) c.requires.shown in
     λ q r at. ends_on p h start end round sum before next lanes q r at
