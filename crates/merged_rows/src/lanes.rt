@@ -1,5 +1,5 @@
 //! The merged rows of one processor, as two columns.
-ghost use Rattle.std.specs.Prelude.{◌≡◌, ◌<◌, [], ◌∷◌, ◌++◌, length, OnOk, OnErr, Some, slice_get};
+ghost use Rattle.std.specs.Prelude.{◌≡◌, ◌<◌, [], ◌∷◌, ◌++◌, length, OnOk, OnErr, Some, slice_get, vec_capacity, vec_len};
 ghost use Rattle.merged_rows.specs.Columns.{Begun, going_on, shows_last, showing};
 
 use crate::neighbours::shown_mark;
@@ -10,12 +10,41 @@ use std::marker::Model;
 
 // For how many rows more there is to be room where there are so many and no room. Room that isn't used costs little, and a copy of the rows
 // more.
-fn more_rows(count: usize) -> usize {
+fn more_rows(count: usize) -> usize
+    ensures { 0 < result }
+{
     match count {
         0..=15 => 16,
         16..=8191 => 3 * count,
         _ => count,
     }
+}
+
+// Takes room for more rows where there is none.
+#[inline(always)]
+fn make_room(starts: &mut Starts, leaves: &mut Vec<Leaf>) -> Result<(), NoMemory>
+    ensures starts { starts.new ≡ starts.old }
+    ensures leaves { leaves.new.items ≡ leaves.old.items }
+    ensures room { OnOk result (vec_len leaves.new < vec_capacity leaves.new) }
+{
+    if leaves.len() < leaves.capacity() {
+        return Ok(());
+    }
+    grow(starts, leaves)
+}
+
+// Takes room for more rows.
+#[cold]
+#[inline(never)]
+fn grow(starts: &mut Starts, leaves: &mut Vec<Leaf>) -> Result<(), NoMemory>
+    ensures starts { starts.new ≡ starts.old }
+    ensures leaves { leaves.new.items ≡ leaves.old.items }
+    ensures room { OnOk result (vec_len leaves.new < vec_capacity leaves.new) }
+{
+    let more = more_rows(leaves.len());
+    leaves.reserve(more)?;
+    starts.reserve(more)?;
+    Ok(())
 }
 
 /// The rows of one processor as they begin, each at a tick and with what it shows. A row goes on up to the next one's start.
@@ -58,7 +87,6 @@ impl MergedLane {
         if self.shows(leaf) {
             return Ok(());
         }
-        self.make_room()?;
         self.begin(start, leaf)
     }
 
@@ -81,35 +109,12 @@ impl MergedLane {
         self.last == shown_mark(leaf)
     }
 
-    // Takes room for more rows where there is none.
-    #[inline(always)]
-    fn make_room(&mut self) -> Result<(), NoMemory>
-        ensures { self.new ≡ self.old }
-    {
-        if self.leaves.len() < self.leaves.capacity() {
-            return Ok(());
-        }
-        self.grow()
-    }
-
-    // Takes room for more rows.
-    #[cold]
-    #[inline(never)]
-    fn grow(&mut self) -> Result<(), NoMemory>
-        ensures { self.new ≡ self.old }
-    {
-        let more = more_rows(self.leaves.len());
-        self.leaves.reserve(more)?;
-        self.starts.reserve(more)?;
-        Ok(())
-    }
-
     #[inline(always)]
     fn begin(&mut self, start: u128, leaf: Leaf) -> Result<(), NoMemory>
         ensures begun { OnOk result (self.new ≡ self.old ++ record { start = start; leaf = leaf } ∷ []) }
         ensures err { OnErr result (self.new ≡ self.old) }
     {
-        self.leaves.reserve(1)?;
+        make_room(&mut self.starts, &mut self.leaves)?;
         self.starts.push(start)?;
         self.leaves.push_reserved(leaf);
         self.last = shown_mark(leaf);

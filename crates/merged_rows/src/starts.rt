@@ -22,6 +22,30 @@ impl Model for Starts {
     ghost view = { λ s. s.narrow.items ++ s.wide.items };
 }
 
+// One tick more in this column.
+#[inline(always)]
+fn push_to<T: Drop>(column: &mut Vec<T>, tick: T) -> Result<(), NoMemory>
+    ensures pushed { OnOk result (column.new.items ≡ column.old.items ++ tick ∷ []) }
+    ensures err { OnErr result (column.new.items ≡ column.old.items) }
+{
+    if column.len() < column.capacity() {
+        column.push_reserved(tick);
+        return Ok(());
+    }
+    push_growing(column, tick)
+}
+
+// So where there is no room.
+#[cold]
+#[inline(never)]
+fn push_growing<T: Drop>(column: &mut Vec<T>, tick: T) -> Result<(), NoMemory>
+    ensures pushed { OnOk result (column.new.items ≡ column.old.items ++ tick ∷ []) }
+    ensures err { OnErr result (column.new.items ≡ column.old.items) }
+{
+    column.push(tick)?;
+    Ok(())
+}
+
 impl Starts {
     /// No tick yet. It takes no memory.
     pub(crate) fn new(alloc: Global) -> Starts
@@ -40,11 +64,10 @@ impl Starts {
         ensures err { OnErr result (self.new ≡ self.old) }
     {
         if self.wide.is_empty() && tick <= u128::from(u64::MAX) {
-            self.narrow.push(tick as u64)?;
+            push_to(&mut self.narrow, tick as u64)
         } else {
-            self.wide.push(tick)?;
+            push_to(&mut self.wide, tick)
         }
-        Ok(())
     }
 
     /// Takes room for so many ticks more.

@@ -20,16 +20,16 @@ pub returns-clause-begun : goal.returns-clause-begun
 returns-clause-begun c =
     let starts = c.self.inside.starts in
     let leaves = c.self.inside.leaves in
-    let second = c.push_reserved.ensures.items ∙ ap (λ xs. xs ++ c.args.leaf ∷ []) c.in_ok-reserve.ensures.items in
-    same_rows starts _ leaves.items _ c.args.start c.args.leaf c.self.invariant.0 c.in_ok-push.ensures.pushed second
+    let second = c.push_reserved.ensures.items ∙ ap (λ xs. xs ++ c.args.leaf ∷ []) c.make_room.ensures.leaves in
+    same_rows starts _ leaves.items _ c.args.start c.args.leaf c.self.invariant.0 (c.in_ok-push.ensures.pushed ∙ ap (λ xs. xs ++ c.args.start ∷ []) c.make_room.ensures.starts) second
     ∙ ap (λ lane. lane ++ new_row c.args.start c.args.leaf ∷ []) c.self.view_is
 
 pub invariant_of-self-2 : goal.invariant_of-self-2
 invariant_of-self-2 c =
     let starts = c.self.inside.starts in
     let leaves = c.self.inside.leaves in
-    let first = c.in_ok-push.ensures.pushed in
-    let second = c.push_reserved.ensures.items ∙ ap (λ xs. xs ++ c.args.leaf ∷ []) c.in_ok-reserve.ensures.items in
+    let first = c.in_ok-push.ensures.pushed ∙ ap (λ xs. xs ++ c.args.start ∷ []) c.make_room.ensures.starts in
+    let second = c.push_reserved.ensures.items ∙ ap (λ xs. xs ++ c.args.leaf ∷ []) c.make_room.ensures.leaves in
     let even : length starts ≡ length leaves.items = c.self.invariant.0 in (
       ap length first ∙ more starts leaves.items c.args.start c.args.leaf even ∙ ap length (sym second),
       c.shown_mark-self-inside.ensures ∙ sym (mark_pushed (begun_of starts leaves.items) c.args.start c.args.leaf)
