@@ -100,19 +100,6 @@ begun_at (s ∷ starts) (l ∷ leaves) zero start leaf at there =
     ap (λ n. Some (new_row n l)) e' ∙ ap (λ x. Some (new_row start x)) f'
 begun_at (s ∷ starts) (l ∷ leaves) (suc i) start leaf at there = begun_at starts leaves i start leaf at there
 
--- what the last row shows
-pub shows_by_last : (starts : List ℕ) (leaves : List Leaf) (last leaf : Leaf) → length starts ≡ length leaves → slice_get leaves (length leaves - 1) ≡ Some last
-    → shows_last (begun_of starts leaves) leaf ≡ eqb (shown last) (shown leaf)
-shows_by_last [] [] last leaf even at = absurd (let e : None ≡ Some last = at in cc)
-shows_by_last [] (l ∷ leaves) last leaf even at = absurd (omega (arith, even))
-shows_by_last (s ∷ starts) [] last leaf even at = absurd (omega (arith, even))
-shows_by_last (s ∷ []) (l ∷ []) last leaf even at = let e : Some l ≡ Some last = at in let e' : l ≡ last = cc in ap (λ x. eqb (shown x) (shown leaf)) e'
-shows_by_last (s ∷ []) (l ∷ (k ∷ leaves)) last leaf even at = absurd (omega (arith, even))
-shows_by_last (s ∷ (t ∷ starts)) (l ∷ []) last leaf even at = absurd (omega (arith, even))
-shows_by_last (s ∷ (t ∷ starts)) (l ∷ (k ∷ leaves)) last leaf even at =
-    let e : length (l ∷ (k ∷ leaves)) - 1 ≡ suc (length (k ∷ leaves) - 1) = omega arith in
-    shows_by_last (t ∷ starts) (k ∷ leaves) last leaf (omega (arith, even)) (sym (ap (slice_get (l ∷ (k ∷ leaves))) e) ∙ at)
-
 -- ---- reading
 
 pub length-rows_up_to : (p end : ℕ) (lane : List Begun) → length (rows_up_to p end lane) ≡ length lane
