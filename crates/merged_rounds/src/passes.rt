@@ -215,7 +215,7 @@ fn computed(alloc: Global, plan: &Plan, core: Core) -> Result<Source, NoMemory>
     source_of(alloc, plan, core, no_turn(alloc, plan)?, false)
 }
 
-// With so few processors it costs most to keep rounds: they are computed again.
+// With so few processors a round costs less than looking through what is kept of it.
 const FEW: u32 = 2;
 
 // Goes on for a hyperperiod of so many ticks, where there are more than a few processors and no task has an offset, and tells where
