@@ -137,8 +137,10 @@ impl Changes {
         ensures room { self.new.room ≡ self.old.room }
     {
         self.seen.push(i);
-        self.stopped.push_if(!runs && held, i);
-        self.begun.push_if(runs && !held, i);
+        if runs != held {
+            self.stopped.push_if(held, i);
+            self.begun.push_if(runs, i);
+        }
     }
 
     /// The packs that were looked at.

@@ -1,5 +1,5 @@
 -- One member of a pack for another, among those that run.
-use Rattle.std.proofs.Common.{option_map, ◌≡◌, ◌≢◌, ℕ, ◌+◌, ◌<◌, Bool, true, false, List, length, Option, Some, None, refl, ap, arith, inl, inr, sym, subst, ◌∙◌, get_or, eq-eqb, get_or-set_same, get_or-set_other}
+use Rattle.std.proofs.Common.{option_map, ◌≡◌, ◌≢◌, ℕ, ◌+◌, ◌<◌, Bool, true, false, List, length, Option, Some, None, refl, ap, ap₂, arith, inl, inr, sym, subst, ◌∙◌, get_or, eq-eqb, get_or-set_same, get_or-set_other}
 use Rattle.std.proofs.lemmas.Bool.{cases_eq, ne_eqb}
 use Rattle.std.proofs.lemmas.List.{length-set}
 use Rattle.std.proofs.Math.ListN.{set}
@@ -57,6 +57,29 @@ module _ (t : Tree) (h : IsTree t) (p : ℕ) (i : IsPack t p) where
   pub dry_nobody : (d : DueContents) (k : Option ℕ) → None ≡ option_map (member t p) k → no_tick ≡ dry_by t d p k
   dry_nobody d None e = refl
   dry_nobody d (Some j) e = cc
+
+  -- a member that runs, by its node
+  pub runs_at_node : (k : Option ℕ) (m : ℕ) (runs : List Bool) → Some m ≡ option_map (member t p) k → ((j : ℕ) → k ≡ Some j → j < length (members t p)) →
+      ((j : ℕ) → j < length (members t p) → get_or runs (member t p j) false ≡ is_at k j) → get_or runs m false ≡ true
+  runs_at_node k m runs e within own = runs_node k m true runs e (λ j is. own j (within j is) ∙ ap (λ o. is_at o j) is ∙ eq-eqb j j refl)
+
+  -- another member than the one that runs rests
+  pub other_rests : (was next : Option ℕ) (m : ℕ) (runs : List Bool) → was ≢ next → Some m ≡ option_map (member t p) next → ((j : ℕ) → next ≡ Some j → j < length (members t p)) →
+      ((j : ℕ) → j < length (members t p) → get_or runs (member t p j) false ≡ is_at was j) → get_or runs m false ≡ false
+  other_rests was next m runs ne e within own = runs_node next m false runs e (λ j is. own j (within j is) ∙ off was j (λ same. ne (same ∙ sym is)))
+    where
+      off : (o : Option ℕ) (j : ℕ) → o ≢ Some j → is_at o j ≡ false
+      off None j apart = refl
+      off (Some k) j apart = ne_eqb k j (λ same. apart (ap (λ (x : ℕ). Some x) same))
+
+  -- one node for another, by their places
+  pub with_nodes : (was next : Option ℕ) (m n : ℕ) (runs : List Bool) → Some m ≡ option_map (member t p) was → Some n ≡ option_map (member t p) next →
+      set (set runs m false) n true ≡ with_place t p next true (with_place t p was false runs)
+  with_nodes was next m n runs e f = ap (λ (rs : List Bool). set rs n true) (with_node was m false runs e) ∙ with_node next n true (with_place t p was false runs) f
+
+  -- the tick at which what runs at a place has nothing left stays while ticks and dues do
+  pub dry_still : (d d' : DueContents) (k : Option ℕ) (m : ℕ) → d'.tick ≡ d.tick → d'.remains ≡ d.remains → Some m ≡ option_map (member t p) k → d.tick + get_or d.remains m 0 ≡ dry_by t d' p k
+  dry_still d d' k m tick remains e = ap₂ (λ (n : ℕ) (rs : List ℕ). n + get_or rs m 0) (sym tick) (sym remains) ∙ dry_node d' k m e
 
   -- once the one that ran has stopped, none of them runs
   pub none_runs : (was : Option ℕ) (runs runs' : List Bool) (j : ℕ) → length runs ≡ length t.nodes → ((n : ℕ) → was ≡ Some n → n < length (members t p)) → j < length (members t p) →

@@ -10,7 +10,7 @@ ghost use Rattle.tree_select.specs.Marked.{AreFreshFrom};
 ghost use Rattle.event_core.specs.Serving.{dry_by, first_served, lists, AreFitting, AreLong, AreSeen, AreSettledFrom, AreUnchanged, IsServing};
 ghost use Rattle.event_core.specs.Steps.{packs_by};
 
-use crate::serving::{Served, serve};
+use crate::serving::serve;
 use crate::ticks::Ticks;
 use cpu_assign::{Changes, Places};
 use knockout::Knockout;
@@ -26,27 +26,12 @@ fn ready_at(ready: &[Knockout], p: NodeId) -> &Knockout
     &ready[p.0 as usize]
 }
 
-// The tick at which the member of pack p that runs has nothing left. The pack is only spoken of.
-fn dry_of(tree: &Tree, p: NodeId, served: Served, dues: &Dues) -> u128
-    requires tree { IsTree tree.now }
-    requires pack { IsPack tree.now p.0 }
-    requires member { (j : ℕ) → served.place ≡ Some j → j < length (members tree.now p.0) }
-    requires node { option_map (λ n. n.0) served.node ≡ option_map (member tree.now p.0) served.place }
-    requires nodes { length dues.now.runs ≡ length tree.now.nodes }
-    requires runs { (j : ℕ) → served.place ≡ Some j → slice_index_or dues.now.runs (member tree.now p.0 j) false ≡ true }
-    ensures { result ≡ dry_by tree.now dues.now p.0 served.place }
-{
-    let _pack = (tree.nodes(), p);
-    match served.node {
-        None => u128::MAX,
-        Some(n) => dues.dry(n),
-    }
-}
-
-// Pack p serves the member that it picks now; whether that is another one than before. The ends are only spoken of.
+// Pack p serves the member that it picks now; whether that is another one than before. The ends are only spoken of. `leaves` may be said
+// of a pack of level 0.
 fn serve_pack(
     tree: &Tree,
     p: NodeId,
+    leaves: bool,
     ends: &[u128],
     ready: &[Knockout],
     serves: &mut [Option<u32>],
@@ -60,6 +45,7 @@ fn serve_pack(
     requires long { AreLong tree.now dues.old (lists ready.now serves.old dry.old stale.old runs.old) }
     requires fits { AreFitting tree.now dues.old }
     requires serving { IsServing tree.now dues.old ends.now (lists ready.now serves.old dry.old stale.old runs.old) }
+    requires leaves { leaves ≡ true → level tree.now p.0 ≡ 0 }
     ensures tick { dues.new.tick ≡ dues.old.tick }
     ensures remains { dues.new.remains ≡ dues.old.remains }
     ensures nodes { length dues.new.runs ≡ length dues.old.runs }
@@ -73,9 +59,9 @@ fn serve_pack(
 {
     let _ends = ends.len();
     let was = serves[p.0 as usize];
-    let next = serve(tree, p, ready_at(ready, p), was, dues, stale, runs);
+    let next = serve(tree, p, ready_at(ready, p), was, leaves, dues, stale, runs);
     serves[p.0 as usize] = next.place;
-    dry.set(p, dry_of(tree, p, next, dues));
+    dry.set(p, next.dry);
     next.is_other
 }
 
@@ -140,7 +126,7 @@ fn serve_level(
     let mut i = next_marked(tree, level, stale, 0);
     'marked: while i < count {
         let p = pack_of(tree, level, i);
-        serve_pack(tree, p, ends, ready, serves, dry, dues, stale, runs);
+        serve_pack(tree, p, false, ends, ready, serves, dry, dues, stale, runs);
         i = next_marked(tree, level, stale, i + 1);
     }
 }
@@ -179,6 +165,7 @@ fn serve_listed(
 )
     requires tree { IsTree tree.now }
     requires pack { IsPack tree.now p.0 }
+    requires first { level tree.now p.0 ≡ 0 }
     requires held { i < length places.now.last }
     requires long { AreLong tree.now dues.old (lists ready.now serves.old dry.old stale.old runs.old) }
     requires fits { AreFitting tree.now dues.old }
@@ -202,7 +189,7 @@ fn serve_listed(
     ensures begun { changes.new.begun ≡ with_pack changes.old.begun i (slice_index_or runs.new p.0 false && not (is_held places.now.onto i)) }
     ensures room { changes.new.room ≡ changes.old.room }
 {
-    let is_other = serve_pack(tree, p, ends, ready, serves, dry, dues, stale, runs);
+    let is_other = serve_pack(tree, p, true, ends, ready, serves, dry, dues, stale, runs);
     list_if(changes, is_other, i, runs[p.0 as usize], places.holds(i));
 }
 

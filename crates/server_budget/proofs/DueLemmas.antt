@@ -1,6 +1,6 @@
 -- Marks and what is left by them.
 use Rattle.std.proofs.Common.{◌≡◌, ◌≢◌, ℕ, zero, suc, ◌+◌, ◌-◌, ◌*◌, ◌^◌, ◌<◌, ◌≤◌, Bool, true, false, List, [], ◌∷◌, length, replicate, subst, refl, ap, ap₂, arith, sym, ◌∙◌, get_or, inl, inr, get_or-set_same, get_or-set_other}
-use Rattle.std.proofs.lemmas.Bool.{cases_eq}
+use Rattle.std.proofs.lemmas.Bool.{both_ways, cases_eq}
 use Rattle.std.proofs.lemmas.List.{set-get_or, length-set, length-replicate}
 use Rattle.std.proofs.Math.ListN.{set}
 use Rattle.sched_base.specs.Counting.{bit}
@@ -135,3 +135,10 @@ pub start_fits : (tick : ℕ) (runs : List Bool) (marks : List ℕ) (x : ℕ) �
 start_fits tick runs marks x l off fits =
     let P : ℕ → Type 0 = λ n. tick + n < 2 ^ 128 in
     subst P (left_resting tick runs marks x l off) fits
+
+-- what rests still does once another node has stopped
+pub still_rests : (runs : List Bool) (before after : ℕ) → get_or runs before false ≡ true → get_or runs after false ≡ false → get_or (set runs before false) after false ≡ false
+still_rests runs before after on off =
+    let ne : after ≢ before = (λ e. both_ways (get_or runs before false) (ap (λ x. get_or runs x false) (sym e) ∙ off) on) in
+    let other : get_or (set runs before false) after false ≡ get_or runs after false = rw get_or-set_other refl in
+    other ∙ off

@@ -76,6 +76,27 @@ impl Dues {
         stop_at(&mut self.marks, &mut self.runs, self.tick, n.0 as usize);
     }
 
+    /// Node `before` rests from now on, and node `after` runs. It returns the tick at which the latter has nothing left.
+    pub fn hand_over(&mut self, before: NodeId, after: NodeId) -> u128
+        requires before { before.0 < length self.old.runs }
+        requires after { after.0 < length self.old.runs }
+        requires runs { slice_index_or self.old.runs before.0 false ≡ true }
+        requires rests { slice_index_or self.old.runs after.0 false ≡ false }
+        requires fits { self.old.tick + slice_index self.old.remains after.0 < 2 ^ 128 }
+        ensures tick { self.new.tick ≡ self.old.tick }
+        ensures remains { self.new.remains ≡ self.old.remains }
+        ensures runs { self.new.runs ≡ slice_set (slice_set self.old.runs before.0 false) after.0 true }
+        ensures dry { result ≡ self.old.tick + slice_index self.old.remains after.0 }
+    {
+        hand_over_at(
+            &mut self.marks,
+            &mut self.runs,
+            self.tick,
+            before.0 as usize,
+            after.0 as usize,
+        )
+    }
+
     /// Gives node n this due. What was left there before is lost.
     pub fn give(&mut self, n: NodeId, due: u128)
         requires node { n.0 < length self.old.runs }
@@ -158,7 +179,8 @@ fn remain_at(marks: &[u128], runs: &[bool], tick: u128, n: usize) -> u128
     if runs[n] { marks[n] - tick } else { marks[n] }
 }
 
-fn start_at(marks: &mut [u128], runs: &mut [bool], tick: u128, n: usize)
+// Node n starts; the tick at which it has nothing left.
+fn start_at(marks: &mut [u128], runs: &mut [bool], tick: u128, n: usize) -> u128
     requires ahead { AreAhead tick runs.old marks.old }
     requires node { n < length runs.old }
     requires rests { slice_index_or runs.old n false ≡ false }
@@ -166,9 +188,12 @@ fn start_at(marks: &mut [u128], runs: &mut [bool], tick: u128, n: usize)
     ensures ahead { AreAhead tick runs.new marks.new }
     ensures remains { remains_by tick runs.new marks.new ≡ remains_by tick runs.old marks.old }
     ensures runs { runs.new ≡ slice_set runs.old n true }
+    ensures dry { result ≡ tick + slice_index (remains_by tick runs.old marks.old) n }
 {
-    marks[n] = raised(marks[n], tick);
+    let dry = raised(marks[n], tick);
+    marks[n] = dry;
     runs[n] = true;
+    dry
 }
 
 fn stop_at(marks: &mut [u128], runs: &mut [bool], tick: u128, n: usize)
@@ -181,6 +206,29 @@ fn stop_at(marks: &mut [u128], runs: &mut [bool], tick: u128, n: usize)
 {
     marks[n] -= tick;
     runs[n] = false;
+}
+
+// One node stops and another one starts; the tick at which the latter has nothing left.
+fn hand_over_at(
+    marks: &mut [u128],
+    runs: &mut [bool],
+    tick: u128,
+    before: usize,
+    after: usize,
+) -> u128
+    requires ahead { AreAhead tick runs.old marks.old }
+    requires before { before < length runs.old }
+    requires after { after < length runs.old }
+    requires runs { slice_index_or runs.old before false ≡ true }
+    requires rests { slice_index_or runs.old after false ≡ false }
+    requires fits { tick + slice_index (remains_by tick runs.old marks.old) after < 2 ^ 128 }
+    ensures ahead { AreAhead tick runs.new marks.new }
+    ensures remains { remains_by tick runs.new marks.new ≡ remains_by tick runs.old marks.old }
+    ensures runs { runs.new ≡ slice_set (slice_set runs.old before false) after true }
+    ensures dry { result ≡ tick + slice_index (remains_by tick runs.old marks.old) after }
+{
+    stop_at(marks, runs, tick, before);
+    start_at(marks, runs, tick, after)
 }
 
 // The mark of a due that is given at a tick to what runs or rests.

@@ -46,6 +46,7 @@ fn set_place(
     p: NodeId,
     k: Option<u32>,
     node: Option<NodeId>,
+    leaves: bool,
     on: bool,
     stale: &mut [bool],
     runs: &mut [bool],
@@ -54,13 +55,14 @@ fn set_place(
     requires pack { IsPack tree.now p.0 }
     requires member { (j : ℕ) → k ≡ Some j → j < length (members tree.now p.0) }
     requires node { option_map (λ n. n.0) node ≡ option_map (member tree.now p.0) k }
+    requires leaves { leaves ≡ true → level tree.now p.0 ≡ 0 }
     requires stale { length stale.old ≡ length tree.now.nodes }
     requires runs { length runs.old ≡ length tree.now.nodes }
     ensures { IsPlaced tree.now p.0 k on stale.old runs.old stale.new runs.new }
 {
     let _place = (p, k);
     if let Some(m) = node {
-        turn(tree, m, on, stale, runs);
+        turn(tree, m, leaves, on, stale, runs);
     }
 }
 
@@ -72,6 +74,7 @@ fn hand_on(
     next: Option<u32>,
     before: Option<NodeId>,
     after: Option<NodeId>,
+    leaves: bool,
     stale: &mut [bool],
     runs: &mut [bool],
 ) -> bool
@@ -82,6 +85,7 @@ fn hand_on(
     requires after { (j : ℕ) → next ≡ Some j → j < length (members tree.now p.0) }
     requires before_at { option_map (λ n. n.0) before ≡ option_map (member tree.now p.0) was }
     requires after_at { option_map (λ n. n.0) after ≡ option_map (member tree.now p.0) next }
+    requires leaves { leaves ≡ true → level tree.now p.0 ≡ 0 }
     requires stale { length stale.old ≡ length tree.now.nodes }
     requires runs { length runs.old ≡ length tree.now.nodes }
     ensures handed { IsHanded tree.now p.0 next stale.old runs.old stale.new runs.new }
@@ -91,18 +95,19 @@ fn hand_on(
     if was == next {
         return false;
     }
-    set_place(tree, p, was, before, false, stale, runs);
-    set_place(tree, p, next, after, true, stale, runs);
+    set_place(tree, p, was, before, leaves, false, stale, runs);
+    set_place(tree, p, next, after, leaves, true, stale, runs);
     true
 }
 
 /// Pack p, of whose members the one at `was` ran, loses its mark, and lets the one run that is picked now, where the pack
-/// runs. It returns which these are.
-pub fn hand_over(
+/// runs. It returns which these are. `leaves` may be said of a pack of level 0: its members are leaves, so that no primal is looked for.
+pub fn hand_over_in(
     tree: &Tree,
     p: NodeId,
     was: Option<u32>,
     chosen: Option<u32>,
+    leaves: bool,
     stale: &mut [bool],
     runs: &mut [bool],
 ) -> Handed
@@ -111,6 +116,7 @@ pub fn hand_over(
     requires was { (j : ℕ) → j < length (members tree.now p.0) → slice_index_or runs.old (member tree.now p.0 j) false ≡ is_at was j }
     requires within { (j : ℕ) → was ≡ Some j → j < length (members tree.now p.0) }
     requires chosen { (j : ℕ) → chosen ≡ Some j → j < length (members tree.now p.0) }
+    requires leaves { leaves ≡ true → level tree.now p.0 ≡ 0 }
     requires stale { length stale.old ≡ length tree.now.nodes }
     requires runs { length runs.old ≡ length tree.now.nodes }
     requires led { AreLed tree.now runs.old }
@@ -138,7 +144,7 @@ pub fn hand_over(
     let place = served_by(runs[p.0 as usize], chosen);
     let before = node_at(tree, p, was);
     let node = node_at(tree, p, place);
-    let is_other = hand_on(tree, p, was, place, before, node, stale, runs);
+    let is_other = hand_on(tree, p, was, place, before, node, leaves, stale, runs);
     Handed {
         place,
         node,

@@ -3,6 +3,8 @@ use Rattle.std.proofs.lemmas.List.{length-append}
 use Rattle.sched_base.specs.Places.{is_held}
 use Rattle.run_tree.specs.Schedule.{packs_at}
 use Rattle.run_tree.proofs.TreeLemmas.{first_is_pack}
+use Rattle.run_tree.specs.Tree.{level}
+use Rattle.tree_select.proofs.LevelLemmas.{pack_of_level}
 use Rattle.tree_select.proofs.MarkedLemmas.{fresh_none, fresh_step, fresh_all}
 use Rattle.event_core.specs.Serving.{first_runs, stops_below, begins_below}
 use Rattle.event_core.proofs.SettledPacks.{begins_skip, changed_are, few_pass, fresh_skip, listed_step, settled_rest, settled_skip, stops_skip}
@@ -203,3 +205,9 @@ next_marked-i-requires-in-marked-clause-stale c = c.serve_listed.auto.stale ∙ 
 
 pub marked-smaller : goal.marked-smaller
 marked-smaller c = let after = c.next_marked-i-in-marked.ensures.after in let on = c.marked-test.true in omega (arith, after, on)
+
+pub serve_listed-requires-clause-first : goal.serve_listed-requires-clause-first
+serve_listed-requires-clause-first c =
+    let n = c.packs-count.ensures in
+    let b = c.marked-test.true in
+    ap (level c.args.tree.now) c.pack_of-p.ensures.value ∙ (pack_of_level c.args.tree.now c.requires.tree 0 c.marked.i (omega (arith, n, b))).1

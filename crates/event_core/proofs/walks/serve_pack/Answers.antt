@@ -24,23 +24,12 @@ serve-next-requires-clause-agree c = c.requires.serving.agree
 pub serve-next-requires-clause-led : goal.serve-next-requires-clause-led
 serve-next-requires-clause-led c = c.requires.serving.led
 
-pub dry_of-requires-clause-member : goal.dry_of-requires-clause-member
-dry_of-requires-clause-member c = c.serve-next.ensures.within
-
-pub dry_of-requires-clause-nodes : goal.dry_of-requires-clause-nodes
-dry_of-requires-clause-nodes c = c.serve-next.ensures.nodes ∙ c.requires.long.dues
-
-pub dry_of-requires-clause-runs : goal.dry_of-requires-clause-runs
-dry_of-requires-clause-runs c = λ j e.
-    let l = c.serve-next.ensures.within j e in
-    c.serve-next.ensures.agree _ (member_of c.args.tree.now c.requires.tree c.args.p.0 c.requires.pack j l) ∙ c.serve-next.ensures.now j l ∙ ap (λ o. is_at o j) e ∙ eq-eqb j j refl
-
 pub returns-clause-serving : goal.returns-clause-serving
 returns-clause-serving c =
     let b = c.requires.pack.0 in
     let long = c.requires.long.serves in
     serving_step c.args.tree.now c.args.dues.now c.serve-next.new.dues c.args.ends.now (lists c.args.ready.now c.args.serves.now c.args.dry.now c.args.stale.now c.args.runs.now) (lists c.args.ready.now _ _ c.serve-next.new.stale c.serve-next.new.runs) c.args.p.0 c.serve-next.result.place
-    c.requires.pack (omega (arith, b, long)) c.serve-next.ensures.tick c.serve-next.ensures.remains refl refl (c.set.ensures ∙ ap (λ (n : ℕ). set c.args.dry.now c.args.p.0 n) c.dry_of.ensures)
+    c.requires.pack (omega (arith, b, long)) c.serve-next.ensures.tick c.serve-next.ensures.remains refl refl (c.set.ensures ∙ ap (λ (n : ℕ). set c.args.dry.now c.args.p.0 n) c.serve-next.ensures.dry)
     c.serve-next.ensures.within c.serve-next.ensures.now c.serve-next.ensures.others c.serve-next.ensures.agree c.serve-next.ensures.rest c.serve-next.ensures.unmarked c.serve-next.ensures.led
     (c.serve-next.ensures.served c.args.ends.now (subst (λ (xs : List ℕ). AreReady (candidates c.args.tree.now c.args.dues.now.remains c.args.ends.now c.args.p.0) xs) (sym c.ready_at.ensures) (c.requires.serving.picks c.args.p.0 c.requires.pack)) c.requires.serving.served) c.requires.serving
 
@@ -92,14 +81,5 @@ serve-next-requires-clause-fits c = c.requires.fits
 pub bounds-serves-p : goal.bounds-serves-p
 bounds-serves-p c = let b = c.requires.pack.0 in let long = c.requires.long.serves in omega (arith, b, long)
 
-pub dry_of-requires-clause-tree : goal.dry_of-requires-clause-tree
-dry_of-requires-clause-tree c = c.requires.tree
-
-pub dry_of-requires-clause-pack : goal.dry_of-requires-clause-pack
-dry_of-requires-clause-pack c = c.requires.pack
-
 pub set-requires : goal.set-requires
 set-requires c = let b = c.requires.pack.0 in let long = c.requires.serving.ticks.long in omega (arith, b, long)
-
-pub dry_of-requires-clause-node : goal.dry_of-requires-clause-node
-dry_of-requires-clause-node c = c.serve-next.ensures.node

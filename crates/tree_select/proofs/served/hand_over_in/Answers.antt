@@ -2,7 +2,7 @@ use Rattle.std.proofs.Common.{arith, false, subst, ℕ, Option}
 use Rattle.std.proofs.Math.ListN.{set}
 use Rattle.tree_select.specs.Marked.{IsHanded}
 use Rattle.tree_select.proofs.ServedLemmas.{handed_served, handed_unmarked, handed_mark, handed_marks}
-use Rattle.tree_select.proofs.served.hand_over.Goals as goal
+use Rattle.tree_select.proofs.served.hand_over_in.Goals as goal
 
 pub returns-clause-served : goal.returns-clause-served
 returns-clause-served c = λ remains ends is served.
