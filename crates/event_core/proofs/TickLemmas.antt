@@ -327,6 +327,17 @@ first_next ticks most block first next less own from was = record {
   ];
 }
 
+-- no tick of these blocks comes before it
+pub first_past : (least ticks : List ℕ) (used most from to first : ℕ) → AreInBlocks least ticks used → ((b : ℕ) → from ≤ b → b < to → first ≤ get_or least b 0) → IsFirstBelow ticks most from first → IsFirstBelow ticks most to first
+first_past least ticks used most from to first h past was = record {
+  below = was.below;
+  all = λ k l m. elim (cases_lt (k / 8) from) [
+    | inl low ↦ was.all k l low
+    | inr high ↦ (let b = h.bound k l in let p = past (k / 8) (omega (arith, high)) m in omega (arith, b, p))
+  ];
+  one = was.one;
+}
+
 pub first_all : (least ticks : List ℕ) (used most block first : ℕ) → AreInBlocks least ticks used → most < no_narrow → used ≤ block * 8 → IsFirstBelow ticks most block first → IsFirstTick ticks most first
 first_all least ticks used most block first h early far was = record {
   below = was.below;
@@ -346,10 +357,22 @@ AreSkipped ticks now from to = (k : ℕ) → k < length ticks → from ≤ k →
 pub none_skipped : (ticks : List ℕ) (now from : ℕ) → AreSkipped ticks now from from
 none_skipped ticks now from = λ k l low high e. omega (arith, low, high)
 
-pub block_skipped : (least ticks : List ℕ) (used now from at : ℕ) → AreInBlocks least ticks used → at % 8 ≡ 0 → now < get_or least (at / 8) 0 → AreSkipped ticks now from at → AreSkipped ticks now from (at + 8)
-block_skipped least ticks used now from at h begins late was = λ k l low high e. elim (cases_lt k at) [
+-- no tick of these blocks is as soon
+pub blocks_past : (least ticks : List ℕ) (used now from at to : ℕ) → AreInBlocks least ticks used → ((b : ℕ) → at ≤ b → b < to → now + 1 ≤ get_or least b 0) → AreSkipped ticks now from (at * 8) → AreSkipped ticks now from (to * 8)
+blocks_past least ticks used now from at to h past was k l low high e = elim (cases_lt k (at * 8)) [
   | inl before ↦ was k l low before e
-  | inr after ↦ (let same : k / 8 ≡ at / 8 = omega (arith, high, after, begins) in let b = h.bound k l in let a = ap (λ j. get_or least j 0) same in omega (arith, a, b, e, late))
+  | inr after ↦ (let b = h.bound k l in let p = past (k / 8) (omega (arith, after)) (omega (arith, high)) in omega (arith, b, p, e))
+]
+
+-- one block was gone over
+pub block_past : (least ticks : List ℕ) (used now from block : ℕ) → AreInBlocks least ticks used → now < no_narrow → ((k : ℕ) → k < length ticks → from ≤ k → block * 8 ≤ k → k < block * 8 + 8 → k < used → get_or ticks k 0 ≢ now) →
+    AreSkipped ticks now from (block * 8) → AreSkipped ticks now from ((block + 1) * 8)
+block_past least ticks used now from block h early here was k l low high e = elim (cases_lt k (block * 8)) [
+  | inl before ↦ was k l low before e
+  | inr after ↦ elim (cases_lt k used) [
+    | inl within ↦ here k l low (omega (arith, after)) (omega (arith, high)) within e
+    | inr past ↦ (let r = h.rest k l (omega (arith, past)) in omega (arith, r, e, early))
+  ]
 ]
 
 -- where all that is used is one block, and none of it comes as soon

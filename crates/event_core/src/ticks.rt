@@ -1,5 +1,5 @@
 //! Ticks of nodes, of which the first is found without looking at all of them.
-ghost use Rattle.std.specs.Prelude.{◌≡◌, ◌≢◌, ◌⊎◌, ℕ, List, ◌*◌, ◌/◌, ◌<◌, ◌≤◌, length, min, replicate, slice_index, slice_set, IfOk};
+ghost use Rattle.std.specs.Prelude.{◌≡◌, ◌≢◌, ◌⊎◌, ℕ, List, ◌+◌, ◌*◌, ◌/◌, ◌<◌, ◌≤◌, length, min, replicate, slice_index, slice_set, IfOk};
 ghost use Rattle.event_core.specs.Serving.{lists, no_tick, IsDrying, IsServing};
 ghost use Rattle.event_core.specs.Ticks.{no_narrow, ticks_by, AreInBlocks, AreNarrowed, ArePlaces, IsFirstTick};
 
@@ -189,6 +189,22 @@ fn first_in_soonest(least: &mut [u64], ticks: &[u64], used: usize, most: u64) ->
     first_in(least, ticks, used, block, most)
 }
 
+// The first block from number `from` on that may have a tick before this one, or the number of blocks where there is none.
+fn next_before(least: &[u64], tick: u64, from: usize, blocks: usize) -> usize
+    requires from { from ≤ blocks }
+    requires within { blocks ≤ length least.now }
+    ensures after { from ≤ result }
+    ensures within { result ≤ blocks }
+    ensures skipped { (b : ℕ) → from ≤ b → b < result → tick ≤ slice_index least.now b }
+{
+    for block in from..blocks {
+        if least[block] < tick {
+            return block;
+        }
+    }
+    blocks
+}
+
 // The first of a tick and of all others, where it has 64 bits.
 fn first_narrow(least: &mut [u64], ticks: &[u64], used: usize, most: u64) -> u64
     requires blocks { AreInBlocks least.old ticks.now used }
@@ -199,9 +215,12 @@ fn first_narrow(least: &mut [u64], ticks: &[u64], used: usize, most: u64) -> u64
     if used > 0 && used <= BLOCK {
         return first_of_one(least, ticks, used, most);
     }
+    let blocks = used.div_ceil(BLOCK);
     let mut first = first_in_soonest(least, ticks, used, most);
-    for block in 0..used.div_ceil(BLOCK) {
+    let mut block = next_before(least, first, 0, blocks);
+    'early: while block < blocks {
         first = first_in(least, ticks, used, block, first);
+        block = next_before(least, first, block + 1, blocks);
     }
     first
 }
@@ -240,10 +259,29 @@ fn next_of_one(least: &[u64], ticks: &[u64], used: usize, now: u64, from: usize)
     next_in(ticks, now, from, used)
 }
 
+// The first place of a block from number `from` on that has this tick, or the number of places that are used where there is none.
+fn next_in_block(ticks: &[u64], used: usize, now: u64, block: usize, from: usize) -> usize
+    requires used { used ≤ length ticks.now }
+    requires block { block * 8 < used }
+    requires from { from ≤ used }
+    requires before { from < block * 8 + 8 }
+    ensures after { from ≤ result }
+    ensures within { result ≤ used }
+    ensures here { result < used → slice_index ticks.now result ≡ now }
+    ensures near { result < used → result < block * 8 + 8 }
+    ensures skipped { (k : ℕ) → k < length ticks.now → from ≤ k → block * 8 ≤ k → k < block * 8 + 8 → k < result → slice_index ticks.now k ≢ now }
+{
+    let start = from.max(block * BLOCK);
+    let end = used.min(block * BLOCK + BLOCK);
+    let at = next_in(ticks, now, start, end);
+    if at < end { at } else { used }
+}
+
 // The first place from number `from` on that has this tick of 64 bits, or the number of places that are used where there is none.
 fn next_narrow(least: &[u64], ticks: &[u64], used: usize, now: u64, from: usize) -> usize
     requires blocks { AreInBlocks least.now ticks.now used }
     requires from { from ≤ used }
+    requires early { now < no_narrow }
     ensures after { from ≤ result }
     ensures within { result ≤ used }
     ensures here { result < used → slice_index ticks.now result ≡ now }
@@ -252,15 +290,14 @@ fn next_narrow(least: &[u64], ticks: &[u64], used: usize, now: u64, from: usize)
     if used > 0 && used <= BLOCK {
         return next_of_one(least, ticks, used, now, from);
     }
-    let mut k = from;
-    while k < used {
-        if k % BLOCK == 0 && now < least[k / BLOCK] {
-            k += BLOCK;
-        } else if ticks[k] == now {
-            return k;
-        } else {
-            k += 1;
+    let blocks = used.div_ceil(BLOCK);
+    let mut block = next_before(least, now + 1, from / BLOCK, blocks);
+    'early: while block < blocks {
+        let at = next_in_block(ticks, used, now, block, from);
+        if at < used {
+            return at;
         }
+        block = next_before(least, now + 1, block + 1, blocks);
     }
     used
 }
