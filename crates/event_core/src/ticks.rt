@@ -130,6 +130,21 @@ fn least_of(ticks: &[u64], from: usize, to: usize) -> u64
     first
 }
 
+// The least tick of a block. Where all its places are used, their number is known.
+fn least_in(ticks: &[u64], used: usize, block: usize) -> u64
+    requires used { used ≤ length ticks.now }
+    requires block { block * 8 < used }
+    ensures all { (k : ℕ) → k < used → k / 8 ≡ block → result ≤ slice_index ticks.now k }
+    ensures one { (k : ℕ) × (k < length ticks.now) × (result ≡ slice_index ticks.now k) }
+    ensures fits { result ≤ no_narrow }
+{
+    let from = block * BLOCK;
+    if used - from < BLOCK {
+        return least_of(ticks, from, used);
+    }
+    least_of(ticks, from, from + BLOCK)
+}
+
 // The first of a tick and of a block's, which isn't looked at where it has none before. Where it is, what is kept of it is then its least.
 fn first_in(least: &mut [u64], ticks: &[u64], used: usize, block: usize, first: u64) -> u64
     requires blocks { AreInBlocks least.old ticks.now used }
@@ -142,8 +157,7 @@ fn first_in(least: &mut [u64], ticks: &[u64], used: usize, block: usize, first: 
     if least[block] >= first {
         return first;
     }
-    let from = block * BLOCK;
-    let own = least_of(ticks, from, used.min(from + BLOCK));
+    let own = least_in(ticks, used, block);
     least[block] = own;
     first.min(own)
 }
