@@ -1,7 +1,7 @@
 -- Ticks in blocks, and the places of nodes.
 use Rattle.std.proofs.Common.{◌≡◌, ◌≢◌, ◌⊎◌, ℕ, ◌+◌, ◌*◌, ◌/◌, ◌%◌, ◌<◌, ◌≤◌, min, List, length, replicate, get_or, refl, ap, arith, inl, inr, sym, le_refl, ◌∙◌, get_or-set_same, get_or-set_other}
 use Rattle.std.proofs.lemmas.Bool.{cases_eq, cases_lt}
-use Rattle.std.proofs.lemmas.List.{ext_get_or, length-map, get_or-map, length-set, length-replicate, get_or-replicate}
+use Rattle.std.proofs.lemmas.List.{ext_get_or, length-map, get_or-map, length-set, length-replicate, get_or-replicate, get_or_past}
 use Rattle.std.proofs.Math.ListN.{set}
 use Rattle.event_core.specs.Serving.{no_tick}
 use Rattle.event_core.specs.Ticks.{no_narrow, ticks_by, AreInBlocks, AreNarrowed, ArePlaces, IsFirstTick}
@@ -194,16 +194,23 @@ least_next ticks from k first next l e was = (
   ],
 )
 
-pub blocks_first : (least ticks : List ℕ) (count blocks : ℕ) → least ≡ replicate blocks no_narrow → ticks ≡ replicate count no_narrow → count ≤ blocks * 8 → AreInBlocks least ticks 0
+pub blocks_first : (least ticks : List ℕ) (count blocks : ℕ) → least ≡ replicate blocks 0 → ticks ≡ replicate count no_narrow → count ≤ blocks * 8 → AreInBlocks least ticks 0
 blocks_first least ticks count blocks el et far = record {
-  long = (let a = long in let b = ap (λ (xs : List ℕ). length xs) el ∙ length-replicate {A = ℕ} blocks no_narrow in omega (arith, a, b, far));
+  long = (let a = long in let b = ap (λ (xs : List ℕ). length xs) el ∙ length-replicate {A = ℕ} blocks 0 in omega (arith, a, b, far));
   few = omega arith;
-  bound = λ k l. (let a = ap (λ (xs : List ℕ). get_or xs (k / 8) 0) el ∙ get_or-replicate blocks (k / 8) no_narrow 0 (omega (arith, l, long, far)) in let b = none k l in omega (arith, a, b));
+  bound = λ k l. (let a = zero_at (k / 8) in omega (arith, a));
+  none = λ one b. zero_at b;
   rest = λ k l past. none k l;
 }
   where
     long : length ticks ≡ count
     long = ap (λ (xs : List ℕ). length xs) et ∙ length-replicate {A = ℕ} count no_narrow
+
+    zero_at : (b : ℕ) → get_or least b 0 ≡ 0
+    zero_at b = ap (λ (xs : List ℕ). get_or xs b 0) el ∙ (elim (cases_lt b blocks) [
+      | inl low ↦ get_or-replicate blocks b 0 0 low
+      | inr past ↦ get_or_past (replicate blocks 0) b 0 (let l = length-replicate {A = ℕ} blocks 0 in omega (arith, l, past))
+    ])
 
     none : (k : ℕ) → k < length ticks → get_or ticks k 0 ≡ no_narrow
     none k l = ap (λ (xs : List ℕ). get_or xs k 0) et ∙ get_or-replicate count k no_narrow 0 (omega (arith, l, long))
@@ -348,6 +355,21 @@ first_all least ticks used most block first h early far was = record {
   one = was.one;
 }
 
+-- where all that is used is one block, it is gone over
+pub one_block : (least ticks : List ℕ) (used most own first : ℕ) → AreInBlocks least ticks used → most < no_narrow → first ≡ min most own → ((k : ℕ) → 0 ≤ k → k < used → own ≤ get_or ticks k 0) →
+    ((k : ℕ) × (k < length ticks) × (own ≡ get_or ticks k 0)) → IsFirstTick ticks most first
+one_block least ticks used most own first h early is all one = record {
+  below = omega (arith, is);
+  all = λ k l. elim (cases_lt k used) [
+    | inl low ↦ (let a = all k (omega arith) low in omega (arith, a, is))
+    | inr past ↦ (let r = h.rest k l (omega (arith, past)) in omega (arith, r, is, early))
+  ];
+  one = elim (cases_lt own most) [
+    | inl less ↦ inr (one.0, one.1, (let e = one.2 in omega (arith, is, less, e)))
+    | inr more ↦ inl (omega (arith, is, more))
+  ];
+}
+
 -- ---- the next one
 
 -- none at these places has the tick
@@ -374,10 +396,6 @@ block_past least ticks used now from block h early here was k l low high e = eli
     | inr past ↦ (let r = h.rest k l (omega (arith, past)) in omega (arith, r, e, early))
   ]
 ]
-
--- where all that is used is one block, and none of it comes as soon
-pub all_skipped : (least ticks : List ℕ) (used now from : ℕ) → AreInBlocks least ticks used → used ≤ 8 → now < get_or least 0 0 → AreSkipped ticks now from used
-all_skipped least ticks used now from h one late k l low high e = (let same : k / 8 ≡ 0 = omega (arith, high, one) in let b = h.bound k l in let a = ap (λ j. get_or least j 0) same in omega (arith, a, b, e, late))
 
 -- by nodes
 pub skipped_by : (number nodes ticks : List ℕ) (now from to : ℕ) → ArePlaces number nodes (length ticks) → AreSkipped ticks now from to →

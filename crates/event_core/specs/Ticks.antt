@@ -33,8 +33,10 @@ pub record AreNarrowed (narrow ticks : List ℕ) (used : ℕ) : Type 0 where
   pub rest : (k : ℕ) → k < length ticks → used ≤ k → slice_index ticks k ≡ no_tick
 
 -- Eight places are a block. No tick of a block comes before the one that is kept of it, and none comes at all from place `used` on.
+-- Where all that is used is one block, nothing is known of it.
 pub record AreInBlocks (least ticks : List ℕ) (used : ℕ) : Type 0 where
   pub long : length ticks ≤ length least * 8
   pub few : used ≤ length ticks
   pub bound : (k : ℕ) → k < length ticks → slice_index least (k / 8) ≤ slice_index ticks k
+  pub none : used ≤ 8 → (b : ℕ) → slice_index least b ≡ 0
   pub rest : (k : ℕ) → k < length ticks → used ≤ k → slice_index ticks k ≡ no_narrow

@@ -24,7 +24,7 @@ pub(crate) struct Ticks {
     by_place: Vec<u128>,
     // The ticks at the places, or the greatest number of 64 bits where they are later.
     narrow: Vec<u64>,
-    // Of each block such a tick before which none of its own comes.
+    // Of each block such a tick before which none of its own comes. Of one block alone it is 0, and isn't looked at.
     least: Vec<u64>,
     // From this place on no node has a tick.
     used: usize,
@@ -58,8 +58,11 @@ fn set_narrow(least: &mut [u64], narrow: &mut [u64], used: usize, place: usize, 
     ensures used { (used ≤ result) × (place < result) }
 {
     narrow[place] = tick;
-    least[place / BLOCK] = least[place / BLOCK].min(tick);
-    used.max(place + 1)
+    let next = used.max(place + 1);
+    if next > BLOCK {
+        least[place / BLOCK] = least[place / BLOCK].min(tick);
+    }
+    next
 }
 
 // The node at this place gets a tick.
@@ -149,6 +152,7 @@ fn least_in(ticks: &[u64], used: usize, block: usize) -> u64
 fn first_in(least: &mut [u64], ticks: &[u64], used: usize, block: usize, first: u64) -> u64
     requires blocks { AreInBlocks least.old ticks.now used }
     requires block { block * 8 < used }
+    requires many { 8 < used }
     ensures blocks { AreInBlocks least.new ticks.now used }
     ensures below { result ≤ first }
     ensures all { (k : ℕ) → k < length ticks.now → k / 8 ≡ block → result ≤ slice_index ticks.now k }
@@ -162,16 +166,16 @@ fn first_in(least: &mut [u64], ticks: &[u64], used: usize, block: usize, first: 
     first.min(own)
 }
 
-// The first of a tick and of all others, where these are one block.
-fn first_of_one(least: &mut [u64], ticks: &[u64], used: usize, most: u64) -> u64
-    requires blocks { AreInBlocks least.old ticks.now used }
+// The first of a tick and of all others, where these are one block. What is kept of blocks is only spoken of.
+fn first_of_one(least: &[u64], ticks: &[u64], used: usize, most: u64) -> u64
+    requires blocks { AreInBlocks least.now ticks.now used }
     requires some { 0 < used }
     requires one { used ≤ 8 }
     requires most { most < no_narrow }
-    ensures blocks { AreInBlocks least.new ticks.now used }
     ensures first { IsFirstTick ticks.now most result }
 {
-    first_in(least, ticks, used, 0, most)
+    let _least = least.len();
+    most.min(least_of(ticks, 0, used))
 }
 
 // The block of which the earliest tick is kept.
@@ -192,13 +196,11 @@ fn first_block(least: &[u64], used: usize) -> usize
 // The first of a tick and of the soonest block's. Mostly it is the first of all, so that no other block need be looked at.
 fn first_in_soonest(least: &mut [u64], ticks: &[u64], used: usize, most: u64) -> u64
     requires blocks { AreInBlocks least.old ticks.now used }
+    requires many { 8 < used }
     ensures blocks { AreInBlocks least.new ticks.now used }
     ensures below { result ≤ most }
     ensures one { (result ≡ most) ⊎ ((k : ℕ) × (k < length ticks.now) × (result ≡ slice_index ticks.now k)) }
 {
-    if used == 0 {
-        return most;
-    }
     let block = first_block(least, used);
     first_in(least, ticks, used, block, most)
 }
@@ -226,7 +228,10 @@ fn first_narrow(least: &mut [u64], ticks: &[u64], used: usize, most: u64) -> u64
     ensures blocks { AreInBlocks least.new ticks.now used }
     ensures first { IsFirstTick ticks.now most result }
 {
-    if used > 0 && used <= BLOCK {
+    if used == 0 {
+        return most;
+    }
+    if used <= BLOCK {
         return first_of_one(least, ticks, used, most);
     }
     let blocks = used.div_ceil(BLOCK);
@@ -254,23 +259,6 @@ fn next_in(ticks: &[u64], now: u64, from: usize, to: usize) -> usize
         }
     }
     to
-}
-
-// The first place from number `from` on that has this tick, or the number of places that are used, where these are one block.
-fn next_of_one(least: &[u64], ticks: &[u64], used: usize, now: u64, from: usize) -> usize
-    requires blocks { AreInBlocks least.now ticks.now used }
-    requires some { 0 < used }
-    requires one { used ≤ 8 }
-    requires from { from ≤ used }
-    ensures after { from ≤ result }
-    ensures within { result ≤ used }
-    ensures here { result < used → slice_index ticks.now result ≡ now }
-    ensures skipped { (k : ℕ) → k < length ticks.now → from ≤ k → k < result → slice_index ticks.now k ≢ now }
-{
-    if now < least[0] {
-        return used;
-    }
-    next_in(ticks, now, from, used)
 }
 
 // The first place of a block from number `from` on that has this tick, or the number of places that are used where there is none.
@@ -301,8 +289,8 @@ fn next_narrow(least: &[u64], ticks: &[u64], used: usize, now: u64, from: usize)
     ensures here { result < used → slice_index ticks.now result ≡ now }
     ensures skipped { (k : ℕ) → k < length ticks.now → from ≤ k → k < result → slice_index ticks.now k ≢ now }
 {
-    if used > 0 && used <= BLOCK {
-        return next_of_one(least, ticks, used, now, from);
+    if used <= BLOCK {
+        return next_in(ticks, now, from, used);
     }
     let blocks = used.div_ceil(BLOCK);
     let mut block = next_before(least, now + 1, from / BLOCK, blocks);
@@ -431,7 +419,14 @@ fn no_ticks(alloc: Global, count: usize) -> Result<Vec<u128>, NoMemory>
     Ok(vec![in alloc; u128::MAX; count]?)
 }
 
-// Places without a tick, and so blocks.
+// Of each block the first tick that there is.
+fn no_bounds(alloc: Global, count: usize) -> Result<Vec<u64>, NoMemory>
+    ensures { IfOk result (λ v. v.items ≡ replicate count 0) }
+{
+    Ok(vec![in alloc; 0u64; count]?)
+}
+
+// Places without a tick.
 fn no_narrow(alloc: Global, count: usize) -> Result<Vec<u64>, NoMemory>
     ensures { IfOk result (λ v. v.items ≡ replicate count no_narrow) }
 {
@@ -452,7 +447,7 @@ impl Ticks {
             narrow: no_narrow(alloc, count)?,
             number,
             nodes,
-            least: no_narrow(alloc, count / BLOCK + 1)?,
+            least: no_bounds(alloc, count / BLOCK + 1)?,
             used: 0,
         })
     }
