@@ -67,10 +67,14 @@ pub(crate) fn run_dry(
     let _ends = ends.len();
     let _runs = runs.len();
     let now = dues.now();
-    let mut k = next_of(least, narrow, dry, used, now, 0);
+    let mut k = 0;
     'dried: while k < used {
-        let p = NodeId(nodes[k]);
+        let next = next_of(least, narrow, dry, used, now, k);
+        if next >= used {
+            return;
+        }
+        let p = NodeId(nodes[next]);
         take_out(p, serves[p.0 as usize], ready, stale);
-        k = next_of(least, narrow, dry, used, now, k + 1);
+        k = next + 1;
     }
 }

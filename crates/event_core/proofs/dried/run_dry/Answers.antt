@@ -1,4 +1,4 @@
-use Rattle.std.proofs.Common.{arith, ap, get_or, length, sym, ◌∙◌, ◌+◌, ◌<◌, inl, inr}
+use Rattle.std.proofs.Common.{arith, ap, get_or, length, sym, ◌∙◌, ◌+◌, ◌<◌, ◌≤◌, inl, inr}
 use Rattle.std.proofs.lemmas.Bool.{cases_lt}
 use Rattle.run_tree.specs.Tree.{IsPack}
 use Rattle.event_core.specs.Serving.{lists}
@@ -10,24 +10,24 @@ use Rattle.event_core.proofs.dried.run_dry.Goals as goal
 pub dried-init : goal.dried-init
 dried-init c =
     let s = lists c.args.ready.now c.args.serves.now (ticks_by c.args.number.now c.args.dry.now) c.args.stale.now c.args.runs.now in (
-      drying_skip c.args.tree.now c.args.dues.now c.args.ends.now s c.args.number.now 0 c.next_of-k.result c.now-now.result c.now-now.ensures.value (skipped_by c.args.number.now c.args.nodes.now c.args.dry.now c.now-now.result 0 c.next_of-k.result c.requires.places c.next_of-k.ensures.skipped)
-          (drying_wide c.args.tree.now c.args.dues.now c.args.ends.now s (λ q. ⊥) (λ q. get_or c.args.number.now q 0 < 0) (λ q i m. omega (arith, m)) c.requires.drying),
-      c.next_of-k.ensures.within,
-      c.next_of-k.ensures.here,
+      drying_wide c.args.tree.now c.args.dues.now c.args.ends.now s (λ q. ⊥) (λ q. get_or c.args.number.now q 0 < 0) (λ q i m. omega (arith, m)) c.requires.drying,
+      omega arith,
     )
 
 pub dried-preserved : goal.dried-preserved
 dried-preserved c =
     let t = c.args.tree.now in
     let s = lists c.dried.ready c.args.serves.now (ticks_by c.args.number.now c.args.dry.now) c.dried.stale c.args.runs.now in
-    let s' = lists c.take_out.new.ready c.args.serves.now (ticks_by c.args.number.now c.args.dry.now) c.take_out.new.stale c.args.runs.now in
     let number = c.args.number.now in
-    let p = get_or c.args.nodes.now c.dried.k 0 in
-    let on = c.dried-test.true in
+    let next = c.next_of-next.result in
+    let was = drying_skip t c.args.dues.now c.args.ends.now s number c.dried.k next c.now-now.result c.now-now.ensures.value (skipped_by number c.args.nodes.now c.args.dry.now c.now-now.result c.dried.k next c.requires.places c.next_of-next.ensures.skipped) c.dried.invariant.0 in
+    let p = get_or c.args.nodes.now next 0 in
+    let off = c.if-next-used.false in
+    let on : next + 1 ≤ c.args.used = omega (arith, off) in
     let few = c.requires.narrowed.few in
-    let at = tick_at number c.args.nodes.now c.args.dry.now c.dried.k c.requires.places (omega (arith, on, few)) in
-    let here = at.1 ∙ c.dried.invariant.2 on in
-    let pack : IsPack t p = dry_is_pack t c.args.dues.now c.args.ends.now s _ c.dried.invariant.0 p at.0 (here ∙ c.now-now.ensures.value) in
+    let at = tick_at number c.args.nodes.now c.args.dry.now next c.requires.places (omega (arith, on, few)) in
+    let here = at.1 ∙ c.next_of-next.ensures.here (omega (arith, on)) in
+    let pack : IsPack t p = dry_is_pack t c.args.dues.now c.args.ends.now s _ was p at.0 (here ∙ c.now-now.ensures.value) in
     let b = pack.0 in
     let ready = c.requires.ready in
     let ready' = c.dried.auto.ready in
@@ -36,13 +36,32 @@ dried-preserved c =
     let by = ticks_long number c.args.dry.now in
     let numbers = c.requires.places.number_long in
     let long = c.dried.invariant.0.ticks.long in (
-      drying_skip t c.args.dues.now c.args.ends.now s' number (c.dried.k + 1) c.next_of-k-in-dried.result c.now-now.result c.now-now.ensures.value (skipped_by number c.args.nodes.now c.args.dry.now c.now-now.result (c.dried.k + 1) c.next_of-k-in-dried.result c.requires.places c.next_of-k-in-dried.ensures.skipped)
-          (drying_step t c.args.dues.now c.args.ends.now s c.take_out.new.ready c.take_out.new.stale number c.dried.k p c.now-now.result c.now-now.ensures.value (omega (arith, b, ready, ready')) (omega (arith, b, stale, stale')) pack
+      drying_step t c.args.dues.now c.args.ends.now s c.take_out.new.ready c.take_out.new.stale number next p c.now-now.result c.now-now.ensures.value (omega (arith, b, ready, ready')) (omega (arith, b, stale, stale')) pack
           (λ q i e. sym (c.requires.places.back q (let l = i.0 in omega (arith, l, long, by, numbers))) ∙ ap (λ j. get_or c.args.nodes.now j 0) e)
-          (dried_is c.args.serves.now (ticks_by number c.args.dry.now) p c.now-now.result c.dried.ready c.take_out.new.ready c.dried.stale c.take_out.new.stale here c.take_out.ensures.some c.take_out.ensures.none) c.dried.invariant.0),
-      c.next_of-k-in-dried.ensures.within,
-      c.next_of-k-in-dried.ensures.here,
+          (dried_is c.args.serves.now (ticks_by number c.args.dry.now) p c.now-now.result c.dried.ready c.take_out.new.ready c.dried.stale c.take_out.new.stale here c.take_out.ensures.some c.take_out.ensures.none) was,
+      on,
     )
+
+pub returns-then-next-used : goal.returns-then-next-used
+returns-then-next-used c =
+    let t = c.args.tree.now in
+    let s = lists c.dried.ready c.args.serves.now (ticks_by c.args.number.now c.args.dry.now) c.dried.stale c.args.runs.now in
+    let number = c.args.number.now in
+    let next = c.next_of-next.result in
+    let was = drying_skip t c.args.dues.now c.args.ends.now s number c.dried.k next c.now-now.result c.now-now.ensures.value (skipped_by number c.args.nodes.now c.args.dry.now c.now-now.result c.dried.k next c.requires.places c.next_of-next.ensures.skipped) c.dried.invariant.0 in
+    let past = c.if-next-used.true in
+    let long = c.dried.invariant.0.ticks.long in
+    let early = c.dried.invariant.0.early in
+    let by = ticks_long number c.args.dry.now in
+    let numbers = c.requires.places.number_long in
+    all_dried t c.args.dues.now c.args.ends.now s _
+    (λ q i e. elim (cases_lt (get_or number q 0) c.args.used) [
+      | inl low ↦ omega (arith, low, past)
+      | inr high ↦ absurd (let l : q < length c.args.dry.now = (let b = i.0 in omega (arith, b, long, by, numbers)) in
+          let r = c.requires.narrowed.rest (get_or number q 0) (c.requires.places.stands q l) (omega (arith, high)) in
+          let at = tick_of number c.args.dry.now q (omega (arith, l, numbers)) in
+          omega (arith, r, e, early, at))
+    ]) was
 
 pub returns : goal.returns
 returns c =
@@ -64,10 +83,13 @@ returns c =
 
 pub take_out-requires-clause-member : goal.take_out-requires-clause-member
 take_out-requires-clause-member c = λ j e.
-    let on = c.dried-test.true in
+    let off = c.if-next-used.false in
     let few = c.requires.narrowed.few in
-    let s = lists c.dried.ready c.args.serves.now (ticks_by c.args.number.now c.args.dry.now) c.dried.stale c.args.runs.now in
-    let p = get_or c.args.nodes.now c.dried.k 0 in
-    let at = tick_at c.args.number.now c.args.nodes.now c.args.dry.now c.dried.k c.requires.places (omega (arith, on, few)) in
-    let pack = dry_is_pack c.args.tree.now c.args.dues.now c.args.ends.now s _ c.dried.invariant.0 p at.0 (at.1 ∙ c.dried.invariant.2 on ∙ c.now-now.ensures.value) in
-    dry_within c.args.tree.now c.args.dues.now c.args.ends.now s _ c.dried.invariant.0 p j pack e
+    let number = c.args.number.now in
+    let next = c.next_of-next.result in
+    let s = lists c.dried.ready c.args.serves.now (ticks_by number c.args.dry.now) c.dried.stale c.args.runs.now in
+    let was = drying_skip c.args.tree.now c.args.dues.now c.args.ends.now s number c.dried.k next c.now-now.result c.now-now.ensures.value (skipped_by number c.args.nodes.now c.args.dry.now c.now-now.result c.dried.k next c.requires.places c.next_of-next.ensures.skipped) c.dried.invariant.0 in
+    let p = get_or c.args.nodes.now next 0 in
+    let at = tick_at number c.args.nodes.now c.args.dry.now next c.requires.places (omega (arith, off, few)) in
+    let pack = dry_is_pack c.args.tree.now c.args.dues.now c.args.ends.now s _ was p at.0 (at.1 ∙ c.next_of-next.ensures.here (omega (arith, off)) ∙ c.now-now.ensures.value) in
+    dry_within c.args.tree.now c.args.dues.now c.args.ends.now s _ was p j pack e
