@@ -316,10 +316,6 @@ pub record IsFirstBelow (ticks : List ℕ) (most block first : ℕ) : Type 0 whe
 pub first_none : (ticks : List ℕ) (most : ℕ) → IsFirstBelow ticks most 0 most
 first_none ticks most = record { below = le_refl most; all = λ k l m. absurd (omega (arith, m)); one = inl refl }
 
--- one of them, or the tick
-pub first_begun : (ticks : List ℕ) (most first : ℕ) → first ≤ most → ((first ≡ most) ⊎ ((k : ℕ) × (k < length ticks) × (first ≡ get_or ticks k 0))) → IsFirstBelow ticks most 0 first
-first_begun ticks most first below one = record { below = below; all = λ k l m. absurd (omega (arith, m)); one = one }
-
 pub first_next : (ticks : List ℕ) (most block first next : ℕ) → next ≤ first → ((k : ℕ) → k < length ticks → k / 8 ≡ block → next ≤ get_or ticks k 0) →
     ((next ≡ first) ⊎ ((k : ℕ) × (k < length ticks) × (next ≡ get_or ticks k 0))) → IsFirstBelow ticks most block first → IsFirstBelow ticks most (block + 1) next
 first_next ticks most block first next less own from was = record {

@@ -178,33 +178,6 @@ fn first_of_one(least: &[u64], ticks: &[u64], used: usize, most: u64) -> u64
     most.min(least_of(ticks, 0, used))
 }
 
-// The block of which the earliest tick is kept.
-fn first_block(least: &[u64], used: usize) -> usize
-    requires some { 0 < used }
-    requires blocks { used ≤ length least.now * 8 }
-    ensures { result * 8 < used }
-{
-    let mut soonest = 0;
-    for block in 1..used.div_ceil(BLOCK) {
-        if least[block] < least[soonest] {
-            soonest = block;
-        }
-    }
-    soonest
-}
-
-// The first of a tick and of the soonest block's. Mostly it is the first of all, so that no other block need be looked at.
-fn first_in_soonest(least: &mut [u64], ticks: &[u64], used: usize, most: u64) -> u64
-    requires blocks { AreInBlocks least.old ticks.now used }
-    requires many { 8 < used }
-    ensures blocks { AreInBlocks least.new ticks.now used }
-    ensures below { result ≤ most }
-    ensures one { (result ≡ most) ⊎ ((k : ℕ) × (k < length ticks.now) × (result ≡ slice_index ticks.now k)) }
-{
-    let block = first_block(least, used);
-    first_in(least, ticks, used, block, most)
-}
-
 // The first block from number `from` on that may have a tick before this one, or the number of blocks where there is none.
 fn next_before(least: &[u64], tick: u64, from: usize, blocks: usize) -> usize
     requires from { from ≤ blocks }
@@ -235,7 +208,7 @@ fn first_narrow(least: &mut [u64], ticks: &[u64], used: usize, most: u64) -> u64
         return first_of_one(least, ticks, used, most);
     }
     let blocks = used.div_ceil(BLOCK);
-    let mut first = first_in_soonest(least, ticks, used, most);
+    let mut first = most;
     let mut block = next_before(least, first, 0, blocks);
     'early: while block < blocks {
         first = first_in(least, ticks, used, block, first);
