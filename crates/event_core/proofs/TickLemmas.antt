@@ -1,5 +1,5 @@
 -- Ticks in blocks, and the places of nodes.
-use Rattle.std.proofs.Common.{◌≡◌, ◌≢◌, ◌⊎◌, ℕ, ◌+◌, ◌*◌, ◌/◌, ◌%◌, ◌<◌, ◌≤◌, min, List, length, replicate, get_or, refl, ap, arith, inl, inr, sym, le_refl, ◌∙◌, get_or-set_same, get_or-set_other}
+use Rattle.std.proofs.Common.{◌≡◌, ◌≢◌, ◌⊎◌, ℕ, ◌+◌, ◌*◌, ◌/◌, ◌<◌, ◌≤◌, min, List, length, replicate, get_or, refl, ap, arith, inl, inr, sym, le_refl, ◌∙◌, get_or-set_same, get_or-set_other}
 use Rattle.std.proofs.lemmas.Bool.{cases_eq, cases_lt}
 use Rattle.std.proofs.lemmas.List.{ext_get_or, length-map, get_or-map, length-set, length-replicate, get_or-replicate, get_or_past}
 use Rattle.std.proofs.Math.ListN.{set}

@@ -1,5 +1,5 @@
 //! The walk over the packs that are to be looked at again.
-ghost use Rattle.std.specs.Prelude.{ℕ, List, Option, [], ◌∷◌, ◌++◌, ◌≡◌, ◌≢◌, ◌⊎◌, ◌+◌, ◌&&◌, ◌<◌, ◌≤◌, not, length, true, false, option_map, None, Some};
+ghost use Rattle.std.specs.Prelude.{ℕ, List, Option, [], ◌∷◌, ◌++◌, ◌≡◌, ◌≢◌, ◌⊎◌, ◌+◌, ◌&&◌, ◌<◌, ◌≤◌, not, length, true, false, None};
 ghost use Rattle.std.specs.Prelude.{slice_index, slice_index_or};
 ghost use Rattle.sched_base.specs.Places.{is_held};
 ghost use Rattle.run_tree.specs.Tree.{IsTree, IsPack, member, members, level};
@@ -7,7 +7,7 @@ ghost use Rattle.run_tree.specs.Schedule.{packs_at};
 ghost use Rattle.run_tree.specs.Runs.{runs_now};
 ghost use Rattle.cpu_assign.specs.Changed.{with_pack, AreChanged};
 ghost use Rattle.tree_select.specs.Marked.{AreFreshFrom};
-ghost use Rattle.event_core.specs.Serving.{dry_by, first_served, lists, AreFitting, AreLong, AreSeen, AreSettledFrom, AreUnchanged, IsServing};
+ghost use Rattle.event_core.specs.Serving.{first_served, lists, AreFitting, AreLong, AreSeen, AreSettledFrom, AreUnchanged, IsServing};
 ghost use Rattle.event_core.specs.Steps.{packs_by};
 
 use crate::serving::serve;

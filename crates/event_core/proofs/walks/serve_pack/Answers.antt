@@ -1,10 +1,8 @@
-use Rattle.std.proofs.Common.{arith, ap, get_or-set_other, length, refl, List, subst, sym, ℕ, ◌∙◌, eq-eqb}
+use Rattle.std.proofs.Common.{arith, ap, get_or-set_other, length, refl, List, subst, sym, ℕ, ◌∙◌}
 use Rattle.std.proofs.Math.ListN.{set}
 use Rattle.edf_pick.specs.Ready.{AreReady}
-use Rattle.sched_base.specs.Candidates.{is_at}
 use Rattle.tree_select.specs.Selected.{candidates}
 use Rattle.event_core.specs.Serving.{lists}
-use Rattle.event_core.proofs.ServingLemmas.{member_of}
 use Rattle.event_core.proofs.WalkLemmas.{ready_long, serving_step}
 use Rattle.event_core.proofs.walks.serve_pack.Goals as goal
 
