@@ -8,7 +8,7 @@ use Rattle.run_tree.specs.Windows.{window_begin, window_end}
 use Rattle.run_tree.specs.Tree.{IsMember, kind_at, is_pack}
 use Rattle.run_tree.specs.Plans.{PlanContents, IsPlan, boundary_of}
 use Rattle.run_tree.proofs.WindowLemmas.{begin_is, end_is, windows_of, same_IsBegin}
-use Rattle.release_calendar.specs.Calendars.{CalendarContents, HasWindow, IsNext, PacksNeverEnd, BelongsTo, AreReady, AreTurned, EndsFit}
+use Rattle.release_calendar.specs.Calendars.{CalendarContents, HasWindow, IsNext, PacksNeverEnd, BelongsTo, AreReady, AreSteps, AreTurned, EndsFit}
 use Rattle.release_calendar.proofs.NextLemmas.{have, next-le-end}
 
 -- a turn of a node leaves what stands at packs
@@ -130,15 +130,15 @@ module _ (p : PlanContents) (h : IsPlan p) where
       same_number v = eq-eqb v v refl
 
   -- what is written belongs to the plan
-  pub belongs_written : {Z : Type 0} (vb ve : Vec ℕ Z) (begins ends begun : List ℕ) (u d : ℕ) → u ≤ p.set.horizon → length begins ≡ length p.tree.nodes → length ends ≡ length p.tree.nodes →
+  pub belongs_written : {Z : Type 0} (vb ve : Vec ℕ Z) (begins ends begun steps : List ℕ) (u d : ℕ) → u ≤ p.set.horizon → length begins ≡ length p.tree.nodes → length ends ≡ length p.tree.nodes →
       length vb.items ≡ length begins → length ve.items ≡ length ends →
-      ((x : ℕ) → IsMember p.tree x → HasWindow p begins ends u x) → PacksNeverEnd p.tree ends → IsNext p.set.tasks u d →
-      BelongsTo p (record { unit = u; next = d; begins = (with_items vb begins).items; ends = (with_items ve ends).items; begun = begun })
-  belongs_written vb ve begins ends begun u d early b e sb se w packs n =
-      let P : List ℕ → List ℕ → Type 0 = λ xs ys. BelongsTo p (record { unit = u; next = d; begins = xs; ends = ys; begun = begun }) in
+      ((x : ℕ) → IsMember p.tree x → HasWindow p begins ends u x) → PacksNeverEnd p.tree ends → IsNext p.set.tasks u d → AreSteps p steps →
+      BelongsTo p (record { unit = u; next = d; begins = (with_items vb begins).items; ends = (with_items ve ends).items; begun = begun; steps = steps })
+  belongs_written vb ve begins ends begun steps u d early b e sb se w packs n all =
+      let P : List ℕ → List ℕ → Type 0 = λ xs ys. BelongsTo p (record { unit = u; next = d; begins = xs; ends = ys; begun = begun; steps = steps }) in
       let kb = vb.ok.0 in
       let ke = ve.ok.0 in
-      let whole : BelongsTo p (record { unit = u; next = d; begins = begins; ends = ends; begun = begun }) = record { unit_fits = early; begins_long = b; ends_long = e; windows = w; packs = packs; next = n } in
+      let whole : BelongsTo p (record { unit = u; next = d; begins = begins; ends = ends; begun = begun; steps = steps }) = record { unit_fits = early; begins_long = b; ends_long = e; windows = w; packs = packs; next = n; steps = all } in
       subst₂ P (sym (with_items_is vb begins (omega (arith, kb, sb)))) (sym (with_items_is ve ends (omega (arith, ke, se)))) whole
 
 -- what is written is what a calendar keeps

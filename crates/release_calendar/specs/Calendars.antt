@@ -11,13 +11,24 @@ use Rattle.run_tree.specs.Tree.{Tree, kind_at, is_pack, IsPack, IsLeaf, IsMember
 use Rattle.run_tree.specs.Plans.{PlanContents, boundary_of}
 
 -- the present unit, the next unit with a boundary of a task, the window of each leaf and dual, by its number, and the leaves
--- and duals whose windows began at the present unit, once it was moved to
+-- and duals whose windows began at the present unit, once it was moved to; of each node, how long its windows are, where all
+-- are as long, or 0
 pub record CalendarContents : Type 0 where
   pub unit : ℕ
   pub next : ℕ
   pub begins : List ℕ
   pub ends : List ℕ
   pub begun : List ℕ
+  pub steps : List ℕ
+
+-- where boundaries have a step, each window is as long as it
+abbrev pub IsStep : (ℕ → Bool) → ℕ → Type 0
+IsStep boundary step = 0 < step → (u : ℕ) → boundary u ≡ true → window_end boundary u ≡ u + step
+
+-- each node has a step of its boundaries, or 0
+pub record AreSteps (p : PlanContents) (steps : List ℕ) : Type 0 where
+  pub long : length steps ≡ length p.tree.nodes
+  pub all : (x : ℕ) → x < length p.tree.nodes → IsStep (boundary_of p x) (slice_index steps x)
 
 -- leaf or dual x has its window of unit u
 pub record HasWindow (p : PlanContents) (begins ends : List ℕ) (u x : ℕ) : Type 0 where
@@ -43,6 +54,7 @@ pub record BelongsTo (p : PlanContents) (c : CalendarContents) : Type 0 where
   pub windows : (x : ℕ) → IsMember p.tree x → HasWindow p c.begins c.ends c.unit x
   pub packs : PacksNeverEnd p.tree c.ends
   pub next : IsNext p.set.tasks c.unit c.next
+  pub steps : AreSteps p c.steps
 
 -- the list has all nodes that are marked, and no other
 pub record AreListed (due : List Bool) (begun : List ℕ) : Type 0 where

@@ -2,6 +2,7 @@
 #![tactic(auto)]
 
 mod next_ends;
+mod steps;
 mod turns;
 
 ghost use Rattle.std.specs.Prelude.{◌≡◌, ℕ, ◌<◌, ◌≤◌, ◌^◌, ◌&&◌, not, false, length, slice_index, slice_index_or, IfOk};
@@ -22,6 +23,8 @@ pub struct Calendar {
     next: u64,
     begins: Vec<u64>,
     ends: Vec<u128>,
+    // Of each node, how long its windows are, where all are as long, or 0.
+    steps: Vec<u64>,
     // The windows' ends, of which the first is known.
     order: Knockout,
     // Of these, the first `turned` have windows that began at the present unit.
@@ -36,7 +39,8 @@ impl Model for Calendar {
 
     ghost Value = { CalendarContents };
 
-    ghost view = { λ c. record { unit = c.unit; next = c.next; begins = c.begins.items; ends = c.ends.items; begun = numbers (take c.turned c.begun.items) } };
+    ghost view = { λ c. record { unit = c.unit; next = c.next; begins = c.begins.items; ends = c.ends.items;
+        begun = numbers (take c.turned c.begun.items); steps = c.steps.items } };
 
     ghost invariant = { λ c. (length c.ends.items ≡ length c.begins.items) × EndsFit c.ends.items × (c.order ≡ c.ends.items)
         × (length c.begun.items ≡ length c.begins.items) × (c.turned ≤ length c.begun.items) × (c.next ≤ 2 ^ 33) };
@@ -51,12 +55,15 @@ impl Calendar {
         let mut begins = turns::first_begins(alloc, count)?;
         let mut ends = turns::first_ends(alloc, count)?;
         let begun = turns::no_nodes(alloc, count)?;
+        plan.know_lawful();
+        let steps = steps::steps_of(alloc, plan)?;
         let (next, order) = turns::turn_first(alloc, plan, &mut begins, &mut ends)?;
         Ok(Calendar {
             unit: 0,
             next,
             begins,
             ends,
+            steps,
             order,
             begun,
             turned: 0,
@@ -88,6 +95,7 @@ impl Calendar {
         let (next, turned) = turns::turn_marked(
             plan,
             at,
+            &self.steps,
             &mut self.begins,
             &mut self.ends,
             &mut self.order,

@@ -88,6 +88,7 @@ fn pack_end(plan: &Plan, p: NodeId, at: u64, ends: &[u128]) -> u64
 
 /// Where the window of leaf or dual n that begins at a unit ends: for a dual this is the first end of the windows of its primal's
 /// members, most of which are known.
+#[inline(never)]
 pub(crate) fn end_from(plan: &Plan, n: NodeId, at: u64, ends: &[u128]) -> u64
     requires plan { IsPlan plan.now }
     requires member { IsMember plan.now.tree n.0 }

@@ -6,7 +6,8 @@ ghost use Rattle.run_tree.specs.Windows.{window_end};
 ghost use Rattle.run_tree.specs.Tree.{kind_at, is_pack, is_leaf, numbers, IsMember};
 ghost use Rattle.run_tree.specs.Plans.{IsPlan, boundary_of};
 ghost use Rattle.knockout.specs.Knockouts.{IsFirst, never};
-ghost use Rattle.release_calendar.specs.Calendars.{HasWindow, EndsFit, PacksNeverEnd, AreEnds, AreListed, AreReady, AreTurned, IsTurning, IsFirstEnd, IsNext};
+ghost use Rattle.release_calendar.specs.Calendars.{HasWindow, EndsFit, PacksNeverEnd, AreEnds, AreSteps, AreListed, AreReady};
+ghost use Rattle.release_calendar.specs.Calendars.{AreTurned, IsTurning, IsFirstEnd, IsNext};
 
 use crate::next_ends::end_from;
 use knockout::{Entry, Knockout, NEVER};
@@ -200,11 +201,33 @@ fn put_ends(order: &mut Knockout, ends: &[u128])
     }
 }
 
+// Where the window of leaf or dual n that begins at a unit ends: a step later where there is one.
+#[inline(always)]
+fn end_of(plan: &Plan, n: NodeId, at: u64, steps: &[u64], ends: &[u128]) -> u64
+    requires plan { IsPlan plan.now }
+    requires member { IsMember plan.now.tree n.0 }
+    requires at { at ≤ plan.now.set.horizon }
+    requires begins { boundary_of plan.now n.0 at ≡ true }
+    requires steps { AreSteps plan.now steps.now }
+    requires ends { length ends.now ≡ length plan.now.tree.nodes }
+    requires known { AreEnds plan.now ends.now at }
+    ensures { result ≡ window_end (boundary_of plan.now n.0) at }
+{
+    let step = steps[n.0 as usize];
+    if step > 0 {
+        at + step
+    } else {
+        end_from(plan, n, at, ends)
+    }
+}
+
 // A leaf or dual gets the window that begins at a unit, and its mark.
+#[inline(always)]
 fn turn_due(
     plan: &Plan,
     n: NodeId,
     at: u64,
+    steps: &[u64],
     begins: &mut [u64],
     ends: &mut [u128],
     order: &mut Knockout,
@@ -214,6 +237,7 @@ fn turn_due(
     requires member { IsMember plan.now.tree n.0 }
     requires at { at ≤ plan.now.set.horizon }
     requires boundary { boundary_of plan.now n.0 at ≡ true }
+    requires steps { AreSteps plan.now steps.now }
     requires begins { length begins.old ≡ length plan.now.tree.nodes }
     requires ends { length ends.old ≡ length plan.now.tree.nodes }
     requires order { length order.old ≡ length plan.now.tree.nodes }
@@ -225,7 +249,7 @@ fn turn_due(
     ensures due { due.new ≡ slice_set due.old n.0 true }
     ensures fits { window_end (boundary_of plan.now n.0) at ≤ never }
 {
-    let end = end_from(plan, n, at, ends);
+    let end = end_of(plan, n, at, steps, ends);
     begins[n.0 as usize] = at;
     ends[n.0 as usize] = u128::from(end);
     order.set(n.0, end);
@@ -246,6 +270,7 @@ fn list_one(begun: &mut [NodeId], count: usize, n: NodeId)
 fn turn_in_order(
     plan: &Plan,
     at: u64,
+    steps: &[u64],
     begins: &mut [u64],
     ends: &mut [u128],
     order: &mut Knockout,
@@ -254,6 +279,7 @@ fn turn_in_order(
 ) -> (Entry, usize)
     requires plan { IsPlan plan.now }
     requires at { at ≤ plan.now.set.horizon }
+    requires steps { AreSteps plan.now steps.now }
     requires begins { length begins.old ≡ length plan.now.tree.nodes }
     requires ends { length ends.old ≡ length plan.now.tree.nodes }
     requires due { length due.old ≡ length plan.now.tree.nodes }
@@ -273,7 +299,7 @@ fn turn_in_order(
     let mut turned: usize = 0;
     while first.end == at {
         let n = NodeId(first.index);
-        turn_due(plan, n, at, begins, ends, order, due);
+        turn_due(plan, n, at, steps, begins, ends, order, due);
         list_one(begun, turned, n);
         turned += 1;
         first = order.first();
@@ -286,6 +312,7 @@ fn turn_in_order(
 pub(crate) fn turn_marked(
     plan: &Plan,
     at: u64,
+    steps: &[u64],
     begins: &mut [u64],
     ends: &mut [u128],
     order: &mut Knockout,
@@ -294,6 +321,7 @@ pub(crate) fn turn_marked(
 ) -> (u64, usize)
     requires plan { IsPlan plan.now }
     requires at { at ≤ plan.now.set.horizon }
+    requires steps { AreSteps plan.now steps.now }
     requires begins { length begins.old ≡ length plan.now.tree.nodes }
     requires ends { length ends.old ≡ length plan.now.tree.nodes }
     requires order { order.old ≡ ends.old }
@@ -313,6 +341,6 @@ pub(crate) fn turn_marked(
     ensures count { result.1 ≤ length begun.new }
 {
     due.fill(false);
-    let (first, turned) = turn_in_order(plan, at, begins, ends, order, due, begun);
+    let (first, turned) = turn_in_order(plan, at, steps, begins, ends, order, due, begun);
     (first.end.min(NO_TASKS), turned)
 }

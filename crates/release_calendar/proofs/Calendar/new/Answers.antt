@@ -48,6 +48,9 @@ returns c =
     let b = c.turn_first.auto.begins ∙ ap (λ (xs : List ℕ). length xs) (c.deref_mut.ensures.value ∙ c.in_ok-begins.ensures) ∙ length-replicate c.nodes-count.result 0 ∙ count in
     let e = c.turn_first.auto.ends ∙ ap (λ (xs : List ℕ). length xs) (c.deref_mut-2.ensures.value ∙ c.in_ok-ends.ensures) ∙ length-replicate c.nodes-count.result 0 ∙ count in (
       refl,
-      belongs_written c.args.plan.now c.tree.ensures.lawful c.in_ok-begins.begins c.in_ok-ends.ends c.turn_first.new.begins c.turn_first.new.ends _ 0 c.in_ok-next.next (first_unit _) b e
-          (sym w ∙ sym c.turn_first.auto.begins) (sym w' ∙ sym c.turn_first.auto.ends) c.turn_first.ensures.windows c.turn_first.ensures.packs c.in_ok-next.ensures.next,
+      belongs_written c.args.plan.now c.tree.ensures.lawful c.in_ok-begins.begins c.in_ok-ends.ends c.turn_first.new.begins c.turn_first.new.ends _ c.in_ok-steps.steps.items 0 c.in_ok-next.next (first_unit _) b e
+          (sym w ∙ sym c.turn_first.auto.begins) (sym w' ∙ sym c.turn_first.auto.ends) c.turn_first.ensures.windows c.turn_first.ensures.packs c.in_ok-next.ensures.next c.in_ok-steps.ensures,
     )
+
+pub returns-in_err-steps : goal.returns-in_err-steps
+returns-in_err-steps c = IfOk-from_err _ _ c.from_residual-in_err-steps.ensures.0

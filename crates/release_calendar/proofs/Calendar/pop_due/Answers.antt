@@ -3,7 +3,7 @@ use Rattle.run_tree.specs.Tree.{IsMember, kind_at, is_pack, numbers}
 use Rattle.std.proofs.lemmas.List.{with_items_is}
 use Rattle.sched_base.specs.declared.rows.NodeId.{NodeId}
 use Rattle.run_tree.specs.Plans.{boundary_of}
-use Rattle.release_calendar.specs.Calendars.{CalendarContents, AreListed, AreReady, EndsFit, PacksNeverEnd}
+use Rattle.release_calendar.specs.Calendars.{CalendarContents, AreListed, AreReady, AreSteps, EndsFit, PacksNeverEnd}
 use Rattle.release_calendar.proofs.TurnLemmas.{belongs_written, kept_written, ready_next}
 use Rattle.release_calendar.proofs.OrderLemmas.{begins_earlier}
 use Rattle.release_calendar.proofs.Calendar.pop_due.Goals as goal
@@ -20,8 +20,9 @@ returns-clause-belongs c =
     let v' = ap (λ (xs : List ℕ). length xs) c.deref_mut-2.ensures.value in
     let kept = c.turn_marked-next.auto.begins in
     let kept' = c.turn_marked-next.auto.ends in
-    belongs_written c.args.plan.now c.know_lawful.ensures.lawful c.self.inside.begins c.self.inside.ends c.turn_marked-next.new.begins c.turn_marked-next.new.ends _ c.self.inside.next c.turn_marked-next.result.0 (omega (arith, early, next)) (omega (arith, b, long, v, kept)) (omega (arith, e, long', v', kept')) (omega (arith, v, kept)) (omega (arith, v', kept'))
+    belongs_written c.args.plan.now c.know_lawful.ensures.lawful c.self.inside.begins c.self.inside.ends c.turn_marked-next.new.begins c.turn_marked-next.new.ends _ c.self.inside.steps.items c.self.inside.next c.turn_marked-next.result.0 (omega (arith, early, next)) (omega (arith, b, long, v, kept)) (omega (arith, e, long', v', kept')) (omega (arith, v, kept)) (omega (arith, v', kept'))
     c.turn_marked-next.ensures.windows c.turn_marked-next.ensures.packs c.turn_marked-next.ensures.next
+    (subst (λ (s : CalendarContents). AreSteps c.args.plan.now s.steps) (sym c.self.view_is) c.requires.belongs.steps)
 
 pub returns-clause-due : goal.returns-clause-due
 returns-clause-due c = λ x l. c.turn_marked-next.ensures.due x l ∙ ap (λ (s : CalendarContents). not (is_pack (kind_at c.args.plan.now.tree x)) && boundary_of c.args.plan.now x s.next) c.self.view_is
@@ -82,3 +83,6 @@ invariant_of-self c =
     kept_written c.self.inside.begins c.self.inside.ends c.turn_marked-next.new.begins c.turn_marked-next.new.ends _ (length c.self.inside.begins.items) _ c.turn_marked-next.result.1 c.turn_marked-next.result.0 (sym b) (sym e)
     b (e ∙ c.self.invariant.0) (long ∙ g ∙ c.self.invariant.3) (subst (λ (n : ℕ). c.turn_marked-next.result.1 ≤ n) (sym long) c.turn_marked-next.ensures.count)
     (c.turn_marked-next.ensures.fit (subst (λ (xs : List ℕ). EndsFit xs) (sym c.deref_mut-2.ensures.value) c.self.invariant.1)) c.turn_marked-next.ensures.order c.turn_marked-next.ensures.next.below
+
+pub turn_marked-next-requires-clause-steps : goal.turn_marked-next-requires-clause-steps
+turn_marked-next-requires-clause-steps c = subst (λ (xs : List ℕ). AreSteps c.args.plan.now xs) (sym (c.deref.ensures.value ∙ ap (λ (s : CalendarContents). s.steps) c.self.view_is)) c.requires.belongs.steps

@@ -3,23 +3,23 @@ use Rattle.std.proofs.Math.ListN.{set}
 use Rattle.release_calendar.proofs.EndLemmas.{end_near}
 use Rattle.release_calendar.proofs.turns.turn_due.Goals as goal
 
-pub end_from-end-requires-clause-plan : goal.end_from-end-requires-clause-plan
-end_from-end-requires-clause-plan c = c.requires.plan
+pub end_of-end-requires-clause-plan : goal.end_of-end-requires-clause-plan
+end_of-end-requires-clause-plan c = c.requires.plan
 
-pub end_from-end-requires-clause-member : goal.end_from-end-requires-clause-member
-end_from-end-requires-clause-member c = c.requires.member
+pub end_of-end-requires-clause-member : goal.end_of-end-requires-clause-member
+end_of-end-requires-clause-member c = c.requires.member
 
-pub end_from-end-requires-clause-at : goal.end_from-end-requires-clause-at
-end_from-end-requires-clause-at c = c.requires.at
+pub end_of-end-requires-clause-at : goal.end_of-end-requires-clause-at
+end_of-end-requires-clause-at c = c.requires.at
 
-pub end_from-end-requires-clause-begins : goal.end_from-end-requires-clause-begins
-end_from-end-requires-clause-begins c = c.requires.boundary
+pub end_of-end-requires-clause-begins : goal.end_of-end-requires-clause-begins
+end_of-end-requires-clause-begins c = c.requires.boundary
 
-pub end_from-end-requires-clause-ends : goal.end_from-end-requires-clause-ends
-end_from-end-requires-clause-ends c = c.requires.ends
+pub end_of-end-requires-clause-ends : goal.end_of-end-requires-clause-ends
+end_of-end-requires-clause-ends c = c.requires.ends
 
-pub end_from-end-requires-clause-known : goal.end_from-end-requires-clause-known
-end_from-end-requires-clause-known c = c.requires.known
+pub end_of-end-requires-clause-known : goal.end_of-end-requires-clause-known
+end_of-end-requires-clause-known c = c.requires.known
 
 pub bounds-begins-n : goal.bounds-begins-n
 bounds-begins-n c = let b = c.requires.member.0 in let long = c.requires.begins in omega (arith, b, long)
@@ -30,7 +30,7 @@ bounds-ends-n c = let b = c.requires.member.0 in let long = c.requires.ends in o
 pub set-requires-clause-end : goal.set-requires-clause-end
 set-requires-clause-end c =
     let near = end_near c.args.plan.now c.requires.plan c.args.n.0 c.args.at c.requires.member c.requires.at in
-    let e = c.end_from-end.ensures in
+    let e = c.end_of-end.ensures in
     omega (arith, near, e)
 
 pub set-requires-clause-index : goal.set-requires-clause-index
@@ -46,10 +46,13 @@ pub returns-clause-due : goal.returns-clause-due
 returns-clause-due c = refl
 
 pub returns-clause-ends : goal.returns-clause-ends
-returns-clause-ends c = ap (set c.args.ends.now c.args.n.0) (c.from.ensures ∙ c.end_from-end.ensures)
+returns-clause-ends c = ap (set c.args.ends.now c.args.n.0) (c.from.ensures ∙ c.end_of-end.ensures)
 
 pub returns-clause-order : goal.returns-clause-order
-returns-clause-order c = c.set.ensures ∙ ap (set c.args.order.now c.args.n.0) c.end_from-end.ensures
+returns-clause-order c = c.set.ensures ∙ ap (set c.args.order.now c.args.n.0) c.end_of-end.ensures
 
 pub returns-clause-fits : goal.returns-clause-fits
 returns-clause-fits c = let near = end_near c.args.plan.now c.requires.plan c.args.n.0 c.args.at c.requires.member c.requires.at in omega (arith, near)
+
+pub end_of-end-requires-clause-steps : goal.end_of-end-requires-clause-steps
+end_of-end-requires-clause-steps c = c.requires.steps

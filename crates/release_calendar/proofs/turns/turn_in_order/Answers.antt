@@ -139,3 +139,6 @@ returns-clause-listed c = c.loop-first.invariant.4
 
 pub returns-clause-count : goal.returns-clause-count
 returns-clause-count c = let room = c.loop-first.invariant.5 in omega (arith, room)
+
+pub turn_due-requires-clause-steps : goal.turn_due-requires-clause-steps
+turn_due-requires-clause-steps c = c.requires.steps

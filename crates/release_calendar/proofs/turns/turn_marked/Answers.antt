@@ -63,3 +63,6 @@ returns-clause-listed c = c.turn_in_order-turned.ensures.listed
 
 pub returns-clause-count : goal.returns-clause-count
 returns-clause-count c = c.turn_in_order-turned.ensures.count
+
+pub turn_in_order-turned-requires-clause-steps : goal.turn_in_order-turned-requires-clause-steps
+turn_in_order-turned-requires-clause-steps c = c.requires.steps
