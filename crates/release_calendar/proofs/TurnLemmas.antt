@@ -1,5 +1,6 @@
 -- Windows that end at a unit are followed by the next ones.
 use Rattle.std.proofs.Common.{◌≡◌, ℕ, ◌+◌, ◌<◌, ◌≤◌, ◌^◌, ◌&&◌, ◌==◌, not, Bool, true, false, List, length, get_or, refl, ap, arith, inl, inr, sym, subst, subst₂, ◌∙◌, Vec, eq-eqb}
+use Rattle.std.specs.Prelude.{Option, IfSome}
 use Rattle.std.specs.Vec.{with_items}
 use Rattle.std.proofs.lemmas.Grind.{get_or_default_zero}
 use Rattle.std.proofs.lemmas.List.{with_items_is}
@@ -142,9 +143,9 @@ module _ (p : PlanContents) (h : IsPlan p) where
       subst₂ P (sym (with_items_is vb begins (omega (arith, kb, sb)))) (sym (with_items_is ve ends (omega (arith, ke, se)))) whole
 
 -- what is written is what a calendar keeps
-pub kept_written : {Z : Type 0} (vb ve : Vec ℕ Z) (begins ends order : List ℕ) (n count turned d : ℕ) → length vb.items ≡ length begins → length ve.items ≡ length ends → length begins ≡ n → length ends ≡ n → count ≡ n → turned ≤ count →
-    EndsFit ends → order ≡ ends → d ≤ 2 ^ 33 →
-    (length (with_items ve ends).items ≡ length (with_items vb begins).items) × EndsFit (with_items ve ends).items × (order ≡ (with_items ve ends).items) × (count ≡ length (with_items vb begins).items) × (turned ≤ count) × (d ≤ 2 ^ 33)
+pub kept_written : {Z : Type 0} (vb ve : Vec ℕ Z) (begins ends : List ℕ) (order : Option (List ℕ)) (n count turned d : ℕ) → length vb.items ≡ length begins → length ve.items ≡ length ends → length begins ≡ n → length ends ≡ n → count ≡ n → turned ≤ count →
+    EndsFit ends → IfSome order (λ o. o ≡ ends) → d ≤ 2 ^ 33 →
+    (length (with_items ve ends).items ≡ length (with_items vb begins).items) × EndsFit (with_items ve ends).items × IfSome order (λ o. o ≡ (with_items ve ends).items) × (count ≡ length (with_items vb begins).items) × (turned ≤ count) × (d ≤ 2 ^ 33)
 kept_written vb ve begins ends order n count turned d sb se b e c some fit ordered below =
     let kb = vb.ok.0 in
     let ke = ve.ok.0 in
@@ -152,4 +153,4 @@ kept_written vb ve begins ends order n count turned d sb se b e c some fit order
     let whole_e = with_items_is ve ends (omega (arith, ke, se)) in
     let long_b : length (with_items vb begins).items ≡ n = ap (λ (xs : List ℕ). length xs) whole_b ∙ b in
     let long_e : length (with_items ve ends).items ≡ n = ap (λ (xs : List ℕ). length xs) whole_e ∙ e in
-    (long_e ∙ sym long_b, subst (λ xs. EndsFit xs) (sym whole_e) fit, ordered ∙ sym whole_e, c ∙ sym long_b, some, below)
+    (long_e ∙ sym long_b, subst (λ xs. EndsFit xs) (sym whole_e) fit, subst (λ (xs : List ℕ). IfSome order (λ o. o ≡ xs)) (sym whole_e) ordered, c ∙ sym long_b, some, below)

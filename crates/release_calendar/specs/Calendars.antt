@@ -1,5 +1,5 @@
 -- Calendars, and how they belong to a plan.
-use Rattle.std.specs.Prelude.{◌≡◌, ℕ, ◌<◌, ◌≤◌, ◌^◌, ◌⊎◌, ◌+◌, ◌==◌, ◌&&◌, not, Bool, true, false, List, []}
+use Rattle.std.specs.Prelude.{◌≡◌, ◌≢◌, ℕ, ◌<◌, ◌≤◌, ◌^◌, ◌⊎◌, ◌+◌, ◌==◌, ◌&&◌, not, Bool, true, false, List, []}
 use Rattle.std.specs.Prelude.{◌∷◌, length, slice_index, slice_index_or}
 use Rattle.knockout.specs.Knockouts.{never}
 use Rattle.sched_base.specs.Counting.{bit}
@@ -102,3 +102,13 @@ pub record IsFirstEnd (t : Tree) (ends : List ℕ) (n d : ℕ) : Type 0 where
   pub below : d ≤ 2 ^ 33
   pub all : (x : ℕ) → x < n → IsLeaf t x → d ≤ slice_index ends x
   pub one : (d ≡ 2 ^ 33) ⊎ ((x : ℕ) × IsLeaf t x × (d ≡ slice_index ends x))
+
+-- of the first n ends none is at unit u
+abbrev pub EndElsewhere : List ℕ → ℕ → ℕ → Type 0
+EndElsewhere ends u n = (x : ℕ) → x < n → slice_index ends x ≢ u
+
+-- the least of the first n ends, or 2 ^ 33 where none is less
+pub record IsLeastEnd (ends : List ℕ) (n d : ℕ) : Type 0 where
+  pub below : d ≤ 2 ^ 33
+  pub all : (x : ℕ) → x < n → d ≤ slice_index ends x
+  pub one : (d ≡ 2 ^ 33) ⊎ ((x : ℕ) × (x < n) × (d ≡ slice_index ends x))

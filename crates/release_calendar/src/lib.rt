@@ -25,24 +25,30 @@ pub struct Calendar {
     ends: Vec<u128>,
     // Of each node, how long its windows are, where all are as long, or 0.
     steps: Vec<u64>,
-    // The windows' ends, of which the first is known.
-    order: Knockout,
+    // The windows' ends, of which the first is known, where they are many.
+    order: Option<Knockout>,
     // Of these, the first `turned` have windows that began at the present unit.
     begun: Vec<NodeId>,
     turned: usize,
 }
 
 impl Model for Calendar {
-    ghost use Rattle.std.specs.Prelude.{◌≡◌, ◌≤◌, ◌^◌, length, take};
+    ghost use Rattle.std.specs.Prelude.{◌≡◌, ◌≤◌, ◌^◌, length, take, IfSome};
     ghost use Rattle.run_tree.specs.Tree.{numbers};
     ghost use Rattle.release_calendar.specs.Calendars.{CalendarContents, EndsFit};
 
     ghost Value = { CalendarContents };
 
-    ghost view = { λ c. record { unit = c.unit; next = c.next; begins = c.begins.items; ends = c.ends.items;
-        begun = numbers (take c.turned c.begun.items); steps = c.steps.items } };
+    ghost view = { λ c. record {
+      unit = c.unit;
+      next = c.next;
+      begins = c.begins.items;
+      ends = c.ends.items;
+      begun = numbers (take c.turned c.begun.items);
+      steps = c.steps.items;
+    } };
 
-    ghost invariant = { λ c. (length c.ends.items ≡ length c.begins.items) × EndsFit c.ends.items × (c.order ≡ c.ends.items)
+    ghost invariant = { λ c. (length c.ends.items ≡ length c.begins.items) × EndsFit c.ends.items × IfSome c.order (λ o. o ≡ c.ends.items)
         × (length c.begun.items ≡ length c.begins.items) × (c.turned ≤ length c.begun.items) × (c.next ≤ 2 ^ 33) };
 }
 

@@ -1,22 +1,25 @@
 //! How windows turn: those that end at a unit are followed by the next ones.
-ghost use Rattle.std.specs.Prelude.{◌≡◌, ◌≢◌, ℕ, ◌<◌, ◌≤◌, ◌^◌, ◌+◌, ◌++◌, ◌&&◌, [], ◌∷◌, not, true};
+ghost use Rattle.std.specs.Prelude.{◌≡◌, ℕ, ◌<◌, ◌≤◌, ◌^◌, ◌+◌, ◌++◌, ◌&&◌, [], ◌∷◌, not, true};
 ghost use Rattle.std.specs.Prelude.{false, length, replicate, take};
-ghost use Rattle.std.specs.Prelude.{slice_index, slice_index_or, slice_set, IfOk};
+ghost use Rattle.std.specs.Prelude.{slice_index, slice_index_or, slice_set, IfOk, IfSome};
 ghost use Rattle.run_tree.specs.Windows.{window_end};
 ghost use Rattle.run_tree.specs.Tree.{kind_at, is_pack, is_leaf, numbers, IsMember};
 ghost use Rattle.run_tree.specs.Plans.{IsPlan, boundary_of};
-ghost use Rattle.knockout.specs.Knockouts.{IsFirst, never};
+ghost use Rattle.knockout.specs.Knockouts.{never};
 ghost use Rattle.release_calendar.specs.Calendars.{HasWindow, EndsFit, PacksNeverEnd, AreEnds, AreSteps, AreListed, AreReady};
-ghost use Rattle.release_calendar.specs.Calendars.{AreTurned, IsTurning, IsFirstEnd, IsNext};
+ghost use Rattle.release_calendar.specs.Calendars.{AreTurned, IsTurning, EndElsewhere, IsFirstEnd, IsLeastEnd, IsNext};
 
 use crate::next_ends::end_from;
-use knockout::{Entry, Knockout, NEVER};
+use knockout::{Knockout, NEVER};
 use run_tree::{Kind, Plan, next_boundary};
 use sched_base::{NoMemory, NodeId};
 use std::alloc::Global;
 
 /// 2^33 units, which are past every boundary of a task up to the horizon.
 const NO_TASKS: u64 = 8_589_934_592;
+
+/// Up to how many nodes it takes less to go over all ends at each turn than to keep their order.
+const GONE_OVER: usize = 20;
 
 /// Begins of windows, before they are known.
 pub(crate) fn first_begins(alloc: Global, count: usize) -> Result<Vec<u64>, NoMemory>
@@ -160,22 +163,36 @@ pub(crate) fn turn_first(
     plan: &Plan,
     begins: &mut [u64],
     ends: &mut [u128],
-) -> Result<(u64, Knockout), NoMemory>
+) -> Result<(u64, Option<Knockout>), NoMemory>
     requires plan { IsPlan plan.now }
     requires begins { length begins.old ≡ length plan.now.tree.nodes }
     requires ends { length ends.old ≡ length plan.now.tree.nodes }
     requires none { ends.old ≡ replicate (length plan.now.tree.nodes) 0 }
     ensures windows { (x : ℕ) → IsMember plan.now.tree x → HasWindow plan.now begins.new ends.new 0 x }
     ensures next { IfOk result (λ r. IsNext plan.now.set.tasks 0 r.0) }
-    ensures order { IfOk result (λ r. r.1 ≡ ends.new) }
+    ensures order { IfOk result (λ r. IfSome r.1 (λ o. o ≡ ends.new)) }
     ensures packs { PacksNeverEnd plan.now.tree ends.new }
     ensures fit { EndsFit ends.new }
 {
     plan.know_lawful();
     part_packs(plan, ends);
     let next = turn(plan, 0, begins, ends);
-    let order = order_of(alloc, ends)?;
+    let order = order_if_many(alloc, ends)?;
     Ok((next, order))
+}
+
+// The order of the ends, where they are too many to go over all of them at each turn.
+fn order_if_many(alloc: Global, ends: &[u128]) -> Result<Option<Knockout>, NoMemory>
+    requires some { 1 ≤ length ends.now }
+    requires few { length ends.now < 2 ^ 32 }
+    requires fit { EndsFit ends.now }
+    ensures { IfOk result (λ r. IfSome r (λ o. o ≡ ends.now)) }
+{
+    if ends.len() <= GONE_OVER {
+        return Ok(None);
+    }
+    let order = order_of(alloc, ends)?;
+    Ok(Some(order))
 }
 
 // The ends in a knockout.
@@ -221,7 +238,7 @@ fn end_of(plan: &Plan, n: NodeId, at: u64, steps: &[u64], ends: &[u128]) -> u64
     }
 }
 
-// A leaf or dual gets the window that begins at a unit, and its mark.
+// A leaf or dual gets the window that begins at a unit, and its mark. The window's end.
 #[inline(always)]
 fn turn_due(
     plan: &Plan,
@@ -230,9 +247,8 @@ fn turn_due(
     steps: &[u64],
     begins: &mut [u64],
     ends: &mut [u128],
-    order: &mut Knockout,
     due: &mut [bool],
-)
+) -> u64
     requires plan { IsPlan plan.now }
     requires member { IsMember plan.now.tree n.0 }
     requires at { at ≤ plan.now.set.horizon }
@@ -240,20 +256,19 @@ fn turn_due(
     requires steps { AreSteps plan.now steps.now }
     requires begins { length begins.old ≡ length plan.now.tree.nodes }
     requires ends { length ends.old ≡ length plan.now.tree.nodes }
-    requires order { length order.old ≡ length plan.now.tree.nodes }
     requires known { AreEnds plan.now ends.old at }
     requires due { length due.old ≡ length plan.now.tree.nodes }
+    ensures end { result ≡ window_end (boundary_of plan.now n.0) at }
     ensures begins { begins.new ≡ slice_set begins.old n.0 at }
     ensures ends { ends.new ≡ slice_set ends.old n.0 (window_end (boundary_of plan.now n.0) at) }
-    ensures order { order.new ≡ slice_set order.old n.0 (window_end (boundary_of plan.now n.0) at) }
     ensures due { due.new ≡ slice_set due.old n.0 true }
     ensures fits { window_end (boundary_of plan.now n.0) at ≤ never }
 {
     let end = end_of(plan, n, at, steps, ends);
     begins[n.0 as usize] = at;
     ends[n.0 as usize] = u128::from(end);
-    order.set(n.0, end);
     due[n.0 as usize] = true;
+    end
 }
 
 // Puts a node behind the first `count`.
@@ -265,51 +280,9 @@ fn list_one(begun: &mut [NodeId], count: usize, n: NodeId)
     begun[count] = n;
 }
 
-// All windows that end at a unit turn, one by one, as they come first in the order, and their nodes are listed. The end that
-// then comes first, and how many turned.
+// All windows that end at a unit turn, one by one, as they come first in the order, and their nodes are listed. The first end
+// then, or 2^33 where none is less, and how many turned.
 fn turn_in_order(
-    plan: &Plan,
-    at: u64,
-    steps: &[u64],
-    begins: &mut [u64],
-    ends: &mut [u128],
-    order: &mut Knockout,
-    due: &mut [bool],
-    begun: &mut [NodeId],
-) -> (Entry, usize)
-    requires plan { IsPlan plan.now }
-    requires at { at ≤ plan.now.set.horizon }
-    requires steps { AreSteps plan.now steps.now }
-    requires begins { length begins.old ≡ length plan.now.tree.nodes }
-    requires ends { length ends.old ≡ length plan.now.tree.nodes }
-    requires due { length due.old ≡ length plan.now.tree.nodes }
-    requires order { order.old ≡ ends.old }
-    requires turning { IsTurning plan.now begins.old ends.old due.old at }
-    requires clear { (x : ℕ) → slice_index_or due.old x false ≡ false }
-    requires begun { length begun.old ≡ length plan.now.tree.nodes }
-    ensures order { order.new ≡ ends.new }
-    ensures turning { IsTurning plan.now begins.new ends.new due.new at }
-    ensures first { IsFirst ends.new result.0 }
-    ensures later { result.0.end ≢ at }
-    ensures fit { EndsFit ends.old → EndsFit ends.new }
-    ensures listed { AreListed due.new (numbers (take result.1 begun.new)) }
-    ensures count { result.1 ≤ length begun.new }
-{
-    let mut first = order.first();
-    let mut turned: usize = 0;
-    while first.end == at {
-        let n = NodeId(first.index);
-        turn_due(plan, n, at, steps, begins, ends, order, due);
-        list_one(begun, turned, n);
-        turned += 1;
-        first = order.first();
-    }
-    (first, turned)
-}
-
-/// Gives each leaf and dual its window of a unit, where some end, and the others are those of the unit already, and marks
-/// and lists those that have a boundary there. The next unit with a boundary of a task, and how many are listed.
-pub(crate) fn turn_marked(
     plan: &Plan,
     at: u64,
     steps: &[u64],
@@ -324,7 +297,131 @@ pub(crate) fn turn_marked(
     requires steps { AreSteps plan.now steps.now }
     requires begins { length begins.old ≡ length plan.now.tree.nodes }
     requires ends { length ends.old ≡ length plan.now.tree.nodes }
+    requires due { length due.old ≡ length plan.now.tree.nodes }
     requires order { order.old ≡ ends.old }
+    requires turning { IsTurning plan.now begins.old ends.old due.old at }
+    requires clear { (x : ℕ) → slice_index_or due.old x false ≡ false }
+    requires begun { length begun.old ≡ length plan.now.tree.nodes }
+    ensures order { order.new ≡ ends.new }
+    ensures turning { IsTurning plan.now begins.new ends.new due.new at }
+    ensures first { IsLeastEnd ends.new (length ends.new) result.0 }
+    ensures later { EndElsewhere ends.new at (length ends.new) }
+    ensures fit { EndsFit ends.old → EndsFit ends.new }
+    ensures listed { AreListed due.new (numbers (take result.1 begun.new)) }
+    ensures count { result.1 ≤ length begun.new }
+{
+    let mut first = order.first();
+    let mut turned: usize = 0;
+    while first.end == at {
+        let n = NodeId(first.index);
+        let end = turn_due(plan, n, at, steps, begins, ends, due);
+        order.set(n.0, end);
+        list_one(begun, turned, n);
+        turned += 1;
+        first = order.first();
+    }
+    (first.end.min(NO_TASKS), turned)
+}
+
+// All windows that end at a unit turn, by the numbers of their nodes, which are listed. The first end then, or 2^33 where none
+// is less, and how many turned.
+fn turn_each(
+    plan: &Plan,
+    at: u64,
+    steps: &[u64],
+    begins: &mut [u64],
+    ends: &mut [u128],
+    due: &mut [bool],
+    begun: &mut [NodeId],
+) -> (u64, usize)
+    requires plan { IsPlan plan.now }
+    requires at { at ≤ plan.now.set.horizon }
+    requires steps { AreSteps plan.now steps.now }
+    requires begins { length begins.old ≡ length plan.now.tree.nodes }
+    requires ends { length ends.old ≡ length plan.now.tree.nodes }
+    requires due { length due.old ≡ length plan.now.tree.nodes }
+    requires fit { EndsFit ends.old }
+    requires turning { IsTurning plan.now begins.old ends.old due.old at }
+    requires clear { (x : ℕ) → slice_index_or due.old x false ≡ false }
+    requires begun { length begun.old ≡ length plan.now.tree.nodes }
+    ensures turning { IsTurning plan.now begins.new ends.new due.new at }
+    ensures first { IsLeastEnd ends.new (length ends.new) result.0 }
+    ensures later { EndElsewhere ends.new at (length ends.new) }
+    ensures fit { EndsFit ends.new }
+    ensures listed { AreListed due.new (numbers (take result.1 begun.new)) }
+    ensures count { result.1 ≤ length begun.new }
+{
+    let mut first = NO_TASKS;
+    let mut turned: usize = 0;
+    for x in 0..ends.len() {
+        let mut end = ends[x] as u64;
+        if end == at {
+            let n = NodeId(x as u32);
+            end = turn_due(plan, n, at, steps, begins, ends, due);
+            list_one(begun, turned, n);
+            turned += 1;
+        }
+        first = first.min(end);
+    }
+    (first, turned)
+}
+
+// All windows that end at a unit turn: in the order of the ends where it is kept, else by the numbers of their nodes. The first
+// end then, or 2^33 where none is less, and how many turned.
+fn turn_ended(
+    plan: &Plan,
+    at: u64,
+    steps: &[u64],
+    begins: &mut [u64],
+    ends: &mut [u128],
+    order: &mut Option<Knockout>,
+    due: &mut [bool],
+    begun: &mut [NodeId],
+) -> (u64, usize)
+    requires plan { IsPlan plan.now }
+    requires at { at ≤ plan.now.set.horizon }
+    requires steps { AreSteps plan.now steps.now }
+    requires begins { length begins.old ≡ length plan.now.tree.nodes }
+    requires ends { length ends.old ≡ length plan.now.tree.nodes }
+    requires due { length due.old ≡ length plan.now.tree.nodes }
+    requires fit { EndsFit ends.old }
+    requires order { IfSome order.old (λ o. o ≡ ends.old) }
+    requires turning { IsTurning plan.now begins.old ends.old due.old at }
+    requires clear { (x : ℕ) → slice_index_or due.old x false ≡ false }
+    requires begun { length begun.old ≡ length plan.now.tree.nodes }
+    ensures order { IfSome order.new (λ o. o ≡ ends.new) }
+    ensures turning { IsTurning plan.now begins.new ends.new due.new at }
+    ensures first { IsLeastEnd ends.new (length ends.new) result.0 }
+    ensures later { EndElsewhere ends.new at (length ends.new) }
+    ensures fit { EndsFit ends.new }
+    ensures listed { AreListed due.new (numbers (take result.1 begun.new)) }
+    ensures count { result.1 ≤ length begun.new }
+{
+    match order {
+        Some(order) => turn_in_order(plan, at, steps, begins, ends, order, due, begun),
+        None => turn_each(plan, at, steps, begins, ends, due, begun),
+    }
+}
+
+/// Gives each leaf and dual its window of a unit, where some end, and the others are those of the unit already, and marks
+/// and lists those that have a boundary there. The next unit with a boundary of a task, and how many are listed.
+pub(crate) fn turn_marked(
+    plan: &Plan,
+    at: u64,
+    steps: &[u64],
+    begins: &mut [u64],
+    ends: &mut [u128],
+    order: &mut Option<Knockout>,
+    due: &mut [bool],
+    begun: &mut [NodeId],
+) -> (u64, usize)
+    requires plan { IsPlan plan.now }
+    requires at { at ≤ plan.now.set.horizon }
+    requires steps { AreSteps plan.now steps.now }
+    requires begins { length begins.old ≡ length plan.now.tree.nodes }
+    requires ends { length ends.old ≡ length plan.now.tree.nodes }
+    requires fit { EndsFit ends.old }
+    requires order { IfSome order.old (λ o. o ≡ ends.old) }
     requires ready { AreReady plan.now begins.old ends.old at }
     requires packs { PacksNeverEnd plan.now.tree ends.old }
     requires earlier { (x : ℕ) → IsMember plan.now.tree x → slice_index begins.old x < at }
@@ -332,15 +429,14 @@ pub(crate) fn turn_marked(
     requires begun { length begun.old ≡ length plan.now.tree.nodes }
     ensures windows { (x : ℕ) → IsMember plan.now.tree x → HasWindow plan.now begins.new ends.new at x }
     ensures next { IsNext plan.now.set.tasks at result.0 }
-    ensures order { order.new ≡ ends.new }
+    ensures order { IfSome order.new (λ o. o ≡ ends.new) }
     ensures packs { PacksNeverEnd plan.now.tree ends.new }
-    ensures fit { EndsFit ends.old → EndsFit ends.new }
+    ensures fit { EndsFit ends.new }
     ensures due { (x : ℕ) → x < length plan.now.tree.nodes → slice_index_or due.new x false
         ≡ (not (is_pack (kind_at plan.now.tree x)) && boundary_of plan.now x at) }
     ensures listed { AreListed due.new (numbers (take result.1 begun.new)) }
     ensures count { result.1 ≤ length begun.new }
 {
     due.fill(false);
-    let (first, turned) = turn_in_order(plan, at, steps, begins, ends, order, due, begun);
-    (first.end.min(NO_TASKS), turned)
+    turn_ended(plan, at, steps, begins, ends, order, due, begun)
 }

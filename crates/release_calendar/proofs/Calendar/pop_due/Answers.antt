@@ -1,4 +1,5 @@
 use Rattle.std.proofs.Common.{arith, ap, sym, take, ◌∙◌, ◌&&◌, ◌<◌, ◌≤◌, get_or, not, ℕ, List, subst, subst₂, length}
+use Rattle.std.specs.Prelude.{◌≡◌, IfSome}
 use Rattle.run_tree.specs.Tree.{IsMember, kind_at, is_pack, numbers}
 use Rattle.std.proofs.lemmas.List.{with_items_is}
 use Rattle.sched_base.specs.declared.rows.NodeId.{NodeId}
@@ -63,7 +64,10 @@ turn_marked-next-requires-clause-ends c =
     ap (λ (xs : List ℕ). length xs) c.deref_mut-2.ensures.value ∙ ap (λ (s : CalendarContents). length s.ends) c.self.view_is ∙ c.requires.belongs.ends_long
 
 pub turn_marked-next-requires-clause-order : goal.turn_marked-next-requires-clause-order
-turn_marked-next-requires-clause-order c = c.self.invariant.2 ∙ sym c.deref_mut-2.ensures.value
+turn_marked-next-requires-clause-order c = subst (λ (xs : List ℕ). IfSome c.self.inside.order (λ o. o ≡ xs)) (sym c.deref_mut-2.ensures.value) c.self.invariant.2
+
+pub turn_marked-next-requires-clause-fit : goal.turn_marked-next-requires-clause-fit
+turn_marked-next-requires-clause-fit c = subst (λ (xs : List ℕ). EndsFit xs) (sym c.deref_mut-2.ensures.value) c.self.invariant.1
 
 pub turn_marked-next-requires-clause-packs : goal.turn_marked-next-requires-clause-packs
 turn_marked-next-requires-clause-packs c =
@@ -82,7 +86,7 @@ invariant_of-self c =
     let long = ap (λ (xs : List NodeId). length xs) whole in
     kept_written c.self.inside.begins c.self.inside.ends c.turn_marked-next.new.begins c.turn_marked-next.new.ends _ (length c.self.inside.begins.items) _ c.turn_marked-next.result.1 c.turn_marked-next.result.0 (sym b) (sym e)
     b (e ∙ c.self.invariant.0) (long ∙ g ∙ c.self.invariant.3) (subst (λ (n : ℕ). c.turn_marked-next.result.1 ≤ n) (sym long) c.turn_marked-next.ensures.count)
-    (c.turn_marked-next.ensures.fit (subst (λ (xs : List ℕ). EndsFit xs) (sym c.deref_mut-2.ensures.value) c.self.invariant.1)) c.turn_marked-next.ensures.order c.turn_marked-next.ensures.next.below
+    c.turn_marked-next.ensures.fit c.turn_marked-next.ensures.order c.turn_marked-next.ensures.next.below
 
 pub turn_marked-next-requires-clause-steps : goal.turn_marked-next-requires-clause-steps
 turn_marked-next-requires-clause-steps c = subst (λ (xs : List ℕ). AreSteps c.args.plan.now xs) (sym (c.deref.ensures.value ∙ ap (λ (s : CalendarContents). s.steps) c.self.view_is)) c.requires.belongs.steps

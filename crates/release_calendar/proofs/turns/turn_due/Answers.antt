@@ -27,15 +27,6 @@ bounds-begins-n c = let b = c.requires.member.0 in let long = c.requires.begins 
 pub bounds-ends-n : goal.bounds-ends-n
 bounds-ends-n c = let b = c.requires.member.0 in let long = c.requires.ends in omega (arith, b, long)
 
-pub set-requires-clause-end : goal.set-requires-clause-end
-set-requires-clause-end c =
-    let near = end_near c.args.plan.now c.requires.plan c.args.n.0 c.args.at c.requires.member c.requires.at in
-    let e = c.end_of-end.ensures in
-    omega (arith, near, e)
-
-pub set-requires-clause-index : goal.set-requires-clause-index
-set-requires-clause-index c = let b = c.requires.member.0 in let long = c.requires.order in omega (arith, b, long)
-
 pub bounds-due-n : goal.bounds-due-n
 bounds-due-n c = let b = c.requires.member.0 in let long = c.requires.due in omega (arith, b, long)
 
@@ -47,9 +38,6 @@ returns-clause-due c = refl
 
 pub returns-clause-ends : goal.returns-clause-ends
 returns-clause-ends c = ap (set c.args.ends.now c.args.n.0) (c.from.ensures ∙ c.end_of-end.ensures)
-
-pub returns-clause-order : goal.returns-clause-order
-returns-clause-order c = c.set.ensures ∙ ap (set c.args.order.now c.args.n.0) c.end_of-end.ensures
 
 pub returns-clause-fits : goal.returns-clause-fits
 returns-clause-fits c = let near = end_near c.args.plan.now c.requires.plan c.args.n.0 c.args.at c.requires.member c.requires.at in omega (arith, near)
