@@ -41,7 +41,8 @@ pub(crate) enum Stop {
 impl Stop {
     /// Whether the next line has no line feed in the text.
     pub fn is_cut(self) -> bool
-        ensures { result ≡ false → self ≡ Stop.Cut → ⊥ }
+        ensures cut { result ≡ true → self ≡ Stop.Cut }
+        ensures other { result ≡ false → self ≡ Stop.Cut → ⊥ }
     {
         matches!(self, Stop::Cut)
     }

@@ -20,7 +20,7 @@ returns-then-not-is_cut-clause-read g c =
     let rows = c.take_from.new.self.rows in
     let stop = c.in_ok-stop.stop in
     let ended = not c.in_ok-ended.field-0 in
-    let none = c.if-not-is_cut.ensures refl in
+    let none = c.if-not-is_cut.ensures.other refl in
     let ahead = c.in_ok-ended.ensures.fills.ahead in
     let is = subst (λ t. StopIs tasks rows t stop) (sym ahead) (stop_behind tasks rows c.take_from.new.window.ahead c.in_ok-ended.ensures.fills.more stop none c.in_ok-stop.ensures.stop) in (
       on.more,
