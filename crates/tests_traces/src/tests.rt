@@ -6,6 +6,7 @@ mod merging;
 mod pictures;
 mod reading;
 mod reports;
+mod sources;
 mod tables;
 mod totals;
 mod words;

@@ -1,0 +1,48 @@
+//! The trace of three tasks from a source of which so many bytes are taken: read, or told why not.
+use super::THREE_TASKS;
+use sched_edges::{MemSource, TakeFault};
+use std::alloc::Global;
+use std::process::Abort;
+use trace_check::{SourceFault, Verdict, check_trace, read_checked_source, read_trace_source};
+
+/// The bytes that are taken, the calls of the source that fail, and why the text of 169 bytes isn't read, where it isn't.
+const LIMITS: [(usize, &[u64], Option<TakeFault>); 5] = [
+    (169, &[], None),
+    (168, &[], Some(TakeFault::TooLong { count: 169 })),
+    (0, &[], Some(TakeFault::TooLong { count: 1 })),
+    (169, &[1], Some(TakeFault::Read)),
+    (169, &[2], Some(TakeFault::Read)),
+];
+
+fn source_of(rt: &impl Abort, alloc: Global, fails: &[u64]) -> MemSource {
+    MemSource::new(alloc, THREE_TASKS.as_bytes(), fails).expect(rt, "there is memory")
+}
+
+/// Makes sure that the rows are valid, or why the source wasn't read. No line is at fault.
+fn assert_told(
+    rt: &impl Abort,
+    read: Result<Verdict, SourceFault>,
+    unread: Option<TakeFault>,
+    number: usize,
+) {
+    match read {
+        Ok(verdict) => assert!(rt; verdict == Verdict::Valid && unread == None, "row {number}"),
+        Err(SourceFault::Unread(fault)) => assert!(rt; Some(fault) == unread, "row {number}"),
+        Err(SourceFault::BadLine { line }) => assert!(rt; false, "line {line} is right"),
+    }
+}
+
+#[test]
+fn a_source_is_read_or_told_why_not(rt: HostRuntime) {
+    let alloc = rt.alloc();
+    for (number, (limit, fails, unread)) in LIMITS.iter().enumerate() {
+        let mut source = source_of(&rt, alloc, fails);
+        let read = read_trace_source(alloc, &mut source, *limit);
+        let read = read.map(|trace| check_trace(&trace));
+        assert_told(&rt, read, *unread, number);
+        let mut source = source_of(&rt, alloc, fails);
+        let read = read_checked_source(alloc, &mut source, *limit);
+        let read = read.map(|trace| trace.verdict());
+        assert_told(&rt, read, *unread, number);
+    }
+}
