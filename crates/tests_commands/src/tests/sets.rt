@@ -183,6 +183,33 @@ const PADDED: &[Padded] = &[
         "",
         "refused 12 InputTooLong 1048577\n",
     ),
+    (
+        "follow",
+        "",
+        1_048_577,
+        SURE,
+        Status::InputTooLong,
+        "",
+        "refused 12 InputTooLong 1048577\n",
+    ),
+    (
+        "jobs",
+        "",
+        1_048_577,
+        SURE,
+        Status::InputTooLong,
+        "",
+        "refused 12 InputTooLong 1048577\n",
+    ),
+    (
+        "modes",
+        "",
+        1_048_577,
+        SURE,
+        Status::InputTooLong,
+        "",
+        "refused 12 InputTooLong 1048577\n",
+    ),
     // A source that gives one byte too many has done so, though it would fail at the next call.
     (
         "batch",
