@@ -51,22 +51,8 @@ impl MergedRows {
         Ok(MergedRows { lanes, end: 0 })
     }
 
-    /// With the next round, up to tick `end`. Of each processor in order it is told what it shows there, or nothing where its last
-    /// row before shows the same. Memory is taken for a processor that shows something else than before.
-    #[inline(always)]
-    pub fn with_round(mut self, end: u128, told: &[Option<Leaf>]) -> Result<MergedRows, NoMemory>
-        requires whole { length told.now ≡ length self.lanes }
-        ensures merged { IfOk result (λ m. (lanes : List (List declared_row)) (rows : List declared_row) → self.lanes ≡ map merged lanes
-            → IsRound self.end rows → end_after self.end rows ≡ end → AreChangesTold self.lanes told.now rows
-            → m.lanes ≡ map merged (with_round lanes rows)) }
-        ensures end { IfOk result (λ m. m.end ≡ end) }
-        ensures processors { IfOk result (λ m. length m.lanes ≡ length self.lanes) }
-    {
-        self.add_round(end, told)?;
-        Ok(self)
-    }
-
-    /// Adds the next round, as `with_round` does. After an error the rows are of no use.
+    /// Adds the next round, up to tick `end`. Of each processor in order it is told what it shows there, or nothing where its last
+    /// row before shows the same. Memory is taken for a processor that shows something else than before. After an error the rows are of no use.
     #[inline(always)]
     pub fn add_round(&mut self, end: u128, told: &[Option<Leaf>]) -> Result<(), NoMemory>
         requires whole { length told.now ≡ length self.old.lanes }
@@ -103,7 +89,7 @@ impl MergedRows {
         Ok(())
     }
 
-    /// With the next round, where its rows are at hand: one for each processor in order. Memory is taken as `with_round` takes it.
+    /// With the next round, where its rows are at hand: one for each processor in order. Memory is taken as `add_round` takes it.
     pub fn with_rows(mut self, rows: &[Row]) -> Result<MergedRows, NoMemory>
         requires whole { length rows.now ≡ length self.lanes }
         requires round { IsRound self.end rows.now }

@@ -6,10 +6,10 @@ use sched_base::NoMemory;
 /// Three tasks of rate 2/3 on two processors, over one period of 9 ticks: on each processor two rounds of one name are one row.
 #[test]
 fn three_tasks(rt: HostRuntime) -> Result<(), NoMemory> {
-    let rows = MergedRows::new(rt.alloc(), 2)?;
-    let rows = rows.with_round(3, &[Some(B), Some(C)])?;
-    let rows = rows.with_round(6, &[Some(A), Some(C)])?;
-    let rows = rows.with_round(9, &[None, Some(B)])?;
+    let mut rows = MergedRows::new(rt.alloc(), 2)?;
+    rows.add_round(3, &[Some(B), Some(C)])?;
+    rows.add_round(6, &[Some(A), Some(C)])?;
+    rows.add_round(9, &[None, Some(B)])?;
     assert!(rt; rows.processors() == 2);
     assert!(rt; rows.count(0) == 2);
     assert!(rt; rows.row(0, 0) == row(0, 0, 3, B));

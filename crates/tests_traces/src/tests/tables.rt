@@ -33,9 +33,10 @@ fn written(
 fn two_rows(alloc: Global, tick: u128, end: u128) -> Result<MergedRows, NoMemory>
     ensures { IfOk result (λ rows. length rows.lanes ≡ 1) }
 {
-    let rows = MergedRows::new(alloc, 1)?;
-    let rows = rows.with_round(tick, &[Some(A)])?;
-    rows.with_round(end, &[Some(Leaf::Idle(0))])
+    let mut rows = MergedRows::new(alloc, 1)?;
+    rows.add_round(tick, &[Some(A)])?;
+    rows.add_round(end, &[Some(Leaf::Idle(0))])?;
+    Ok(rows)
 }
 
 /// The numbers of a row have the narrowest type that holds the steps up to the horizon.
@@ -108,10 +109,10 @@ const struct furnacelime_table furnacelime_table = {
 
 #[test]
 fn a_late_task_waits_in_its_table(rt: HostRuntime) -> Result<(), NoMemory> {
-    let rows = MergedRows::new(rt.alloc(), 1)?;
-    let rows = rows.with_round(6, &[Some(Leaf::Wait(TaskId(0)))])?;
-    let rows = rows.with_round(256, &[Some(A)])?;
-    let rows = rows.with_round(300, &[Some(Leaf::Idle(0))])?;
+    let mut rows = MergedRows::new(rt.alloc(), 1)?;
+    rows.add_round(6, &[Some(Leaf::Wait(TaskId(0)))])?;
+    rows.add_round(256, &[Some(A)])?;
+    rows.add_round(300, &[Some(Leaf::Idle(0))])?;
     let mut set = TaskSet::start(rt.alloc(), 1, 50);
     set.add_late(b"late", 1, 2, 1)?;
     assert!(rt;
@@ -158,8 +159,8 @@ const struct furnacelime_table furnacelime_table = {
 /// The table of no tasks, and what a sink takes of it whose third call fails.
 #[test]
 fn a_table_of_no_tasks_is_told(rt: HostRuntime) -> Result<(), NoMemory> {
-    let rows = MergedRows::new(rt.alloc(), 2)?;
-    let rows = rows.with_round(1, &[Some(Leaf::Idle(0)), Some(Leaf::Empty)])?;
+    let mut rows = MergedRows::new(rt.alloc(), 2)?;
+    rows.add_round(1, &[Some(Leaf::Idle(0)), Some(Leaf::Empty)])?;
     let set = TaskSet::start(rt.alloc(), 2, 1);
     let first = b"struct furnacelime_row {\n  uint8_t start, end;\n";
     let rows_taken: [(&[u64], &[u8]); 2] = [(&[], NONE), (&[3], first)];
