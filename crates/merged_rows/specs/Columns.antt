@@ -88,4 +88,5 @@ pub record AreGoingOn (first : List (List Begun)) (start : ℕ) (changed : List 
 pub record AreShown (lanes : List (List Row)) (changed : List ℕ) (leaves : List (Option Leaf)) (rows : List Row) : Type 0 where
   pub long : length rows ≡ length leaves
   pub each : (p : ℕ) (r : Row) → slice_get rows p ≡ Some r → slice_index_or leaves p None ≡ Some r.leaf
-  pub rest : (p : ℕ) (r : Row) → slice_get rows p ≡ Some r → ((k : ℕ) → k < length changed → slice_index changed k ≢ p) → ends_showing (lane_of lanes p) r.leaf ≡ true
+  pub rest : (p : ℕ) (r : Row) → slice_get rows p ≡ Some r → ((k : ℕ) → k < length changed → slice_index changed k ≢ p)
+      → ends_showing (lane_of lanes p) r.leaf ≡ true
