@@ -17,7 +17,7 @@ use Rattle.event_core.specs.Rounds.{IsRoundUpTo, event_at, rows_of_round}
 use Rattle.event_core.specs.Told.{AllReleased}
 use Rattle.event_core.proofs.OneRound.{length-last}
 use Rattle.merged_rounds.specs.Laps.{ComesAgain, StandsLaterAgain, round_start}
-use Rattle.merged_rounds.specs.Passes.{leaf_at}
+use Rattle.round_looks.specs.Looks.{leaf_at}
 use Rattle.merged_rounds.specs.Recurrences.{IsRecurrence}
 use Rattle.merged_rounds.proofs.CountLemmas.{rounds_rise}
 use Rattle.merged_rounds.proofs.LapLemmas.{event_later, lap_event, lap_on, last_start, leaf_later, next_lap, next_round, stands_again}

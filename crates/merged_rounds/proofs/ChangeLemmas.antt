@@ -18,7 +18,7 @@ use Rattle.merged_rows.specs.Columns.{AreShown, ends_showing}
 use Rattle.merged_rounds.specs.declared.sums.RoundSum.{RoundSum}
 use Rattle.merged_rounds.specs.Changes.{AreTheLeaves, AreTold, IsNone, IsShowing}
 use Rattle.merged_rounds.specs.Laps.{IsAllTold, IsSumUpTo}
-use Rattle.merged_rounds.specs.Passes.{leaf_at}
+use Rattle.round_looks.specs.Looks.{leaf_at}
 use Rattle.merged_rounds.proofs.LapLemmas.{row_shows}
 
 pub set_same : {X : Type 0} (xs : List X) (p : ℕ) (x none : X) → p < length xs → get_or (set xs p x) p none ≡ x

@@ -30,7 +30,7 @@ use Rattle.event_core.specs.Rounds.{IsRoundStart, IsRoundUpTo, event_at, rows_of
 use Rattle.merged_rows.specs.Columns.{AreChangesTold}
 use Rattle.merged_rounds.specs.Laps.{AreTurns, CanComeRound, ComesAgain, IsAllTold, IsLap, IsLapAgain, IsLapFrom, StandsLaterAgain, lap_end, round_start}
 use Rattle.merged_rounds.specs.declared.laps.Lap.{Lap}
-use Rattle.merged_rounds.specs.Passes.{leaf_at}
+use Rattle.round_looks.specs.Looks.{leaf_at}
 
 -- ---- what is told of all processors
 

@@ -28,7 +28,7 @@ use Rattle.event_core.proofs.SettledPacks.{same_start}
 use Rattle.merged_rounds.specs.declared.replays.Replay.{Replay}
 use Rattle.merged_rounds.specs.declared.turns.Turn.{Turn}
 use Rattle.merged_rounds.specs.Laps.{AreTurns, CanComeRound, IsAllTold, round_start}
-use Rattle.merged_rounds.specs.Passes.{leaf_at}
+use Rattle.round_looks.specs.Looks.{leaf_at}
 use Rattle.merged_rounds.specs.Replays.{AreEntries, AreNotedTo, AreOrdered, HasPlaced, IsPackOn, IsReplayOf, IsTaken, IsTurnOf, is_some, packs_of, part_start, turn_end}
 use Rattle.merged_rounds.proofs.LapLemmas.{leaf_is, next_round_at, turns_more}
 use Rattle.merged_rounds.proofs.ReplayLemmas.{changed_by, held_runs, leaf_of, onto_end, pack_later, places_end}

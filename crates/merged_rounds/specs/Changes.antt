@@ -11,7 +11,7 @@ use Rattle.merged_rounds.specs.declared.sources.Source.{Source}
 use Rattle.merged_rounds.specs.declared.sums.RoundSum.{RoundSum}
 use Rattle.merged_rounds.specs.declared.turns.Turn.{Turn}
 use Rattle.merged_rounds.specs.Laps.{IsAllTold, IsSumUpTo}
-use Rattle.merged_rounds.specs.Passes.{leaf_at}
+use Rattle.round_looks.specs.Looks.{leaf_at}
 use Rattle.merged_rounds.specs.Replays.{IsSourceOf, IsTurnOf, turn_end}
 
 -- The rounds up to the source's tick are merged, and each processor's last row shows what the processor shows in the round just gone, in

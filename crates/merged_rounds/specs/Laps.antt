@@ -17,7 +17,8 @@ use Rattle.merged_rows.specs.Merging.{merged}
 use Rattle.merged_rounds.specs.declared.laps.Lap.{Lap}
 use Rattle.merged_rounds.specs.declared.laps.Later.{Later}
 use Rattle.merged_rounds.specs.declared.sums.RoundSum.{RoundSum}
-use Rattle.merged_rounds.specs.Passes.{IsKept, leaf_at}
+use Rattle.round_looks.specs.Looks.{leaf_at}
+use Rattle.merged_rounds.specs.Passes.{IsKept}
 
 -- these are the rounds up to a tick, merged and counted, and there was room for their rows
 pub record IsSumUpTo (p : PlanContents) (to : ℕ) (sum : RoundSum) : Type 0 where

@@ -14,7 +14,7 @@ ghost use Rattle.merged_rounds.specs.Replays.{IsComputed, IsMergingFrom, IsSourc
 use crate::apart::{are_idles_apart, is_on_time};
 use crate::changed::merge_released;
 use crate::laps::{Later, merge_lap, with_laps};
-use crate::looks::{look_each, no_leaves};
+use crate::looks::no_leaves;
 use crate::releases::last_release;
 use crate::searches::{merge_until_again, turn_of};
 use crate::sources::{Source, source_of, with_turn};
@@ -23,6 +23,7 @@ use crate::sums::{RoundSum, add_round, all_rounds, no_rounds};
 use crate::turns::{merge_turn, no_turn};
 use event_core::{Core, CountFault};
 use merged_rows::MergedRows;
+use round_looks::look_each;
 use run_tree::Plan;
 use sched_base::{Leaf, NoMemory, NodeId};
 use std::alloc::Global;

@@ -8,7 +8,7 @@ ghost use Rattle.event_core.specs.Cores.{IsCoreOf};
 ghost use Rattle.event_core.specs.Rounds.{IsRoundUpTo};
 ghost use Rattle.event_core.specs.Told.{AreTold, IsTold};
 ghost use Rattle.merged_rounds.specs.Laps.{round_start};
-ghost use Rattle.merged_rounds.specs.Passes.{leaf_at};
+ghost use Rattle.round_looks.specs.Looks.{leaf_at};
 ghost use Rattle.merged_rounds.specs.Replays.{AreNotedTo, AreOrdered, BeginsAgain, HasPlaced, IsEntryTaken, IsReplayOf, IsTaken, is_some, packs_of, turn_end};
 
 use crate::laps::end_of;

@@ -7,7 +7,7 @@ ghost use Rattle.event_core.specs.Cores.{IsCoreOf, places_of};
 ghost use Rattle.event_core.specs.Rounds.{IsRoundUpTo};
 ghost use Rattle.event_core.specs.Told.{AllReleased, IsTold};
 ghost use Rattle.merged_rounds.specs.Laps.{CanComeRound};
-ghost use Rattle.merged_rounds.specs.Passes.{leaf_at};
+ghost use Rattle.round_looks.specs.Looks.{leaf_at};
 ghost use Rattle.merged_rounds.specs.Replays.{BeginsAgain, IsComputed, IsSourceOf, IsTurnOf, packs_of, turn_end};
 
 use crate::passes::are_turns;

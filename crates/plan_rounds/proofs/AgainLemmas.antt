@@ -18,7 +18,7 @@ use Rattle.run_tree.specs.Schedule.{onto_at}
 use Rattle.event_core.specs.Rounds.{IsRoundStart, IsRoundUpTo, event_at, rounds_before, rows_before, rows_of_round}
 use Rattle.event_core.proofs.PlanRounds.{next_lanes}
 use Rattle.merged_rounds.specs.declared.recurrences.Recurrence.{Recurrence}
-use Rattle.merged_rounds.specs.Passes.{leaf_at}
+use Rattle.round_looks.specs.Looks.{leaf_at}
 use Rattle.merged_rounds.specs.Recurrences.{IsRecurrence}
 use Rattle.merged_rounds.proofs.CountLemmas.{rounds_again, rounds_rise, rounds_within}
 use Rattle.merged_rounds.proofs.LapLemmas.{event_later, leaf_later, next_round, row_shows}

@@ -6,7 +6,7 @@ use Rattle.event_core.proofs.SettledPacks.{same_start}
 use Rattle.merged_rows.specs.Columns.{AreShown}
 use Rattle.merged_rounds.specs.Changes.{AreTold, IsNone}
 use Rattle.merged_rounds.specs.Laps.{IsAllTold, IsSumUpTo}
-use Rattle.merged_rounds.specs.Passes.{leaf_at}
+use Rattle.round_looks.specs.Looks.{leaf_at}
 use Rattle.merged_rounds.proofs.ChangeLemmas.{changed_shown, released_later, showing_on, the_leaves, told_now}
 use Rattle.merged_rounds.proofs.changed.merge_telling.Goals as goal
 

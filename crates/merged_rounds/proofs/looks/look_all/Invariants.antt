@@ -1,6 +1,6 @@
 use Rattle.std.proofs.Common.{◌≡◌, ℕ, ◌<◌, None, Some, get_or}
 use Rattle.sched_base.specs.declared.rows.Row.{Row}
-use Rattle.merged_rounds.specs.Passes.{leaf_at}
+use Rattle.round_looks.specs.Looks.{leaf_at}
 use Rattle.merged_rounds.proofs.looks.look_all.Given as goal
 
 abbrev pub invariant-loop-q : goal.invariant-loop-q

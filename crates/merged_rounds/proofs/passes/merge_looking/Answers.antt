@@ -3,7 +3,7 @@ use Rattle.sched_base.specs.declared.rows.Row.{Row}
 use Rattle.event_core.specs.Rounds.{IsRoundUpTo, rows_of_round}
 use Rattle.merged_rows.specs.Columns.{AreChangesTold}
 use Rattle.merged_rounds.specs.Laps.{IsSumUpTo}
-use Rattle.merged_rounds.specs.Passes.{IsLooked}
+use Rattle.round_looks.specs.Looks.{IsLooked}
 use Rattle.merged_rounds.proofs.LookLemmas.{are_told, kept_on}
 use Rattle.merged_rounds.proofs.passes.merge_looking.Goals as goal
 

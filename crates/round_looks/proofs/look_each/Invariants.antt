@@ -1,6 +1,6 @@
 use Rattle.std.proofs.Common.{◌≡◌, ℕ, ◌<◌, ◌≤◌, ◌-◌, None, get_or}
-use Rattle.merged_rounds.specs.Passes.{IsLooked, IsNodeOn}
-use Rattle.merged_rounds.proofs.looks.look_each.Given as goal
+use Rattle.round_looks.specs.Looks.{IsLooked, IsNodeOn}
+use Rattle.round_looks.proofs.look_each.Given as goal
 
 abbrev pub invariant-others : goal.invariant-others
 invariant-others l = record {

@@ -1,7 +1,7 @@
 use Rattle.std.proofs.Common.{ap, arith, length, refl, set, ℕ, ◌+◌, ◌≢◌, ◌≡◌, ◌≤◌, ◌<◌, ◌∙◌, None, Some, get_or, get_or-set_other}
 use Rattle.run_tree.specs.Tree.{Tree}
-use Rattle.merged_rounds.proofs.LookLemmas.{looked_on, looked_past}
-use Rattle.merged_rounds.proofs.looks.look_each.Goals as goal
+use Rattle.round_looks.proofs.LookLemmas.{looked_on, looked_past}
+use Rattle.round_looks.proofs.look_each.Goals as goal
 
 pub others-init : goal.others-init
 others-init c =

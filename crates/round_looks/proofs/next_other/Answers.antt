@@ -1,9 +1,9 @@
 use Rattle.std.proofs.Common.{arith, subst, length, inl, inr, ℕ, ◌<◌, ◌≡◌, ◌∙◌, ap, None, get_or}
 use Rattle.std.proofs.lemmas.Bool.{cases_lt}
 use Rattle.run_tree.specs.Tree.{Tree}
-use Rattle.merged_rounds.specs.Passes.{IsLooked}
-use Rattle.merged_rounds.proofs.LookLemmas.{looked_again}
-use Rattle.merged_rounds.proofs.looks.next_other.Goals as goal
+use Rattle.round_looks.specs.Looks.{IsLooked}
+use Rattle.round_looks.proofs.LookLemmas.{looked_again}
+use Rattle.round_looks.proofs.next_other.Goals as goal
 
 pub loop-q-preserved : goal.loop-q-preserved
 loop-q-preserved c = λ k from low.
