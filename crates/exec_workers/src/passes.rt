@@ -2,12 +2,11 @@
 ghost use Rattle.std.specs.Prelude.{◌≡◌, ◌≢◌, ◌<◌, ◌⊎◌, ℕ, None, length};
 ghost use Rattle.plan_rounds.specs.PlanRows.{plan_rows};
 ghost use Rattle.exec_lanes.specs.Lanes.{lane_in, AllServed, NoneFailed, AllAt};
-ghost use Rattle.exec_workers.specs.Found.{IsAgreed};
+ghost use Rattle.locked_book.specs.Found.{IsAgreed};
 
-use crate::serving::serve_lane;
-use crate::turns::{TURNS, wait_for_good};
-use crate::workplace::Workplace;
 use exec_lanes::{Lane, all_at, any_failed};
+use lane_worker::serve_lane;
+use locked_book::{TURNS, Workplace, wait_for_good};
 use run_tree::Plan;
 use sched_edges::{Gate, Job};
 use std::sync::Wait;

@@ -15,11 +15,11 @@ ghost use Rattle.exec_workers.specs.Runs.{GatesRan, HandedOut, FailedWereDue, Na
 
 use crate::close::close_after;
 use crate::passes::serve_passes;
-use crate::workplace::Workplace;
 use exec_book::{Book, Closing};
 use exec_lanes::{
     FirstFault, Kit, Lane, Waiters, empty_lanes, fill_lanes, first_fault, note_faults, note_posted,
 };
+use locked_book::Workplace;
 use run_tree::Plan;
 use sched_base::RowTable;
 use sched_edges::{Gate, Job, JobList};

@@ -1,6 +1,6 @@
 use Rattle.std.proofs.Common.{sym, subst}
 use Rattle.exec_workers.specs.Fronts.{StaysWithin}
-use Rattle.exec_workers.specs.Found.{IsClosableAfter}
+use Rattle.locked_book.specs.Found.{IsClosableAfter}
 use Rattle.exec_workers.proofs.CloseLemmas.{due_by_counts}
 use Rattle.exec_workers.proofs.close.close_after.Goals as goal
 use Rattle.exec_workers.proofs.close.close_after.Goals.{After-deref_mut-held}

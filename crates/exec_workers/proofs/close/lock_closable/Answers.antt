@@ -1,6 +1,6 @@
 use Rattle.std.proofs.Common.{ap, length, subst, sym, ◌∙◌}
 use Rattle.run_tree.specs.Plans.{PlanContents}
-use Rattle.exec_workers.specs.Found.{IsClosable}
+use Rattle.locked_book.specs.Found.{IsClosable}
 use Rattle.exec_workers.proofs.close.lock_closable.Goals as goal
 
 pub is_whole_at-requires-clause-agreed : goal.is_whole_at-requires-clause-agreed

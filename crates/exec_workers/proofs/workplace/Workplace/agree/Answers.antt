@@ -1,4 +1,0 @@
-use Rattle.exec_workers.proofs.workplace.Workplace.agree.Goals as goal
-
-pub returns-then-is_of_plan : goal.returns-then-is_of_plan
-returns-then-is_of_plan g c = c.is_of_plan.ensures.agreed c.if-is_of_plan.true
