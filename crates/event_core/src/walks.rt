@@ -18,6 +18,9 @@ use run_tree::Tree;
 use sched_base::NodeId;
 use server_budget::Dues;
 
+/// Up to how many packs of a level it takes less to look at each than to search for the next that is marked.
+const FEW_PACKS: u32 = 8;
+
 // The knockout of pack p.
 fn ready_at(ready: &[Knockout], p: NodeId) -> &Knockout
     requires { p.0 < length ready.now }
@@ -76,23 +79,59 @@ pub(crate) fn pack_of(tree: &Tree, level: u32, i: u32) -> NodeId
     tree.pack(level, i)
 }
 
-// The first marked pack of a level from number `from` on, or the number of its packs where there is none.
-fn next_marked(tree: &Tree, level: u32, stale: &[bool], from: u32) -> u32
+// A pack of a level from number `from` on, of which there are `count`: none before it is marked. It is `count` where none is there. Few packs
+// aren't searched.
+fn next_marked(tree: &Tree, level: u32, count: u32, stale: &[bool], from: u32) -> u32
     requires tree { IsTree tree.now }
     requires level { level < tree.now.levels }
+    requires count { count ≡ length (packs_at tree.now level) }
     requires from { from ≤ length (packs_at tree.now level) }
     requires stale { length stale.now ≡ length tree.now.nodes }
     ensures after { from ≤ result }
     ensures within { result ≤ length (packs_at tree.now level) }
     ensures skipped { (k : ℕ) → from ≤ k → k < result → slice_index_or stale.now (slice_index (packs_at tree.now level) k) false ≡ false }
 {
-    let count = tree.packs(level);
+    if count <= FEW_PACKS {
+        return from;
+    }
     for i in from..count {
         if stale[pack_of(tree, level, i).0 as usize] {
             return i;
         }
     }
     count
+}
+
+// Pack p serves the member that it picks now, where it is marked. Else nothing changes.
+fn serve_if(
+    tree: &Tree,
+    p: NodeId,
+    ends: &[u128],
+    ready: &[Knockout],
+    serves: &mut [Option<u32>],
+    dry: &mut Ticks,
+    dues: &mut Dues,
+    stale: &mut [bool],
+    runs: &mut [bool],
+)
+    requires tree { IsTree tree.now }
+    requires pack { IsPack tree.now p.0 }
+    requires long { AreLong tree.now dues.old (lists ready.now serves.old dry.old stale.old runs.old) }
+    requires fits { AreFitting tree.now dues.old }
+    requires serving { IsServing tree.now dues.old ends.now (lists ready.now serves.old dry.old stale.old runs.old) }
+    ensures tick { dues.new.tick ≡ dues.old.tick }
+    ensures remains { dues.new.remains ≡ dues.old.remains }
+    ensures nodes { length dues.new.runs ≡ length dues.old.runs }
+    ensures serving { IsServing tree.now dues.new ends.now (lists ready.now serves.new dry.new stale.new runs.new) }
+    ensures others { (q : ℕ) → q ≢ p.0 → slice_index_or serves.new q None ≡ slice_index_or serves.old q None }
+    ensures own { slice_index_or stale.new p.0 false ≡ false }
+    ensures unchanged { AreUnchanged tree.now p.0 stale.old runs.old stale.new runs.new }
+    ensures marks { (q : ℕ) → IsPack tree.now q → q ≢ p.0 → level tree.now p.0 ≤ level tree.now q →
+        slice_index_or stale.new q false ≡ slice_index_or stale.old q false }
+{
+    if stale[p.0 as usize] {
+        serve_pack(tree, p, false, ends, ready, serves, dry, dues, stale, runs);
+    }
 }
 
 // The marked packs of one level above the first, once none above it is marked.
@@ -123,11 +162,11 @@ fn serve_level(
     ensures first { (i : ℕ) → i < length (packs_at tree.now 0) → first_served tree.now serves.new i ≡ first_served tree.now serves.old i }
 {
     let count = tree.packs(level);
-    let mut i = next_marked(tree, level, stale, 0);
+    let mut i = next_marked(tree, level, count, stale, 0);
     'marked: while i < count {
         let p = pack_of(tree, level, i);
-        serve_pack(tree, p, false, ends, ready, serves, dry, dues, stale, runs);
-        i = next_marked(tree, level, stale, i + 1);
+        serve_if(tree, p, ends, ready, serves, dry, dues, stale, runs);
+        i = next_marked(tree, level, count, stale, i + 1);
     }
 }
 
@@ -193,6 +232,56 @@ fn serve_listed(
     list_if(changes, is_other, i, runs[p.0 as usize], places.holds(i));
 }
 
+// Pack p, which is number i of level 0, serves the member that it picks now where it is marked, and is listed where anything changes. Else it
+// is where it belongs, and nothing changes.
+fn serve_listed_if(
+    tree: &Tree,
+    p: NodeId,
+    i: u32,
+    ends: &[u128],
+    ready: &[Knockout],
+    serves: &mut [Option<u32>],
+    dry: &mut Ticks,
+    dues: &mut Dues,
+    stale: &mut [bool],
+    runs: &mut [bool],
+    places: &Places,
+    changes: &mut Changes,
+)
+    requires tree { IsTree tree.now }
+    requires pack { IsPack tree.now p.0 }
+    requires first { level tree.now p.0 ≡ 0 }
+    requires held { i < length places.now.last }
+    requires long { AreLong tree.now dues.old (lists ready.now serves.old dry.old stale.old runs.old) }
+    requires fits { AreFitting tree.now dues.old }
+    requires serving { IsServing tree.now dues.old ends.now (lists ready.now serves.old dry.old stale.old runs.old) }
+    requires settled { slice_index_or stale.old p.0 false ≡ false → is_held places.now.onto i ≡ slice_index_or runs.old p.0 false }
+    requires seen { length changes.old.seen < changes.old.room }
+    requires stopped { length changes.old.stopped < changes.old.room }
+    requires begun { length changes.old.begun < changes.old.room }
+    ensures tick { dues.new.tick ≡ dues.old.tick }
+    ensures remains { dues.new.remains ≡ dues.old.remains }
+    ensures nodes { length dues.new.runs ≡ length dues.old.runs }
+    ensures serving { IsServing tree.now dues.new ends.now (lists ready.now serves.new dry.new stale.new runs.new) }
+    ensures others { (q : ℕ) → q ≢ p.0 → slice_index_or serves.new q None ≡ slice_index_or serves.old q None }
+    ensures own { slice_index_or stale.new p.0 false ≡ false }
+    ensures unchanged { AreUnchanged tree.now p.0 stale.old runs.old stale.new runs.new }
+    ensures marks { (q : ℕ) → IsPack tree.now q → q ≢ p.0 → level tree.now p.0 ≤ level tree.now q →
+        slice_index_or stale.new q false ≡ slice_index_or stale.old q false }
+    ensures seen { (changes.new.seen ≡ changes.old.seen ++ i ∷ []) ⊎ ((changes.new.seen ≡ changes.old.seen)
+        × (slice_index_or serves.new p.0 None ≡ slice_index_or serves.old p.0 None)
+        × (slice_index_or runs.new p.0 false ≡ is_held places.now.onto i)) }
+    ensures stopped { changes.new.stopped ≡ with_pack changes.old.stopped i (not (slice_index_or runs.new p.0 false) && is_held places.now.onto i) }
+    ensures begun { changes.new.begun ≡ with_pack changes.old.begun i (slice_index_or runs.new p.0 false && not (is_held places.now.onto i)) }
+    ensures room { changes.new.room ≡ changes.old.room }
+{
+    if stale[p.0 as usize] {
+        serve_listed(
+            tree, p, i, ends, ready, serves, dry, dues, stale, runs, places, changes,
+        );
+    }
+}
+
 // The marked packs of level 0, once none above it is marked. Those in which anything changes are
 // listed, and among them those that stop and begin.
 fn serve_first_level(
@@ -227,13 +316,13 @@ fn serve_first_level(
 {
     changes.clear();
     let count = tree.packs(0);
-    let mut i = next_marked(tree, 0, stale, 0);
+    let mut i = next_marked(tree, 0, count, stale, 0);
     'marked: while i < count {
         let p = pack_of(tree, 0, i);
-        serve_listed(
+        serve_listed_if(
             tree, p, i, ends, ready, serves, dry, dues, stale, runs, places, changes,
         );
-        i = next_marked(tree, 0, stale, i + 1);
+        i = next_marked(tree, 0, count, stale, i + 1);
     }
 }
 

@@ -1,4 +1,4 @@
-use Rattle.std.proofs.Common.{arith, ap, refl, sym, length, get_or, false, not, ℕ, List, [], ◌∷◌, Bool, ◌+◌, ◌<◌, ◌≡◌, ◌∙◌, ◌&&◌, inl, inr}
+use Rattle.std.proofs.Common.{arith, ap, le_refl, refl, sym, length, get_or, false, not, ℕ, List, [], ◌∷◌, Bool, ◌+◌, ◌<◌, ◌≡◌, ◌∙◌, ◌&&◌, inl, inr}
 use Rattle.std.proofs.lemmas.List.{length-append}
 use Rattle.sched_base.specs.Places.{is_held}
 use Rattle.run_tree.specs.Schedule.{packs_at}
@@ -37,8 +37,8 @@ marked-init c =
       (let none = ap (λ (xs : List ℕ). length xs) c.clear.ensures.seen in omega (arith, none)),
     )
 
-pub serve_listed-requires-clause-long : goal.serve_listed-requires-clause-long
-serve_listed-requires-clause-long c = record {
+pub serve_listed_if-requires-clause-long : goal.serve_listed_if-requires-clause-long
+serve_listed_if-requires-clause-long c = record {
   dues = c.marked.invariant.2 ∙ c.requires.long.dues;
   ready = c.requires.long.ready;
   serves = c.marked.auto.serves ∙ c.requires.long.serves;
@@ -46,17 +46,17 @@ serve_listed-requires-clause-long c = record {
   runs = c.marked.auto.runs ∙ c.requires.long.runs;
 }
 
-pub serve_listed-requires-clause-serving : goal.serve_listed-requires-clause-serving
-serve_listed-requires-clause-serving c = c.marked.invariant.3
+pub serve_listed_if-requires-clause-serving : goal.serve_listed_if-requires-clause-serving
+serve_listed_if-requires-clause-serving c = c.marked.invariant.3
 
-pub serve_listed-requires-clause-held : goal.serve_listed-requires-clause-held
-serve_listed-requires-clause-held c = let n = c.packs-count.ensures in let b = c.marked-test.true in let last = c.requires.last in omega (arith, n, b, last)
+pub serve_listed_if-requires-clause-held : goal.serve_listed_if-requires-clause-held
+serve_listed_if-requires-clause-held c = let n = c.packs-count.ensures in let b = c.marked-test.true in let last = c.requires.last in omega (arith, n, b, last)
 
-pub serve_listed-requires-clause-fits : goal.serve_listed-requires-clause-fits
-serve_listed-requires-clause-fits c = fitting_still c.args.tree.now c.args.dues.now c.marked.dues c.marked.invariant.0 c.marked.invariant.1 c.requires.fits
+pub serve_listed_if-requires-clause-fits : goal.serve_listed_if-requires-clause-fits
+serve_listed_if-requires-clause-fits c = fitting_still c.args.tree.now c.args.dues.now c.marked.dues c.marked.invariant.0 c.marked.invariant.1 c.requires.fits
 
-pub serve_listed-requires-clause-seen : goal.serve_listed-requires-clause-seen
-serve_listed-requires-clause-seen c =
+pub serve_listed_if-requires-clause-seen : goal.serve_listed_if-requires-clause-seen
+serve_listed_if-requires-clause-seen c =
     let n = c.packs-count.ensures in
     let b = c.marked-test.true in
     let room = c.requires.room in
@@ -64,8 +64,8 @@ serve_listed-requires-clause-seen c =
     let few = c.marked.invariant.11 in
     omega (arith, n, b, room, kept, few)
 
-pub serve_listed-requires-clause-stopped : goal.serve_listed-requires-clause-stopped
-serve_listed-requires-clause-stopped c =
+pub serve_listed_if-requires-clause-stopped : goal.serve_listed_if-requires-clause-stopped
+serve_listed_if-requires-clause-stopped c =
     let n = c.packs-count.ensures in
     let b = c.marked-test.true in
     let room = c.requires.room in
@@ -74,8 +74,8 @@ serve_listed-requires-clause-stopped c =
     let long = ap (λ (xs : List ℕ). length xs) c.marked.invariant.7 in
     omega (arith, n, b, room, kept, few, long)
 
-pub serve_listed-requires-clause-begun : goal.serve_listed-requires-clause-begun
-serve_listed-requires-clause-begun c =
+pub serve_listed_if-requires-clause-begun : goal.serve_listed_if-requires-clause-begun
+serve_listed_if-requires-clause-begun c =
     let n = c.packs-count.ensures in
     let b = c.marked-test.true in
     let room = c.requires.room in
@@ -93,40 +93,40 @@ marked-preserved c =
     let l : i < length (packs_at t 0) = omega (arith, n, b) in
     let at = c.pack_of-p.ensures.value in
     let onto = c.args.places.now.onto in
-    let stale = c.serve_listed.new.stale in
-    let runs = c.serve_listed.new.runs in
+    let stale = c.serve_listed_if.new.stale in
+    let runs = c.serve_listed_if.new.runs in
     let next = c.next_marked-i-in-marked.result in
     let after = c.next_marked-i-in-marked.ensures.after in
     let within = c.next_marked-i-in-marked.ensures.within in
     let skipped = c.next_marked-i-in-marked.ensures.skipped in
-    let fresh = fresh_step t c.requires.tree c.marked.stale stale 0 i c.pack_of-p.result.0 l at c.marked.invariant.4 c.serve_listed.ensures.own c.serve_listed.ensures.marks in
-    let settled = settled_rest t c.requires.tree onto c.marked.stale c.marked.runs stale runs c.pack_of-p.result.0 i l at c.serve_listed.ensures.unchanged c.marked.invariant.5 in
+    let fresh = fresh_step t c.requires.tree c.marked.stale stale 0 i c.pack_of-p.result.0 l at c.marked.invariant.4 c.serve_listed_if.ensures.own c.serve_listed_if.ensures.marks in
+    let settled = settled_rest t c.requires.tree onto c.marked.stale c.marked.runs stale runs c.pack_of-p.result.0 i l at c.serve_listed_if.ensures.unchanged c.marked.invariant.5 in
     let same : (k : ℕ) → k < i → first_runs t runs k ≡ first_runs t c.marked.runs k =
-    (λ k m. let is_pack = first_is_pack t c.requires.tree k (omega (arith, m, l)) in c.serve_listed.ensures.unchanged.unchanged (get_or (packs_at t 0) k 0) is_pack (fresh (get_or (packs_at t 0) k 0) is_pack (inr (k, omega (arith, m), refl)))) in
+    (λ k m. let is_pack = first_is_pack t c.requires.tree k (omega (arith, m, l)) in c.serve_listed_if.ensures.unchanged.unchanged (get_or (packs_at t 0) k 0) is_pack (fresh (get_or (packs_at t 0) k 0) is_pack (inr (k, omega (arith, m), refl)))) in
     let here : first_runs t runs i ≡ get_or runs c.pack_of-p.result.0 false = ap (λ q. get_or runs q false) (sym at) in
-    let stops : c.serve_listed.new.changes.stopped ≡ stops_below t onto runs (i + 1) =
-    listed_step (λ k. not (first_runs t c.marked.runs k) && is_held onto k) (λ k. not (first_runs t runs k) && is_held onto k) c.marked.changes.stopped c.serve_listed.new.changes.stopped i _
-    (λ k m. ap (λ (r : Bool). not r && is_held onto k) (same k m)) (ap (λ (r : Bool). not r && is_held onto i) here) c.marked.invariant.7 c.serve_listed.ensures.stopped in
-    let begins : c.serve_listed.new.changes.begun ≡ begins_below t onto runs (i + 1) =
-    listed_step (λ k. first_runs t c.marked.runs k && not (is_held onto k)) (λ k. first_runs t runs k && not (is_held onto k)) c.marked.changes.begun c.serve_listed.new.changes.begun i _
-    (λ k m. ap (λ (r : Bool). r && not (is_held onto k)) (same k m)) (ap (λ (r : Bool). r && not (is_held onto i)) here) c.marked.invariant.8 c.serve_listed.ensures.begun in (
-      c.serve_listed.ensures.tick ∙ c.marked.invariant.0,
-      c.serve_listed.ensures.remains ∙ c.marked.invariant.1,
-      c.serve_listed.ensures.nodes ∙ c.marked.invariant.2,
-      c.serve_listed.ensures.serving,
+    let stops : c.serve_listed_if.new.changes.stopped ≡ stops_below t onto runs (i + 1) =
+    listed_step (λ k. not (first_runs t c.marked.runs k) && is_held onto k) (λ k. not (first_runs t runs k) && is_held onto k) c.marked.changes.stopped c.serve_listed_if.new.changes.stopped i _
+    (λ k m. ap (λ (r : Bool). not r && is_held onto k) (same k m)) (ap (λ (r : Bool). not r && is_held onto i) here) c.marked.invariant.7 c.serve_listed_if.ensures.stopped in
+    let begins : c.serve_listed_if.new.changes.begun ≡ begins_below t onto runs (i + 1) =
+    listed_step (λ k. first_runs t c.marked.runs k && not (is_held onto k)) (λ k. first_runs t runs k && not (is_held onto k)) c.marked.changes.begun c.serve_listed_if.new.changes.begun i _
+    (λ k m. ap (λ (r : Bool). r && not (is_held onto k)) (same k m)) (ap (λ (r : Bool). r && not (is_held onto i)) here) c.marked.invariant.8 c.serve_listed_if.ensures.begun in (
+      c.serve_listed_if.ensures.tick ∙ c.marked.invariant.0,
+      c.serve_listed_if.ensures.remains ∙ c.marked.invariant.1,
+      c.serve_listed_if.ensures.nodes ∙ c.marked.invariant.2,
+      c.serve_listed_if.ensures.serving,
       fresh_skip t stale 0 (i + 1) next fresh skipped,
       settled_skip t onto stale runs (i + 1) next after within skipped settled,
-      c.serve_listed.ensures.room ∙ c.marked.invariant.6,
-      stops_skip t onto stale runs (i + 1) next after within skipped settled c.serve_listed.new.changes.stopped stops,
-      begins_skip t onto stale runs (i + 1) next after within skipped settled c.serve_listed.new.changes.begun begins,
+      c.serve_listed_if.ensures.room ∙ c.marked.invariant.6,
+      stops_skip t onto stale runs (i + 1) next after within skipped settled c.serve_listed_if.new.changes.stopped stops,
+      begins_skip t onto stale runs (i + 1) next after within skipped settled c.serve_listed_if.new.changes.begun begins,
       within,
-      elim c.serve_listed.ensures.seen [
-        | inl more ↦ seen_step t c.args.serves.now c.marked.serves c.serve_listed.new.serves c.marked.changes c.serve_listed.new.changes c.pack_of-p.result.0 i l at _ _
-            c.serve_listed.ensures.others more c.serve_listed.ensures.stopped c.serve_listed.ensures.begun c.marked.invariant.10
-        | inr (none, own, still) ↦ seen_same t c.args.serves.now c.marked.serves c.serve_listed.new.serves c.marked.changes c.serve_listed.new.changes c.pack_of-p.result.0 i _ _ c.serve_listed.ensures.others own none
-            (none_stops _ _ still) (none_begins _ _ still) c.serve_listed.ensures.stopped c.serve_listed.ensures.begun c.marked.invariant.10
+      elim c.serve_listed_if.ensures.seen [
+        | inl more ↦ seen_step t c.args.serves.now c.marked.serves c.serve_listed_if.new.serves c.marked.changes c.serve_listed_if.new.changes c.pack_of-p.result.0 i l at _ _
+            c.serve_listed_if.ensures.others more c.serve_listed_if.ensures.stopped c.serve_listed_if.ensures.begun c.marked.invariant.10
+        | inr (none, own, still) ↦ seen_same t c.args.serves.now c.marked.serves c.serve_listed_if.new.serves c.marked.changes c.serve_listed_if.new.changes c.pack_of-p.result.0 i _ _ c.serve_listed_if.ensures.others own none
+            (none_stops _ _ still) (none_begins _ _ still) c.serve_listed_if.ensures.stopped c.serve_listed_if.ensures.begun c.marked.invariant.10
       ],
-      elim c.serve_listed.ensures.seen [
+      elim c.serve_listed_if.ensures.seen [
         | inl more ↦ (let few = c.marked.invariant.11 in let m = ap (λ (xs : List ℕ). length xs) more in let long = length-append c.marked.changes.seen (i ∷ []) in omega (arith, few, m, long, after))
         | inr (none, own, still) ↦ (let few = c.marked.invariant.11 in let m = ap (λ (xs : List ℕ). length xs) none in omega (arith, few, m, after))
       ],
@@ -185,11 +185,11 @@ pack_of-p-requires-clause-level c = c.requires.levels
 pub pack_of-p-requires-clause-pack : goal.pack_of-p-requires-clause-pack
 pack_of-p-requires-clause-pack c = let n = c.packs-count.ensures in let on = c.marked-test.true in omega (arith, n, on)
 
-pub serve_listed-requires-clause-tree : goal.serve_listed-requires-clause-tree
-serve_listed-requires-clause-tree c = c.requires.tree
+pub serve_listed_if-requires-clause-tree : goal.serve_listed_if-requires-clause-tree
+serve_listed_if-requires-clause-tree c = c.requires.tree
 
-pub serve_listed-requires-clause-pack : goal.serve_listed-requires-clause-pack
-serve_listed-requires-clause-pack c = c.pack_of-p.ensures.pack
+pub serve_listed_if-requires-clause-pack : goal.serve_listed_if-requires-clause-pack
+serve_listed_if-requires-clause-pack c = c.pack_of-p.ensures.pack
 
 pub next_marked-i-requires-in-marked-clause-tree : goal.next_marked-i-requires-in-marked-clause-tree
 next_marked-i-requires-in-marked-clause-tree c = c.requires.tree
@@ -201,13 +201,26 @@ pub next_marked-i-requires-in-marked-clause-from : goal.next_marked-i-requires-i
 next_marked-i-requires-in-marked-clause-from c = let n = c.packs-count.ensures in let on = c.marked-test.true in omega (arith, n, on)
 
 pub next_marked-i-requires-in-marked-clause-stale : goal.next_marked-i-requires-in-marked-clause-stale
-next_marked-i-requires-in-marked-clause-stale c = c.serve_listed.auto.stale ∙ c.marked.auto.stale ∙ c.requires.long.stale
+next_marked-i-requires-in-marked-clause-stale c = c.serve_listed_if.auto.stale ∙ c.marked.auto.stale ∙ c.requires.long.stale
 
 pub marked-smaller : goal.marked-smaller
 marked-smaller c = let after = c.next_marked-i-in-marked.ensures.after in let on = c.marked-test.true in omega (arith, after, on)
 
-pub serve_listed-requires-clause-first : goal.serve_listed-requires-clause-first
-serve_listed-requires-clause-first c =
+pub serve_listed_if-requires-clause-first : goal.serve_listed_if-requires-clause-first
+serve_listed_if-requires-clause-first c =
     let n = c.packs-count.ensures in
     let b = c.marked-test.true in
     ap (level c.args.tree.now) c.pack_of-p.ensures.value ∙ (pack_of_level c.args.tree.now c.requires.tree 0 c.marked.i (omega (arith, n, b))).1
+
+pub serve_listed_if-requires-clause-settled : goal.serve_listed_if-requires-clause-settled
+serve_listed_if-requires-clause-settled c =
+    let n = c.packs-count.ensures in
+    let b = c.marked-test.true in
+    let at = c.pack_of-p.ensures.value in
+    λ off. c.marked.invariant.5 c.marked.i (le_refl c.marked.i) (omega (arith, n, b)) (ap (λ q. get_or c.marked.stale q false) (sym at) ∙ off) ∙ ap (λ q. get_or c.marked.runs q false) (sym at)
+
+pub next_marked-i-requires-clause-count : goal.next_marked-i-requires-clause-count
+next_marked-i-requires-clause-count c = c.packs-count.ensures
+
+pub next_marked-i-requires-in-marked-clause-count : goal.next_marked-i-requires-in-marked-clause-count
+next_marked-i-requires-in-marked-clause-count c = c.packs-count.ensures

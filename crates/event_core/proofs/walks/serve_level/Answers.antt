@@ -18,8 +18,8 @@ marked-init c = (
   λ k l. refl,
 )
 
-pub serve_pack-requires-clause-long : goal.serve_pack-requires-clause-long
-serve_pack-requires-clause-long c = record {
+pub serve_if-requires-clause-long : goal.serve_if-requires-clause-long
+serve_if-requires-clause-long c = record {
   dues = c.marked.invariant.2 ∙ c.requires.long.dues;
   ready = c.requires.long.ready;
   serves = c.marked.auto.serves ∙ c.requires.long.serves;
@@ -27,28 +27,28 @@ serve_pack-requires-clause-long c = record {
   runs = c.marked.auto.runs ∙ c.requires.long.runs;
 }
 
-pub serve_pack-requires-clause-serving : goal.serve_pack-requires-clause-serving
-serve_pack-requires-clause-serving c = c.marked.invariant.3
+pub serve_if-requires-clause-serving : goal.serve_if-requires-clause-serving
+serve_if-requires-clause-serving c = c.marked.invariant.3
 
-pub serve_pack-requires-clause-fits : goal.serve_pack-requires-clause-fits
-serve_pack-requires-clause-fits c = fitting_still c.args.tree.now c.args.dues.now c.marked.dues c.marked.invariant.0 c.marked.invariant.1 c.requires.fits
+pub serve_if-requires-clause-fits : goal.serve_if-requires-clause-fits
+serve_if-requires-clause-fits c = fitting_still c.args.tree.now c.args.dues.now c.marked.dues c.marked.invariant.0 c.marked.invariant.1 c.requires.fits
 
 pub marked-preserved : goal.marked-preserved
 marked-preserved c =
     let n = c.packs-count.ensures in
     let b = c.marked-test.true in
     let here : c.marked.i < length (packs_at c.args.tree.now c.args.level) = omega (arith, n, b) in (
-      c.serve_pack.ensures.tick ∙ c.marked.invariant.0,
-      c.serve_pack.ensures.remains ∙ c.marked.invariant.1,
-      c.serve_pack.ensures.nodes ∙ c.marked.invariant.2,
-      c.serve_pack.ensures.serving,
-      fresh_skip c.args.tree.now c.serve_pack.new.stale c.args.level (c.marked.i + 1) c.next_marked-i-in-marked.result
-          (fresh_step c.args.tree.now c.requires.tree c.marked.stale c.serve_pack.new.stale c.args.level c.marked.i c.pack_of-p.result.0 here c.pack_of-p.ensures.value c.marked.invariant.4 c.serve_pack.ensures.own c.serve_pack.ensures.marks)
+      c.serve_if.ensures.tick ∙ c.marked.invariant.0,
+      c.serve_if.ensures.remains ∙ c.marked.invariant.1,
+      c.serve_if.ensures.nodes ∙ c.marked.invariant.2,
+      c.serve_if.ensures.serving,
+      fresh_skip c.args.tree.now c.serve_if.new.stale c.args.level (c.marked.i + 1) c.next_marked-i-in-marked.result
+          (fresh_step c.args.tree.now c.requires.tree c.marked.stale c.serve_if.new.stale c.args.level c.marked.i c.pack_of-p.result.0 here c.pack_of-p.ensures.value c.marked.invariant.4 c.serve_if.ensures.own c.serve_if.ensures.marks)
           c.next_marked-i-in-marked.ensures.skipped,
-      λ onto s. settled_above c.args.tree.now c.requires.tree onto c.marked.stale c.marked.runs c.serve_pack.new.stale c.serve_pack.new.runs c.pack_of-p.result.0 c.serve_pack.ensures.unchanged c.args.level c.marked.i c.requires.above_first
+      λ onto s. settled_above c.args.tree.now c.requires.tree onto c.marked.stale c.marked.runs c.serve_if.new.stale c.serve_if.new.runs c.pack_of-p.result.0 c.serve_if.ensures.unchanged c.args.level c.marked.i c.requires.above_first
           here c.pack_of-p.ensures.value (c.marked.invariant.5 onto s),
       c.next_marked-i-in-marked.ensures.within,
-      λ k l. c.serve_pack.ensures.others _ (above_first c.args.tree.now c.requires.tree c.args.level c.marked.i c.pack_of-p.result.0 c.requires.above_first here c.pack_of-p.ensures.value k l) ∙ c.marked.invariant.7 k l,
+      λ k l. c.serve_if.ensures.others _ (above_first c.args.tree.now c.requires.tree c.args.level c.marked.i c.pack_of-p.result.0 c.requires.above_first here c.pack_of-p.ensures.value k l) ∙ c.marked.invariant.7 k l,
     )
 
 pub returns-clause-fresh : goal.returns-clause-fresh
@@ -97,11 +97,11 @@ pack_of-p-requires-clause-level c = c.requires.level
 pub pack_of-p-requires-clause-pack : goal.pack_of-p-requires-clause-pack
 pack_of-p-requires-clause-pack c = let n = c.packs-count.ensures in let on = c.marked-test.true in omega (arith, n, on)
 
-pub serve_pack-requires-clause-tree : goal.serve_pack-requires-clause-tree
-serve_pack-requires-clause-tree c = c.requires.tree
+pub serve_if-requires-clause-tree : goal.serve_if-requires-clause-tree
+serve_if-requires-clause-tree c = c.requires.tree
 
-pub serve_pack-requires-clause-pack : goal.serve_pack-requires-clause-pack
-serve_pack-requires-clause-pack c = c.pack_of-p.ensures.pack
+pub serve_if-requires-clause-pack : goal.serve_if-requires-clause-pack
+serve_if-requires-clause-pack c = c.pack_of-p.ensures.pack
 
 pub next_marked-i-requires-in-marked-clause-tree : goal.next_marked-i-requires-in-marked-clause-tree
 next_marked-i-requires-in-marked-clause-tree c = c.requires.tree
@@ -113,7 +113,13 @@ pub next_marked-i-requires-in-marked-clause-from : goal.next_marked-i-requires-i
 next_marked-i-requires-in-marked-clause-from c = let n = c.packs-count.ensures in let on = c.marked-test.true in omega (arith, n, on)
 
 pub next_marked-i-requires-in-marked-clause-stale : goal.next_marked-i-requires-in-marked-clause-stale
-next_marked-i-requires-in-marked-clause-stale c = c.serve_pack.auto.stale ∙ c.marked.auto.stale ∙ c.requires.long.stale
+next_marked-i-requires-in-marked-clause-stale c = c.serve_if.auto.stale ∙ c.marked.auto.stale ∙ c.requires.long.stale
 
 pub marked-smaller : goal.marked-smaller
 marked-smaller c = let after = c.next_marked-i-in-marked.ensures.after in let on = c.marked-test.true in omega (arith, after, on)
+
+pub next_marked-i-requires-clause-count : goal.next_marked-i-requires-clause-count
+next_marked-i-requires-clause-count c = c.packs-count.ensures
+
+pub next_marked-i-requires-in-marked-clause-count : goal.next_marked-i-requires-in-marked-clause-count
+next_marked-i-requires-in-marked-clause-count c = c.packs-count.ensures
