@@ -20,13 +20,6 @@ node_among begun count k none c l =
 pub one_more : (begun : List NodeId) (count : ℕ) (n : NodeId) → count < length begun → numbers (take (count + 1) (set begun count n)) ≡ numbers (take count begun) ++ n.0 ∷ []
 one_more begun count n l = ap numbers (take_more_set begun count n l) ∙ map-append (λ (n : NodeId). n.0) (take count begun) (n ∷ [])
 
--- at first none is listed
-pub listed_none : (due : List Bool) (begun : List NodeId) → ((x : ℕ) → get_or due x false ≡ false) → AreListed due (numbers (take 0 begun))
-listed_none due begun clear = record {
-  all = λ x on. absurd (both_ways (get_or due x false) (clear x) on);
-  marked = λ k l. absurd (omega (arith, l));
-}
-
 -- one node more is marked and listed
 pub listed_step : (due due' : List Bool) (begun begun' : List ℕ) (x : ℕ) → x < length due → due' ≡ set due x true → begun' ≡ begun ++ x ∷ [] → AreListed due begun → AreListed due' begun'
 listed_step due due' begun begun' x b is_due is_begun h = record {

@@ -61,6 +61,13 @@ pub record AreListed (due : List Bool) (begun : List ℕ) : Type 0 where
   pub all : (x : ℕ) → slice_index_or due x false ≡ true → (k : ℕ) × (k < length begun) × (slice_index begun k ≡ x)
   pub marked : (k : ℕ) → k < length begun → slice_index_or due (slice_index begun k) false ≡ true
 
+-- the list has exactly the leaves and duals that have a boundary at unit u: those that are marked where their marks say so
+pub record AreDue (p : PlanContents) (u : ℕ) (begun : List ℕ) : Type 0 where
+  pub due : List Bool
+  pub long : length due ≡ length p.tree.nodes
+  pub marked : (x : ℕ) → x < length p.tree.nodes → slice_index_or due x false ≡ (not (is_pack (kind_at p.tree x)) && boundary_of p x u)
+  pub listed : AreListed due begun
+
 -- no end is past the one that never comes
 abbrev pub EndsFit : List ℕ → Type 0
 EndsFit ends = (x : ℕ) → slice_index ends x ≤ never
@@ -91,6 +98,13 @@ pub record IsTurning (p : PlanContents) (begins ends : List ℕ) (due : List Boo
   pub ready : AreReady p begins ends u
   pub packs : PacksNeverEnd p.tree ends
   pub marked : (x : ℕ) → x < length p.tree.nodes → slice_index_or due x false ≡ (not (is_pack (kind_at p.tree x)) && slice_index begins x == u)
+
+-- while windows that end at unit u turn: so it is by some marks, and the nodes that are marked are listed
+pub record AreTurning (p : PlanContents) (begins ends begun : List ℕ) (u : ℕ) : Type 0 where
+  pub due : List Bool
+  pub long : length due ≡ length p.tree.nodes
+  pub turning : IsTurning p begins ends due u
+  pub listed : AreListed due begun
 
 -- how many of these ends are at unit u
 abbrev pub ending : ℕ → List ℕ → ℕ

@@ -8,7 +8,7 @@ mod turns;
 ghost use Rattle.std.specs.Prelude.{◌≡◌, ℕ, ◌<◌, ◌≤◌, ◌^◌, ◌&&◌, not, false, length, slice_index, slice_index_or, IfOk};
 ghost use Rattle.run_tree.specs.Tree.{kind_at, is_pack};
 ghost use Rattle.run_tree.specs.Plans.{boundary_of};
-ghost use Rattle.release_calendar.specs.Calendars.{AreListed, BelongsTo, EndsFit};
+ghost use Rattle.release_calendar.specs.Calendars.{AreDue, AreListed, BelongsTo, EndsFit};
 
 use knockout::Knockout;
 use run_tree::Plan;
@@ -96,16 +96,28 @@ impl Calendar {
             ≡ (not (is_pack (kind_at plan.now.tree x)) && boundary_of plan.now x self.old.next) }
         ensures begun { AreListed due.new self.new.begun }
     {
+        self.move_on(plan);
+        turns::mark_listed(&self.begun, self.turned, due);
+    }
+
+    /// Moves to the next unit as `pop_due` does, and marks nothing: the leaves and duals that have a boundary there are listed alone. It
+    /// takes no memory.
+    pub fn move_on(&mut self, plan: &Plan)
+        requires belongs { BelongsTo plan.now self.old }
+        requires early { self.old.next ≤ plan.now.set.horizon }
+        ensures unit { self.new.unit ≡ self.old.next }
+        ensures belongs { BelongsTo plan.now self.new }
+        ensures begun { AreDue plan.now self.old.next self.new.begun }
+    {
         plan.know_lawful();
         let at = self.next;
-        let (next, turned) = turns::turn_marked(
+        let (next, turned) = turns::turn_listed(
             plan,
             at,
             &self.steps,
             &mut self.begins,
             &mut self.ends,
             &mut self.order,
-            due,
             &mut self.begun,
         );
         self.unit = at;

@@ -1,13 +1,13 @@
 //! How windows turn: those that end at a unit are followed by the next ones.
-ghost use Rattle.std.specs.Prelude.{◌≡◌, ℕ, ◌<◌, ◌≤◌, ◌^◌, ◌+◌, ◌++◌, ◌&&◌, [], ◌∷◌, not, true};
+ghost use Rattle.std.specs.Prelude.{◌≡◌, ℕ, ◌<◌, ◌≤◌, ◌^◌, ◌+◌, ◌++◌, [], ◌∷◌, true};
 ghost use Rattle.std.specs.Prelude.{false, length, replicate, take};
-ghost use Rattle.std.specs.Prelude.{slice_index, slice_index_or, slice_set, IfOk, IfSome};
+ghost use Rattle.std.specs.Prelude.{slice_index, slice_set, IfOk, IfSome};
 ghost use Rattle.run_tree.specs.Windows.{window_end};
 ghost use Rattle.run_tree.specs.Tree.{kind_at, is_pack, is_leaf, numbers, IsMember};
 ghost use Rattle.run_tree.specs.Plans.{IsPlan, boundary_of};
 ghost use Rattle.knockout.specs.Knockouts.{never};
-ghost use Rattle.release_calendar.specs.Calendars.{HasWindow, EndsFit, PacksNeverEnd, AreEnds, AreSteps, AreListed, AreReady};
-ghost use Rattle.release_calendar.specs.Calendars.{AreTurned, IsTurning, EndElsewhere, IsFirstEnd, IsLeastEnd, IsNext};
+ghost use Rattle.release_calendar.specs.Calendars.{HasWindow, EndsFit, PacksNeverEnd, AreEnds, AreSteps, AreDue, AreListed, AreReady};
+ghost use Rattle.release_calendar.specs.Calendars.{AreTurned, AreTurning, EndElsewhere, IsFirstEnd, IsLeastEnd, IsNext};
 
 use crate::next_ends::end_from;
 use knockout::{Knockout, NEVER};
@@ -238,7 +238,7 @@ fn end_of(plan: &Plan, n: NodeId, at: u64, steps: &[u64], ends: &[u128]) -> u64
     }
 }
 
-// A leaf or dual gets the window that begins at a unit, and its mark. The window's end.
+// A leaf or dual gets the window that begins at a unit. The window's end.
 #[inline(always)]
 fn turn_due(
     plan: &Plan,
@@ -247,7 +247,6 @@ fn turn_due(
     steps: &[u64],
     begins: &mut [u64],
     ends: &mut [u128],
-    due: &mut [bool],
 ) -> u64
     requires plan { IsPlan plan.now }
     requires member { IsMember plan.now.tree n.0 }
@@ -257,17 +256,14 @@ fn turn_due(
     requires begins { length begins.old ≡ length plan.now.tree.nodes }
     requires ends { length ends.old ≡ length plan.now.tree.nodes }
     requires known { AreEnds plan.now ends.old at }
-    requires due { length due.old ≡ length plan.now.tree.nodes }
     ensures end { result ≡ window_end (boundary_of plan.now n.0) at }
     ensures begins { begins.new ≡ slice_set begins.old n.0 at }
     ensures ends { ends.new ≡ slice_set ends.old n.0 (window_end (boundary_of plan.now n.0) at) }
-    ensures due { due.new ≡ slice_set due.old n.0 true }
     ensures fits { window_end (boundary_of plan.now n.0) at ≤ never }
 {
     let end = end_of(plan, n, at, steps, ends);
     begins[n.0 as usize] = at;
     ends[n.0 as usize] = u128::from(end);
-    due[n.0 as usize] = true;
     end
 }
 
@@ -289,7 +285,6 @@ fn turn_in_order(
     begins: &mut [u64],
     ends: &mut [u128],
     order: &mut Knockout,
-    due: &mut [bool],
     begun: &mut [NodeId],
 ) -> (u64, usize)
     requires plan { IsPlan plan.now }
@@ -297,24 +292,21 @@ fn turn_in_order(
     requires steps { AreSteps plan.now steps.now }
     requires begins { length begins.old ≡ length plan.now.tree.nodes }
     requires ends { length ends.old ≡ length plan.now.tree.nodes }
-    requires due { length due.old ≡ length plan.now.tree.nodes }
     requires order { order.old ≡ ends.old }
-    requires turning { IsTurning plan.now begins.old ends.old due.old at }
-    requires clear { (x : ℕ) → slice_index_or due.old x false ≡ false }
+    requires turning { AreTurning plan.now begins.old ends.old [] at }
     requires begun { length begun.old ≡ length plan.now.tree.nodes }
     ensures order { order.new ≡ ends.new }
-    ensures turning { IsTurning plan.now begins.new ends.new due.new at }
+    ensures turning { AreTurning plan.now begins.new ends.new (numbers (take result.1 begun.new)) at }
     ensures first { IsLeastEnd ends.new (length ends.new) result.0 }
     ensures later { EndElsewhere ends.new at (length ends.new) }
     ensures fit { EndsFit ends.old → EndsFit ends.new }
-    ensures listed { AreListed due.new (numbers (take result.1 begun.new)) }
     ensures count { result.1 ≤ length begun.new }
 {
     let mut first = order.first();
     let mut turned: usize = 0;
     while first.end == at {
         let n = NodeId(first.index);
-        let end = turn_due(plan, n, at, steps, begins, ends, due);
+        let end = turn_due(plan, n, at, steps, begins, ends);
         order.set(n.0, end);
         list_one(begun, turned, n);
         turned += 1;
@@ -331,7 +323,6 @@ fn turn_each(
     steps: &[u64],
     begins: &mut [u64],
     ends: &mut [u128],
-    due: &mut [bool],
     begun: &mut [NodeId],
 ) -> (u64, usize)
     requires plan { IsPlan plan.now }
@@ -339,16 +330,13 @@ fn turn_each(
     requires steps { AreSteps plan.now steps.now }
     requires begins { length begins.old ≡ length plan.now.tree.nodes }
     requires ends { length ends.old ≡ length plan.now.tree.nodes }
-    requires due { length due.old ≡ length plan.now.tree.nodes }
     requires fit { EndsFit ends.old }
-    requires turning { IsTurning plan.now begins.old ends.old due.old at }
-    requires clear { (x : ℕ) → slice_index_or due.old x false ≡ false }
+    requires turning { AreTurning plan.now begins.old ends.old [] at }
     requires begun { length begun.old ≡ length plan.now.tree.nodes }
-    ensures turning { IsTurning plan.now begins.new ends.new due.new at }
+    ensures turning { AreTurning plan.now begins.new ends.new (numbers (take result.1 begun.new)) at }
     ensures first { IsLeastEnd ends.new (length ends.new) result.0 }
     ensures later { EndElsewhere ends.new at (length ends.new) }
     ensures fit { EndsFit ends.new }
-    ensures listed { AreListed due.new (numbers (take result.1 begun.new)) }
     ensures count { result.1 ≤ length begun.new }
 {
     let mut first = NO_TASKS;
@@ -357,7 +345,7 @@ fn turn_each(
         let mut end = ends[x] as u64;
         if end == at {
             let n = NodeId(x as u32);
-            end = turn_due(plan, n, at, steps, begins, ends, due);
+            end = turn_due(plan, n, at, steps, begins, ends);
             list_one(begun, turned, n);
             turned += 1;
         }
@@ -375,7 +363,6 @@ fn turn_ended(
     begins: &mut [u64],
     ends: &mut [u128],
     order: &mut Option<Knockout>,
-    due: &mut [bool],
     begun: &mut [NodeId],
 ) -> (u64, usize)
     requires plan { IsPlan plan.now }
@@ -383,36 +370,32 @@ fn turn_ended(
     requires steps { AreSteps plan.now steps.now }
     requires begins { length begins.old ≡ length plan.now.tree.nodes }
     requires ends { length ends.old ≡ length plan.now.tree.nodes }
-    requires due { length due.old ≡ length plan.now.tree.nodes }
     requires fit { EndsFit ends.old }
     requires order { IfSome order.old (λ o. o ≡ ends.old) }
-    requires turning { IsTurning plan.now begins.old ends.old due.old at }
-    requires clear { (x : ℕ) → slice_index_or due.old x false ≡ false }
+    requires turning { AreTurning plan.now begins.old ends.old [] at }
     requires begun { length begun.old ≡ length plan.now.tree.nodes }
     ensures order { IfSome order.new (λ o. o ≡ ends.new) }
-    ensures turning { IsTurning plan.now begins.new ends.new due.new at }
+    ensures turning { AreTurning plan.now begins.new ends.new (numbers (take result.1 begun.new)) at }
     ensures first { IsLeastEnd ends.new (length ends.new) result.0 }
     ensures later { EndElsewhere ends.new at (length ends.new) }
     ensures fit { EndsFit ends.new }
-    ensures listed { AreListed due.new (numbers (take result.1 begun.new)) }
     ensures count { result.1 ≤ length begun.new }
 {
     match order {
-        Some(order) => turn_in_order(plan, at, steps, begins, ends, order, due, begun),
-        None => turn_each(plan, at, steps, begins, ends, due, begun),
+        Some(order) => turn_in_order(plan, at, steps, begins, ends, order, begun),
+        None => turn_each(plan, at, steps, begins, ends, begun),
     }
 }
 
-/// Gives each leaf and dual its window of a unit, where some end, and the others are those of the unit already, and marks
-/// and lists those that have a boundary there. The next unit with a boundary of a task, and how many are listed.
-pub(crate) fn turn_marked(
+/// Gives each leaf and dual its window of a unit, where some end, and the others are those of the unit already, and lists
+/// those that have a boundary there. The next unit with a boundary of a task, and how many are listed.
+pub(crate) fn turn_listed(
     plan: &Plan,
     at: u64,
     steps: &[u64],
     begins: &mut [u64],
     ends: &mut [u128],
     order: &mut Option<Knockout>,
-    due: &mut [bool],
     begun: &mut [NodeId],
 ) -> (u64, usize)
     requires plan { IsPlan plan.now }
@@ -425,18 +408,26 @@ pub(crate) fn turn_marked(
     requires ready { AreReady plan.now begins.old ends.old at }
     requires packs { PacksNeverEnd plan.now.tree ends.old }
     requires earlier { (x : ℕ) → IsMember plan.now.tree x → slice_index begins.old x < at }
-    requires due { length due.old ≡ length plan.now.tree.nodes }
     requires begun { length begun.old ≡ length plan.now.tree.nodes }
     ensures windows { (x : ℕ) → IsMember plan.now.tree x → HasWindow plan.now begins.new ends.new at x }
     ensures next { IsNext plan.now.set.tasks at result.0 }
     ensures order { IfSome order.new (λ o. o ≡ ends.new) }
     ensures packs { PacksNeverEnd plan.now.tree ends.new }
     ensures fit { EndsFit ends.new }
-    ensures due { (x : ℕ) → x < length plan.now.tree.nodes → slice_index_or due.new x false
-        ≡ (not (is_pack (kind_at plan.now.tree x)) && boundary_of plan.now x at) }
-    ensures listed { AreListed due.new (numbers (take result.1 begun.new)) }
+    ensures due { AreDue plan.now at (numbers (take result.1 begun.new)) }
     ensures count { result.1 ≤ length begun.new }
 {
+    turn_ended(plan, at, steps, begins, ends, order, begun)
+}
+
+/// Marks the first `count` of these nodes, and no other.
+pub(crate) fn mark_listed(begun: &[NodeId], count: usize, due: &mut [bool])
+    requires count { count ≤ length begun.now }
+    requires nodes { (k : ℕ) → k < length (numbers (take count begun.now)) → slice_index (numbers (take count begun.now)) k < length due.old }
+    ensures { AreListed due.new (numbers (take count begun.now)) }
+{
     due.fill(false);
-    turn_ended(plan, at, steps, begins, ends, order, due, begun)
+    for k in 0..count {
+        due[begun[k].0 as usize] = true;
+    }
 }

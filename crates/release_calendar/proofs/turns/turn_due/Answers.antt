@@ -27,14 +27,8 @@ bounds-begins-n c = let b = c.requires.member.0 in let long = c.requires.begins 
 pub bounds-ends-n : goal.bounds-ends-n
 bounds-ends-n c = let b = c.requires.member.0 in let long = c.requires.ends in omega (arith, b, long)
 
-pub bounds-due-n : goal.bounds-due-n
-bounds-due-n c = let b = c.requires.member.0 in let long = c.requires.due in omega (arith, b, long)
-
 pub returns-clause-begins : goal.returns-clause-begins
 returns-clause-begins c = refl
-
-pub returns-clause-due : goal.returns-clause-due
-returns-clause-due c = refl
 
 pub returns-clause-ends : goal.returns-clause-ends
 returns-clause-ends c = ap (set c.args.ends.now c.args.n.0) (c.from.ensures ∙ c.end_of-end.ensures)

@@ -1,11 +1,11 @@
-use Rattle.std.proofs.Common.{◌≡◌, ℕ, ◌<◌, ◌+◌, List, Bool, length, take, get_or, ap, arith, subst, subst₂, sym, ◌∙◌}
+use Rattle.std.proofs.Common.{◌≡◌, ℕ, ◌<◌, ◌+◌, List, length, take, get_or, ap, arith, subst, subst₂, sym, ◌∙◌}
 use Rattle.sched_base.specs.declared.rows.NodeId.{NodeId}
 use Rattle.run_tree.specs.Tree.{numbers}
 use Rattle.run_tree.specs.Windows.{window_end}
 use Rattle.run_tree.specs.Plans.{boundary_of}
-use Rattle.release_calendar.specs.Calendars.{AreListed, EndsFit, IsLeastEnd, IsTurning}
-use Rattle.release_calendar.proofs.OrderLemmas.{same_at, other_at, ends_later, turning_step, fit_set, least_step, elsewhere_step}
-use Rattle.release_calendar.proofs.BegunLemmas.{listed_step}
+use Rattle.release_calendar.specs.Calendars.{AreTurning, EndsFit, IsLeastEnd}
+use Rattle.release_calendar.proofs.OrderLemmas.{same_at, other_at, ends_later, fit_set, least_step, elsewhere_step}
+use Rattle.release_calendar.proofs.ListedTurns.{turning_more}
 use Rattle.release_calendar.proofs.turns.turn_each.Goals as goal
 use Rattle.release_calendar.proofs.turns.turn_each.Goals.{then-end-at, else-end-at}
 
@@ -21,8 +21,6 @@ loop-x-preserved c =
     let kept = c.loop-x.auto.ends in
     let long_b = c.requires.begins in
     let kept_b = c.loop-x.auto.begins in
-    let long_d = c.requires.due in
-    let kept_d = c.loop-x.auto.due in
     let within : x < length ends = omega (arith, on, most, kept) in
     elim c.if-end-at.branch [
       | then-end-at w ↦
@@ -32,29 +30,24 @@ loop-x-preserved c =
           let end = w.end-is ∙ w.turn_due-end.ensures.end in
           let same : (y : ℕ) → y < x → get_or ends' y 0 ≡ get_or ends y 0 = λ y l. ap (λ (xs : List ℕ). get_or xs y 0) ie ∙ other_at ends x y later (λ e. absurd (omega (arith, l, e))) in
           let here : c.if-end-at.end ≡ get_or ends' x 0 = end ∙ sym (ap (λ (xs : List ℕ). get_or xs x 0) ie ∙ same_at ends x later within) in
-          let past = ends_later c.args.plan.now c.requires.plan ends c.args.at x was.0.packs c.requires.at (omega (arith, within, kept, long)) at in (
-            turning_step c.args.plan.now c.requires.plan c.loop-x.begins ends c.if-end-at.begins ends' c.loop-x.due c.if-end-at.due c.args.at x c.requires.at
-                (omega (arith, long_b, kept_b)) (omega (arith, long, kept)) (omega (arith, long_d, kept_d)) (omega (arith, within, long, kept)) at
-                (w.begins-is ∙ w.turn_due-end.ensures.begins) ie (w.due-is ∙ w.turn_due-end.ensures.due) was.0,
+          let past = ends_later c.args.plan.now c.requires.plan ends c.args.at x was.0.turning.packs c.requires.at (omega (arith, within, kept, long)) at in (
+            turning_more c.args.plan.now c.requires.plan c.loop-x.begins ends c.if-end-at.begins ends' (numbers (take c.loop-x.turned c.loop-x.begun)) (numbers (take c.if-end-at.turned c.if-end-at.begun)) c.args.at x c.requires.at
+                (omega (arith, long_b, kept_b)) (omega (arith, long, kept)) (omega (arith, within, long, kept)) at (w.begins-is ∙ w.turn_due-end.ensures.begins) ie
+                (ap (λ (n : ℕ). numbers (take n c.if-end-at.begun)) w.turned-is ∙ ap (λ (ns : List NodeId). numbers (take (c.loop-x.turned + 1) ns)) w.begun-is ∙ w.list_one.ensures) was.0,
             elsewhere_step ends ends' c.args.at x c.if-end-at.end same here (λ e. past (sym end ∙ e)) was.1,
             subst (λ (d : ℕ). IsLeastEnd ends' (x + 1) d) (sym c.min-first.ensures) (least_step ends ends' x c.loop-x.first c.if-end-at.end same here was.2),
             subst (λ (xs : List ℕ). EndsFit xs) (sym ie) (fit_set ends x later was.3 w.turn_due-end.ensures.fits within),
-            listed_step c.loop-x.due c.if-end-at.due (numbers (take c.loop-x.turned c.loop-x.begun)) (numbers (take c.if-end-at.turned c.if-end-at.begun)) x
-                (omega (arith, within, long, kept, long_d, kept_d)) (w.due-is ∙ w.turn_due-end.ensures.due)
-                (ap (λ (n : ℕ). numbers (take n c.if-end-at.begun)) w.turned-is ∙ ap (λ (ns : List NodeId). numbers (take (c.loop-x.turned + 1) ns)) w.begun-is ∙ w.list_one.ensures) was.4,
-            (let t = was.5 in let n = w.turned-is in omega (arith, t, n)),
+            (let t = was.4 in let n = w.turned-is in omega (arith, t, n)),
           ))
       | else-end-at w ↦
           (let same : (y : ℕ) → y < x → get_or ends' y 0 ≡ get_or ends y 0 = λ y l. ap (λ (xs : List ℕ). get_or xs y 0) w.ends-is in
           let here : c.if-end-at.end ≡ get_or ends' x 0 = w.end-is ∙ sym (ap (λ (xs : List ℕ). get_or xs x 0) w.ends-is) in (
-            subst (λ (xs : List Bool). IsTurning c.args.plan.now c.if-end-at.begins ends' xs c.args.at) (sym w.due-is)
-                (subst₂ (λ (xs ys : List ℕ). IsTurning c.args.plan.now xs ys c.loop-x.due c.args.at) (sym w.begins-is) (sym w.ends-is) was.0),
+            subst (λ (n : ℕ). AreTurning c.args.plan.now c.if-end-at.begins ends' (numbers (take n c.if-end-at.begun)) c.args.at) (sym w.turned-is)
+                (subst (λ (ns : List NodeId). AreTurning c.args.plan.now c.if-end-at.begins ends' (numbers (take c.loop-x.turned ns)) c.args.at) (sym w.begun-is)
+                (subst₂ (λ (xs ys : List ℕ). AreTurning c.args.plan.now xs ys (numbers (take c.loop-x.turned c.loop-x.begun)) c.args.at) (sym w.begins-is) (sym w.ends-is) was.0)),
             elsewhere_step ends ends' c.args.at x c.if-end-at.end same here (λ e. w.if-end-at.false (sym w.end-is ∙ e)) was.1,
             subst (λ (d : ℕ). IsLeastEnd ends' (x + 1) d) (sym c.min-first.ensures) (least_step ends ends' x c.loop-x.first c.if-end-at.end same here was.2),
             subst (λ (xs : List ℕ). EndsFit xs) (sym w.ends-is) was.3,
-            subst (λ (marks : List Bool). AreListed marks (numbers (take c.if-end-at.turned c.if-end-at.begun))) (sym w.due-is)
-                (subst (λ (n : ℕ). AreListed c.loop-x.due (numbers (take n c.if-end-at.begun))) (sym w.turned-is)
-                (subst (λ (ns : List NodeId). AreListed c.loop-x.due (numbers (take c.loop-x.turned ns))) (sym w.begun-is) was.4)),
-            (let t = was.5 in let n = w.turned-is in omega (arith, t, n)),
+            (let t = was.4 in let n = w.turned-is in omega (arith, t, n)),
           ))
     ]

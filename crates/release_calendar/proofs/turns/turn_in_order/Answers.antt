@@ -5,8 +5,9 @@ use Rattle.run_tree.specs.Windows.{window_end}
 use Rattle.run_tree.specs.Tree.{numbers}
 use Rattle.run_tree.specs.Plans.{boundary_of}
 use Rattle.release_calendar.specs.Calendars.{EndsFit, IsLeastEnd, ending}
-use Rattle.release_calendar.proofs.OrderLemmas.{ending_less, ends_later, ends_member, turning_step, fit_set, least_first, elsewhere_first}
-use Rattle.release_calendar.proofs.BegunLemmas.{ending_most, ending_some, listed_none, listed_step}
+use Rattle.release_calendar.proofs.OrderLemmas.{ending_less, ends_later, ends_member, fit_set, least_first, elsewhere_first}
+use Rattle.release_calendar.proofs.BegunLemmas.{ending_most, ending_some}
+use Rattle.release_calendar.proofs.ListedTurns.{turning_more}
 use Rattle.release_calendar.proofs.turns.turn_in_order.Goals as goal
 
 pub loop-first-smaller : goal.loop-first-smaller
@@ -19,7 +20,7 @@ loop-first-smaller c =
     let kept = c.loop-first.auto.ends in
     let at = c.loop-first-test.true in
     let less = ending_less c.args.at c.loop-first.ends x (window_end (boundary_of c.args.plan.now x) c.args.at) within (omega (arith, here, at))
-    (ends_later c.args.plan.now c.requires.plan c.loop-first.ends c.args.at x c.loop-first.invariant.1.packs c.requires.at (omega (arith, within, long, kept)) (omega (arith, here, at))) in
+    (ends_later c.args.plan.now c.requires.plan c.loop-first.ends c.args.at x c.loop-first.invariant.1.turning.packs c.requires.at (omega (arith, within, long, kept)) (omega (arith, here, at))) in
     subst (λ (xs : List ℕ). ending c.args.at xs < ending c.args.at c.loop-first.ends) (sym c.turn_due-end.ensures.ends) less
 
 pub loop-first-init : goal.loop-first-init
@@ -31,7 +32,6 @@ loop-first-init c =
       c.requires.turning,
       subst (λ (xs : List ℕ). IsFirst xs c.first-first.result) c.requires.order c.first-first.ensures,
       λ fit. fit,
-      listed_none c.args.due.now c.args.begun.now c.requires.clear,
       omega (arith, most, ends, begun),
     )
 
@@ -44,7 +44,7 @@ turn_due-end-requires-clause-member c =
     let long = c.requires.ends in
     let kept = c.loop-first.auto.ends in
     let at = c.loop-first-test.true in
-    ends_member c.args.plan.now c.requires.plan c.loop-first.ends c.args.at x c.loop-first.invariant.1.packs c.requires.at (omega (arith, within, long, kept)) (omega (arith, here, at))
+    ends_member c.args.plan.now c.requires.plan c.loop-first.ends c.args.at x c.loop-first.invariant.1.turning.packs c.requires.at (omega (arith, within, long, kept)) (omega (arith, here, at))
 
 pub turn_due-end-requires-clause-boundary : goal.turn_due-end-requires-clause-boundary
 turn_due-end-requires-clause-boundary c =
@@ -56,11 +56,11 @@ turn_due-end-requires-clause-boundary c =
     let kept = c.loop-first.auto.ends in
     let at = c.loop-first-test.true in
     let end : get_or c.loop-first.ends x 0 ≡ c.args.at = omega (arith, here, at) in
-    let is = ends_member c.args.plan.now c.requires.plan c.loop-first.ends c.args.at x c.loop-first.invariant.1.packs c.requires.at (omega (arith, within, long, kept)) (omega (arith, here, at)) in
-    (c.loop-first.invariant.1.ready x is).due end
+    let is = ends_member c.args.plan.now c.requires.plan c.loop-first.ends c.args.at x c.loop-first.invariant.1.turning.packs c.requires.at (omega (arith, within, long, kept)) (omega (arith, here, at)) in
+    (c.loop-first.invariant.1.turning.ready x is).due end
 
 pub turn_due-end-requires-clause-known : goal.turn_due-end-requires-clause-known
-turn_due-end-requires-clause-known c = λ x i later. ((c.loop-first.invariant.1.ready x i).other later).end
+turn_due-end-requires-clause-known c = λ x i later. ((c.loop-first.invariant.1.turning.ready x i).other later).end
 
 pub list_one-requires : goal.list_one-requires
 list_one-requires c =
@@ -68,7 +68,7 @@ list_one-requires c =
     let here = f.here in
     let at = c.loop-first-test.true in
     let some = ending_some c.args.at c.loop-first.ends c.loop-first.first.index f.within (omega (arith, here, at)) in
-    let room = c.loop-first.invariant.5 in
+    let room = c.loop-first.invariant.4 in
     omega (arith, some, room)
 
 pub loop-first-preserved : goal.loop-first-preserved
@@ -81,22 +81,18 @@ loop-first-preserved c =
     let kept = c.loop-first.auto.ends in
     let long_b = c.requires.begins in
     let kept_b = c.loop-first.auto.begins in
-    let long_d = c.requires.due in
-    let kept_d = c.loop-first.auto.due in
     let at = c.loop-first-test.true in
     let end = window_end (boundary_of c.args.plan.now x) c.args.at in
     let order = c.set.ensures ∙ ap (λ (xs : List ℕ). set xs x c.turn_due-end.result) c.loop-first.invariant.0 ∙ ap (set c.loop-first.ends x) c.turn_due-end.ensures.end ∙ sym c.turn_due-end.ensures.ends in (
       order,
-      turning_step c.args.plan.now c.requires.plan c.loop-first.begins c.loop-first.ends c.turn_due-end.new.begins c.turn_due-end.new.ends c.loop-first.due c.turn_due-end.new.due c.args.at x c.requires.at
-          (omega (arith, long_b, kept_b)) (omega (arith, long, kept)) (omega (arith, long_d, kept_d)) (omega (arith, within, long, kept)) (omega (arith, here, at)) c.turn_due-end.ensures.begins c.turn_due-end.ensures.ends c.turn_due-end.ensures.due c.loop-first.invariant.1,
+      turning_more c.args.plan.now c.requires.plan c.loop-first.begins c.loop-first.ends c.turn_due-end.new.begins c.turn_due-end.new.ends (numbers (take c.loop-first.turned c.loop-first.begun)) (numbers (take (c.loop-first.turned + 1) c.list_one.new.begun)) c.args.at x c.requires.at
+          (omega (arith, long_b, kept_b)) (omega (arith, long, kept)) (omega (arith, within, long, kept)) (omega (arith, here, at)) c.turn_due-end.ensures.begins c.turn_due-end.ensures.ends c.list_one.ensures c.loop-first.invariant.1,
       subst (λ (xs : List ℕ). IsFirst xs c.first-first-in-loop-first.result) order c.first-first-in-loop-first.ensures,
       λ fit. subst (λ (xs : List ℕ). EndsFit xs) (sym c.turn_due-end.ensures.ends) (fit_set c.loop-first.ends x end (c.loop-first.invariant.3 fit) c.turn_due-end.ensures.fits within),
-      listed_step c.loop-first.due c.turn_due-end.new.due (numbers (take c.loop-first.turned c.loop-first.begun)) (numbers (take (c.loop-first.turned + 1) c.list_one.new.begun)) x
-          (omega (arith, within, long, kept, long_d, kept_d)) c.turn_due-end.ensures.due c.list_one.ensures c.loop-first.invariant.4,
       (let less = ending_less c.args.at c.loop-first.ends x end within (omega (arith, here, at))
-          (ends_later c.args.plan.now c.requires.plan c.loop-first.ends c.args.at x c.loop-first.invariant.1.packs c.requires.at (omega (arith, within, long, kept)) (omega (arith, here, at))) in
+          (ends_later c.args.plan.now c.requires.plan c.loop-first.ends c.args.at x c.loop-first.invariant.1.turning.packs c.requires.at (omega (arith, within, long, kept)) (omega (arith, here, at))) in
           let is = ap (λ (xs : List ℕ). ending c.args.at xs) c.turn_due-end.ensures.ends in
-          let room = c.loop-first.invariant.5 in
+          let room = c.loop-first.invariant.4 in
           let same = c.list_one.auto.begun in
           omega (arith, less, is, room, same)),
     )
@@ -112,9 +108,6 @@ turn_due-end-requires-clause-begins c = c.loop-first.auto.begins ∙ c.requires.
 
 pub turn_due-end-requires-clause-ends : goal.turn_due-end-requires-clause-ends
 turn_due-end-requires-clause-ends c = c.loop-first.auto.ends ∙ c.requires.ends
-
-pub turn_due-end-requires-clause-due : goal.turn_due-end-requires-clause-due
-turn_due-end-requires-clause-due c = c.loop-first.auto.due ∙ c.requires.due
 
 pub returns-clause-order : goal.returns-clause-order
 returns-clause-order c = c.loop-first.invariant.0
@@ -133,16 +126,13 @@ returns-clause-first c = subst (λ (d : ℕ). IsLeastEnd c.loop-first.ends (leng
 
 pub returns-clause-later : goal.returns-clause-later
 returns-clause-later c =
-    elsewhere_first c.args.plan.now c.requires.plan c.loop-first.begins c.loop-first.ends c.loop-first.due c.args.at c.loop-first.first c.requires.at (c.loop-first.auto.ends ∙ c.requires.ends) c.loop-first.invariant.1 c.loop-first.invariant.2 c.loop-first-test.false
+    elsewhere_first c.args.plan.now c.requires.plan c.loop-first.begins c.loop-first.ends c.loop-first.invariant.1.due c.args.at c.loop-first.first c.requires.at (c.loop-first.auto.ends ∙ c.requires.ends) c.loop-first.invariant.1.turning c.loop-first.invariant.2 c.loop-first-test.false
 
 pub returns-clause-fit : goal.returns-clause-fit
 returns-clause-fit c = c.loop-first.invariant.3
 
-pub returns-clause-listed : goal.returns-clause-listed
-returns-clause-listed c = c.loop-first.invariant.4
-
 pub returns-clause-count : goal.returns-clause-count
-returns-clause-count c = let room = c.loop-first.invariant.5 in omega (arith, room)
+returns-clause-count c = let room = c.loop-first.invariant.4 in omega (arith, room)
 
 pub turn_due-end-requires-clause-steps : goal.turn_due-end-requires-clause-steps
 turn_due-end-requires-clause-steps c = c.requires.steps
