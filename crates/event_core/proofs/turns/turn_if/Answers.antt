@@ -29,9 +29,6 @@ turn-requires-clause-long c = c.requires.long
 pub turn-requires-clause-serving : goal.turn-requires-clause-serving
 turn-requires-clause-serving c = c.requires.serving
 
-pub turn-requires-clause-due : goal.turn-requires-clause-due
-turn-requires-clause-due c = c.requires.due
-
 pub returns-then-now-in_ticks-clause-same : goal.returns-then-now-in_ticks-clause-same
 returns-then-now-in_ticks-clause-same c = λ low. absurd (
     let at = sym c.now.ensures.value ∙ c.if-now-in_ticks.true ∙ c.in_ticks.ensures ∙ ap (λ n. n * c.args.plan.now.tree.scale) c.next.ensures.value in

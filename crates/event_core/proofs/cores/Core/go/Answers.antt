@@ -16,28 +16,18 @@ invariant_of-self c =
     let after = contents c.run_round.new.state in
     let old = subst (λ (k : CoreContents). IsCoreOf p k) (sym c.self.view_is) c.requires.belongs in
     let new = c.run_round.ensures.core in
-    let due = c.self.invariant.0 in
-    let packs = c.self.invariant.1 in
+    let packs = c.self.invariant.0 in
     let room = c.run_round.ensures.room in
-    let nodes = old.at.nodes in
-    let nodes' = new.at.nodes in
     let last = last_long p h before old.at in
     let last' = last_long p h after new.at in
     let early = new.at.early in
     let most = stop_fits p h in
-    (omega (arith, due, nodes, nodes'), omega (arith, packs, room, last, last'), omega (arith, early, most))
-
-pub run_round-requires-clause-due : goal.run_round-requires-clause-due
-run_round-requires-clause-due c =
-    let old = subst (λ (k : CoreContents). IsCoreOf c.args.plan.now k) (sym c.self.view_is) c.requires.belongs in
-    let room = c.self.invariant.0 in
-    let nodes = old.at.nodes in
-    omega (arith, room, nodes)
+    (omega (arith, packs, room, last, last'), omega (arith, early, most))
 
 pub run_round-requires-clause-room : goal.run_round-requires-clause-room
 run_round-requires-clause-room c =
     let old = subst (λ (k : CoreContents). IsCoreOf c.args.plan.now k) (sym c.self.view_is) c.requires.belongs in
-    let room = c.self.invariant.1 in
+    let room = c.self.invariant.0 in
     let last = last_long c.args.plan.now c.know_lawful.ensures.lawful (contents c.self.inside.state) old.at in
     omega (arith, room, last)
 

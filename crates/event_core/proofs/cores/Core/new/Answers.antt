@@ -9,10 +9,7 @@ invariant_of-result c =
     let h = c.know_lawful.ensures.lawful in
     let first = c.in_ok-state.ensures.0 in
     let at = c.in_ok-state.ensures.1.at in
-    let due = c.in_ok-due.ensures in
-    let count = c.node_count.ensures in
-    let nodes = at.nodes in
     let room = c.in_ok-changes.ensures.room in
     let packs = c.pack_count.ensures in
     let last = last_long p h (contents c.in_ok-state.state) at in
-    (omega (arith, due, count, nodes), omega (arith, room, packs, last), omega (arith, first))
+    (omega (arith, room, packs, last), omega (arith, first))
