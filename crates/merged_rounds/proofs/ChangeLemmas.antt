@@ -1,24 +1,31 @@
 -- Rounds by the processors that may show something else than before.
-use Rattle.std.proofs.Common.{◌≡◌, ◌≢◌, ℕ, zero, suc, ◌+◌, ◌*◌, ◌<◌, ◌≤◌, ◌⊎◌, inl, inr, true, List, [], ◌∷◌, length, set, get_or, get_or-set_same, get_or-set_other, slice_get, Option, None, Some, refl, sym, ap, subst, ◌∙◌, arith}
+use Rattle.std.proofs.Common.{◌≡◌, ◌≢◌, ℕ, zero, suc, ◌+◌, ◌*◌, ◌<◌, ◌≤◌, ◌⊎◌, inl, inr, Bool, true, false, List, [], ◌∷◌, ◌++◌, length, set, get_or, get_or-set_same, get_or-set_other, slice_get, Option, None, Some, refl, sym, ap, subst, ◌∙◌, arith}
 use Rattle.std.specs.List.{AllByRecursion}
-use Rattle.std.proofs.lemmas.Bool.{cases_eq, cases_lt}
+use Rattle.std.proofs.lemmas.Bool.{cases_eq, cases_lt, le-ltb}
+use Rattle.std.proofs.lemmas.List.{get_or-map, get_or_append_left, get_or_push, length-map}
 use Rattle.std.proofs.lemmas.Option.{slice_get-get_or}
 use Rattle.sched_base.specs.declared.rows.Leaf.{Leaf}
+use Rattle.sched_base.specs.declared.rows.Leaf.TheVariants.{Task as task_leaf, Wait as wait_leaf, Idle as idle_leaf, Empty}
+use Rattle.sched_base.specs.declared.rows.NodeId.{NodeId}
 use Rattle.sched_base.specs.declared.rows.Row.{Row}
 use Rattle.sched_base.specs.declared.sets.Task.{Task}
+use Rattle.sched_base.specs.Sets.{task_at}
 use Rattle.sched_base.specs.Tables.{lane_of}
 use Rattle.run_tree.specs.Plans.{PlanContents}
+use Rattle.run_tree.specs.Schedule.{shown}
+use Rattle.run_tree.specs.Tree.{leaf}
 use Rattle.sched_laws.proofs.WholeRounds.{length-round}
 use Rattle.merged_rounds.specs.declared.sources.Source.{Source}
 use Rattle.merged_rounds.specs.Replays.{IsSourceOf}
 use Rattle.event_core.specs.Rounds.{IsRoundUpTo, rows_of_round}
 use Rattle.event_core.specs.Told.{AllReleased}
 use Rattle.event_core.proofs.SettledPacks.{same_start}
-use Rattle.merged_rows.specs.Columns.{AreShown, ends_showing}
+use Rattle.merged_rows.specs.Columns.{AreGoingOn, AreShown, Begun, ends_showing, going_on, showing}
+use Rattle.merged_rows.proofs.ChangedLemmas.{on_step}
 use Rattle.merged_rounds.specs.declared.sums.RoundSum.{RoundSum}
-use Rattle.merged_rounds.specs.Changes.{AreTheLeaves, AreTold, IsNone, IsShowing}
+use Rattle.merged_rounds.specs.Changes.{AreLeavesOf, AreTheLeaves, AreTold, IsNone, IsShowing, leaves_in}
 use Rattle.merged_rounds.specs.Laps.{IsAllTold, IsSumUpTo}
-use Rattle.round_looks.specs.Looks.{leaf_at}
+use Rattle.round_looks.specs.Looks.{leaf_at, shown_for}
 use Rattle.merged_rounds.proofs.LapLemmas.{row_shows}
 
 pub set_same : {X : Type 0} (xs : List X) (p : ℕ) (x none : X) → p < length xs → get_or (set xs p x) p none ≡ x
@@ -123,3 +130,66 @@ showing_on p source sum start belongs round released is ends = record {
       let long = length-round p.set.tasks p.tree start source.tick in
       ends q (get_or rows q none) (slice_get-get_or rows q none (omega (arith, l, long)));
 }
+
+-- ---- what each node shows
+
+-- no task waits
+none_waits : (tasks : List Task) (scale tick : ℕ) → AllByRecursion (λ k. k.offset * scale ≤ tick) tasks → (j : ℕ) → (task_at tasks j).offset * scale ≤ tick
+none_waits [] scale tick all j = omega arith
+none_waits (k ∷ tasks) scale tick all zero = all.0
+none_waits (k ∷ tasks) scale tick all (suc j) = none_waits tasks scale tick all.1 j
+
+-- so each leaf is shown as it is, from there on
+shown_as_is : (tasks : List Task) (scale tick : ℕ) → AllByRecursion (λ k. k.offset * scale ≤ tick) tasks → (start : ℕ) → tick ≤ start → (l : Leaf) → shown tasks scale start l ≡ l
+shown_as_is tasks scale tick all start late (task_leaf id) =
+    let w = none_waits tasks scale tick all id.0 in
+    ap (λ (b : Bool). elim b as (λ y. Leaf) [ true ↦ wait_leaf id | false ↦ task_leaf id ]) (le-ltb start ((task_at tasks id.0).offset * scale) (omega (arith, w, late)))
+shown_as_is tasks scale tick all start late (wait_leaf id) = refl
+shown_as_is tasks scale tick all start late (idle_leaf number) = refl
+shown_as_is tasks scale tick all start late Empty = refl
+
+-- the same as at that tick
+pub shown_on : (p : PlanContents) (tick n t : ℕ) (l : Leaf) → AllReleased p tick → tick ≤ t → l ≡ shown_for p n tick → shown_for p n t ≡ l
+shown_on p tick n t l all late is =
+    shown_as_is p.set.tasks p.tree.scale tick all t late (leaf p.tree n) ∙ sym (shown_as_is p.set.tasks p.tree.scale tick all tick (omega arith) (leaf p.tree n)) ∙ sym is
+
+-- with one node more
+pub leaves_push : (p : PlanContents) (tick n : ℕ) (leaves : List Leaf) (l : Leaf) → length leaves ≡ n → ((t : ℕ) → tick ≤ t → shown_for p n t ≡ l) →
+    ((k t : ℕ) → k < n → tick ≤ t → shown_for p k t ≡ get_or leaves k Empty) → (k t : ℕ) → k < n + 1 → tick ≤ t → shown_for p k t ≡ get_or (leaves ++ l ∷ []) k Empty
+leaves_push p tick n leaves l long here below k t in_all late = elim (cases_lt k n) [
+  | inl low ↦ below k t low late ∙ sym (get_or_append_left leaves (l ∷ []) Empty k (omega (arith, low, long)))
+  | inr high ↦
+      (let same : k ≡ n = omega (arith, in_all, high) in
+      ap (λ j. shown_for p j t) same ∙ here t late ∙ sym (get_or_push leaves l Empty k (long ∙ sym same)))
+]
+
+-- and so from a later tick on
+pub leaves_later : (p : PlanContents) (m n : ℕ) (leaves : List Leaf) → m ≤ n → AreLeavesOf p m leaves → AreLeavesOf p n leaves
+leaves_later p m n leaves up h = record { long = h.long; each = λ k t l late. h.each k t l (omega (arith, up, late)) }
+
+-- so a processor shows the leaf that is known of its node
+pub leaf_known : (p : PlanContents) (start end q : ℕ) (leaves : List Leaf) (o : Option NodeId) (l : Leaf) → AreLeavesOf p start leaves → ((row : Row) → o ≡ None → leaf_at p start end q row ≡ Empty) →
+    ((n : NodeId) (row : Row) → o ≡ Some n → leaf_at p start end q row ≡ shown_for p n.0 start) → ((n : NodeId) → o ≡ Some n → n.0 < length p.tree.nodes) →
+    (o ≡ None → l ≡ Empty) → ((n : NodeId) → o ≡ Some n → l ≡ get_or leaves n.0 Empty) → (row : Row) → leaf_at p start end q row ≡ l
+leaf_known p start end q leaves None l h none some within free known row = none row refl ∙ sym (free refl)
+leaf_known p start end q leaves (Some n) l h none some within free known row = some n row refl ∙ h.each n.0 start (within n refl) (omega arith) ∙ sym (known n refl)
+
+module _ (p : PlanContents) (start end : ℕ) where
+  pub leaf_in : (q : ℕ) (none : Row) → q < p.tree.processors → get_or (leaves_in p start end) q None ≡ Some (leaf_at p start end q none)
+  leaf_in q none l =
+      let rows = rows_of_round p start end in
+      let long = length-round p.set.tasks p.tree start end in
+      get_or-map (λ (r : Row). Some r.leaf) rows q none None (omega (arith, l, long))
+
+  pub all_in : IsAllTold p start end (leaves_in p start end)
+  all_in = record { long = length-map (rows_of_round p start end) (λ (r : Row). Some r.leaf) ∙ length-round p.set.tasks p.tree start end; each = λ q none l. leaf_in q none l }
+
+  -- one processor more shows what it does
+  pub seen_step : (first lanes lanes' : List (List Begun)) (tick : ℕ) (changed : List ℕ) (n q : ℕ) (l : Leaf) → q ≡ get_or changed n 0 → q < p.tree.processors → length first ≡ p.tree.processors →
+      ((none : Row) → leaf_at p start end q none ≡ l) → lanes' ≡ set lanes q (showing (get_or lanes q []) tick l) → AreGoingOn first tick changed (leaves_in p start end) lanes n →
+      AreGoingOn first tick changed (leaves_in p start end) lanes' (n + 1)
+  seen_step first lanes lanes' tick changed n q l at within many is set_to h =
+      let none : Row = record { processor = 0; start = 0; end = 0; leaf = Empty } in
+      let long = all_in.long in
+      on_step first tick changed (leaves_in p start end) lanes lanes' n q [] None at (omega (arith, within, many)) (long ∙ sym many)
+      (set_to ∙ ap (λ (o : Option Leaf). set lanes q (going_on (get_or lanes q []) tick o)) (sym (leaf_in q none within ∙ ap (λ (x : Leaf). Some x) (is none)))) h

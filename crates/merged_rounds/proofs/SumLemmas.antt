@@ -15,12 +15,14 @@ use Rattle.sched_laws.proofs.WholeRounds.{length-round, round_get}
 use Rattle.event_core.specs.Rounds.{IsRoundUpTo, rounds_before, rows_before, rows_of_round}
 use Rattle.event_core.proofs.PlanRounds.{is_round, next_count, next_end, next_lanes, no_end, no_round}
 use Rattle.event_core.proofs.RoundsInOrder.{next_rounds, no_rounds, no_rows, too_long}
-use Rattle.merged_rows.specs.Columns.{ends_showing}
+use Rattle.merged_rows.specs.Columns.{AreGoingOn, AreShown, ends_showing, lanes_up_to}
+use Rattle.merged_rows.proofs.ChangedLemmas.{shown_round}
 use Rattle.merged_rows.specs.Lawful.{AreLawful}
 use Rattle.merged_rows.specs.Merging.{merged}
 use Rattle.merged_rows.proofs.MergedTables.{end_of_all, merged_none}
 use Rattle.merged_rows.proofs.PushLemmas.{round_ends}
 use Rattle.merged_rounds.specs.declared.sums.RoundSum.{RoundSum}
+use Rattle.merged_rounds.specs.Changes.{leaves_in}
 use Rattle.merged_rounds.specs.Laps.{IsSumUpTo}
 use Rattle.merged_rounds.specs.Passes.{AreMergedOf, IsKept}
 use Rattle.merged_rounds.proofs.ScheduleLemmas.{lawful_merged}
@@ -80,6 +82,17 @@ module _ (p : PlanContents) (h : IsPlan p) (start end : ℕ) (round : IsRoundUpT
       let same : rows ≡ (sum.rounds + 1) * p.tree.processors = are ∙ ap (λ k. (sum.rounds + 1) * k) is in
       let t = too_long p start sum.rounds p.tree.processors round.event early before.count before.few (omega (arith, past, same)) in
       (t.0, same ∙ t.1)
+
+  -- where those processors show what they do that may show something else, the round is merged
+  pub seen_on : (next : RoundSum) (changed : List ℕ) → length sum.rows.begun ≡ length sum.rows.lanes → sum.rows.lanes ≡ lanes_up_to 0 sum.rows.end sum.rows.begun → next.rows.lanes ≡ lanes_up_to 0 end next.rows.begun →
+      AreShown sum.rows.lanes changed (leaves_in p start end) (rows_of_round p start end) → AreGoingOn sum.rows.begun sum.rows.end changed (leaves_in p start end) next.rows.begun (length changed) →
+      next.rows.lanes ≡ map merged (with_round (lanes_of p.tree.processors (rows_before p start)) (rows_of_round p start end))
+  seen_on next changed many was is shows going =
+      let rows = rows_of_round p start end in
+      let whole : length rows ≡ length sum.rows.begun = length-round p.set.tasks p.tree start end ∙ sym lanes_whole ∙ sym many in
+      is ∙ ap (λ n. lanes_up_to 0 n next.rows.begun) (sym round_to)
+      ∙ shown_round sum.rows.begun sum.rows.end changed (leaves_in p start end) next.rows.begun rows (lanes_of p.tree.processors (rows_before p start)) whole round_here (sym was ∙ before.lanes)
+      (subst (λ (ls : List (List Row)). AreShown ls changed (leaves_in p start end) rows) was shows) going
 
   module _ (next : RoundSum) (lanes : next.rows.lanes ≡ map merged (with_round (lanes_of p.tree.processors (rows_before p start)) (rows_of_round p start end))) where
     -- with the round

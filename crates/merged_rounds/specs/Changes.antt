@@ -1,17 +1,18 @@
 -- Rounds of which it is known on which processors they may show something else than the ones before.
-use Rattle.std.specs.Prelude.{ℕ, ◌≡◌, ◌≢◌, ◌<◌, ◌≤◌, true, List, length, Option, None, Some, slice_index, slice_index_or}
+use Rattle.std.specs.Prelude.{ℕ, ◌≡◌, ◌≢◌, ◌<◌, ◌≤◌, true, List, length, map, Option, None, Some, slice_index, slice_index_or}
 use Rattle.sched_base.specs.declared.rows.Leaf.{Leaf}
+use Rattle.sched_base.specs.declared.rows.Leaf.TheVariants.{Empty}
 use Rattle.sched_base.specs.declared.rows.Row.{Row}
 use Rattle.sched_base.specs.Tables.{lane_of}
 use Rattle.run_tree.specs.Plans.{PlanContents}
-use Rattle.event_core.specs.Rounds.{IsRoundUpTo}
+use Rattle.event_core.specs.Rounds.{IsRoundUpTo, rows_of_round}
 use Rattle.event_core.specs.Told.{AllReleased}
 use Rattle.merged_rows.specs.Columns.{ends_showing}
 use Rattle.merged_rounds.specs.declared.sources.Source.{Source}
 use Rattle.merged_rounds.specs.declared.sums.RoundSum.{RoundSum}
 use Rattle.merged_rounds.specs.declared.turns.Turn.{Turn}
 use Rattle.merged_rounds.specs.Laps.{IsAllTold, IsSumUpTo}
-use Rattle.round_looks.specs.Looks.{leaf_at}
+use Rattle.round_looks.specs.Looks.{leaf_at, shown_for}
 use Rattle.merged_rounds.specs.Replays.{IsSourceOf, IsTurnOf, turn_end}
 
 -- The rounds up to the source's tick are merged, and each processor's last row shows what the processor shows in the round just gone, in
@@ -23,6 +24,15 @@ pub record IsShowing (p : PlanContents) (source : Source) (so_far : RoundSum) : 
   pub round : IsRoundUpTo p start source.tick
   pub released : AllReleased p start
   pub last : (q : ℕ) (none : Row) → q < p.tree.processors → ends_showing (lane_of so_far.rows.lanes q) (leaf_at p start source.tick q none) ≡ true
+
+-- what each node shows from this tick on, where it runs on a processor
+pub record AreLeavesOf (p : PlanContents) (tick : ℕ) (leaves : List Leaf) : Type 0 where
+  pub long : length leaves ≡ length p.tree.nodes
+  pub each : (n t : ℕ) → n < length p.tree.nodes → tick ≤ t → shown_for p n t ≡ slice_index_or leaves n Empty
+
+-- what each processor shows in the round from `start` up to `end`
+abbrev pub leaves_in : PlanContents → ℕ → ℕ → List (Option Leaf)
+leaves_in p start end = map (λ (r : Row). Some r.leaf) (rows_of_round p start end)
 
 -- processor q is none of the first n of these
 abbrev pub IsNone : List ℕ → ℕ → ℕ → Type 0

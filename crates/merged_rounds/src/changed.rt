@@ -6,16 +6,16 @@ ghost use Rattle.event_core.specs.Cores.{places_of};
 ghost use Rattle.event_core.specs.Counts.{IsCountFault};
 ghost use Rattle.event_core.specs.Rounds.{IsRoundUpTo};
 ghost use Rattle.event_core.specs.Told.{AllReleased};
-ghost use Rattle.merged_rounds.specs.Changes.{AreAllChanged, AreTheLeaves, AreTold, IsNone, IsShowing};
+ghost use Rattle.merged_rounds.specs.Changes.{AreAllChanged, AreLeavesOf, AreTheLeaves, AreTold, IsNone, IsShowing};
 ghost use Rattle.merged_rounds.specs.Laps.{IsAllTold, IsSumUpTo};
 ghost use Rattle.merged_rounds.specs.Replays.{IsSourceOf};
 
 use crate::looks::look_all;
 use crate::sources::Source;
-use crate::sums::{RoundSum, add_changed, add_round};
-use event_core::CountFault;
+use crate::sums::{RoundSum, add_changed, add_round, add_seen};
+use event_core::{CountFault, leaf_shown_for};
 use run_tree::Plan;
-use sched_base::{Leaf, NoMemory};
+use sched_base::{Leaf, NoMemory, NodeId};
 use std::alloc::Global;
 
 /// Room for the processors that are told: one for each pack of level 0.
@@ -114,18 +114,55 @@ pub(crate) fn merge_telling(
     Ok(count)
 }
 
-// Goes on with rounds up to the first that begins at tick `until` or later, or to the end of all. What each processor shows is told.
+// What each node shows from tick `start` on, where no task waits.
+fn shown_leaves(alloc: Global, plan: &Plan, start: u128) -> Result<Vec<Leaf>, NoMemory>
+    requires { AllReleased plan.now start }
+    ensures { IfOk result (λ leaves. AreLeavesOf plan.now start leaves.items) }
+{
+    let mut leaves = Vec::new(alloc);
+    for n in 0..plan.tree().nodes() {
+        leaves.push(leaf_shown_for(plan, NodeId(n), start))?;
+    }
+    Ok(leaves)
+}
+
+// Goes on with one round, of which the processors are looked at that are told, given what each node shows.
+#[inline(always)]
+fn merge_seen(
+    plan: &Plan,
+    source: &mut Source,
+    leaves: &[Leaf],
+    changed: &mut [u32],
+    sum: &mut RoundSum,
+) -> Result<(), CountFault>
+    requires showing { IsShowing plan.now source.old sum.old }
+    requires early { source.old.tick < stop_of plan.now }
+    requires leaves { AreLeavesOf plan.now source.old.tick leaves.now }
+    requires room { length changed.old ≡ length (packs_at plan.now.tree 0) }
+    ensures showing { IfOk result (λ _. IsShowing plan.now source.new sum.new) }
+    ensures round { IfOk result (λ _. IsRoundUpTo plan.now source.old.tick source.new.tick) }
+    ensures leaves { IfOk result (λ _. AreLeavesOf plan.now source.new.tick leaves.now) }
+    ensures fault { IfErr result (λ fault. IsCountFault plan.now fault) }
+{
+    let start = source.now();
+    let count = source.go_telling(plan, changed);
+    let seen = first_of(changed, count);
+    add_seen(plan, sum, source, leaves, start, seen)?;
+    Ok(())
+}
+
+// Goes on with rounds up to the first that begins at tick `until` or later, or to the end of all, given what each node shows.
 fn merge_changed(
     plan: &Plan,
     source: &mut Source,
-    told: &mut [Option<Leaf>],
+    leaves: &[Leaf],
     changed: &mut [u32],
     first: RoundSum,
     until: u128,
 ) -> Result<RoundSum, CountFault>
     requires showing { IsShowing plan.now source.old first }
     requires until { until ≤ stop_of plan.now }
-    requires told { AreTheLeaves plan.now source.old.tick told.old }
+    requires leaves { AreLeavesOf plan.now source.old.tick leaves.now }
     requires room { length changed.old ≡ length (packs_at plan.now.tree 0) }
     ensures showing { IfOk result (λ sum. IsShowing plan.now source.new sum) }
     ensures reached { IfOk result (λ _. until ≤ source.new.tick) }
@@ -133,7 +170,7 @@ fn merge_changed(
 {
     let mut sum = first;
     'rounds: while source.now() < until {
-        let _count = merge_telling(plan, source, told, changed, &mut sum)?;
+        merge_seen(plan, source, leaves, changed, &mut sum)?;
     }
     Ok(sum)
 }
@@ -158,10 +195,12 @@ pub(crate) fn merge_released(
     ensures reached { IfOk result (λ _. until ≤ source.new.tick) }
     ensures fault { IfErr result (λ fault. IsCountFault plan.now fault) }
 {
-    if source.now() >= until {
+    let start = source.now();
+    if start >= until {
         return Ok(first);
     }
     let mut changed = room_for_told(alloc, plan)?;
+    let leaves = shown_leaves(alloc, plan, start)?;
     let sum = merge_whole(plan, source, told, first)?;
-    merge_changed(plan, source, told, &mut changed, sum, until)
+    merge_changed(plan, source, &leaves, &mut changed, sum, until)
 }

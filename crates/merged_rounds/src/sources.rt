@@ -1,11 +1,14 @@
 //! Where rounds come from: a core computes them, or those of the first hyperperiod come again.
-ghost use Rattle.std.specs.Prelude.{ℕ, ◌≡◌, ◌<◌, ◌≤◌, ◌*◌, true, false, length, IfOk, None, slice_index, slice_index_or};
+ghost use Rattle.std.specs.Prelude.{ℕ, ◌≡◌, ◌<◌, ◌≤◌, ◌*◌, true, false, length, IfOk, None, Some, slice_index, slice_index_or};
 ghost use Rattle.std.specs.List.{AllByRecursion};
+ghost use Rattle.sched_base.specs.declared.rows.Leaf.TheVariants.{Empty as empty_leaf};
+ghost use Rattle.sched_base.specs.declared.rows.NodeId.{NodeId as DeclaredNodeId};
 ghost use Rattle.sched_base.specs.declared.rows.Row.{Row as DeclaredRow};
 ghost use Rattle.run_tree.specs.Plans.{stop_of};
 ghost use Rattle.event_core.specs.Cores.{IsCoreOf, places_of};
 ghost use Rattle.event_core.specs.Rounds.{IsRoundUpTo};
 ghost use Rattle.event_core.specs.Told.{AllReleased, IsTold};
+ghost use Rattle.merged_rounds.specs.Changes.{AreLeavesOf};
 ghost use Rattle.merged_rounds.specs.Laps.{CanComeRound};
 ghost use Rattle.round_looks.specs.Looks.{leaf_at};
 ghost use Rattle.merged_rounds.specs.Replays.{BeginsAgain, IsComputed, IsSourceOf, IsTurnOf, packs_of, turn_end};
@@ -16,7 +19,7 @@ use crate::turns::Turn;
 use cpu_assign::Places;
 use event_core::Core;
 use run_tree::Plan;
-use sched_base::{Leaf, NoMemory};
+use sched_base::{Leaf, NoMemory, NodeId};
 use std::alloc::Global;
 
 /// Where rounds come from: a core computes them, or those of the first hyperperiod come again. They have gone by up to a tick.
@@ -167,5 +170,34 @@ impl Source {
         } else {
             self.core.leaf_on(plan, start, q)
         }
+    }
+
+    /// What it shows where it is known what each node shows. It takes no memory.
+    #[inline(always)]
+    pub(crate) fn leaf_by(&self, plan: &Plan, leaves: &[Leaf], start: u128, q: u32) -> Leaf
+        requires belongs { IsSourceOf plan.now self.now }
+        requires round { IsRoundUpTo plan.now start self.now.tick }
+        requires leaves { AreLeavesOf plan.now start leaves.now }
+        requires processor { q < plan.now.tree.processors }
+        ensures { (none : DeclaredRow) → leaf_at plan.now start self.now.tick q none ≡ result }
+    {
+        if self.replays {
+            self.replay.leaf_on(plan, start, self.tick, q)
+        } else {
+            leaf_of(leaves, self.core.node_on(plan, start, q))
+        }
+    }
+}
+
+// What this node shows, where there is one.
+#[inline(always)]
+fn leaf_of(leaves: &[Leaf], node: Option<NodeId>) -> Leaf
+    requires { (n : DeclaredNodeId) → node ≡ Some n → n.0 < length leaves.now }
+    ensures none { node ≡ None → result ≡ empty_leaf }
+    ensures some { (n : DeclaredNodeId) → node ≡ Some n → result ≡ slice_index_or leaves.now n.0 empty_leaf }
+{
+    match node {
+        None => Leaf::Empty,
+        Some(n) => leaves[n.0 as usize],
     }
 }

@@ -5,11 +5,14 @@ ghost use Rattle.sched_base.specs.Tables.{lane_of, row_limit};
 ghost use Rattle.run_tree.specs.Plans.{IsPlan, rounds_of, stop_of};
 ghost use Rattle.event_core.specs.Counts.{IsCountFault};
 ghost use Rattle.event_core.specs.Rounds.{IsRoundUpTo, rows_of_round};
-ghost use Rattle.merged_rows.specs.Columns.{AreChangesTold, AreShown, ends_showing};
+ghost use Rattle.merged_rows.specs.Columns.{AreChangesTold, AreGoingOn, AreShown, ends_showing};
 ghost use Rattle.merged_rows.specs.Lawful.{AreLawful};
+ghost use Rattle.merged_rounds.specs.Changes.{AreLeavesOf, leaves_in};
 ghost use Rattle.merged_rounds.specs.Passes.{AreMergedOf};
+ghost use Rattle.merged_rounds.specs.Replays.{IsSourceOf};
 ghost use Rattle.merged_rounds.specs.Laps.{IsSumUpTo};
 
+use crate::sources::Source;
 use event_core::CountFault;
 use merged_rows::MergedRows;
 use run_tree::Plan;
@@ -99,6 +102,64 @@ pub(crate) fn add_changed(
 {
     let rounds = next_count(plan, sum, start, end)?;
     sum.rows.add_changed(end, changed, shown)?;
+    sum.rounds = rounds;
+    Ok(())
+}
+
+// These processors show what they do in the round just gone, which began at tick `start`, given what each node shows.
+#[inline(always)]
+fn show_seen(
+    plan: &Plan,
+    rows: &mut MergedRows,
+    source: &Source,
+    leaves: &[Leaf],
+    start: u128,
+    changed: &[u32],
+) -> Result<(), NoMemory>
+    requires belongs { IsSourceOf plan.now source.now }
+    requires round { IsRoundUpTo plan.now start source.now.tick }
+    requires leaves { AreLeavesOf plan.now start leaves.now }
+    requires within { (k : ℕ) → k < length changed.now → slice_index changed.now k < plan.now.tree.processors }
+    requires many { length rows.old.begun ≡ plan.now.tree.processors }
+    ensures going { IfOk result (λ _. AreGoingOn rows.old.begun rows.old.end changed.now (leaves_in plan.now start source.now.tick)
+        rows.new.begun (length changed.now)) }
+{
+    for k in 0..changed.len() {
+        let q = changed[k];
+        rows.show(q, source.leaf_by(plan, leaves, start, q))?;
+    }
+    Ok(())
+}
+
+/// Adds the round just gone, which began at tick `start`, where there is room for its rows, given what each node shows. Those processors
+/// are listed that may show something else than their last rows, and it costs time for these alone; one may stand there twice.
+#[inline(always)]
+pub(crate) fn add_seen(
+    plan: &Plan,
+    sum: &mut RoundSum,
+    source: &Source,
+    leaves: &[Leaf],
+    start: u128,
+    changed: &[u32],
+) -> Result<(), CountFault>
+    requires sum { IsSumUpTo plan.now start sum.old }
+    requires belongs { IsSourceOf plan.now source.now }
+    requires round { IsRoundUpTo plan.now start source.now.tick }
+    requires leaves { AreLeavesOf plan.now start leaves.now }
+    requires within { (k : ℕ) → k < length changed.now → slice_index changed.now k < plan.now.tree.processors }
+    requires shown { AreShown sum.old.rows.lanes changed.now (leaves_in plan.now start source.now.tick)
+        (rows_of_round plan.now start source.now.tick) }
+    ensures sum { IfOk result (λ _. IsSumUpTo plan.now source.now.tick sum.new) }
+    ensures ends { IfOk result (λ _. (q : ℕ) (r : DeclaredRow) → slice_get (rows_of_round plan.now start source.now.tick) q ≡ Some r →
+        ends_showing (lane_of sum.new.rows.lanes q) r.leaf ≡ true) }
+    ensures fault { IfErr result (λ fault. IsCountFault plan.now fault) }
+{
+    let end = source.now();
+    let rounds = next_count(plan, sum, start, end)?;
+    sum.rows.know_begun();
+    show_seen(plan, &mut sum.rows, source, leaves, start, changed)?;
+    sum.rows.go_to(end);
+    sum.rows.know_begun();
     sum.rounds = rounds;
     Ok(())
 }

@@ -1,5 +1,5 @@
 -- Lanes of which some go on as is told, and the others as before.
-use Rattle.std.proofs.Common.{◌≡◌, ◌≢◌, ℕ, zero, suc, ◌+◌, ◌<◌, ◌⊎◌, inl, inr, true, List, [], ◌∷◌, ◌++◌, None, Some, length, length-set, set, get_or, get_or-set_same, get_or-set_other, Option, eq-eqb, refl, sym, ap, ◌∙◌, arith}
+use Rattle.std.proofs.Common.{◌≡◌, ◌≢◌, ℕ, zero, suc, ◌+◌, ◌<◌, ◌⊎◌, inl, inr, true, List, [], ◌∷◌, ◌++◌, None, Some, length, length-set, map, set, get_or, get_or-set_same, get_or-set_other, Option, eq-eqb, refl, sym, ap, ◌∙◌, arith}
 use Rattle.std.proofs.lemmas.Bool.{cases_Bool, cases_eq, cases_lt, cond-true, cond-false}
 use Rattle.std.proofs.lemmas.List.{ext_get_or}
 use Rattle.std.specs.Prelude.{slice_get}
@@ -7,9 +7,10 @@ use Rattle.std.proofs.lemmas.Option.{slice_get-get_or}
 use Rattle.sched_base.specs.declared.rows.Leaf.{Leaf}
 use Rattle.sched_base.specs.declared.rows.Leaf.TheVariants.{Empty as empty_leaf}
 use Rattle.sched_base.specs.declared.rows.Row.{Row}
-use Rattle.merged_rows.specs.Merging.{shown}
+use Rattle.sched_base.specs.Tables.{IsRound, end_after, with_round}
+use Rattle.merged_rows.specs.Merging.{shown, merged}
 use Rattle.merged_rows.specs.Columns.{Begun, shows_last, showing, going_on, lanes_up_to, rows_up_to, showing_each, ends_showing, AreGoingOn, AreShown}
-use Rattle.merged_rows.proofs.ColumnLemmas.{lane_here, length-showing_each, new_row, one_shown}
+use Rattle.merged_rows.proofs.ColumnLemmas.{lane_here, length-showing_each, new_row, one_shown, with_next}
 
 -- ---- one lane
 
@@ -114,3 +115,10 @@ on_shown first start changed told lanes rows whole shows h =
         let none : Row = record { processor = 0; start = 0; end = 0; leaf = empty_leaf } in
         let r = get_or rows p none in
         at_row p r m (slice_get-get_or rows p none (omega (arith, m, whole))) ∙ sym (showing_at first start rows p none m (omega (arith, m, whole)))
+
+-- and then these are the rows with that round
+pub shown_round : (first : List (List Begun)) (start : ℕ) (changed : List ℕ) (told : List (Option Leaf)) (lanes : List (List Begun)) (rows : List Row) (raw : List (List Row)) → length rows ≡ length first →
+    IsRound start rows → lanes_up_to 0 start first ≡ map merged raw → AreShown (lanes_up_to 0 start first) changed told rows → AreGoingOn first start changed told lanes (length changed) →
+    lanes_up_to 0 (end_after start rows) lanes ≡ map merged (with_round raw rows)
+shown_round first start changed told lanes rows raw whole round is shows h =
+    ap (lanes_up_to 0 (end_after start rows)) (on_shown first start changed told lanes rows whole shows h) ∙ with_next start first raw rows whole round is

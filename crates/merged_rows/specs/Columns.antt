@@ -6,15 +6,16 @@ use Rattle.sched_base.specs.declared.rows.Row.{Row}
 use Rattle.sched_base.specs.Tables.{lane_of}
 use Rattle.merged_rows.specs.Merging.{shown}
 
--- what is seen of merged rows: those of each processor, and the tick up to which they go
-pub record MergedContents : Type 0 where
-  pub lanes : List (List Row)
-  pub end : ℕ
-
 -- a row as it begins
 pub record Begun : Type 0 where
   pub start : ℕ
   pub leaf : Leaf
+
+-- what is seen of merged rows: those of each processor, the tick up to which they go, and the same rows as they begin
+pub record MergedContents : Type 0 where
+  pub lanes : List (List Row)
+  pub end : ℕ
+  pub begun : List (List Begun)
 
 -- starts and leaves, beside each other
 abbrev pub begun_of : List ℕ → List Leaf → List Begun

@@ -1,9 +1,9 @@
 //! The merged rows of all processors.
-ghost use Rattle.std.specs.Prelude.{ℕ, ◌≡◌, ◌<◌, [], List, Some, length, map, replicate, slice_get, slice_index, IfOk, OnOk};
+ghost use Rattle.std.specs.Prelude.{ℕ, ◌≡◌, ◌<◌, [], List, Some, length, map, replicate, slice_get, slice_index, slice_index_or, slice_set, IfOk, OnOk};
 ghost use Rattle.sched_base.specs.declared.rows.Row.{Row as declared_row};
 ghost use Rattle.sched_base.specs.Tables.{IsRound, RowAt, end_after, lane_of, with_round};
 ghost use Rattle.merged_rows.specs.Merging.{merged};
-ghost use Rattle.merged_rows.specs.Columns.{rows_up_to, showing_each, going_on_each, AreChangesTold, AreGoingOn, AreShown};
+ghost use Rattle.merged_rows.specs.Columns.{lanes_up_to, rows_up_to, showing, showing_each, going_on_each, AreChangesTold, AreGoingOn, AreShown};
 
 use crate::lanes::MergedLane;
 use sched_base::{Leaf, NoMemory, Row};
@@ -12,7 +12,7 @@ use std::marker::Model;
 
 /// The rows of each processor up to a tick, merged: those that follow one another under one name are one row.
 ///
-/// Seen as these rows, lane by lane, and the tick. They take 16 bytes for each merged row, and 24 for one whose start is past 64 bits.
+/// Seen as these rows, lane by lane, the tick, and the rows as they begin. They take 16 bytes for each merged row, and 24 for one whose start is past 64 bits.
 pub struct MergedRows {
     lanes: Vec<MergedLane>,
     end: u128,
@@ -33,7 +33,7 @@ impl Model for MergedRows {
 
     ghost Value = { MergedContents };
 
-    ghost view = { λ m. record { lanes = lanes_up_to 0 m.end m.lanes.items; end = m.end } };
+    ghost view = { λ m. record { lanes = lanes_up_to 0 m.end m.lanes.items; end = m.end; begun = m.lanes.items } };
 
     ghost invariant = { λ m. length m.lanes.items < 2 ^ 32 };
 }
@@ -89,6 +89,36 @@ impl MergedRows {
         Ok(())
     }
 
+    /// Processor p shows this leaf from the rows' tick on; where its last row shows the same, that one goes on. The round is added when
+    /// `go_to` tells its end. After an error the rows are of no use.
+    #[inline(always)]
+    pub fn show(&mut self, p: u32, leaf: Leaf) -> Result<(), NoMemory>
+        requires { p < length self.old.begun }
+        ensures shown { OnOk result (self.new.begun ≡ slice_set self.old.begun p (showing (slice_index_or self.old.begun p []) self.old.end leaf)) }
+        ensures end { OnOk result (self.new.end ≡ self.old.end) }
+    {
+        show_on(self.lanes.as_mut_slice(), p, self.end, leaf)?;
+        Ok(())
+    }
+
+    /// What was shown so far goes on up to this tick.
+    #[inline(always)]
+    pub fn go_to(&mut self, end: u128)
+        ensures begun { self.new.begun ≡ self.old.begun }
+        ensures end { self.new.end ≡ end }
+    {
+        self.end = end;
+    }
+
+    /// Brings into the proof of its caller what the rows are by where they begin; it does nothing.
+    #[inline(always)]
+    pub fn know_begun(&self)
+        ensures lanes { self.now.lanes ≡ lanes_up_to 0 self.now.end self.now.begun }
+        ensures many { length self.now.begun ≡ length self.now.lanes }
+    {
+        let _lanes = &self.lanes;
+    }
+
     /// With the next round, where its rows are at hand: one for each processor in order. Memory is taken as `add_round` takes it.
     pub fn with_rows(mut self, rows: &[Row]) -> Result<MergedRows, NoMemory>
         requires whole { length rows.now ≡ length self.lanes }
@@ -139,6 +169,16 @@ fn show_told(lanes: &mut [MergedLane], start: u128, told: &[Option<Leaf>]) -> Re
     for p in 0..told.len() {
         lanes[p].go_on(start, told[p])?;
     }
+    Ok(())
+}
+
+// Processor p shows this leaf, from tick `start` on.
+#[inline(always)]
+fn show_on(lanes: &mut [MergedLane], p: u32, start: u128, leaf: Leaf) -> Result<(), NoMemory>
+    requires { p < length lanes.old }
+    ensures shown { OnOk result (lanes.new ≡ slice_set lanes.old p (showing (slice_index_or lanes.old p []) start leaf)) }
+{
+    lanes[p as usize].show(start, leaf)?;
     Ok(())
 }
 
