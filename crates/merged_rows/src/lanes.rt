@@ -9,13 +9,14 @@ use std::alloc::Global;
 use std::marker::Model;
 
 // For how many rows more there is to be room where there are so many and no room. Room that isn't used costs little, and a copy of the rows
-// more.
+// more: beyond a few there is room for so many that the columns have pages of their own, which move as they grow, and aren't copied.
 fn more_rows(count: usize) -> usize
     ensures { 0 < result }
 {
     match count {
         0..=15 => 16,
-        16..=8191 => 3 * count,
+        16..=63 => 3 * count,
+        64..=16383 => 16384,
         _ => count,
     }
 }
