@@ -73,10 +73,10 @@ impl Parts {
         let processors = plan.tree().processors();
         let tasks = plan.set().count();
         Ok(Parts {
-            pending: Pending::new(alloc, plan, window)?,
-            state: MachineState::new(alloc, processors)?,
             totals: vec![in alloc; 0u128; tasks as usize]?,
             faults: vec![in alloc; None; processors as usize]?,
+            state: MachineState::new(alloc, processors)?,
+            pending: Pending::new(alloc, plan, window)?,
         })
     }
 }
