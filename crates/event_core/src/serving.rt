@@ -66,6 +66,7 @@ pub(crate) struct Served {
 }
 
 // The tick at which the member at place k of pack p, which runs, has nothing left. The place is only spoken of.
+#[inline(always)]
 fn dry_of(tree: &Tree, p: NodeId, k: Option<u32>, node: Option<NodeId>, dues: &Dues) -> u128
     requires tree { IsTree tree.now }
     requires pack { IsPack tree.now p.0 }
@@ -105,6 +106,7 @@ fn change_one(tree: &Tree, p: NodeId, was: Option<u32>, next: Handed, dues: &mut
 
 // Of pack p, the member at `was` stops, and the one that is handed to, which is another one, starts. The tick at which the latter has
 // nothing left.
+#[inline(always)]
 fn change(tree: &Tree, p: NodeId, was: Option<u32>, next: Handed, dues: &mut Dues) -> u128
     requires tree { IsTree tree.now }
     requires pack { IsPack tree.now p.0 }
@@ -131,6 +133,7 @@ fn change(tree: &Tree, p: NodeId, was: Option<u32>, next: Handed, dues: &mut Due
 
 // Of pack p, the member at `was` stops, and the one that is handed to starts; nothing happens where it is one member. The tick at which
 // the latter has nothing left.
+#[inline(always)]
 fn change_if(tree: &Tree, p: NodeId, was: Option<u32>, next: Handed, dues: &mut Dues) -> u128
     requires tree { IsTree tree.now }
     requires pack { IsPack tree.now p.0 }
@@ -157,6 +160,7 @@ fn change_if(tree: &Tree, p: NodeId, was: Option<u32>, next: Handed, dues: &mut 
 
 /// Pack p, of whose members the one at `was` ran, serves the one that it picks now, where it runs; it returns which that is. What
 /// is left stays, and the list of the dues says the same of members as the list of all nodes. `leaves` may be said of a pack of level 0.
+#[inline(always)]
 pub(crate) fn serve(
     tree: &Tree,
     p: NodeId,

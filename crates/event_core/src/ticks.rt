@@ -94,6 +94,7 @@ fn place_of(number: &[u32], p: NodeId) -> usize
 }
 
 // Node p gets a tick.
+#[inline(always)]
 fn set_node(
     number: &[u32],
     nodes: &[u32],

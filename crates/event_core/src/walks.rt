@@ -31,6 +31,7 @@ fn ready_at(ready: &[Knockout], p: NodeId) -> &Knockout
 
 // Pack p serves the member that it picks now; whether that is another one than before. The ends are only spoken of. `leaves` may be said
 // of a pack of level 0.
+#[inline(always)]
 fn serve_pack(
     tree: &Tree,
     p: NodeId,
@@ -103,6 +104,7 @@ fn next_marked(tree: &Tree, level: u32, count: u32, stale: &[bool], from: u32) -
 }
 
 // Pack p serves the member that it picks now, where it is marked. Else nothing changes.
+#[inline(always)]
 fn serve_if(
     tree: &Tree,
     p: NodeId,
@@ -188,6 +190,7 @@ fn list_if(changes: &mut Changes, is_other: bool, i: u32, runs: bool, held: bool
 }
 
 // Pack p, which is number i of level 0, serves the member that it picks now, and is listed where anything changes.
+#[inline(always)]
 fn serve_listed(
     tree: &Tree,
     p: NodeId,
@@ -234,6 +237,7 @@ fn serve_listed(
 
 // Pack p, which is number i of level 0, serves the member that it picks now where it is marked, and is listed where anything changes. Else it
 // is where it belongs, and nothing changes.
+#[inline(always)]
 fn serve_listed_if(
     tree: &Tree,
     p: NodeId,

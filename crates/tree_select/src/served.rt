@@ -28,6 +28,7 @@ pub struct Handed {
 }
 
 // The member at this place of pack p, where there is one.
+#[inline(always)]
 fn node_at(tree: &Tree, p: NodeId, k: Option<u32>) -> Option<NodeId>
     requires tree { IsTree tree.now }
     requires pack { IsPack tree.now p.0 }
@@ -41,6 +42,7 @@ fn node_at(tree: &Tree, p: NodeId, k: Option<u32>) -> Option<NodeId>
 }
 
 // The member at place k of pack p, where there is one, runs or rests. The place is only spoken of.
+#[inline(always)]
 fn set_place(
     tree: &Tree,
     p: NodeId,
@@ -67,6 +69,7 @@ fn set_place(
 }
 
 // Of pack p, the member at `was` ran, and now the one at `next` does. Whether it is another one.
+#[inline(always)]
 fn hand_on(
     tree: &Tree,
     p: NodeId,
@@ -102,6 +105,7 @@ fn hand_on(
 
 /// Pack p, of whose members the one at `was` ran, loses its mark, and lets the one run that is picked now, where the pack
 /// runs. It returns which these are. `leaves` may be said of a pack of level 0: its members are leaves, so that no primal is looked for.
+#[inline(always)]
 pub fn hand_over_in(
     tree: &Tree,
     p: NodeId,
