@@ -4,10 +4,11 @@ ghost use Rattle.sched_base.specs.Valid.{IsValid};
 ghost use Rattle.trace_verdict.specs.Faults.{line_of_row, IsTrace, IsVerdict};
 ghost use Rattle.trace_verdict.specs.Findings.{AreTold, IsToldOfTask};
 
+use row_judgments::{Judged, judge_rows};
 use sched_base::{NoMemory, TaskSet};
 use std::alloc::Global;
 use std::marker::Model;
-use trace_verdict::{FIRST_TASK_LINE, Findings, Judged, RowList, Verdict, judge_rows};
+use trace_verdict::{FIRST_TASK_LINE, Findings, RowList, Verdict};
 
 /// A trace: a set, its scale and rows in the order of their lines, with the verdict on them and what was found of each task,
 /// which are made with it.

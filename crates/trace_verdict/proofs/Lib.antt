@@ -11,7 +11,7 @@ pub mod TickLemmas
 pub mod ValidLemmas
 pub mod VerdictLemmas
 mod AllEntries
-mod StandingLemmas
+pub mod StandingLemmas
 mod ShortLemmas
 mod SuppliedLemmas
 mod StackLemmas
@@ -24,4 +24,4 @@ mod TimedLemmas
 mod NearLemmas
 mod CrossLemmas
 mod ShortWalkLemmas
-mod FoundLemmas
+pub mod FoundLemmas

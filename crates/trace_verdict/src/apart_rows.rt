@@ -73,7 +73,7 @@ impl DealtCount {
 }
 
 /// Whether no two rows of one key overlap. Where it is false, that says nothing.
-pub(crate) fn are_apart(alloc: Global, by: RowKey, rows: &RowList) -> Result<bool, NoMemory>
+pub fn are_apart(alloc: Global, by: RowKey, rows: &RowList) -> Result<bool, NoMemory>
     requires few { length rows.now < 2 ^ 32 }
     ensures { IfOk result (λ apart. IsTrue apart → IsFirstHit (key_by by) rows.now (length rows.now)) }
 {

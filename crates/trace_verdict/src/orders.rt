@@ -9,7 +9,8 @@ use crate::row_list::RowList;
 use sched_base::{Leaf, NoMemory, Row};
 use std::alloc::Global;
 
-pub(crate) fn task_key(row: &Row) -> Option<u32>
+/// The task of a row, where it is one of a task.
+pub fn task_key(row: &Row) -> Option<u32>
     ensures { result ≡ task_key row.now }
 {
     match row.leaf {
@@ -40,7 +41,7 @@ fn add_entry(
 
 /// By what rows are put in order.
 #[derive(Clone, Copy)]
-pub(crate) enum RowKey {
+pub enum RowKey {
     Processor,
     Task,
 }

@@ -261,7 +261,7 @@ impl RowList {
     }
 
     /// The short rows, where they are all.
-    pub(crate) fn all_short(&self) -> Option<&[ShortRow]>
+    pub fn all_short(&self) -> Option<&[ShortRow]>
         ensures { IfSome result (λ short. self.now ≡ map row_for short.now) }
     {
         if !self.long.is_empty() {

@@ -36,7 +36,7 @@ pub(crate) fn is_early(set: &TaskSet, scale: u128, row: &Row) -> bool
 }
 
 /// Whether the row has no fault by itself.
-pub(crate) fn is_fit(set: &TaskSet, scale: u128, row: &Row) -> bool
+pub fn is_fit(set: &TaskSet, scale: u128, row: &Row) -> bool
     requires row { IsTraceRow set.now row.now }
     requires scale { scale ≤ 2 ^ 94 }
     ensures { result ≡ is_fit set.now scale row.now }

@@ -73,7 +73,7 @@ fn goes_on(
 /// How many rows of tasks there are, where all rows stand by processor, those of one in the order of time, and none has a fault
 /// by itself.
 #[inline(never)]
-pub(crate) fn count_short(set: &TaskSet, scale: u128, rows: &[ShortRow]) -> Option<u64>
+pub fn count_short(set: &TaskSet, scale: u128, rows: &[ShortRow]) -> Option<u64>
     requires each { AllByRecursion (IsTraceRow set.now) (map row_for rows.now) }
     requires scale { scale ≤ 2 ^ 94 }
     requires few { length rows.now < 2 ^ 32 }

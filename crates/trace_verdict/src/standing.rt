@@ -8,7 +8,8 @@ use crate::row_list::RowList;
 use sched_base::{NoMemory, Row};
 use std::alloc::Global;
 
-pub(crate) fn comes_after(last: &Option<Row>, row: &Row) -> bool
+/// Whether the row stands where a valid schedule has it after the last one, if any.
+pub fn comes_after(last: &Option<Row>, row: &Row) -> bool
     ensures { result ≡ comes_after last.now row.now }
 {
     match last {

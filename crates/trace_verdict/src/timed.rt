@@ -160,7 +160,7 @@ fn short_findings(
 
 /// What the rows of each task tell, of which there are so many, where each task has what it is to have and no two rows of one overlap. Where it finds
 /// nothing, that says nothing: it goes through the rows as if they stood by processor, those of one in the order of time.
-pub(crate) fn timed_findings(
+pub fn timed_findings(
     alloc: Global,
     set: &TaskSet,
     scale: u128,

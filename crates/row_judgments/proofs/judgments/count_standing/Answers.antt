@@ -3,7 +3,7 @@ use Rattle.std.specs.List.{AllByRecursion}
 use Rattle.std.proofs.lemmas.List.{length-map}
 use Rattle.trace_verdict.specs.Faults.{IsTraceRow}
 use Rattle.trace_verdict.specs.RowLists.{row_for}
-use Rattle.trace_verdict.proofs.judgments.count_standing.Goals as goal
+use Rattle.row_judgments.proofs.judgments.count_standing.Goals as goal
 
 pub count_short-requires-clause-each : goal.count_short-requires-clause-each
 count_short-requires-clause-each c = subst (AllByRecursion (IsTraceRow c.args.set.now)) c.in-Some.ensures c.requires.trace.each

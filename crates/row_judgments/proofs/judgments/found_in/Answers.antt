@@ -7,7 +7,7 @@ use Rattle.trace_verdict.specs.Orders.{part, places}
 use Rattle.trace_verdict.specs.Searches.{periods_of}
 use Rattle.trace_verdict.proofs.OverlapLemmas.{Rising-from_sorted}
 use Rattle.trace_verdict.proofs.FoundLemmas.{FoundTo, in_periods, found_none, found_mine, found_next}
-use Rattle.trace_verdict.proofs.judgments.found_in.Goals as goal
+use Rattle.row_judgments.proofs.judgments.found_in.Goals as goal
 
 pub loop-task-init : goal.loop-task-init
 loop-task-init c =

@@ -5,7 +5,7 @@ use Rattle.trace_verdict.specs.Orders.{processor_key}
 use Rattle.trace_verdict.specs.Searches.{IsFirstHit}
 use Rattle.trace_verdict.proofs.StandingLemmas.{hit_standing}
 use Rattle.trace_verdict.proofs.VerdictLemmas.{no_verdict}
-use Rattle.trace_verdict.proofs.judgments.found_in_time.Goals as goal
+use Rattle.row_judgments.proofs.judgments.found_in_time.Goals as goal
 
 if_some : {X : Type 0} (o : Option X) (P Q : X → Type 0) → ((x : X) → P x → Q x) → IfSome o P → IfSome o Q
 if_some None P Q f h = tt

@@ -1,6 +1,6 @@
 use Rattle.std.proofs.lemmas.Result.{IfOk-from_err}
 use Rattle.trace_verdict.proofs.VerdictLemmas.{verdict_valid}
-use Rattle.trace_verdict.proofs.judgments.judge.Goals as goal
+use Rattle.row_judgments.proofs.judgments.judge.Goals as goal
 
 pub returns-clause-valid : goal.returns-clause-valid
 returns-clause-valid c =

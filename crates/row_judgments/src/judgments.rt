@@ -7,23 +7,15 @@ ghost use Rattle.trace_verdict.specs.Findings.{AreTold};
 ghost use Rattle.trace_verdict.specs.Standing.{stand};
 ghost use Rattle.trace_verdict.specs.Searches.{kind_of, IsFirstHit, IsFirstUnfit};
 
-use crate::apart_rows::are_apart;
-use crate::entries::Entry;
-use crate::faults::{FIRST_TASK_LINE, FaultKind, Verdict};
-use crate::findings::{Findings, findings_at};
-use crate::orders::{
-    RowKey, front_len, order_by_processor, order_by_task, places_of, starts_of, task_key,
-};
-use crate::row_list::RowList;
-use crate::searches::{
-    first_processor_hit, first_task_hit, first_unfit, first_unsupplied, is_fit, task_periods,
-};
-use crate::short_standing::count_short;
-use crate::standing::{all_places, comes_after, hits_last, stand, standing_len};
-use crate::supplied::{TaskOrder, supplied_order};
-use crate::timed::timed_findings;
 use sched_base::{NoMemory, Row, TaskSet};
 use std::alloc::Global;
+use trace_verdict::{
+    Entry, FIRST_TASK_LINE, FaultKind, Findings, RowKey, RowList, TaskOrder, Verdict, all_places,
+    are_apart, comes_after, count_short, findings_at, first_processor_hit, first_task_hit,
+    first_unfit, first_unsupplied, front_len, hits_last, is_fit, order_by_processor, order_by_task,
+    places_of, stand, standing_len, starts_of, supplied_order, task_key, task_periods,
+    timed_findings,
+};
 
 /// What is made of the rows of a trace: their orders and the verdict on them.
 #[derive(Drop)]

@@ -4,7 +4,7 @@ use Rattle.trace_verdict.specs.Orders.{processor_key}
 use Rattle.trace_verdict.specs.Searches.{IsFirstHit}
 use Rattle.trace_verdict.specs.Standing.{stand}
 use Rattle.trace_verdict.proofs.StandingLemmas.{hit_standing, hit_after}
-use Rattle.trace_verdict.proofs.judgments.processor_hit.Goals as goal
+use Rattle.row_judgments.proofs.judgments.processor_hit.Goals as goal
 
 pub returns-then-front-len : goal.returns-then-front-len
 returns-then-front-len c =

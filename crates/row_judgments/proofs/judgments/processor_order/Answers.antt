@@ -3,7 +3,7 @@ use Rattle.std.proofs.Common.{sym, ◌∙◌, subst}
 use Rattle.trace_verdict.specs.Searches.{IsFirstHit}
 use Rattle.trace_verdict.specs.Orders.{processor_key, entries_from}
 use Rattle.trace_verdict.proofs.StandingLemmas.{order_standing, hit_standing}
-use Rattle.trace_verdict.proofs.judgments.processor_order.Goals as goal
+use Rattle.row_judgments.proofs.judgments.processor_order.Goals as goal
 
 pub returns-then-stand-clause-order : goal.returns-then-stand-clause-order
 returns-then-stand-clause-order c = (

@@ -3,7 +3,7 @@ use Rattle.trace_verdict.specs.Faults.{row_at}
 use Rattle.trace_verdict.specs.Orders.{task_key, entries_from}
 use Rattle.trace_verdict.specs.Searches.{is_fit}
 use Rattle.trace_verdict.specs.Standing.{stand}
-use Rattle.trace_verdict.proofs.judgments.count_any.Given as goal
+use Rattle.row_judgments.proofs.judgments.count_any.Given as goal
 
 abbrev pub invariant-loop-i : goal.invariant-loop-i
 invariant-loop-i l =

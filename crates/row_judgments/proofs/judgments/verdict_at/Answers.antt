@@ -3,7 +3,7 @@ use Rattle.std.proofs.lemmas.Bool.{cases_eq, ne_eqb}
 use Rattle.sched_base.specs.declared.rows.Row.{Row}
 use Rattle.trace_verdict.specs.Searches.{kind_of}
 use Rattle.trace_verdict.proofs.VerdictLemmas.{row_verdict}
-use Rattle.trace_verdict.proofs.judgments.verdict_at.Goals as goal
+use Rattle.row_judgments.proofs.judgments.verdict_at.Goals as goal
 
 pub returns-clause-verdict : goal.returns-clause-verdict
 returns-clause-verdict c =

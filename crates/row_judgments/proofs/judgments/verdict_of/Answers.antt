@@ -6,7 +6,7 @@ use Rattle.trace_verdict.specs.Orders.{task_key}
 use Rattle.trace_verdict.specs.Faults.{row_at}
 use Rattle.trace_verdict.proofs.IndexLemmas.{distinct-from_NoHits}
 use Rattle.trace_verdict.proofs.VerdictLemmas.{row_verdict, total_verdict, no_verdict, order_within, fit_parts}
-use Rattle.trace_verdict.proofs.judgments.verdict_of.Goals as goal
+use Rattle.row_judgments.proofs.judgments.verdict_of.Goals as goal
 
 pub returns-then-first-count : goal.returns-then-first-count
 returns-then-first-count c =

@@ -6,7 +6,7 @@ use Rattle.trace_verdict.specs.Findings.{AreTold}
 use Rattle.trace_verdict.specs.Supplied.{IsSuppliedOrder}
 use Rattle.trace_verdict.proofs.PartLemmas.{length-entries_from}
 use Rattle.trace_verdict.proofs.VerdictLemmas.{no_verdict}
-use Rattle.trace_verdict.proofs.judgments.judge_tasks.Goals as goal
+use Rattle.row_judgments.proofs.judgments.judge_tasks.Goals as goal
 
 pub starts_of-requires-clause-few : goal.starts_of-requires-clause-few
 starts_of-requires-clause-few c =
