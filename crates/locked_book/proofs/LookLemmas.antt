@@ -1,5 +1,5 @@
 -- What a look at a seat gives.
-use Rattle.std.proofs.Common.{◌≡◌, ℕ, ◌+◌, ◌-◌, ◌<◌, ◌^◌, true, false, List, Option, Some, None, length, refl, sym, ap, ◌∙◌, subst, arith}
+use Rattle.std.proofs.Common.{◌≡◌, inl, inr, ℕ, ◌+◌, ◌-◌, ◌<◌, ◌^◌, true, false, List, Option, Some, None, length, refl, sym, ap, ◌∙◌, subst, arith}
 use Rattle.std.specs.Prelude.{slice_index}
 use Rattle.std.proofs.lemmas.List.{get_or-set_same, length-set}
 use Rattle.std.proofs.lemmas.Option.{slice_get-get_or}
@@ -16,7 +16,7 @@ use Rattle.run_tree.specs.Plans.{PlanContents, IsPlan}
 use Rattle.unit_ledger.specs.Seats.{Seat}
 use Rattle.book_machine.specs.declared.machine.LaneState.{LaneState}
 use Rattle.book_machine.specs.declared.events.Event.TheVariants.{Post}
-use Rattle.book_machine.specs.Machine.{State, IsOut, after, at_start, lane_at, posted_at}
+use Rattle.book_machine.specs.Machine.{State, IsOut, WaitsFor, after, at_start, lane_at, posted_at}
 use Rattle.book_machine.specs.Reached.{OutRow}
 use Rattle.book_machine.proofs.Lanes.{out_within}
 use Rattle.book_machine.proofs.PostedTicks.{ticks_of-out}
@@ -35,6 +35,11 @@ use Rattle.exec_book.proofs.JobLemmas.{IsJobOf-by}
 use Rattle.locked_book.specs.Found.{IsOutWith, StandsAt}
 use Rattle.locked_book.specs.Promises.{HasWorked, IsNext, IsNextRow, TakeGives, GivesRow}
 use Rattle.locked_book.proofs.FoundLemmas.{same_out_row}
+
+-- a lane that is waited for is one of the machine's
+waited_within : (rows : List (List Row)) (window : ℕ) (s : State) (p q : ℕ) → WaitsFor rows window s p q → q < length s.lanes
+waited_within rows window s p q (inl (_, lowest)) = lowest.lane
+waited_within rows window s p q (inr (_, (_, _, earlier))) = earlier.lane
 
 module _ {J : Type 0} (id used : J → ℕ) (made : J → Made) (faults : J → ℕ) (all_made : List Made) (seat : Seat) (counts : List ℕ) (old new : BookContents J) where
   -- a row that is handed out is the seat's next one
@@ -57,12 +62,14 @@ module _ {J : Type 0} (id used : J → ℕ) (made : J → Made) (faults : J → 
       }
 
   -- what a take on the seat's lane says is what a look gives
-  pub gives : (look : Look J) → IsPlan old.plan → posted_at old.state seat.lane ≡ seat.posted → length counts ≡ length old.plan.set.tasks → (old.state.halted ≡ false → FaultsAre faults old.jobs.places counts)
+  pub gives : (look : Look J) → IsPlan old.plan → length old.state.lanes ≡ old.plan.tree.processors → posted_at old.state seat.lane ≡ seat.posted → length counts ≡ length old.plan.set.tasks → (old.state.halted ≡ false → FaultsAre faults old.jobs.places counts)
       → LookMeans id used made all_made old new seat.lane look → TakeGives id used made faults all_made old.plan seat counts look
-  gives (Ready row job) lawful count many told says = next_row lawful count many told row job says
-  gives (NotYet lane posted) lawful count many told says = let behind = says.behind in omega (arith, behind, count)
-  gives Done lawful count many told says = sym count ∙ says.1
-  gives Halted lawful count many told says = tt
+  gives (Ready row job) lawful lanes count many told says = next_row lawful count many told row job says
+  gives (NotYet lane posted) lawful lanes count many told says =
+      let behind = says.behind in
+      (subst (λ n. lane < n) lanes (waited_within (plan_rows old.plan) old.window old.state seat.lane lane says.reason), omega (arith, behind, count))
+  gives Done lawful lanes count many told says = sym count ∙ says.1
+  gives Halted lawful lanes count many told says = tt
 
 module _ {J : Type 0} (id used : J → ℕ) (made : J → Made) (all_made : List Made) (seat : Seat) (old new : BookContents J) where
   -- what a worker's take on the seat's lane says is what it gets

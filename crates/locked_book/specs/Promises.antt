@@ -49,10 +49,10 @@ GivesRow id used made all_made p seat next.Waits = Unit {0}
 GivesRow id used made all_made p seat next.Done = seat.posted ≡ rounds_of p
 GivesRow id used made all_made p seat next.Halted = Unit {0}
 
--- what a look at a seat gives
+-- what a look at a seat gives; a lane that is waited for is one of the plan's
 abbrev pub TakeGives : {J : Type 0} → (J → ℕ) → (J → ℕ) → (J → Made) → (J → ℕ) → List Made → PlanContents → Seat → List ℕ →
     Look J → Type 0
 TakeGives id used made faults all_made p seat counts (Ready row job) = IsNext id used made faults all_made p seat counts row job
-TakeGives id used made faults all_made p seat counts (NotYet lane posted) = posted < seat.posted
+TakeGives id used made faults all_made p seat counts (NotYet lane posted) = (lane < p.tree.processors) × (posted < seat.posted)
 TakeGives id used made faults all_made p seat counts Done = seat.posted ≡ rounds_of p
 TakeGives id used made faults all_made p seat counts Halted = Unit {0}

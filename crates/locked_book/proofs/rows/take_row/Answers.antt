@@ -1,5 +1,6 @@
 use Rattle.std.proofs.Common.{◌≡◌, ap, ◌∙◌, sym, subst, length}
 use Rattle.run_tree.specs.Plans.{PlanContents, IsPlan}
+use Rattle.plan_rounds.proofs.RoundLemmas.{plan_lanes}
 use Rattle.exec_book.specs.Looks.{LookMeans}
 use Rattle.locked_book.specs.Found.{IsAgreed, IsToldAt}
 use Rattle.locked_book.specs.Promises.{TakeGives}
@@ -33,7 +34,8 @@ returns g c =
     let old = c.deref_mut-held.result.now in
     let at = found g (goal.at.returns g c).After-deref_mut-held in
     let same : old.plan ≡ c.args.plan.now = at.free.plan ∙ c.alone-work.ensures.plan in
+    let lawful : IsPlan old.plan = subst (λ p. IsPlan p) (sym same) c.know_lawful.ensures.lawful in
     let says = subst (λ p. LookMeans g.J.Job.id g.J.Job.used g.J.Job.made g.Q.PostLedger.made old c.take.new.self p c.take.result) c.lane.ensures c.take.ensures.says in
     subst (λ p. TakeGives g.J.Job.id g.J.Job.used g.J.Job.made g.J.Job.faults g.Q.PostLedger.made p c.args.seat.now c.args.counts.now c.take.result) same
     (gives g.J.Job.id g.J.Job.used g.J.Job.made g.J.Job.faults g.Q.PostLedger.made c.args.seat.now c.args.counts.now old c.take.new.self c.take.result
-    (subst (λ p. IsPlan p) (sym same) c.know_lawful.ensures.lawful) at.free.count (c.requires.counts ∙ ap (λ (p : PlanContents). length p.set.tasks) (sym same)) at.told says)
+    lawful (at.free.reached.lanes ∙ plan_lanes old.plan lawful) at.free.count (c.requires.counts ∙ ap (λ (p : PlanContents). length p.set.tasks) (sym same)) at.told says)
