@@ -1,0 +1,4 @@
+pub mod FlatTrees
+pub mod OwnTicks
+pub mod OwnEvents
+pub mod OwnPlaces
