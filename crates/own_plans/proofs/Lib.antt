@@ -1,0 +1,4 @@
+mod LikeMembers
+mod FirstPacks
+mod LeafLemmas
+mod OwnLemmas
