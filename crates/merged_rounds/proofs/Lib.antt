@@ -11,3 +11,7 @@ mod ReplayLemmas
 mod ReplaySteps
 mod TurnLemmas
 mod EntryLemmas
+mod BegunLemmas
+mod CopyLemmas
+mod KeptLemmas
+mod LastLemmas

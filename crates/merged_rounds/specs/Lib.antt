@@ -5,3 +5,4 @@ pub mod Replays
 pub mod Changes
 pub mod Recurrences
 pub mod Standings
+pub mod Copies

@@ -75,7 +75,7 @@ fn count_up_to(plan: &Plan, core: &mut Core, first: u64, until: u128) -> Result<
 }
 
 // The number of all rounds: so many times `each`, and `rest`.
-fn count_all(plan: &Plan, times: u128, each: u64, rest: u64) -> Result<u64, CountFault>
+pub(crate) fn count_all(plan: &Plan, times: u128, each: u64, rest: u64) -> Result<u64, CountFault>
     requires all { rounds_of plan.now ≡ times * each + rest }
     requires few { each ≤ row_limit }
     requires rest { rest ≤ row_limit }

@@ -3,6 +3,7 @@
 
 mod apart;
 mod changed;
+mod copies;
 mod counts;
 mod hyperperiods;
 mod laps;
@@ -22,3 +23,4 @@ pub use counts::round_count;
 pub use hyperperiods::hyperperiod_of;
 pub use passes::merged_of;
 pub use recurrences::{Recurrence, recurrence_of};
+pub use sums::{RoundSum, add_changed, all_rounds, no_rounds};

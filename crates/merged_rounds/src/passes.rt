@@ -1,5 +1,5 @@
 //! One pass over the rounds of a plan.
-ghost use Rattle.std.specs.Prelude.{ℕ, ◌≡◌, ◌<◌, ◌≤◌, ◌+◌, ◌*◌, true, false, length, replicate, slice_index_or, IfOk, IfErr, None};
+ghost use Rattle.std.specs.Prelude.{ℕ, ◌≡◌, ◌<◌, ◌≤◌, ◌+◌, ◌-◌, ◌*◌, true, false, length, replicate, slice_index_or, IfOk, IfErr, None};
 ghost use Rattle.sched_base.specs.Tables.{row_limit};
 ghost use Rattle.run_tree.specs.Plans.{rounds_of, stop_of};
 ghost use Rattle.hyperperiod_laws.specs.Hyperperiods.{IdlesApart};
@@ -10,9 +10,11 @@ ghost use Rattle.merged_rows.specs.Lawful.{AreLawful};
 ghost use Rattle.merged_rounds.specs.Laps.{AreTurns, IsMerging, IsSumUpTo};
 ghost use Rattle.merged_rounds.specs.Passes.{AreMergedOf};
 ghost use Rattle.merged_rounds.specs.Replays.{IsComputed, IsMergingFrom, IsSourceOf};
+ghost use Rattle.merged_rounds.specs.Standings.{StandsAlike};
 
 use crate::apart::{are_idles_apart, is_on_time};
 use crate::changed::merge_released;
+use crate::copies::{is_last_lap, merge_copies};
 use crate::laps::{Later, merge_lap, with_laps};
 use crate::looks::no_leaves;
 use crate::releases::last_release;
@@ -30,8 +32,8 @@ use std::alloc::Global;
 
 /// The merged rows of a plan's schedule, where it has at most 2,097,152 rows, one for each round and processor. It goes over each
 /// round once, and keeps no row that is merged with the one before. Where all places come again at a multiple of the hyperperiod, it
-/// computes one lap more, and repeats what that one shows. A schedule with too many rows is refused as it comes to the first round
-/// without room, with the number of rows up to the end of that round.
+/// computes one lap more, and repeats what that one shows; or where no whole lap is left, and no task has an offset, its merged rows come again. A
+/// schedule with too many rows is refused with the number of rows up to the end of the first round without room.
 pub fn merged_of(alloc: Global, plan: &Plan) -> Result<MergedRows, CountFault>
     ensures rows { IfOk result (λ merged. AreMergedOf plan.now merged.lanes) }
     ensures lawful { IfOk result (λ merged. AreLawful plan.now.set merged.lanes) }
@@ -297,8 +299,9 @@ fn is_lap(plan: &Plan, from: u128, turn: u128, ticks: u128) -> bool
     0 < from && 0 < ticks && from < stop && ticks < stop - from && are_turns(plan, turn, ticks)
 }
 
-// Goes on for one lap of so many ticks, where it ends before all rounds do, and no task waits; and up to the end of all rounds, by that
-// lap where the schedule stands as before it.
+// Goes on up to the end of all rounds where the schedule stands as so many ticks before: by the rows of these where no fewer ticks are left
+// and kept rounds come again; else for one lap, where it ends before all rounds do, and no task waits, and by that one where the schedule
+// stands as before it.
 fn merge_again(
     alloc: Global,
     plan: &Plan,
@@ -314,11 +317,15 @@ fn merge_again(
     requires kept { length kept.old ≡ plan.now.tree.processors }
     requires told { length told.old ≡ plan.now.tree.processors }
     requires turn { turn ≡ plan.now.tree.scale * plan.now.tree.scale }
+    requires alike { StandsAlike plan.now (source.old.tick - ticks) source.old.tick }
     ensures sum { IfOk result (λ sum. IsSumUpTo plan.now (stop_of plan.now) sum) }
     ensures fault { IfErr result (λ fault. IsCountFault plan.now fault) }
 {
     plan.know_lawful();
     let from = source.now();
+    if is_last_lap(plan, source, turn, ticks) {
+        return merge_copies(plan, source, first, ticks);
+    }
     if !is_lap(plan, from, turn, ticks) || from < last_release(plan) {
         return merge_to_end(alloc, plan, source, kept, told, first);
     }

@@ -164,6 +164,14 @@ pub(crate) fn replay_of(
 }
 
 impl Replay {
+    /// The kept rounds.
+    #[inline(always)]
+    pub(crate) fn kept(&self) -> &Turn
+        ensures { result.now ≡ self.now.lap }
+    {
+        &self.lap
+    }
+
     /// The places before the next round.
     pub(crate) fn places(&self) -> &Places
         ensures { result.now ≡ self.now.places }

@@ -1,9 +1,9 @@
 //! The search for a lap.
-ghost use Rattle.std.specs.Prelude.{ℕ, ◌≡◌, ◌<◌, ◌≤◌, ◌*◌, length, IfErr, IfOk, IfSome};
+ghost use Rattle.std.specs.Prelude.{ℕ, ◌≡◌, ◌<◌, ◌≤◌, ◌-◌, ◌*◌, length, IfErr, IfOk, IfSome};
 ghost use Rattle.run_tree.specs.Plans.{stop_of};
 ghost use Rattle.event_core.specs.Counts.{IsCountFault};
 ghost use Rattle.merged_rounds.specs.Replays.{IsMergingFrom, IsSourceOf};
-ghost use Rattle.merged_rounds.specs.Standings.{IsStanding};
+ghost use Rattle.merged_rounds.specs.Standings.{IsStanding, StandsAlike};
 
 use crate::passes::merge_up_to;
 use crate::releases::last_release;
@@ -91,7 +91,7 @@ fn later_seen(
 
 /// Goes on with rounds up to a multiple of `turn` at which the schedule stands as so many ticks before, which it tells, or up to the last
 /// multiple before the end. It looks from the first multiple on at which no task waits. Of where it stood at earlier ones one is kept, and
-/// a later one as soon as it is twice as late. What is told is a guess.
+/// a later one as soon as it is twice as late.
 pub(crate) fn merge_until_again(
     alloc: Global,
     plan: &Plan,
@@ -107,6 +107,7 @@ pub(crate) fn merge_until_again(
     requires turn { turn ≡ plan.now.tree.scale * plan.now.tree.scale }
     requires within { turn < stop_of plan.now }
     ensures merging { IfOk result (λ pair. IsMergingFrom plan.now source.new pair.0 kept.new) }
+    ensures again { IfOk result (λ pair. IfSome pair.1 (λ ticks. StandsAlike plan.now (source.new.tick - ticks) source.new.tick)) }
     ensures fault { IfErr result (λ fault. IsCountFault plan.now fault) }
 {
     let stop = plan.rounds_end();

@@ -9,7 +9,7 @@ ghost use Rattle.event_core.specs.Cores.{IsCoreOf, places_of};
 ghost use Rattle.event_core.specs.Rounds.{IsRoundUpTo};
 ghost use Rattle.event_core.specs.Told.{AllReleased, IsTold};
 ghost use Rattle.merged_rounds.specs.Changes.{AreLeavesOf};
-ghost use Rattle.merged_rounds.specs.Laps.{CanComeRound};
+ghost use Rattle.merged_rounds.specs.Laps.{AreTurns, CanComeRound};
 ghost use Rattle.round_looks.specs.Looks.{leaf_at};
 ghost use Rattle.merged_rounds.specs.Replays.{BeginsAgain, IsComputed, IsSourceOf, IsTurnOf, packs_of, turn_end};
 
@@ -95,6 +95,20 @@ impl Source {
     {
         let _plan = plan;
         self.replays
+    }
+
+    /// The kept rounds that come again.
+    #[inline(always)]
+    pub(crate) fn kept(&self, plan: &Plan) -> &Turn
+        requires belongs { IsSourceOf plan.now self.now }
+        requires replays { self.now.replays ≡ true }
+        ensures kept { result.now ≡ self.now.replay.lap }
+        ensures turn { IsTurnOf plan.now result.now }
+        ensures turns { AreTurns plan.now (turn_end result.now) }
+        ensures can { CanComeRound plan.now }
+    {
+        let _plan = plan;
+        self.replay.kept()
     }
 
     /// The places before the round that starts at this tick.

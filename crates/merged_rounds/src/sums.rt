@@ -21,13 +21,13 @@ use std::alloc::Global;
 
 /// The merged rows of the rounds up to a tick, and how many rounds they are.
 #[derive(Drop)]
-pub(crate) struct RoundSum {
-    rows: MergedRows,
-    rounds: u64,
+pub struct RoundSum {
+    pub rows: MergedRows,
+    pub rounds: u64,
 }
 
 /// No round yet.
-pub(crate) fn no_rounds(alloc: Global, plan: &Plan) -> Result<RoundSum, NoMemory>
+pub fn no_rounds(alloc: Global, plan: &Plan) -> Result<RoundSum, NoMemory>
     ensures { IfOk result (λ sum. IsSumUpTo plan.now 0 sum) }
 {
     Ok(RoundSum {
@@ -83,7 +83,7 @@ pub(crate) fn add_round(
 /// Adds the round from `start` up to tick `end`, where there is room for its rows, given what each processor shows there. Those are listed
 /// that may show something else than their last rows, and it costs time for these alone; one may stand there twice.
 #[inline(always)]
-pub(crate) fn add_changed(
+pub fn add_changed(
     plan: &Plan,
     sum: &mut RoundSum,
     start: u128,
@@ -165,7 +165,7 @@ pub(crate) fn add_seen(
 }
 
 /// The merged rows of all rounds.
-pub(crate) fn all_rounds(plan: &Plan, sum: RoundSum) -> MergedRows
+pub fn all_rounds(plan: &Plan, sum: RoundSum) -> MergedRows
     requires sum { IsSumUpTo plan.now (stop_of plan.now) sum }
     ensures rows { AreMergedOf plan.now result.lanes }
     ensures lawful { AreLawful plan.now.set result.lanes }

@@ -1,4 +1,4 @@
-use Rattle.std.proofs.Common.{◌≤◌, ℕ, arith, subst, sym, List}
+use Rattle.std.proofs.Common.{ℕ, arith, subst, sym, List}
 use Rattle.sched_base.specs.declared.rows.Leaf.{Leaf}
 use Rattle.merged_rounds.specs.Changes.{AreLeavesOf}
 use Rattle.merged_rounds.proofs.ChangeLemmas.{leaves_later}

@@ -1,7 +1,8 @@
-use Rattle.std.proofs.Common.{ℕ, ◌*◌, ◌-◌, ◌+◌, ◌<◌, ◌≤◌, arith}
+use Rattle.std.proofs.Common.{◌≡◌, ℕ, ◌*◌, ◌-◌, ◌+◌, ◌<◌, ◌≤◌, arith, subst}
 use Rattle.std.proofs.Math.Nat.{mul-le-mul_left}
 use Rattle.run_tree.specs.Plans.{stop_of}
 use Rattle.event_core.proofs.PlanRounds.{stop_fits}
+use Rattle.merged_rounds.specs.Standings.{StandsAlike}
 use Rattle.merged_rounds.proofs.searches.merge_until_again.Goals as goal
 
 nearer : (stop old new : ℕ) → old < stop → old < new → stop - new < stop - old
@@ -32,3 +33,10 @@ overflow_add-at c =
     let within = c.requires.within in
     let begin = c.in-Some.ensures in
     omega (arith, fits, within, begin)
+
+pub returns-then-now-seen-clause-again : goal.returns-then-now-seen-clause-again
+returns-then-now-seen-clause-again c =
+    let now = c.now-now.ensures in
+    let later = c.if-now-seen.true in
+    let e : c.turns.seen.tick ≡ c.merge_up_to.new.source.tick - (c.now-now.result - c.turns.seen.tick) = omega (arith, now, later) in
+    subst (λ (n : ℕ). StandsAlike c.args.plan.now n c.merge_up_to.new.source.tick) e (c.in_ok-again.ensures c.if-again.true)
