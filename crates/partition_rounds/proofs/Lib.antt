@@ -1,0 +1,4 @@
+pub mod KeptLemmas
+mod OwnRoundLemmas
+mod PartitionLemmas
+mod MergingLemmas

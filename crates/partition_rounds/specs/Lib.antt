@@ -1,0 +1,3 @@
+pub mod OwnRounds
+pub mod PartitionSteps
+pub mod Merging
