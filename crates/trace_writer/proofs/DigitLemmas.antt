@@ -1,5 +1,5 @@
 -- Digits that are written in parts.
-use Rattle.std.proofs.Common.{ℕ, zero, suc, ◌+◌, ◌*◌, ◌/◌, ◌%◌, ◌^◌, ◌<◌, ◌≤◌, ◌≡◌, List, [], ◌∷◌, ◌++◌, length, take, refl, sym, ap, ◌∙◌, arith, append_assoc, append-nil, length-append}
+use Rattle.std.proofs.Common.{ℕ, zero, suc, ◌+◌, ◌-◌, ◌*◌, ◌/◌, ◌%◌, ◌^◌, ◌<◌, ◌≤◌, ◌≡◌, List, [], ◌∷◌, ◌++◌, length, take, refl, sym, subst, ap, ◌∙◌, arith, append_assoc, append-nil, length-append}
 use Rattle.std.specs.Fmt.{decimal}
 use Rattle.std.proofs.Math.Nat.{mul_left_comm}
 use Rattle.std.proofs.lemmas.Fmt.{decimal_digit, decimal_step_wide}
@@ -113,3 +113,32 @@ raised_is c k n raised eight is few fits short long =
       count_is = sym count ∙ ap length all;
       digits = ap (λ ds. take (suc c) ds) parts' ∙ take_at (low_digits (suc c) n) _ (suc c) count ∙ all;
     }
+
+-- so where a number of 24 digits more has len of them
+pub raised_of_len : (len c k n raised : ℕ) → len ≡ 25 + c → c + k ≡ 7 → raised ≡ n * powers k → raised < 10 ^ 8 → n < 10 ^ 8 → n < powers (suc c) → (1 ≤ c → powers c ≤ n)
+    → IsRaised n (len - 24) raised
+raised_of_len len c k n raised len_is eight is few fits short long =
+    let e : suc c ≡ len - 24 = omega (arith, len_is) in
+    subst (λ m. IsRaised n m raised) e (raised_is c k n raised eight is few fits short long)
+
+-- neither factor of a number that isn't 0 is
+pub factors_some : (a b : ℕ) → 1 ≤ a * b → (1 ≤ a) × (1 ≤ b)
+factors_some zero b some = absurd (omega (arith, some))
+factors_some (suc a) zero some = absurd (omega (arith, some))
+factors_some (suc a) (suc b) some = (omega arith, omega arith)
+
+-- what is in front of a number's last sixteen digits, or any other number where what it leaves is no such rest
+pub cut_is : (n high : ℕ) → n < 2 ^ 128 → high < 2 ^ 64 → (n + (2 ^ 128 - high * 10 ^ 16)) % 2 ^ 128 < 10 ^ 16
+    → high * 10 ^ 16 + (n + (2 ^ 128 - high * 10 ^ 16)) % 2 ^ 128 ≡ n
+cut_is n high fits few short = omega (arith, fits, few, short)
+
+-- the first digits of a number were put, eight more, and the last sixteen
+pub parts_put : (high low raised len : ℕ) (first middle whole : List ℕ) → 10 ^ 8 ≤ high → high < 2 ^ 64 → low < 10 ^ 16 → 25 ≤ len → IsRaised (high / 10 ^ 8) (len - 24) raised
+    → take (len - 24) first ≡ take (len - 24) (low_digits 8 raised) → take (len - 24 + 8) middle ≡ take (len - 24) first ++ low_digits 8 (high % 10 ^ 8)
+    → take (len - 16 + 16) whole ≡ take (len - 16) middle ++ low_digits 16 low → take len whole ≡ decimal (high * 10 ^ 16 + low)
+parts_put high low raised len first middle whole some few short long is put_first put_middle put_last =
+    let e : len ≡ len - 16 + 16 = omega (arith, long) in
+    let e' : len - 16 ≡ len - 24 + 8 = omega (arith, long) in
+    let front : take (len - 16) middle ≡ decimal high =
+    ap (λ k. take k middle) e' ∙ put_middle ∙ ap (λ xs. xs ++ low_digits 8 (high % 10 ^ 8)) (put_first ∙ is.digits) ∙ sym (eight_parts high some (omega (arith, few))) in
+    ap (λ k. take k whole) e ∙ put_last ∙ ap (λ xs. xs ++ low_digits 16 low) front ∙ sym (split 16 high low (omega (arith, some)) short (omega (arith, few, short)))

@@ -1,5 +1,5 @@
 //! Decimal digits, written where they are to stand.
-ghost use Rattle.std.specs.Prelude.{ℕ, ◌≡◌, ◌≤◌, ◌<◌, ◌+◌, ◌*◌, ◌/◌, ◌%◌, ◌^◌, ◌++◌, length, take, decimal};
+ghost use Rattle.std.specs.Prelude.{ℕ, true, ◌≡◌, ◌≤◌, ◌<◌, ◌+◌, ◌-◌, ◌*◌, ◌/◌, ◌%◌, ◌^◌, ◌++◌, length, take, decimal};
 ghost use Rattle.trace_writer.specs.Digits.{IsRaised, low_digits, side_by_side, worth_of_four};
 
 /// Eight digits have as many values.
@@ -52,6 +52,59 @@ fn cut_by_division(number: u128) -> (u128, u64)
 {
     let high = number / u128::from(SIXTEEN);
     (high, (number - high * u128::from(SIXTEEN)) as u64)
+}
+
+/// Writes the digits of a number past 64 bits from the first place on, sooner where it has `len` digits, and says where they end.
+#[inline(never)]
+pub(crate) fn put_past_word(bytes: &mut [u8], len: usize, number: u128) -> usize
+    requires room { 48 ≤ length bytes.old }
+    ensures few { result ≤ 39 }
+    ensures text { take result bytes.new ≡ decimal number }
+{
+    if put_again(bytes, len, number) {
+        return len;
+    }
+    put_number(bytes, 0, number)
+}
+
+// Writes the digits of a number where it has `len` digits, 25 to 32, and says whether it has: so it does, but for a few numbers.
+#[inline(always)]
+fn put_again(bytes: &mut [u8], len: usize, number: u128) -> bool
+    requires room { 48 ≤ length bytes.old }
+    ensures few { result ≡ true → len ≤ 32 }
+    ensures text { result ≡ true → take len bytes.new ≡ decimal number }
+{
+    let high = near_front(number) as u64;
+    let low = number.wrapping_sub(u128::from(high) * u128::from(SIXTEEN));
+    let top = high / EIGHT;
+    let raised = top * raise_of(len);
+    if raised < 10_000_000 || raised >= EIGHT || low >= u128::from(SIXTEEN) {
+        return false;
+    }
+    put_block(bytes, 0, &eight_digits(raised as u32), len - 24);
+    put_eight(bytes, len - 24, (high - top * EIGHT) as u32);
+    put_sixteen(bytes, len - 16, low as u64);
+    true
+}
+
+// What a number is multiplied by that has 24 digits fewer than `len`, so that it has eight; 0 where there is no such.
+#[inline(always)]
+fn raise_of(len: usize) -> u64
+    ensures few { result ≤ 10 ^ 7 }
+    ensures raised { (n : ℕ) → 10 ^ 7 ≤ n * result → n * result < 10 ^ 8 → IsRaised n (len - 24) (n * result) }
+    ensures long { 1 ≤ result → 25 ≤ len }
+{
+    match len {
+        25 => 10_000_000,
+        26 => 1_000_000,
+        27 => 100_000,
+        28 => 10_000,
+        29 => 1_000,
+        30 => 100,
+        31 => 10,
+        32 => 1,
+        _ => 0,
+    }
 }
 
 /// Writes the digits of a number from place `at` on, and says where they end.
@@ -258,17 +311,15 @@ fn pairs_of(first: u32, second: u32) -> u64
     ensures { result ≡ side_by_side (first / 100) (first % 100) (second / 100) (second % 100) }
 {
     let halves = u64::from(first) + u64::from(second) * 4_294_967_296;
-    halves * 65_536 - hundreds_of(first, second) * 6_553_599
+    halves * 65_536 - hundreds_of(halves) * 6_553_599
 }
 
-// How many hundreds two numbers of four digits have, 32 bits for each.
+// How many hundreds two numbers of four digits have that stand side by side, 32 bits for each, and in the same way.
 #[inline(always)]
-fn hundreds_of(first: u32, second: u32) -> u64
-    requires first { first < 10_000 }
-    requires second { second < 10_000 }
-    ensures { result ≡ first / 100 + second / 100 * 4_294_967_296 }
+fn hundreds_of(halves: u64) -> u64
+    requires { halves < 10_000 * 2 ^ 32 }
+    ensures { (a b : ℕ) → a < 10_000 → b < 10_000 → halves ≡ a + b * 4_294_967_296 → result ≡ a / 100 + b / 100 * 4_294_967_296 }
 {
-    let halves = u64::from(first) + u64::from(second) * 4_294_967_296;
     // 10486 hundredths are 2^20, nearly
     let both = halves * 10_486 / 1_048_576;
     both % 128 + both / 4_294_967_296 * 4_294_967_296

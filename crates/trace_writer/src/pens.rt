@@ -3,7 +3,7 @@ ghost use Rattle.std.specs.Prelude.{◌≡◌, ◌≤◌, ◌<◌, ◌+◌, ◌*
 ghost use Rattle.sched_base.specs.Bytes.{space};
 ghost use Rattle.trace_writer.specs.Digits.{IsFront};
 
-use crate::digits::{EIGHT, put_block, put_eight, put_few, put_number, put_short};
+use crate::digits::{EIGHT, put_block, put_eight, put_few, put_number, put_past_word, put_short};
 use std::marker::Model;
 
 /// What is in front of a number's last eight digits, and how many digits that has: 0 has none.
@@ -68,7 +68,7 @@ impl Count {
     pub(crate) fn set(&mut self, number: u128)
         ensures { self.new ≡ number }
     {
-        let (front, len) = put_digits(&mut self.text, self.front, number);
+        let (front, len) = put_digits(&mut self.text, self.front, self.len, number);
         self.text[len] = b' ';
         self.number = number;
         self.front = front;
@@ -98,9 +98,10 @@ impl Count {
     }
 }
 
-// Writes the digits of a number over those of another one that has this front. Says what the number's front is, and how many digits there are.
+// Writes the digits of a number over those of another one that has this front, and `len` digits. Says what the number's front is, and how
+// many digits there are.
 #[inline(always)]
-fn put_digits(text: &mut [u8], front: Front, number: u128) -> (Front, usize)
+fn put_digits(text: &mut [u8], front: Front, len: usize, number: u128) -> (Front, usize)
     requires room { 48 ≤ length text.old }
     requires front { IsFront front.number front.len text.old }
     ensures front { IsFront result.0.number result.0.len text.new }
@@ -111,7 +112,7 @@ fn put_digits(text: &mut [u8], front: Front, number: u128) -> (Front, usize)
     if number <= u128::from(u64::MAX) {
         return put_after_front(text, front, number as u64);
     }
-    let len = put_number(text, 0, number);
+    let len = put_past_word(text, len, number);
     (Front { number: 0, len: 0 }, len)
 }
 
