@@ -14,7 +14,7 @@ ghost use Rattle.pure_commands.specs.Input.{IsSchedulable, WroteSet, StopsAtSet}
 use crate::plan::plan_of;
 use crate::refusal::Refusal;
 use crate::unwritten::written;
-use merged_rounds::merged_of;
+use partition_rounds::merged_of;
 use merged_rows::MergedRows;
 use run_tree::Plan;
 use sched_base::TaskSet;

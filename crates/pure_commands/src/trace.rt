@@ -21,7 +21,7 @@ use crate::plan::plan_of;
 use crate::refusal::Refusal;
 use crate::unwritten::written;
 use event_core::CountFault;
-use merged_rounds::merged_of;
+use partition_rounds::merged_of;
 use merged_rows::{MergedRows, totals_of_merged};
 use round_table::table_law;
 use run_tree::Plan;

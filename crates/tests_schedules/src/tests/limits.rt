@@ -1,7 +1,7 @@
 //! Rounds at the limit of rows, and past it.
 use super::plan_with;
 use event_core::{CountFault, count_rounds};
-use merged_rounds::merged_of;
+use partition_rounds::merged_of;
 use plain_model::NamedTask;
 use run_tree::Plan;
 use std::alloc::Global;
@@ -25,21 +25,43 @@ fn assert_counts(
 
 const ALL_THE_TIME: &[NamedTask] = &[("a", 1, 1, 0)];
 
-/// A horizon, and what counting and merging answer of one task that runs all the time on 32 processors. As many as 65536 rounds
-/// are within the limit of rows. Each processor shows one thing from tick 0 up to the end.
-const HORIZONS: &[(u64, Result<u64, CountFault>, Result<u32, CountFault>)] = &[
-    (65_536, Ok(65_536), Ok(32)),
+/// Two tasks with a processor each, of which the second has one period that ends behind all horizons.
+const EACH_ALONE: &[NamedTask] = &[("a", 1, 2, 0), ("b", 900_000, 1_100_003, 0)];
+
+/// Processors, tasks, a horizon, and what counting and merging answer.
+type Limit = (
+    u32,
+    &'static [NamedTask<'static>],
+    u64,
+    Result<u64, CountFault>,
+    Result<u32, CountFault>,
+);
+
+/// One task that runs all the time on 32 processors, where as many as 65536 rounds are within the limit of rows; and two tasks that have a
+/// processor each, where as many as 1048576 are, one a unit. In the first each processor shows one thing from tick 0 up to the end.
+const LIMITS: &[Limit] = &[
+    (32, ALL_THE_TIME, 65_536, Ok(65_536), Ok(32)),
     (
+        32,
+        ALL_THE_TIME,
         65_537,
         Err(CountFault::TooLong { rows: 2_097_184 }),
         Err(CountFault::TooLong { rows: 2_097_184 }),
+    ),
+    (2, EACH_ALONE, 1_048_576, Ok(1_048_576), Ok(2)),
+    (
+        2,
+        EACH_ALONE,
+        1_048_577,
+        Err(CountFault::TooLong { rows: 2_097_154 }),
+        Err(CountFault::TooLong { rows: 2_097_154 }),
     ),
 ];
 
 #[test]
 fn counts_and_merges_up_to_the_limit(rt: HostRuntime) {
-    for (horizon, rounds, lanes) in HORIZONS {
-        let plan = plan_with(&rt, rt.alloc(), 32, *horizon, ALL_THE_TIME);
+    for (processors, tasks, horizon, rounds, lanes) in LIMITS {
+        let plan = plan_with(&rt, rt.alloc(), *processors, *horizon, tasks);
         assert_counts(&rt, rt.alloc(), &plan, *rounds, *lanes);
     }
 }

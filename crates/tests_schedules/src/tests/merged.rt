@@ -2,8 +2,8 @@
 ghost use Rattle.std.specs.Prelude.{◌<◌, length};
 
 use super::{OFFSET_OF_ONE, Round, THREE_TASKS, is_row, plan_with};
-use merged_rounds::merged_of;
 use merged_rows::{MergedRows, totals_of_merged};
+use partition_rounds::merged_of;
 use plain_model::NamedTask;
 use run_tree::Plan;
 use std::alloc::Global;
@@ -92,6 +92,27 @@ const CASES: &[Case] = &[
             (23, 24, "a"),
         ]],
         ticks: &[11, 12],
+    },
+    // Of two packs that are roots the first comes round by itself, every two units, and both together don't before the end.
+    Case {
+        processors: 2,
+        horizon: 9,
+        tasks: &[("a", 1, 2, 0), ("b", 4, 5, 0)],
+        lanes: &[
+            &[
+                (0, 10, "a"),
+                (10, 20, "0"),
+                (20, 30, "a"),
+                (30, 40, "0"),
+                (40, 50, "a"),
+                (50, 60, "0"),
+                (60, 70, "a"),
+                (70, 80, "0"),
+                (80, 90, "a"),
+            ],
+            &[(0, 40, ".b"), (40, 50, ".1"), (50, 90, ".b")],
+        ],
+        ticks: &[50, 80],
     },
     Case {
         processors: 1,
