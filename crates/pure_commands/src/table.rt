@@ -14,8 +14,8 @@ ghost use Rattle.pure_commands.specs.Input.{IsSchedulable, WroteSet, StopsAtSet}
 use crate::plan::plan_of;
 use crate::refusal::Refusal;
 use crate::unwritten::written;
-use partition_rounds::merged_of;
 use merged_rows::MergedRows;
+use partition_rounds::merged_of;
 use run_tree::Plan;
 use sched_base::TaskSet;
 use sched_edges::{Failed, Sink};
