@@ -2,3 +2,4 @@ pub mod Merging
 pub mod Columns
 pub mod Sums
 pub mod Lawful
+pub mod Forms

@@ -1,71 +1,32 @@
-//! The merged rows of one processor, as two columns.
-ghost use Rattle.std.specs.Prelude.{◌≡◌, ◌<◌, [], ◌∷◌, ◌++◌, length, OnOk, OnErr, Some, slice_get, vec_capacity, vec_len};
-ghost use Rattle.merged_rows.specs.Columns.{Begun, going_on, shows_last, showing};
+//! The merged rows of one processor, and what the last one shows.
+ghost use Rattle.std.specs.Prelude.{◌≡◌, ◌<◌, [], ◌∷◌, ◌++◌, length, OnOk, OnErr, Some, slice_get};
+ghost use Rattle.row_totals.specs.Sums.{NamesAmong, AreForward, Adds, HaveRoomFor};
+ghost use Rattle.merged_rows.specs.Columns.{Begun, going_on, rows_up_to, shows_last, showing};
 
+use crate::columns::Column;
 use crate::neighbours::shown_mark;
-use crate::starts::Starts;
-use sched_base::{Leaf, NoMemory};
+use sched_base::{Leaf, NoMemory, Row};
 use std::alloc::Global;
 use std::marker::Model;
-
-// For how many rows more there is to be room where there are so many and no room. Room that isn't used costs little, and a copy of the rows
-// more: beyond a few there is room for so many that the columns have pages of their own, which move as they grow, and aren't copied.
-fn more_rows(count: usize) -> usize
-    ensures { 0 < result }
-{
-    match count {
-        0..=15 => 16,
-        16..=63 => 3 * count,
-        64..=16383 => 16384,
-        _ => count,
-    }
-}
-
-// Takes room for more rows where there is none.
-#[inline(always)]
-fn make_room(starts: &mut Starts, leaves: &mut Vec<Leaf>) -> Result<(), NoMemory>
-    ensures starts { starts.new ≡ starts.old }
-    ensures leaves { leaves.new.items ≡ leaves.old.items }
-    ensures room { OnOk result (vec_len leaves.new < vec_capacity leaves.new) }
-{
-    if leaves.len() < leaves.capacity() {
-        return Ok(());
-    }
-    grow(starts, leaves)
-}
-
-// Takes room for more rows.
-#[cold]
-#[inline(never)]
-fn grow(starts: &mut Starts, leaves: &mut Vec<Leaf>) -> Result<(), NoMemory>
-    ensures starts { starts.new ≡ starts.old }
-    ensures leaves { leaves.new.items ≡ leaves.old.items }
-    ensures room { OnOk result (vec_len leaves.new < vec_capacity leaves.new) }
-{
-    let more = more_rows(leaves.len());
-    leaves.reserve(more)?;
-    starts.reserve(more)?;
-    Ok(())
-}
 
 /// The rows of one processor as they begin, each at a tick and with what it shows. A row goes on up to the next one's start.
 #[derive(Drop)]
 pub(crate) struct MergedLane {
-    starts: Starts,
-    leaves: Vec<Leaf>,
+    rows: Column,
     // What the last row shows, as `shown_mark` tells it, or 0 where there is none.
     last: u64,
 }
 
 impl Model for MergedLane {
-    ghost use Rattle.std.specs.Prelude.{◌≡◌, List, length};
-    ghost use Rattle.merged_rows.specs.Columns.{Begun, begun_of, last_mark};
+    ghost use Rattle.std.specs.Prelude.{◌≡◌, List};
+    ghost use Rattle.merged_rows.specs.Columns.{Begun, last_mark};
+    ghost use Rattle.merged_rows.specs.Forms.{begun_in};
 
     ghost Value = { List Begun };
 
-    ghost view = { λ l. begun_of l.starts l.leaves.items };
+    ghost view = { λ l. begun_in l.rows };
 
-    ghost invariant = { λ l. (length l.starts ≡ length l.leaves.items) × (l.last ≡ last_mark (begun_of l.starts l.leaves.items)) };
+    ghost invariant = { λ l. l.last ≡ last_mark (begun_in l.rows) };
 }
 
 impl MergedLane {
@@ -74,8 +35,7 @@ impl MergedLane {
         ensures { result ≡ [] }
     {
         MergedLane {
-            starts: Starts::new(alloc),
-            leaves: Vec::new(alloc),
+            rows: Column::new(alloc),
             last: 0,
         }
     }
@@ -115,9 +75,7 @@ impl MergedLane {
         ensures begun { OnOk result (self.new ≡ self.old ++ record { start = start; leaf = leaf } ∷ []) }
         ensures err { OnErr result (self.new ≡ self.old) }
     {
-        make_room(&mut self.starts, &mut self.leaves)?;
-        self.starts.push(start)?;
-        self.leaves.push_reserved(leaf);
+        self.rows.push(start, leaf)?;
         self.last = shown_mark(leaf);
         Ok(())
     }
@@ -127,15 +85,25 @@ impl MergedLane {
     pub(crate) fn count(&self) -> usize
         ensures { result ≡ length self.now }
     {
-        self.leaves.len()
+        self.rows.count()
     }
 
-    /// Where row i begins, and what it shows.
+    /// Row i, as one of processor p: up to the start of the next one, or to `end`.
     #[inline(always)]
-    pub(crate) fn at(&self, i: usize) -> (u128, Leaf)
+    pub(crate) fn row(&self, p: u32, end: u128, i: usize) -> Row
         requires { i < length self.now }
-        ensures { slice_get self.now i ≡ Some (record { start = result.0; leaf = result.1 }) }
+        ensures { slice_get (rows_up_to p end self.now) i ≡ Some result }
     {
-        (self.starts.at(i), self.leaves[i])
+        self.rows.row(p, end, i)
+    }
+
+    /// Adds the rows, as those of processor p up to `end`.
+    pub(crate) fn add_to(&self, sums: &mut [u128], p: u32, end: u128)
+        requires names { NamesAmong (length sums.old) (rows_up_to p end self.now) }
+        requires forward { AreForward (rows_up_to p end self.now) }
+        requires room { HaveRoomFor (rows_up_to p end self.now) sums.old }
+        ensures { Adds (rows_up_to p end self.now) sums.old sums.new }
+    {
+        self.rows.add_to(sums, p, end);
     }
 }

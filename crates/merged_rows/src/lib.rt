@@ -2,10 +2,12 @@
 //! not by the number of rounds.
 #![tactic(auto)]
 
+mod columns;
+mod forms;
+mod growth;
 mod lanes;
 mod merging;
 mod neighbours;
-mod starts;
 mod totals;
 
 pub use merging::MergedRows;

@@ -1,9 +1,10 @@
 //! The merged rows of all processors.
-ghost use Rattle.std.specs.Prelude.{ℕ, ◌≡◌, ◌<◌, [], List, Some, length, map, replicate, slice_get, slice_index, slice_index_or, slice_set, IfOk, OnOk};
+ghost use Rattle.std.specs.Prelude.{ℕ, ◌≡◌, ◌<◌, [], List, length, map, replicate, slice_index, slice_index_or, slice_set, IfOk, OnOk};
 ghost use Rattle.sched_base.specs.declared.rows.Row.{Row as declared_row};
 ghost use Rattle.sched_base.specs.Tables.{IsRound, RowAt, end_after, lane_of, with_round};
+ghost use Rattle.row_totals.specs.Sums.{NamesAmong, AreForward, Adds, HaveRoomFor};
 ghost use Rattle.merged_rows.specs.Merging.{merged};
-ghost use Rattle.merged_rows.specs.Columns.{lanes_up_to, rows_up_to, showing, showing_each, going_on_each, AreChangesTold, AreGoingOn, AreShown};
+ghost use Rattle.merged_rows.specs.Columns.{lanes_up_to, showing, showing_each, going_on_each, AreChangesTold, AreGoingOn, AreShown};
 
 use crate::lanes::MergedLane;
 use sched_base::{Leaf, NoMemory, Row};
@@ -12,7 +13,8 @@ use std::marker::Model;
 
 /// The rows of each processor up to a tick, merged: those that follow one another under one name are one row.
 ///
-/// Seen as these rows, lane by lane, the tick, and the rows as they begin. They take 16 bytes for each merged row, and 24 for one whose start is past 64 bits.
+/// Seen as these rows, lane by lane, the tick, and the rows as they begin. They take 8 bytes for each merged
+/// row of a processor while starts have 48 bits, 12 up to 80 bits, 16 up to 112 and 32 past them or where a leaf has a number past 16,383.
 pub struct MergedRows {
     lanes: Vec<MergedLane>,
     end: u128,
@@ -156,7 +158,18 @@ impl MergedRows {
         requires row { i < length (lane_of self.now.lanes p) }
         ensures { RowAt self.now.lanes p i result }
     {
-        row_of(&self.lanes[p as usize], self.end, p, i)
+        self.lanes[p as usize].row(p, self.end, i)
+    }
+
+    /// Adds the merged rows of processor p.
+    pub(crate) fn add_lane(&self, sums: &mut [u128], p: u32)
+        requires processor { p < length self.now.lanes }
+        requires names { NamesAmong (length sums.old) (lane_of self.now.lanes p) }
+        requires forward { AreForward (lane_of self.now.lanes p) }
+        requires room { HaveRoomFor (lane_of self.now.lanes p) sums.old }
+        ensures { Adds (lane_of self.now.lanes p) sums.old sums.new }
+    {
+        self.lanes[p as usize].add_to(sums, p, self.end);
     }
 }
 
@@ -219,23 +232,5 @@ fn end_of_round(before: u128, rows: &[Row]) -> u128
     match rows.last() {
         Some(row) => row.end,
         None => before,
-    }
-}
-
-// Row i of processor p: up to the start of the next one, or to `end`.
-#[inline(always)]
-fn row_of(lane: &MergedLane, end: u128, p: u32, i: usize) -> Row
-    requires { i < length lane.now }
-    ensures { slice_get (rows_up_to p end lane.now) i ≡ Some result }
-{
-    let count = lane.count();
-    let next = i + 1;
-    let (start, leaf) = lane.at(i);
-    let end = if next < count { lane.at(next).0 } else { end };
-    Row {
-        processor: p,
-        leaf,
-        start,
-        end,
     }
 }

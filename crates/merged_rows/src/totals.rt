@@ -1,12 +1,11 @@
 //! The ticks of each task in merged rows.
 ghost use Rattle.std.specs.Prelude.{◌≡◌, ◌<◌, length, replicate, IfOk};
 ghost use Rattle.std.specs.List.{AllByRecursion};
-ghost use Rattle.sched_base.specs.Tables.{all_rows, lane_of};
+ghost use Rattle.sched_base.specs.Tables.{all_rows};
 ghost use Rattle.row_totals.specs.Sums.{NamesAmong, AreForward, Adds, HaveRoomFor, totals_of};
 ghost use Rattle.merged_rows.specs.Sums.{TicksFit};
 
 use crate::merging::MergedRows;
-use row_totals::add_row;
 use sched_base::NoMemory;
 use std::alloc::Global;
 
@@ -37,19 +36,6 @@ fn add_lanes(sums: &mut [u128], rows: &MergedRows)
     ensures { Adds (all_rows rows.now.lanes) sums.old sums.new }
 {
     for p in 0..rows.processors() {
-        add_lane(sums, rows, p);
-    }
-}
-
-// Adds the rows of processor p.
-fn add_lane(sums: &mut [u128], rows: &MergedRows, p: u32)
-    requires processor { p < length rows.now.lanes }
-    requires names { NamesAmong (length sums.old) (lane_of rows.now.lanes p) }
-    requires forward { AreForward (lane_of rows.now.lanes p) }
-    requires room { HaveRoomFor (lane_of rows.now.lanes p) sums.old }
-    ensures { Adds (lane_of rows.now.lanes p) sums.old sums.new }
-{
-    for i in 0..rows.count(p) {
-        add_row(sums, &rows.row(p, i));
+        rows.add_lane(sums, p);
     }
 }

@@ -51,6 +51,7 @@ impl ShownRows for MergedRows {
         self.processors()
     }
 
+    #[inline(always)]
     fn next_row(&self, p: u32, place: usize) -> Option<(Row, usize)> {
         if place >= self.count(p) {
             return None;
