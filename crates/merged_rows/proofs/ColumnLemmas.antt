@@ -10,7 +10,7 @@ use Rattle.sched_base.specs.declared.rows.Row.{Row}
 use Rattle.sched_base.specs.Tables.{IsRound, end_after, lane_of, with_round}
 use Rattle.merged_rows.specs.Merging.{shown, merged}
 use Rattle.merged_rows.proofs.MergeLemmas.{goes_on}
-use Rattle.merged_rows.specs.Columns.{Begun, begun_of, rows_up_to, lanes_up_to, last_mark, shows_last, showing, showing_each, going_on, going_on_each, ends_showing, AreChangesTold}
+use Rattle.merged_rows.specs.Columns.{Begun, rows_up_to, lanes_up_to, last_mark, shows_last, showing, showing_each, going_on, going_on_each, ends_showing, AreChangesTold, MergedContents}
 use Rattle.merged_rows.proofs.PushLemmas.{merged_with, merged_round, round_push}
 
 -- ---- one lane
@@ -72,33 +72,6 @@ round_shows a start end (lane ∷ lanes) (r ∷ rows) whole h =
     ap (merged_with (rows_up_to a start lane)) (row_is r a start end here is.1 is.2) ∙ lane_shows a start end lane r.leaf in
     ap (λ x. x ∷ merged_round (lanes_up_to (a + 1) start lanes) rows) first
     ∙ ap (λ xs. rows_up_to a end (showing lane start r.leaf) ∷ xs) (round_shows (a + 1) start end lanes rows (omega (arith, whole)) (next_from a start end r rows h))
-
--- ---- columns
-
-pub length-begun_of : (starts : List ℕ) (leaves : List Leaf) → length starts ≡ length leaves → length (begun_of starts leaves) ≡ length starts
-length-begun_of [] leaves even = refl
-length-begun_of (s ∷ starts) [] even = absurd (omega (arith, even))
-length-begun_of (s ∷ starts) (l ∷ leaves) even = ap suc (length-begun_of starts leaves (omega (arith, even)))
-
--- one row more, in both columns
-pub begun_push : (starts : List ℕ) (leaves : List Leaf) (start : ℕ) (leaf : Leaf) → length starts ≡ length leaves
-    → begun_of (starts ++ start ∷ []) (leaves ++ leaf ∷ []) ≡ begun_of starts leaves ++ new_row start leaf ∷ []
-begun_push [] [] start leaf even = refl
-begun_push [] (l ∷ leaves) start leaf even = absurd (omega (arith, even))
-begun_push (s ∷ starts) [] start leaf even = absurd (omega (arith, even))
-begun_push (s ∷ starts) (l ∷ leaves) start leaf even = ap (λ lane. new_row s l ∷ lane) (begun_push starts leaves start leaf (omega (arith, even)))
-
-pub begun_at : (starts : List ℕ) (leaves : List Leaf) (i start : ℕ) (leaf : Leaf) → slice_get starts i ≡ Some start → slice_get leaves i ≡ Some leaf
-    → slice_get (begun_of starts leaves) i ≡ Some (new_row start leaf)
-begun_at [] leaves i start leaf at there = absurd (let e : None ≡ Some start = at in cc)
-begun_at (s ∷ starts) [] i start leaf at there = absurd (let e : None ≡ Some leaf = there in cc)
-begun_at (s ∷ starts) (l ∷ leaves) zero start leaf at there =
-    let e : Some s ≡ Some start = at in
-    let f : Some l ≡ Some leaf = there in
-    let e' : s ≡ start = cc in
-    let f' : l ≡ leaf = cc in
-    ap (λ n. Some (new_row n l)) e' ∙ ap (λ x. Some (new_row start x)) f'
-begun_at (s ∷ starts) (l ∷ leaves) (suc i) start leaf at there = begun_at starts leaves i start leaf at there
 
 -- ---- reading
 
@@ -273,6 +246,17 @@ pub lane_here : (end : ℕ) (lanes : List (List Begun)) (p : ℕ) (lane : List B
 lane_here end lanes p lane within is =
     let e : 0 + p ≡ p = omega arith in
     lane_up_to 0 end lanes p lane within ∙ ap (λ n. rows_up_to n end (get_or lanes p lane)) e ∙ ap (rows_up_to p end) (sym is)
+
+-- what is seen of the lanes is as many as they are
+pub seen_many : (m : MergedContents) (end : ℕ) (held : List (List Begun)) → record { lanes = lanes_up_to 0 end held; end = end; begun = held } ≡ m → length m.lanes ≡ length held
+seen_many m end held is = ap (λ (x : MergedContents). length x.lanes) (sym is) ∙ length-lanes_up_to 0 end held
+
+-- what is seen of the lane of processor p, which was read
+pub seen_lane : (m : MergedContents) (end : ℕ) (held : List (List Begun)) (p : ℕ) (lane : List Begun) → record { lanes = lanes_up_to 0 end held; end = end; begun = held } ≡ m → p < length m.lanes
+    → lane ≡ get_or held p lane → lane_of m.lanes p ≡ rows_up_to p end lane
+seen_lane m end held p lane is within read =
+    let many = seen_many m end held is in
+    ap (λ (x : MergedContents). lane_of x.lanes p) (sym is) ∙ lane_here end held p lane (omega (arith, many, within)) read
 
 -- where the last row ends
 pub end_by_last : (rows : List Row) (before : ℕ) (r : Row) → slice_get rows (length rows - 1) ≡ Some r → r.end ≡ end_after before rows

@@ -17,12 +17,6 @@ pub record MergedContents : Type 0 where
   pub end : ℕ
   pub begun : List (List Begun)
 
--- starts and leaves, beside each other
-abbrev pub begun_of : List ℕ → List Leaf → List Begun
-begun_of [] leaves = []
-begun_of (start ∷ starts) [] = []
-begun_of (start ∷ starts) (leaf ∷ leaves) = record { start = start; leaf = leaf } ∷ begun_of starts leaves
-
 -- the rows of processor p: each goes on up to the start of the next one, the last up to `end`
 abbrev pub rows_up_to : ℕ → ℕ → List Begun → List Row
 rows_up_to p end [] = []

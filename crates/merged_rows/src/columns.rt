@@ -145,8 +145,8 @@ fn row_in<R: RowForm>(rows: &[R], p: u32, end: u128, i: usize) -> Row
     ensures { slice_get (rows_up_to p end (map R.begun rows.now)) i ≡ Some result }
 {
     let row = rows[i];
-    let next = i + 1;
-    let end = if next < rows.len() { rows[next].start() } else { end };
+    let last = rows.len() - 1;
+    let end = if i < last { rows[i + 1].start() } else { end };
     Row {
         processor: p,
         leaf: row.leaf(),
