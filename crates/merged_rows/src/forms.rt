@@ -1,7 +1,7 @@
 //! Merged rows as they begin, in records of 8, 12, 16 and 32 bytes.
 ghost use Rattle.std.specs.Prelude.{◌≡◌, ◌+◌, ◌*◌, ◌/◌, ◌%◌, ◌^◌, ◌<◌, IfSome};
 ghost use Rattle.merged_rows.specs.Columns.{Begun};
-ghost use Rattle.merged_rows.specs.Forms.{begun_full, begun_medium, begun_narrow, begun_wide, leaf_for};
+ghost use Rattle.merged_rows.specs.Forms.{begun_full, begun_medium, begun_narrow, begun_wide, leaf_for, leaf_of};
 
 use sched_base::{Leaf, TaskId};
 
@@ -196,11 +196,21 @@ fn joined(low: u32, high: u32) -> u64
 fn leaf_code(leaf: Leaf) -> Option<u16>
     ensures { IfSome result (λ code. leaf_for code ≡ leaf) }
 {
+    let (kind, number) = kind_of(leaf);
+    code_of(kind, number)
+}
+
+// The kind of a leaf, and its number among those of the kind.
+#[inline(always)]
+fn kind_of(leaf: Leaf) -> (u16, u32)
+    ensures kind { result.0 < 4 }
+    ensures leaf { leaf_of result.0 result.1 ≡ leaf }
+{
     match leaf {
-        Leaf::Task(id) => code_of(0, id.0),
-        Leaf::Idle(number) => code_of(1, number),
-        Leaf::Wait(id) => code_of(2, id.0),
-        Leaf::Empty => code_of(3, 0),
+        Leaf::Task(id) => (0, id.0),
+        Leaf::Idle(number) => (1, number),
+        Leaf::Wait(id) => (2, id.0),
+        Leaf::Empty => (3, 0),
     }
 }
 
