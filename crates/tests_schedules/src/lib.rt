@@ -1,6 +1,12 @@
-//! Tests alone: sets whose rounds are known or follow from the rules, compiled, run round by round and put into tables; the parts
-//! of a round, and trees.
+//! Tests alone, of all below the executive and the commands: sets read, scaled, packed, compiled and drawn; tree texts; rounds of sets whose
+//! rounds are known or follow from the rules; rows, tables, traces, reports and pictures.
 #![tactic(auto)]
 
 #[cfg(test)]
-mod tests;
+mod schedules;
+#[cfg(test)]
+mod sets;
+#[cfg(test)]
+mod traces;
+#[cfg(test)]
+mod trees;

@@ -1,5 +1,5 @@
 use Rattle.release_calendar.specs.Calendars.{BelongsTo}
-use Rattle.tests_schedules.proofs.tests.windows.turn.Given as goal
+use Rattle.tests_schedules.proofs.schedules.windows.turn.Given as goal
 
 abbrev pub invariant-loop-turn : goal.invariant-loop-turn
 invariant-loop-turn g l = BelongsTo l.plan l.calendar

@@ -1,8 +1,8 @@
 use Rattle.std.proofs.Common.{◌≡◌, ◌∙◌, [], ◌∷◌, ◌++◌, ap, arith}
 use Rattle.sched_base.specs.declared.sets.Task.{Task}
 use Rattle.sched_base.specs.Sets.{SetContents}
-use Rattle.tests_traces.proofs.LongTableLemmas.{length-steady, names-steady, totals-steady}
-use Rattle.tests_traces.proofs.tests.writing.many_rounds_and_many_periods.Goals as goal
+use Rattle.tests_schedules.proofs.LongTableLemmas.{length-steady, names-steady, totals-steady}
+use Rattle.tests_schedules.proofs.traces.writing.many_rounds_and_many_periods.Goals as goal
 
 -- the one task
 abbrev task : Task

@@ -1,9 +1,9 @@
 use Rattle.std.proofs.Common.{◌≡◌, ◌∙◌, ◌^◌, ◌<◌, ◌+◌, List, [], ◌∷◌, length, refl, sym, ap, subst, add-one, arith}
 use Rattle.sched_base.specs.declared.rows.Row.{Row}
 use Rattle.sched_base.specs.Tables.{IsRound, end_of, with_round}
-use Rattle.tests_traces.specs.LongTables.{steady_row, steady_rows}
-use Rattle.tests_traces.proofs.LongTableLemmas.{end_after-steady, IsRound-one, row_is}
-use Rattle.tests_traces.proofs.tests.writing.long_table.Goals as goal
+use Rattle.tests_schedules.specs.LongTables.{steady_row, steady_rows}
+use Rattle.tests_schedules.proofs.LongTableLemmas.{end_after-steady, IsRound-one, row_is}
+use Rattle.tests_schedules.proofs.traces.writing.long_table.Goals as goal
 
 pub loop-k-init : goal.loop-k-init
 unfolding steady_rows

@@ -1,6 +1,6 @@
 //! Texts of schedules with large numbers, and with many rounds.
 ghost use Rattle.std.specs.Prelude.{◌≡◌, ◌≤◌, [], ◌∷◌, IfOk};
-ghost use Rattle.tests_traces.specs.LongTables.{steady_rows};
+ghost use Rattle.tests_schedules.specs.LongTables.{steady_rows};
 
 use super::{A, row};
 use sched_base::{Leaf, NoMemory, RowTable, TaskSet};

@@ -6,7 +6,7 @@ use Rattle.sched_base.specs.declared.rows.Row.{Row}
 use Rattle.sched_base.specs.Tables.{IsRound, end_after, row_ticks, ticks_in}
 use Rattle.sched_base.proofs.SetLemmas.{AllByRecursion-push}
 use Rattle.row_totals.specs.Sums.{IsAmong, NamesAmong, totals_of}
-use Rattle.tests_traces.specs.LongTables.{steady_row, steady_rows}
+use Rattle.tests_schedules.specs.LongTables.{steady_row, steady_rows}
 
 pub length-steady : (n : ℕ) → length (steady_rows n) ≡ n
 unfolding steady_rows

@@ -1,5 +1,0 @@
-//! Tests alone: rows, tables, traces, reports and pictures of worked sets.
-#![tactic(auto)]
-
-#[cfg(test)]
-mod tests;
