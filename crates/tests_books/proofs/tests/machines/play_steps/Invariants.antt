@@ -1,5 +1,0 @@
-use Rattle.std.proofs.Common.{◌≡◌, length}
-use Rattle.tests_books.proofs.tests.machines.play_steps.Given as goal
-
-abbrev pub invariant-loop-step : goal.invariant-loop-step
-invariant-loop-step g l = length l.state.lanes ≡ length l.initial.state.lanes
