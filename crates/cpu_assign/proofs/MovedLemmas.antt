@@ -98,6 +98,23 @@ module _ (runs : List Bool) (places : Placing) (h : IsNoted places.onto places.l
         let e : None ≡ Some j = sym free ∙ ap (λ x. get_or places.onto x None) same ∙ w.1 in cc)
   ]
 
+  -- A pack that a processor holds was there before, unless it begins.
+  pub held_before : (q i : ℕ) → get_or (place runs places).onto q None ≡ Some i →
+      ((k : ℕ) → k < length (waiting runs places.onto) → get_or (waiting runs places.onto) k 0 ≢ i) → get_or places.onto q None ≡ Some i
+  held_before q i at not_begun = elim (cases_Bool (is_held places.onto i)) [
+    | inl on ↦
+        (let w = held_where places.onto i on in
+        let n = noted_next runs places h long in
+        let there = (n.noted w.0 i (stays w.0 i (on_runs q i at) w.1)).1 in
+        let here = (n.noted q i at).1 in
+        let same = same_some q w.0 (sym here ∙ there) in
+        ap (λ x. get_or places.onto x None) same ∙ w.1)
+    | inr off ↦ absurd (
+        let on = on_runs q i at in
+        let w = passing_index (λ j. is_running runs j && not (is_held places.onto j)) (length runs) 0 i (omega arith) (let l = runs_within runs i on in omega (arith, l)) (and_from (is_running runs i) (not (is_held places.onto i)) on (ap not off)) in
+        not_begun w.0 w.1 w.2)
+  ]
+
   -- A processor holds what it held before, unless a pack that stopped or began holds it, or held it last.
   pub moved : (q : ℕ) → ((k : ℕ) → k < length (stopping runs places.onto) → get_or (place runs places).last (get_or (stopping runs places.onto) k 0) None ≢ Some q) →
       ((k : ℕ) → k < length (waiting runs places.onto) → get_or (place runs places).last (get_or (waiting runs places.onto) k 0) None ≢ Some q) →

@@ -21,4 +21,5 @@ pub mod RowsGone
 pub mod PlanRounds
 pub mod SeenLemmas
 pub mod ToldLemmas
+pub mod HeldTold
 pub mod TickLemmas

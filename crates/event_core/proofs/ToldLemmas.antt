@@ -16,17 +16,17 @@ use Rattle.run_tree.specs.Plans.{PlanContents, IsPlan}
 use Rattle.run_tree.proofs.TreeLemmas.{first_is_pack}
 use Rattle.cpu_assign.specs.Changed.{ChangeLists, AreChanged}
 use Rattle.cpu_assign.specs.Noted.{IsNoted}
-use Rattle.cpu_assign.proofs.MovedLemmas.{moved}
+use Rattle.cpu_assign.proofs.MovedLemmas.{held_before}
 use Rattle.event_core.specs.Cores.{CoreContents, IsCoreOf}
 use Rattle.event_core.specs.Rounds.{IsRoundUpTo, rows_of_round}
 use Rattle.event_core.specs.Serving.{ServingContents, AreAt, AreSeen, IsAmong}
 use Rattle.event_core.specs.Steps.{leaf_by, leaf_shown}
-use Rattle.event_core.specs.Told.{AllReleased, AreTold, IsTold}
-use Rattle.event_core.proofs.RowsGone.{pack_within, row_gone}
+use Rattle.event_core.specs.Told.{AllReleased, AreHeldTold, AreTold, IsTold}
+use Rattle.event_core.proofs.RowsGone.{pack_within, row_gone, shows}
 
 -- ---- what is told
 
-set_other : (xs : List ℕ) (p x j : ℕ) → j ≢ p → get_or (set xs p x) j 0 ≡ get_or xs j 0
+pub set_other : (xs : List ℕ) (p x j : ℕ) → j ≢ p → get_or (set xs p x) j 0 ≡ get_or xs j 0
 set_other xs p x j ne = rw get_or-set_other refl
 
 -- at first none is
@@ -120,21 +120,28 @@ module _ (t : Tree) (s s' : ServingContents) (p : ℕ) (is : IsPack t p) (a : Ar
 
 module _ (p : PlanContents) (h : IsPlan p) (c c' : CoreContents) (b : IsCoreOf p c) (b' : IsCoreOf p c') (round : IsRoundUpTo p c.tick c'.tick)
     (runs : List Bool) (long : length c.places.last ≡ length runs) (changes : ChangeLists) (changed : AreChanged runs c.places.onto changes) (placed : c'.places ≡ place runs c.places)
-    (noted : IsNoted c.places.onto c.places.last) (noted' : IsNoted c'.places.onto c'.places.last) (seen : AreSeen p.tree c.serving.serves c'.serving.serves changes)
-    (told : List ℕ) (count : ℕ) (tells : AreTold c'.places changes.seen told (length changes.seen) count)
+    (noted : IsNoted c.places.onto c.places.last) (seen : AreSeen p.tree c.serving.serves c'.serving.serves changes)
+    (told : List ℕ) (count : ℕ) (tells : AreHeldTold c'.places.onto changes.seen told (length changes.seen) count)
     (q : ℕ) (l : q < p.tree.processors) (not_told : IsTold told count q → ⊥) where
-  -- no pack that was looked at holds the processor, or held it last
-  not_seen : (i : ℕ) → IsAmong changes.seen i → get_or c'.places.last i None ≢ Some q
-  not_seen i (k, m, e) at = not_told (tells.each k q m (ap (λ j. get_or c'.places.last j None) e ∙ at))
+  -- no pack that was looked at holds the processor
+  not_seen : (i : ℕ) → IsAmong changes.seen i → get_or c'.places.onto q None ≢ Some i
+  not_seen i (k, m, e) at = not_told (tells.each k q m (at ∙ ap (λ (j : ℕ). Some j) (sym e)))
+
+  -- but one does
+  holds : (i : ℕ) × (get_or c'.places.onto q None ≡ Some i)
+  holds = go (get_or c'.places.onto q None) refl
+    where
+      go : (o : Option ℕ) → get_or c'.places.onto q None ≡ o → (i : ℕ) × (get_or c'.places.onto q None ≡ Some i)
+      go None e = absurd (let is = b'.shown c.tick round in
+          shows p h c.tick c'.serving.runs is.says c'.places.onto is.onto c'.tick q l Empty (ap (leaf_shown p c'.serving.runs c.tick) (sym e)) refl)
+      go (Some i) e = (i, e)
 
   pub stays : get_or c'.places.onto q None ≡ get_or c.places.onto q None
   stays =
-      ap (λ (s : Placing). get_or s.onto q None) placed
-      ∙ moved runs c.places noted long q
-      (λ k m at. (let (j, n, e) = seen.stops k (subst (λ (xs : List ℕ). k < length xs) (sym changed.stops) m) in
-      not_seen (get_or changes.stopped k 0) (j, n, e) (ap (λ (s : Placing). get_or s.last (get_or changes.stopped k 0) None) placed ∙ ap (λ (xs : List ℕ). get_or (place runs c.places).last (get_or xs k 0) None) changed.stops ∙ at)))
-      (λ k m at. (let (j, n, e) = seen.begins k (subst (λ (xs : List ℕ). k < length xs) (sym changed.begins) m) in
-      not_seen (get_or changes.begun k 0) (j, n, e) (ap (λ (s : Placing). get_or s.last (get_or changes.begun k 0) None) placed ∙ ap (λ (xs : List ℕ). get_or (place runs c.places).last (get_or xs k 0) None) changed.begins ∙ at)))
+      let (i, at) = holds in
+      at ∙ sym (held_before runs c.places noted long q i (ap (λ (s : Placing). get_or s.onto q None) (sym placed) ∙ at)
+      (λ k m is. (let (j, n, e) = seen.begins k (subst (λ (xs : List ℕ). k < length xs) (sym changed.begins) m) in
+      not_seen i (j, n, e ∙ ap (λ (xs : List ℕ). get_or xs k 0) changed.begins ∙ is) at)))
 
   on_at : AreAt p.tree c.serving
   on_at = record { within = b.serving.within; at = b.serving.at }
@@ -148,7 +155,7 @@ module _ (p : PlanContents) (h : IsPlan p) (c c' : CoreContents) (b : IsCoreOf p
   leaf_same start released later (Some i) at within =
       let m = within i refl in
       let pack = get_or (packs_at p.tree 0) i 0 in
-      let same = seen.same i m (λ a. not_seen i a (noted'.noted q i at).1) in
+      let same = seen.same i m (λ a. not_seen i a at) in
       shown_released p.set.tasks p.tree.scale start released c.tick later (leaf_by p.tree c'.serving.runs (members p.tree pack))
       ∙ leaf_stays p.tree c.serving c'.serving pack (first_is_pack p.tree h.tree.tree i m) on_at on_at' same
       ∙ sym (shown_released p.set.tasks p.tree.scale start released start (omega arith) (leaf_by p.tree c.serving.runs (members p.tree pack)))

@@ -1,5 +1,5 @@
 -- The processors on which a round may show something else than the one before.
-use Rattle.std.specs.Prelude.{ℕ, ◌<◌, ◌≤◌, ◌≡◌, ◌*◌, List, length, None, Some, slice_index, slice_index_or}
+use Rattle.std.specs.Prelude.{ℕ, ◌<◌, ◌≤◌, ◌≡◌, ◌*◌, List, length, Option, None, Some, slice_index, slice_index_or}
 use Rattle.std.specs.List.{AllByRecursion}
 use Rattle.sched_base.specs.Places.{Placing}
 use Rattle.run_tree.specs.Plans.{PlanContents}
@@ -18,3 +18,9 @@ pub record AreTold (places : Placing) (packs told : List ℕ) (n count : ℕ) : 
   pub few : count ≤ n
   pub each : (k q : ℕ) → k < n → slice_index_or places.last (slice_index packs k) None ≡ Some q → IsTold told count q
   pub processors : (j : ℕ) → j < count → slice_index told j < length places.onto
+
+-- Of the first n packs, the processor that each holds is one of the first `count` that are told; and all of these are processors.
+pub record AreHeldTold (onto : List (Option ℕ)) (packs told : List ℕ) (n count : ℕ) : Type 0 where
+  pub few : count ≤ n
+  pub each : (k q : ℕ) → k < n → slice_index_or onto q None ≡ Some (slice_index packs k) → IsTold told count q
+  pub processors : (j : ℕ) → j < count → slice_index told j < length onto

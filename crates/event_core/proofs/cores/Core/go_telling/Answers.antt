@@ -5,7 +5,7 @@ use Rattle.event_core.specs.Cores.{CoreContents, IsCoreOf}
 use Rattle.event_core.specs.States.{contents}
 use Rattle.event_core.proofs.KeptLemmas.{stop_fits}
 use Rattle.event_core.proofs.OneRound.{last_long, onto_long}
-use Rattle.event_core.specs.Told.{AreTold}
+use Rattle.event_core.specs.Told.{AreHeldTold}
 use Rattle.event_core.proofs.ToldLemmas.{shows_same, stays}
 use Rattle.event_core.proofs.cores.Core.go_telling.Goals as goal
 
@@ -79,10 +79,10 @@ returns-clause-others c = λ q start none l no on_time before.
     let next = c.run_round.new.state in
     let old = subst (λ (k : CoreContents). IsCoreOf p k) (sym c.self.view_is) c.requires.belongs in
     let (runs, long, changed, placed) = c.run_round.ensures.placed in
-    let tells = subst (λ (xs : List ℕ). AreTold next.places xs c.tell_places.new.told (length xs) c.tell_places.result) c.seen.ensures.packs c.tell_places.ensures.told in
+    let tells = subst (λ (xs : List ℕ). AreHeldTold next.places.onto xs c.tell_places.new.told (length xs) c.tell_places.result) c.seen.ensures.packs c.tell_places.ensures.told in
     subst (λ (k : CoreContents). IsRoundUpTo p start k.tick → (get_or (rows_of_round p k.tick next.dues.tick) q none).leaf ≡ (get_or (rows_of_round p start k.tick) q none).leaf) c.self.view_is
     (λ r. shows_same p c.know_lawful.ensures.lawful (contents s) (contents next) old c.run_round.ensures.core c.run_round.ensures.round runs long c.run_round.new.changes changed placed
-    c.know_noted.ensures c.know_noted-2.ensures c.run_round.ensures.seen c.tell_places.new.told c.tell_places.result tells q l no start none on_time r) before
+    c.know_noted.ensures c.run_round.ensures.seen c.tell_places.new.told c.tell_places.result tells q l no start none on_time r) before
 
 pub returns-clause-placed : goal.returns-clause-placed
 returns-clause-placed c = λ q l no.
@@ -91,7 +91,7 @@ returns-clause-placed c = λ q l no.
     let next = c.run_round.new.state in
     let old = subst (λ (k : CoreContents). IsCoreOf p k) (sym c.self.view_is) c.requires.belongs in
     let (runs, long, changed, placed) = c.run_round.ensures.placed in
-    let tells = subst (λ (xs : List ℕ). AreTold next.places xs c.tell_places.new.told (length xs) c.tell_places.result) c.seen.ensures.packs c.tell_places.ensures.told in
+    let tells = subst (λ (xs : List ℕ). AreHeldTold next.places.onto xs c.tell_places.new.told (length xs) c.tell_places.result) c.seen.ensures.packs c.tell_places.ensures.told in
     subst (λ (k : CoreContents). get_or next.places.onto q None ≡ get_or k.places.onto q None) c.self.view_is
     (stays p c.know_lawful.ensures.lawful (contents s) (contents next) old c.run_round.ensures.core c.run_round.ensures.round runs long c.run_round.new.changes changed placed
-    c.know_noted.ensures c.know_noted-2.ensures c.run_round.ensures.seen c.tell_places.new.told c.tell_places.result tells q l no)
+    c.know_noted.ensures c.run_round.ensures.seen c.tell_places.new.told c.tell_places.result tells q l no)
