@@ -1,11 +1,24 @@
 -- Packs show what entries tell, one after another.
 use Rattle.std.proofs.Common.{◌≡◌, ◌≢◌, ℕ, ◌+◌, ◌<◌, ◌≤◌, ◌&&◌, not, inl, inr, Bool, List, [], ◌∷◌, length, length-append, set, get_or, Option, None, refl, sym, ap, ap₂, subst, ◌∙◌, arith, length-set}
 use Rattle.std.proofs.lemmas.Bool.{cases_eq, cases_lt}
+use Rattle.std.proofs.lemmas.List.{get_or-map, length-map}
 use Rattle.sched_base.specs.declared.rows.Leaf.{Leaf}
 use Rattle.cpu_assign.specs.Changed.{ChangeLists, with_pack}
-use Rattle.merged_rounds.specs.Replays.{AreNotedTo, AreOrdered, IsEntryTaken, IsNotAmong, IsTaken, is_some}
+use Rattle.merged_rounds.specs.Replays.{AreNotedTo, AreOrdered, IsEntryTaken, IsNotAmong, IsTaken}
+use Rattle.merged_rounds.specs.Shown.{PackShows, is_some, packs_in, shown_in}
 use Rattle.merged_rounds.proofs.ChangeLemmas.{set_other, set_same}
 use Rattle.merged_rounds.proofs.ReplayLemmas.{few_begun, few_stopped, noted_by, noted_none, noted_skip, noted_step}
+
+-- the pack of an entry between these places, and what it shows
+module _ (es : List PackShows) (low high many j : ℕ) (ordered : AreOrdered (packs_in es) low high many) (l : j < high) (e : PackShows) (is : e ≡ get_or es j e) where
+  there : j < length es
+  there = let w = ordered.within in let same = length-map es (λ (x : PackShows). x.pack) in omega (arith, w, same, l)
+
+  pub pack_there : e.pack ≡ get_or (packs_in es) j 0
+  pack_there = ap (λ (x : PackShows). x.pack) is ∙ sym (get_or-map (λ (x : PackShows). x.pack) es j e 0 there)
+
+  pub shown_there : e.shown ≡ get_or (shown_in es) j None
+  shown_there = ap (λ (x : PackShows). x.shown) is ∙ sym (get_or-map (λ (x : PackShows). x.shown) es j e None there)
 
 -- the entries from place `low` up to j are taken: packs below a number are noted, and the others show what they did
 pub record AreTakenTo (packs : List ℕ) (shown : List (Option Leaf)) (low high : ℕ) (before now : List (Option Leaf)) (j : ℕ) (changes : ChangeLists) : Type 0 where

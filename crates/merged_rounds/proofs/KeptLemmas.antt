@@ -47,8 +47,8 @@ module _ (p : PlanContents) (ends : List ℕ) (round : (i : ℕ) → i < length 
       omega (arith, one, before)
 
 module _ (p : PlanContents) (h : IsPlan p) (can : CanComeRound p) (kept : Turn) (is : IsTurnOf p kept) (turns : AreTurns p (turn_end kept)) (early : turn_end kept < stop_of p) where
-  pub some_kept : 0 < length kept.ends.items
-  some_kept = some kept.ends.items (some_ticks p h (turn_end kept) turns)
+  pub some_kept : 0 < length kept.ends
+  some_kept = some kept.ends (some_ticks p h (turn_end kept) turns)
     where
       some : (ends : List ℕ) → 0 < round_start 0 ends (length ends) → 0 < length ends
       some [] positive = absurd (omega (arith, positive))
@@ -56,7 +56,7 @@ module _ (p : PlanContents) (h : IsPlan p) (can : CanComeRound p) (kept : Turn) 
 
   -- behind the last of them a round begins
   last_event : event_at p (turn_end kept) ≡ true
-  last_event = last kept.ends.items some_kept early is.turn.round
+  last_event = last kept.ends some_kept early is.turn.round
     where
       last : (ends : List ℕ) → 0 < length ends → round_start 0 ends (length ends) < stop_of p → ((i : ℕ) → i < length ends → IsRoundUpTo p (round_start 0 ends i) (get_or ends i 0)) →
           event_at p (round_start 0 ends (length ends)) ≡ true
@@ -66,16 +66,16 @@ module _ (p : PlanContents) (h : IsPlan p) (can : CanComeRound p) (kept : Turn) 
         | inr on ↦ on
       ]
 
-  pub all_by_kept : (turn last rest : ℕ) → turn ≡ turn_end kept → last ≡ stop_of p - 1 → 0 < rest → rest ≤ length kept.ends.items → round_start 0 kept.ends.items (rest - 1) < last % turn + 1 →
-      last % turn + 1 ≤ round_start 0 kept.ends.items rest → rounds_of p ≡ last / turn * length kept.ends.items + rest
+  pub all_by_kept : (turn last rest : ℕ) → turn ≡ turn_end kept → last ≡ stop_of p - 1 → 0 < rest → rest ≤ length kept.ends → round_start 0 kept.ends (rest - 1) < last % turn + 1 →
+      last % turn + 1 ≤ round_start 0 kept.ends rest → rounds_of p ≡ last / turn * length kept.ends + rest
   all_by_kept turn last rest e f some within low high =
-      let count = starts_count p kept.ends.items is.turn.round (length kept.ends.items) (omega arith) in
+      let count = starts_count p kept.ends is.turn.round (length kept.ends) (omega arith) in
       let past = rounds_past p (turn_end kept) last_event in
-      let each : rounds_before p (turn_end kept + 1) - 1 ≡ length kept.ends.items = omega (arith, count, past) in
+      let each : rounds_before p (turn_end kept + 1) - 1 ≡ length kept.ends = omega (arith, count, past) in
       let all = all_rounds_by p h can (turn_end kept) turns (some_ticks p h (turn_end kept) turns) (omega (arith, early)) in
-      let begun = count_before p kept.ends.items is.turn.round rest (last % turn + 1) some within low high in
-      let times : (stop_of p - 1) / turn_end kept * (rounds_before p (turn_end kept + 1) - 1) ≡ last / turn * length kept.ends.items =
-      ap (λ n. (stop_of p - 1) / turn_end kept * n) each ∙ ap (λ n. n / turn_end kept * length kept.ends.items) (sym f) ∙ ap (λ n. last / n * length kept.ends.items) (sym e) in
+      let begun = count_before p kept.ends is.turn.round rest (last % turn + 1) some within low high in
+      let times : (stop_of p - 1) / turn_end kept * (rounds_before p (turn_end kept + 1) - 1) ≡ last / turn * length kept.ends =
+      ap (λ n. (stop_of p - 1) / turn_end kept * n) each ∙ ap (λ n. n / turn_end kept * length kept.ends) (sym f) ∙ ap (λ n. last / n * length kept.ends) (sym e) in
       let rests : rounds_before p ((stop_of p - 1) % turn_end kept + 1) ≡ rounds_before p (last % turn + 1) =
       ap (λ n. rounds_before p (n % turn_end kept + 1)) (sym f) ∙ ap (λ n. rounds_before p (last % n + 1)) (sym e) in
       omega (arith, all, begun, times, rests)

@@ -122,9 +122,9 @@ module _ (p : PlanContents) (h : IsPlan p) (can : CanComeRound p) (before start 
   }
 
 -- what each pack shows in the last round that is kept, by the tick at which that one began
-pub last_on : (p : PlanContents) (t : Turn) (before tick : ℕ) → IsTurnOf p t → turn_end t ≡ tick → IsRoundUpTo p before tick → 0 < length t.ends.items → (k : ℕ) → k < packs_of p → IsPackOn p before k (get_or t.last.items k None)
+pub last_on : (p : PlanContents) (t : Turn) (before tick : ℕ) → IsTurnOf p t → turn_end t ≡ tick → IsRoundUpTo p before tick → 0 < length t.ends → (k : ℕ) → k < packs_of p → IsPackOn p before k (get_or t.last.items k None)
 last_on p t before tick turn end gone some k l =
-    let e : length t.ends.items ≡ suc (length t.ends.items - 1) = omega (arith, some) in
-    let at = round_start 0 t.ends.items (length t.ends.items - 1) in
-    let round : IsRoundUpTo p at tick = subst (λ (n : ℕ). IsRoundUpTo p at n) (sym (ap (round_start 0 t.ends.items) e) ∙ end) (turn.turn.round (length t.ends.items - 1) (omega (arith, some))) in
+    let e : length t.ends ≡ suc (length t.ends - 1) = omega (arith, some) in
+    let at = round_start 0 t.ends (length t.ends - 1) in
+    let round : IsRoundUpTo p at tick = subst (λ (n : ℕ). IsRoundUpTo p at n) (sym (ap (round_start 0 t.ends) e) ∙ end) (turn.turn.round (length t.ends - 1) (omega (arith, some))) in
     subst (λ (n : ℕ). IsPackOn p n k (get_or t.last.items k None)) (sym (same_start p before at tick gone round)) (turn.last k some l)

@@ -29,7 +29,8 @@ use Rattle.event_core.proofs.QuietRounds.{plan_leaves}
 use Rattle.event_core.proofs.SettledPacks.{few_pass, filter_range, listed_step, none_listed}
 use Rattle.merged_rounds.specs.Laps.{AreTurns, CanComeRound}
 use Rattle.round_looks.specs.Looks.{leaf_at}
-use Rattle.merged_rounds.specs.Replays.{AreNotedTo, IsPackOn, is_some, packs_of}
+use Rattle.merged_rounds.specs.Replays.{AreNotedTo, IsPackOn, packs_of}
+use Rattle.merged_rounds.specs.Shown.{is_some}
 use Rattle.merged_rounds.proofs.LapLemmas.{early, leaf_is, recurs}
 
 -- ---- packs that are on processors run

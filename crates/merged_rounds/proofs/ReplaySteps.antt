@@ -29,7 +29,8 @@ use Rattle.merged_rounds.specs.declared.replays.Replay.{Replay}
 use Rattle.merged_rounds.specs.declared.turns.Turn.{Turn}
 use Rattle.merged_rounds.specs.Laps.{AreTurns, CanComeRound, IsAllTold, round_start}
 use Rattle.round_looks.specs.Looks.{leaf_at}
-use Rattle.merged_rounds.specs.Replays.{AreEntries, AreNotedTo, AreOrdered, HasPlaced, IsPackOn, IsReplayOf, IsTaken, IsTurnOf, is_some, packs_of, part_start, turn_end}
+use Rattle.merged_rounds.specs.Replays.{AreEntries, AreNotedTo, AreOrdered, HasPlaced, IsPackOn, IsReplayOf, IsTaken, IsTurnOf, packs_kept, packs_of, part_start, shown_kept, turn_end}
+use Rattle.merged_rounds.specs.Shown.{is_some}
 use Rattle.merged_rounds.proofs.LapLemmas.{leaf_is, next_round_at, turns_more}
 use Rattle.merged_rounds.proofs.ReplayLemmas.{changed_by, held_runs, leaf_of, onto_end, pack_later, places_end}
 
@@ -59,7 +60,7 @@ held_there os q k l at = elim (cases_Bool (is_held os k)) [
 
 module _ (p : PlanContents) (h : IsPlan p) (start : ℕ) (r : Replay) (b : IsReplayOf p start r) (l : start < stop_of p) where
   abbrev ends : List ℕ
-  ends = r.lap.ends.items
+  ends = r.lap.ends
 
   pub start_is : start ≡ round_start 0 ends r.next + r.shift
   start_is = let at = b.at in omega (arith, at, l)
@@ -105,16 +106,16 @@ module _ (p : PlanContents) (h : IsPlan p) (start : ℕ) (r : Replay) (b : IsRep
   pub high_is : part_start r.lap.parts.items (r.next + 1) ≡ get_or r.lap.parts.items r.next 0
   high_is = let e : r.next + 1 ≡ suc r.next = omega arith in ap (part_start r.lap.parts.items) e
 
-  pub next_entries : AreEntries p r.lap.packs.items r.lap.shown.items (part_start r.lap.parts.items r.next) (get_or r.lap.parts.items r.next 0) (round_start 0 ends r.next)
+  pub next_entries : AreEntries p (packs_kept r.lap) (shown_kept r.lap) (part_start r.lap.parts.items r.next) (get_or r.lap.parts.items r.next 0) (round_start 0 ends r.next)
   next_entries = b.lap.turn.entries r.next b.next
 
   -- they are taken
-  module _ (now : List (Option Leaf)) (taken : (k : ℕ) → IsTaken r.lap.packs.items r.lap.shown.items (part_start r.lap.parts.items r.next) (get_or r.lap.parts.items r.next 0) r.shows.items now k) where
-    lap_by : (k : ℕ) → k < packs_of p → IsTaken r.lap.packs.items r.lap.shown.items (part_start r.lap.parts.items r.next) (get_or r.lap.parts.items r.next 0) r.shows.items now k →
+  module _ (now : List (Option Leaf)) (taken : (k : ℕ) → IsTaken (packs_kept r.lap) (shown_kept r.lap) (part_start r.lap.parts.items r.next) (get_or r.lap.parts.items r.next 0) r.shows.items now k) where
+    lap_by : (k : ℕ) → k < packs_of p → IsTaken (packs_kept r.lap) (shown_kept r.lap) (part_start r.lap.parts.items r.next) (get_or r.lap.parts.items r.next 0) r.shows.items now k →
         IsPackOn p (round_start 0 ends r.next) k (get_or now k None)
     lap_by k m (inl (j, above, under, at, e)) =
         subst (λ (o : Option Leaf). IsPackOn p (round_start 0 ends r.next) k o) (sym e)
-        (subst (λ (i : ℕ). IsPackOn p (round_start 0 ends r.next) i (get_or r.lap.shown.items j None)) at (next_entries.shows j above under))
+        (subst (λ (i : ℕ). IsPackOn p (round_start 0 ends r.next) i (get_or (shown_kept r.lap) j None)) at (next_entries.shows j above under))
     lap_by k m (inr (none, e)) =
         let on = b.lap.turn.rest r.next k (get_or r.shows.items k None) b.next m none in
         subst (λ (o : Option Leaf). IsPackOn p (round_start 0 ends r.next) k o) (sym e) (on.1 (b.gone k on.0 m))
@@ -164,15 +165,15 @@ module _ (p : PlanContents) (h : IsPlan p) (start : ℕ) (r : Replay) (b : IsRep
           | inl same ↦ subst (λ (n : ℕ). AreTurns p n) (sym same) b.shift
           | inr more ↦ subst (λ (n : ℕ). AreTurns p n) (sym more) (turns_more p r.shift (turn_end r.lap) b.shift b.turn)
         ];
-        next = (let e = ap (λ (z : Turn). length z.ends.items) lap in omega (arith, e, next));
-        at = end_is ∙ ap (λ n. min n (stop_of p)) (sym at) ∙ ap (λ (z : Turn). min (round_start 0 z.ends.items r'.next + r'.shift) (stop_of p)) (sym lap);
+        next = (let e = ap (λ (z : Turn). length z.ends) lap in omega (arith, e, next));
+        at = end_is ∙ ap (λ n. min n (stop_of p)) (sym at) ∙ ap (λ (z : Turn). min (round_start 0 z.ends r'.next + r'.shift) (stop_of p)) (sym lap);
         event = round.last;
         places = placed_end;
         shown = λ s k up in_level.
             let e = same_start p s start end up round in
             subst (λ (n : ℕ). IsPackOn p n k (get_or r'.shows.items k None)) (sym e) (subst (λ (xs : List (Option Leaf)). IsPackOn p start k (get_or xs k None)) (sym shows) (now_on k in_level));
         gone = λ k some in_level.
-            subst (λ (z : Turn). IsPackOn p (round_start 0 z.ends.items (r'.next - 1)) k (get_or r'.shows.items k None)) (sym lap)
+            subst (λ (z : Turn). IsPackOn p (round_start 0 z.ends (r'.next - 1)) k (get_or r'.shows.items k None)) (sym lap)
             (subst (λ (xs : List (Option Leaf)). IsPackOn p (round_start 0 ends (r'.next - 1)) k (get_or xs k None)) (sym shows) (gone_by k behind some in_level));
         held = λ k in_level.
             ap (λ (w : Placing). is_held w.onto k) placed_end ∙ ap (λ os. is_held os k) (onto_end p h start end round)

@@ -3,6 +3,7 @@ use Rattle.std.proofs.Common.{◌≡◌, ◌≢◌, ℕ, zero, suc, ◌+◌, ◌
 use Rattle.std.proofs.Math.ListN.{get_or-append}
 use Rattle.std.proofs.Math.Seq.{get_or-append_seam}
 use Rattle.std.proofs.lemmas.Bool.{cases_lt}
+use Rattle.std.proofs.lemmas.List.{length-map, map-append}
 use Rattle.sched_base.specs.declared.rows.Leaf.{Leaf}
 use Rattle.sched_base.specs.Places.{Placing, is_held}
 use Rattle.run_tree.specs.Plans.{IsPlan, PlanContents}
@@ -12,19 +13,20 @@ use Rattle.event_core.proofs.SettledPacks.{same_start}
 use Rattle.merged_rounds.specs.declared.replays.Replay.{Replay}
 use Rattle.merged_rounds.specs.declared.turns.Turn.{Turn}
 use Rattle.merged_rounds.specs.Laps.{AreTurns, CanComeRound, round_start}
-use Rattle.merged_rounds.specs.Replays.{AreEntries, AreKept, AreOrdered, IsNotAmong, IsPackOn, IsReplayOf, IsTurn, IsTurnOf, packs_of, part_start, turn_end}
+use Rattle.merged_rounds.specs.Replays.{AreEntries, AreKept, AreOrdered, IsNotAmong, IsPackOn, IsReplayOf, IsTurn, IsTurnOf, packs_kept, packs_of, part_start, shown_kept, turn_end}
+use Rattle.merged_rounds.specs.Shown.{PackShows, packs_in, shown_in}
 use Rattle.merged_rounds.proofs.ChangeLemmas.{set_other, set_same}
 use Rattle.merged_rounds.proofs.LapLemmas.{last_start, start_kept}
 use Rattle.merged_rounds.proofs.ReplayLemmas.{onto_end, pack_once}
 use Rattle.merged_rounds.proofs.ReplaySteps.{held_some}
 
 -- no round yet
-pub turn_none : (p : PlanContents) (t : Turn) → t.ends.items ≡ [] → t.parts.items ≡ [] → t.packs.items ≡ [] → t.shown.items ≡ [] → length t.last.items ≡ packs_of p → IsTurnOf p t
-turn_none p t ends parts packs shown long =
+pub turn_none : (p : PlanContents) (t : Turn) → t.ends ≡ [] → t.parts.items ≡ [] → t.entries.items ≡ [] → length t.last.items ≡ packs_of p → IsTurnOf p t
+turn_none p t ends parts entries long =
     let none = ap (λ (xs : List ℕ). length xs) ends in
     let no_part = ap (λ (xs : List ℕ). length xs) parts in
-    let no_pack = ap (λ (xs : List ℕ). length xs) packs in
-    let no_leaf = ap (λ (xs : List (Option Leaf)). length xs) shown in
+    let no_pack = ap (λ (es : List PackShows). length (packs_in es)) entries in
+    let no_leaf = ap (λ (es : List PackShows). length (shown_in es)) entries in
     record {
       turn = record {
         round = λ i l. absurd (omega (arith, l, none));
@@ -39,6 +41,12 @@ turn_none p t ends parts packs shown long =
     }
 
 -- ---- one entry more
+
+pub packs_push : (es : List PackShows) (e : PackShows) (k : ℕ) → e.pack ≡ k → packs_in (es ++ e ∷ []) ≡ packs_in es ++ k ∷ []
+packs_push es e k is = map-append (λ (x : PackShows). x.pack) es (e ∷ []) ∙ ap (λ n. packs_in es ++ n ∷ []) is
+
+pub shown_push : (es : List PackShows) (e : PackShows) (o : Option Leaf) → e.shown ≡ o → shown_in (es ++ e ∷ []) ≡ shown_in es ++ o ∷ []
+shown_push es e o is = map-append (λ (x : PackShows). x.shown) es (e ∷ []) ∙ ap (λ (x : Option Leaf). shown_in es ++ x ∷ []) is
 
 not_among_kept : (packs : List ℕ) (x low high k : ℕ) → high ≤ length packs → IsNotAmong (packs ++ x ∷ []) low high k → IsNotAmong packs low high k
 not_among_kept packs x low high k l none j above under at = none j above under (get_or-append packs (x ∷ []) 0 j (omega (arith, l, under)) ∙ at)
@@ -89,6 +97,7 @@ kept_none p start t a = record {
     shows = λ j above under. absurd (omega (arith, above, under));
   };
   below = λ j above under. absurd (omega (arith, above, under));
+  few = omega arith;
   later = λ k l. refl;
   on = λ k l. absurd (omega (arith, l));
   rest = λ k l. absurd (omega (arith, l));
@@ -96,7 +105,7 @@ kept_none p start t a = record {
 
 module _ (p : PlanContents) (start : ℕ) (before t : Turn) (n : ℕ) (a : AreKept p start before t n) (leaf : Option Leaf) (shows : IsPackOn p start n leaf) where
   -- a pack that shows what it did
-  pub kept_skip : 0 < length before.ends.items → leaf ≡ get_or t.last.items n None → AreKept p start before t (n + 1)
+  pub kept_skip : 0 < length before.ends → leaf ≡ get_or t.last.items n None → AreKept p start before t (n + 1)
   kept_skip some same = record {
     ends = a.ends;
     parts = a.parts;
@@ -104,6 +113,7 @@ module _ (p : PlanContents) (start : ℕ) (before t : Turn) (n : ℕ) (a : AreKe
     long = a.long;
     entries = a.entries;
     below = λ j above under. (let b = a.below j above under in omega (arith, b));
+    few = (let f = a.few in omega (arith, f));
     later = λ k l. a.later k (omega (arith, l));
     on = λ k l. elim (cases_lt k n) [
       | inl low ↦ a.on k low
@@ -116,27 +126,27 @@ module _ (p : PlanContents) (start : ℕ) (before t : Turn) (n : ℕ) (a : AreKe
   }
 
   -- one with an entry
-  module _ (t' : Turn) (level : n < packs_of p) (room : n < length t.last.items) (ends : t'.ends ≡ t.ends) (parts : t'.parts ≡ t.parts) (packs : t'.packs.items ≡ t.packs.items ++ n ∷ [])
-      (shown : t'.shown.items ≡ t.shown.items ++ leaf ∷ []) (last : t'.last.items ≡ set t.last.items n leaf) where
+  module _ (t' : Turn) (level : n < packs_of p) (room : n < length t.last.items) (ends : t'.ends ≡ t.ends) (parts : t'.parts ≡ t.parts) (packs : packs_kept t' ≡ packs_kept t ++ n ∷ [])
+      (shown : shown_kept t' ≡ shown_kept t ++ leaf ∷ []) (last : t'.last.items ≡ set t.last.items n leaf) where
     abbrev low : ℕ
-    low = length before.packs.items
+    low = length (packs_kept before)
 
     abbrev old : ℕ
-    old = length t.packs.items
+    old = length (packs_kept t)
 
-    more : length (t.packs.items ++ n ∷ []) ≡ old + 1
-    more = length-append t.packs.items (n ∷ [])
+    more : length ((packs_kept t) ++ n ∷ []) ≡ old + 1
+    more = length-append (packs_kept t) (n ∷ [])
 
-    pack_old : (j : ℕ) → j < old → get_or (t.packs.items ++ n ∷ []) j 0 ≡ get_or t.packs.items j 0
-    pack_old j l = get_or-append t.packs.items (n ∷ []) 0 j l
+    pack_old : (j : ℕ) → j < old → get_or ((packs_kept t) ++ n ∷ []) j 0 ≡ get_or (packs_kept t) j 0
+    pack_old j l = get_or-append (packs_kept t) (n ∷ []) 0 j l
 
-    pack_new : (j : ℕ) → old ≤ j → j < old + 1 → get_or (t.packs.items ++ n ∷ []) j 0 ≡ n
-    pack_new j above under = let e : j ≡ old = omega (arith, above, under) in ap (λ i. get_or (t.packs.items ++ n ∷ []) i 0) e ∙ get_or-append_seam t.packs.items n [] 0
+    pack_new : (j : ℕ) → old ≤ j → j < old + 1 → get_or ((packs_kept t) ++ n ∷ []) j 0 ≡ n
+    pack_new j above under = let e : j ≡ old = omega (arith, above, under) in ap (λ i. get_or ((packs_kept t) ++ n ∷ []) i 0) e ∙ get_or-append_seam (packs_kept t) n [] 0
 
-    leaf_new : get_or (t.shown.items ++ leaf ∷ []) old None ≡ leaf
-    leaf_new = ap (λ i. get_or (t.shown.items ++ leaf ∷ []) i None) (sym a.turn.both) ∙ get_or-append_seam t.shown.items leaf [] None
+    leaf_new : get_or ((shown_kept t) ++ leaf ∷ []) old None ≡ leaf
+    leaf_new = ap (λ i. get_or ((shown_kept t) ++ leaf ∷ []) i None) (sym a.turn.both) ∙ get_or-append_seam (shown_kept t) leaf [] None
 
-    entries_on : AreEntries p (t.packs.items ++ n ∷ []) (t.shown.items ++ leaf ∷ []) low (length (t.packs.items ++ n ∷ [])) start
+    entries_on : AreEntries p ((packs_kept t) ++ n ∷ []) ((shown_kept t) ++ leaf ∷ []) low (length ((packs_kept t) ++ n ∷ [])) start
     entries_on = record {
       ordered = record {
         up = (let u = a.entries.ordered.up in omega (arith, u, more));
@@ -151,16 +161,16 @@ module _ (p : PlanContents) (start : ℕ) (before t : Turn) (n : ℕ) (a : AreKe
         ];
       };
       shows = λ j above under. elim (cases_lt j old) [
-        | inl b ↦ (entries_kept p t.packs.items t.shown.items a.turn.both n leaf low old start a.entries).shows j above b
+        | inl b ↦ (entries_kept p (packs_kept t) (shown_kept t) a.turn.both n leaf low old start a.entries).shows j above b
         | inr b ↦
             (let at : old ≡ j = omega (arith, under, more, b) in
-            subst (λ (i : ℕ). IsPackOn p start (get_or (t.packs.items ++ n ∷ []) i 0) (get_or (t.shown.items ++ leaf ∷ []) i None)) at
-            (subst (λ (k : ℕ). IsPackOn p start k (get_or (t.shown.items ++ leaf ∷ []) old None)) (sym (pack_new old (omega arith) (omega arith)))
+            subst (λ (i : ℕ). IsPackOn p start (get_or ((packs_kept t) ++ n ∷ []) i 0) (get_or ((shown_kept t) ++ leaf ∷ []) i None)) at
+            (subst (λ (k : ℕ). IsPackOn p start k (get_or ((shown_kept t) ++ leaf ∷ []) old None)) (sym (pack_new old (omega arith) (omega arith)))
             (subst (λ (o : Option Leaf). IsPackOn p start n o) (sym leaf_new) shows)))
       ];
     }
 
-    below_on : (j : ℕ) → low ≤ j → j < length (t.packs.items ++ n ∷ []) → get_or (t.packs.items ++ n ∷ []) j 0 < n + 1
+    below_on : (j : ℕ) → low ≤ j → j < length ((packs_kept t) ++ n ∷ []) → get_or ((packs_kept t) ++ n ∷ []) j 0 < n + 1
     below_on j above under = elim (cases_lt j old) [
       | inl b ↦ (let e = pack_old j b in let f = a.below j above b in omega (arith, e, f))
       | inr b ↦ (let e = pack_new j b (omega (arith, under, more)) in omega (arith, e))
@@ -172,10 +182,10 @@ module _ (p : PlanContents) (start : ℕ) (before t : Turn) (n : ℕ) (a : AreKe
     last_here : get_or t'.last.items n None ≡ leaf
     last_here = ap (λ (xs : List (Option Leaf)). get_or xs n None) last ∙ set_same t.last.items n leaf None room
 
-    rest_on : (k : ℕ) → k < n + 1 → IsNotAmong (t.packs.items ++ n ∷ []) low (length (t.packs.items ++ n ∷ [])) k → (0 < length before.ends.items) × (get_or t'.last.items k None ≡ get_or before.last.items k None)
+    rest_on : (k : ℕ) → k < n + 1 → IsNotAmong ((packs_kept t) ++ n ∷ []) low (length ((packs_kept t) ++ n ∷ [])) k → (0 < length before.ends) × (get_or t'.last.items k None ≡ get_or before.last.items k None)
     rest_on k l none = elim (cases_lt k n) [
       | inl b ↦
-          (let r = a.rest k b (not_among_kept t.packs.items n low old k (omega arith) (λ j above under. none j above (omega (arith, under, more)))) in
+          (let r = a.rest k b (not_among_kept (packs_kept t) n low old k (omega arith) (λ j above under. none j above (omega (arith, under, more)))) in
           (r.0, last_other k (λ e. omega (arith, e, b)) ∙ r.1))
       | inr b ↦ absurd (
           let u = a.entries.ordered.up in
@@ -188,27 +198,27 @@ module _ (p : PlanContents) (start : ℕ) (before t : Turn) (n : ℕ) (a : AreKe
       ends = ends ∙ a.ends;
       parts = parts ∙ a.parts;
       turn =
-          let ends_are = ap (λ (v : _). v.items) ends in
           let parts_are = ap (λ (v : _). v.items) parts in
-          subst (λ (es : List ℕ). IsTurn p es t'.parts.items t'.packs.items t'.shown.items) (sym ends_are)
-          (subst (λ (ns : List ℕ). IsTurn p t.ends.items ns t'.packs.items t'.shown.items) (sym parts_are)
-          (subst (λ (ks : List ℕ). IsTurn p t.ends.items t.parts.items ks t'.shown.items) (sym packs)
-          (subst (λ (os : List (Option Leaf)). IsTurn p t.ends.items t.parts.items (t.packs.items ++ n ∷ []) os) (sym shown)
-          (turn_kept p t.packs.items t.shown.items a.turn.both n leaf t.ends.items t.parts.items a.turn))));
+          subst (λ (es : List ℕ). IsTurn p es t'.parts.items (packs_kept t') (shown_kept t')) (sym ends)
+          (subst (λ (ns : List ℕ). IsTurn p t.ends ns (packs_kept t') (shown_kept t')) (sym parts_are)
+          (subst (λ (ks : List ℕ). IsTurn p t.ends t.parts.items ks (shown_kept t')) (sym packs)
+          (subst (λ (os : List (Option Leaf)). IsTurn p t.ends t.parts.items ((packs_kept t) ++ n ∷ []) os) (sym shown)
+          (turn_kept p (packs_kept t) (shown_kept t) a.turn.both n leaf t.ends t.parts.items a.turn))));
       long = ap (λ (xs : List (Option Leaf)). length xs) last ∙ length-set t.last.items n leaf ∙ a.long;
-      entries = subst (λ (ks : List ℕ). AreEntries p ks t'.shown.items low (length ks) start) (sym packs)
-          (subst (λ (os : List (Option Leaf)). AreEntries p (t.packs.items ++ n ∷ []) os low (length (t.packs.items ++ n ∷ [])) start) (sym shown) entries_on);
+      entries = subst (λ (ks : List ℕ). AreEntries p ks (shown_kept t') low (length ks) start) (sym packs)
+          (subst (λ (os : List (Option Leaf)). AreEntries p ((packs_kept t) ++ n ∷ []) os low (length ((packs_kept t) ++ n ∷ [])) start) (sym shown) entries_on);
+      few = (let f = a.few in let e = ap (λ (ks : List ℕ). length ks) packs in omega (arith, f, e, more));
       below = subst (λ (ks : List ℕ). (j : ℕ) → low ≤ j → j < length ks → get_or ks j 0 < n + 1) (sym packs) below_on;
       later = λ k l. last_other k (λ e. omega (arith, e, l)) ∙ a.later k (omega (arith, l));
       on = λ k l. elim (cases_lt k n) [
         | inl b ↦ subst (λ (o : Option Leaf). IsPackOn p start k o) (sym (last_other k (λ e. omega (arith, e, b)))) (a.on k b)
         | inr b ↦ (let e : n ≡ k = omega (arith, l, b) in subst (λ (i : ℕ). IsPackOn p start i (get_or t'.last.items i None)) e (subst (λ (o : Option Leaf). IsPackOn p start n o) (sym last_here) shows))
       ];
-      rest = subst (λ (ks : List ℕ). (k : ℕ) → k < n + 1 → IsNotAmong ks low (length ks) k → (0 < length before.ends.items) × (get_or t'.last.items k None ≡ get_or before.last.items k None)) (sym packs) rest_on;
+      rest = subst (λ (ks : List ℕ). (k : ℕ) → k < n + 1 → IsNotAmong ks low (length ks) k → (0 < length before.ends) × (get_or t'.last.items k None ≡ get_or before.last.items k None)) (sym packs) rest_on;
     }
 
 -- so many packs that show what they did
-pub kept_skips : (p : PlanContents) (start : ℕ) (before t : Turn) (n j : ℕ) → AreKept p start before t n → 0 < length before.ends.items → ((k : ℕ) → n ≤ k → k < n + j → IsPackOn p start k (get_or t.last.items k None)) → AreKept p start before t (n + j)
+pub kept_skips : (p : PlanContents) (start : ℕ) (before t : Turn) (n j : ℕ) → AreKept p start before t n → 0 < length before.ends → ((k : ℕ) → n ≤ k → k < n + j → IsPackOn p start k (get_or t.last.items k None)) → AreKept p start before t (n + j)
 kept_skips p start before t n zero a some on = let e : n ≡ n + 0 = omega arith in subst (λ (m : ℕ). AreKept p start before t m) e a
 kept_skips p start before t n (suc j) a some on =
     let e : n + j + 1 ≡ n + suc j = omega arith in
@@ -216,7 +226,7 @@ kept_skips p start before t n (suc j) a some on =
     (kept_skip p start before t (n + j) (kept_skips p start before t n j a some (λ k low high. on k low (omega (arith, high)))) (get_or t.last.items (n + j) None) (on (n + j) (omega arith) (omega arith)) some refl)
 
 -- up to this one
-pub kept_to : (p : PlanContents) (start : ℕ) (before t : Turn) (n m : ℕ) → n ≤ m → AreKept p start before t n → (n < m → 0 < length before.ends.items) → ((k : ℕ) → n ≤ k → k < m → IsPackOn p start k (get_or t.last.items k None)) → AreKept p start before t m
+pub kept_to : (p : PlanContents) (start : ℕ) (before t : Turn) (n m : ℕ) → n ≤ m → AreKept p start before t n → (n < m → 0 < length before.ends) → ((k : ℕ) → n ≤ k → k < m → IsPackOn p start k (get_or t.last.items k None)) → AreKept p start before t m
 kept_to p start before t n m up a some on = elim (cases_lt n m) [
   | inl more ↦ (let e : n + (m - n) ≡ m = omega (arith, up) in subst (λ (i : ℕ). AreKept p start before t i) e (kept_skips p start before t n (m - n) a (some more) (λ k low high. on k low (omega (arith, high, e)))))
   | inr same ↦ (let e : n ≡ m = omega (arith, up, same) in subst (λ (i : ℕ). AreKept p start before t i) e a)
@@ -225,16 +235,16 @@ kept_to p start before t n m up a some on = elim (cases_lt n m) [
 -- ---- one round more
 
 module _ (p : PlanContents) (start end : ℕ) (before t t' : Turn) (was : IsTurnOf p before) (here : turn_end before ≡ start) (round : IsRoundUpTo p start end) (a : AreKept p start before t (packs_of p))
-    (ends_are : t'.ends.items ≡ t.ends.items ++ end ∷ []) (parts_are : t'.parts.items ≡ t.parts.items ++ length t.packs.items ∷ []) (packs_are : t'.packs ≡ t.packs) (shown_are : t'.shown ≡ t.shown)
+    (ends_are : t'.ends ≡ t.ends ++ end ∷ []) (parts_are : t'.parts.items ≡ t.parts.items ++ length t.entries.items ∷ []) (entries_are : t'.entries ≡ t.entries)
     (last_is : t'.last ≡ t.last) where
   abbrev ends : List ℕ
-  ends = before.ends.items
+  ends = before.ends
 
   abbrev parts : List ℕ
   parts = before.parts.items
 
   abbrev packs : List ℕ
-  packs = t.packs.items
+  packs = (packs_kept t)
 
   abbrev ends' : List ℕ
   ends' = ends ++ end ∷ []
@@ -243,10 +253,10 @@ module _ (p : PlanContents) (start end : ℕ) (before t t' : Turn) (was : IsTurn
   parts' = parts ++ length packs ∷ []
 
   -- what was kept, with the new entries behind
-  kept : IsTurn p ends parts packs t.shown.items
+  kept : IsTurn p ends parts packs (shown_kept t)
   kept =
-      subst (λ (es : List ℕ). IsTurn p es parts packs t.shown.items) (ap (λ (v : _). v.items) a.ends)
-      (subst (λ (ns : List ℕ). IsTurn p t.ends.items ns packs t.shown.items) (ap (λ (v : _). v.items) a.parts) a.turn)
+      subst (λ (es : List ℕ). IsTurn p es parts packs (shown_kept t)) a.ends
+      (subst (λ (ns : List ℕ). IsTurn p t.ends ns packs (shown_kept t)) (ap (λ (v : _). v.items) a.parts) a.turn)
 
   long : length parts ≡ length ends
   long = was.turn.long
@@ -272,7 +282,7 @@ module _ (p : PlanContents) (start end : ℕ) (before t t' : Turn) (was : IsTurn
   high_old : (i : ℕ) → i < length ends → get_or parts' i 0 ≡ get_or parts i 0
   high_old i l = get_or-append parts (length packs ∷ []) 0 i (omega (arith, l, long))
 
-  low_here : part_start parts' (length ends) ≡ length before.packs.items
+  low_here : part_start parts' (length ends) ≡ length (packs_kept before)
   low_here = low_old (length ends) (omega arith) ∙ ap (part_start parts) (sym long) ∙ was.whole
 
   high_here : get_or parts' (length ends) 0 ≡ length packs
@@ -288,22 +298,22 @@ module _ (p : PlanContents) (start end : ℕ) (before t t' : Turn) (was : IsTurn
         (subst (λ (s : ℕ). IsRoundUpTo p s (get_or ends' (length ends) 0)) (sym start_here) (subst (λ (e : ℕ). IsRoundUpTo p start e) (sym end_here) round)))
   ]
 
-  entries_all : (i : ℕ) → i < length ends + 1 → AreEntries p packs t.shown.items (part_start parts' i) (get_or parts' i 0) (round_start 0 ends' i)
+  entries_all : (i : ℕ) → i < length ends + 1 → AreEntries p packs (shown_kept t) (part_start parts' i) (get_or parts' i 0) (round_start 0 ends' i)
   entries_all i l = elim (cases_lt i (length ends)) [
     | inl low ↦
-        subst (λ (s : ℕ). AreEntries p packs t.shown.items (part_start parts' i) (get_or parts' i 0) s) (sym (start_old i (omega (arith, low))))
-        (subst (λ (n : ℕ). AreEntries p packs t.shown.items n (get_or parts' i 0) (round_start 0 ends i)) (sym (low_old i (omega (arith, low))))
-        (subst (λ (n : ℕ). AreEntries p packs t.shown.items (part_start parts i) n (round_start 0 ends i)) (sym (high_old i low)) (kept.entries i low)))
+        subst (λ (s : ℕ). AreEntries p packs (shown_kept t) (part_start parts' i) (get_or parts' i 0) s) (sym (start_old i (omega (arith, low))))
+        (subst (λ (n : ℕ). AreEntries p packs (shown_kept t) n (get_or parts' i 0) (round_start 0 ends i)) (sym (low_old i (omega (arith, low))))
+        (subst (λ (n : ℕ). AreEntries p packs (shown_kept t) (part_start parts i) n (round_start 0 ends i)) (sym (high_old i low)) (kept.entries i low)))
     | inr high ↦
         (let e : length ends ≡ i = omega (arith, l, high) in
-        subst (λ (k : ℕ). AreEntries p packs t.shown.items (part_start parts' k) (get_or parts' k 0) (round_start 0 ends' k)) e
-        (subst (λ (s : ℕ). AreEntries p packs t.shown.items (part_start parts' (length ends)) (get_or parts' (length ends) 0) s) (sym start_here)
-        (subst (λ (n : ℕ). AreEntries p packs t.shown.items n (get_or parts' (length ends) 0) start) (sym low_here)
-        (subst (λ (n : ℕ). AreEntries p packs t.shown.items (length before.packs.items) n start) (sym high_here) a.entries))))
+        subst (λ (k : ℕ). AreEntries p packs (shown_kept t) (part_start parts' k) (get_or parts' k 0) (round_start 0 ends' k)) e
+        (subst (λ (s : ℕ). AreEntries p packs (shown_kept t) (part_start parts' (length ends)) (get_or parts' (length ends) 0) s) (sym start_here)
+        (subst (λ (n : ℕ). AreEntries p packs (shown_kept t) n (get_or parts' (length ends) 0) start) (sym low_here)
+        (subst (λ (n : ℕ). AreEntries p packs (shown_kept t) (length (packs_kept before)) n start) (sym high_here) a.entries))))
   ]
 
   -- a pack without an entry in the new round
-  rest_here : (k : ℕ) (o : Option Leaf) → k < packs_of p → IsNotAmong packs (length before.packs.items) (length packs) k → (0 < length ends) × (IsPackOn p (round_start 0 ends' (length ends - 1)) k o → IsPackOn p start k o)
+  rest_here : (k : ℕ) (o : Option Leaf) → k < packs_of p → IsNotAmong packs (length (packs_kept before)) (length packs) k → (0 < length ends) × (IsPackOn p (round_start 0 ends' (length ends - 1)) k o → IsPackOn p start k o)
   rest_here k o m none =
       let r = a.rest k m none in
       let some = r.0 in (
@@ -329,7 +339,7 @@ module _ (p : PlanContents) (start end : ℕ) (before t t' : Turn) (was : IsTurn
         (r.0, λ on. subst (λ (s : ℕ). IsPackOn p s k o) (sym start_here) (r.1 on)))
   ]
 
-  turn_of : IsTurn p ends' parts' packs t.shown.items
+  turn_of : IsTurn p ends' parts' packs (shown_kept t)
   turn_of = record {
     round = λ i l. round_on i (omega (arith, l, long_on));
     long = omega (arith, long, long_on, parts_on);
@@ -338,23 +348,22 @@ module _ (p : PlanContents) (start end : ℕ) (before t t' : Turn) (was : IsTurn
     rest = λ i k o l m none. rest_all i k o (omega (arith, l, long_on)) m none;
   }
 
-  ends_now : t'.ends.items ≡ ends'
-  ends_now = ends_are ∙ ap (λ (v : _). v.items ++ end ∷ []) a.ends
+  ends_now : t'.ends ≡ ends'
+  ends_now = ends_are ∙ ap (λ (es : List ℕ). es ++ end ∷ []) a.ends
 
   parts_now : t'.parts.items ≡ parts'
-  parts_now = parts_are ∙ ap (λ (v : _). v.items ++ length packs ∷ []) a.parts
+  parts_now = parts_are ∙ ap (λ n. t.parts.items ++ n ∷ []) (sym (length-map t.entries.items (λ (e : PackShows). e.pack))) ∙ ap (λ (v : _). v.items ++ length packs ∷ []) a.parts
 
   pub turn_on : IsTurnOf p t'
   turn_on = record {
     turn =
-        subst (λ (es : List ℕ). IsTurn p es t'.parts.items t'.packs.items t'.shown.items) (sym ends_now)
-        (subst (λ (ns : List ℕ). IsTurn p ends' ns t'.packs.items t'.shown.items) (sym parts_now)
-        (subst (λ (v : _). IsTurn p ends' parts' v.items t'.shown.items) (sym packs_are)
-        (subst (λ (v : _). IsTurn p ends' parts' packs v.items) (sym shown_are) turn_of)));
-    whole = ap (λ (ns : List ℕ). part_start ns (length ns)) parts_now ∙ last_start 0 (length packs) parts ∙ ap (λ (v : _). length v.items) (sym packs_are);
+        subst (λ (es : List ℕ). IsTurn p es t'.parts.items (packs_kept t') (shown_kept t')) (sym ends_now)
+        (subst (λ (ns : List ℕ). IsTurn p ends' ns (packs_kept t') (shown_kept t')) (sym parts_now)
+        (subst (λ (v : _). IsTurn p ends' parts' (packs_in v.items) (shown_in v.items)) (sym entries_are) turn_of));
+    whole = ap (λ (ns : List ℕ). part_start ns (length ns)) parts_now ∙ last_start 0 (length packs) parts ∙ ap (λ (v : _). length (packs_in v.items)) (sym entries_are);
     last = λ k l m.
-        let e : length t'.ends.items - 1 ≡ length ends = (let f = ap (λ (es : List ℕ). length es) ends_now in omega (arith, f, long_on)) in
-        let at : round_start 0 t'.ends.items (length t'.ends.items - 1) ≡ start = ap (round_start 0 t'.ends.items) e ∙ ap (λ (es : List ℕ). round_start 0 es (length ends)) ends_now ∙ start_here in
+        let e : length t'.ends - 1 ≡ length ends = (let f = ap (λ (es : List ℕ). length es) ends_now in omega (arith, f, long_on)) in
+        let at : round_start 0 t'.ends (length t'.ends - 1) ≡ start = ap (round_start 0 t'.ends) e ∙ ap (λ (es : List ℕ). round_start 0 es (length ends)) ends_now ∙ start_here in
         subst (λ (s : ℕ). IsPackOn p s k (get_or t'.last.items k None)) (sym at) (subst (λ (v : _). IsPackOn p start k (get_or v.items k None)) (sym last_is) (a.on k m));
     long = ap (λ (v : _). length v.items) last_is ∙ a.long ∙ was.long;
   }
@@ -366,7 +375,7 @@ module _ (p : PlanContents) (start end : ℕ) (before t t' : Turn) (was : IsTurn
 
 module _ (p : PlanContents) (h : IsPlan p) (can : CanComeRound p) (c : CoreContents) (b : IsCoreOf p c) (r : Replay) (lap : IsTurnOf p r.lap) (end : turn_end r.lap ≡ c.tick) (turns : AreTurns p c.tick) where
   abbrev kept_ends : List ℕ
-  kept_ends = r.lap.ends.items
+  kept_ends = r.lap.ends
 
   positive : 0 < c.tick
   positive =

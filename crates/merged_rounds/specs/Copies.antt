@@ -52,5 +52,5 @@ pub record IsLastLap (p : PlanContents) (source : Source) (ticks : ℕ) : Type 0
   pub gone : ticks ≤ source.tick
   pub left : stop_of p ≤ source.tick + ticks
   pub turns : AreTurns p ticks
-  pub few : length source.replay.lap.ends.items ≤ row_limit
+  pub few : length source.replay.lap.ends ≤ row_limit
   pub within : turn_end source.replay.lap < stop_of p

@@ -6,3 +6,4 @@ pub mod Changes
 pub mod Recurrences
 pub mod Standings
 pub mod Copies
+pub mod Shown

@@ -19,6 +19,7 @@ use Rattle.sched_base.specs.Tables.{lane_of}
 use Rattle.merged_rounds.specs.declared.sums.RoundSum.{RoundSum}
 use Rattle.merged_rounds.specs.Laps.{AreTurns, CanComeRound, IsSumUpTo, round_start}
 use Rattle.merged_rounds.specs.Passes.{IsKept}
+use Rattle.merged_rounds.specs.Shown.{is_some, packs_in, shown_in}
 
 -- the number of packs of level 0
 abbrev pub packs_of : PlanContents → ℕ
@@ -62,22 +63,24 @@ pub record IsTurn (p : PlanContents) (ends parts packs : List ℕ) (shown : List
   pub rest : (i k : ℕ) (o : Option Leaf) → i < length ends → k < packs_of p → IsNotAmong packs (part_start parts i) (slice_index parts i) k →
       (0 < i) × (IsPackOn p (round_start 0 ends (i - 1)) k o → IsPackOn p (round_start 0 ends i) k o)
 
--- the tick at which the last of them ends
+-- the packs of a turn's entries, and what they show
+abbrev pub packs_kept : Turn → List ℕ
+packs_kept t = packs_in t.entries.items
+
+abbrev pub shown_kept : Turn → List (Option Leaf)
+shown_kept t = shown_in t.entries.items
+
+-- the tick at which the last of its rounds ends
 abbrev pub turn_end : Turn → ℕ
-turn_end t = round_start 0 t.ends.items (length t.ends.items)
+turn_end t = round_start 0 t.ends (length t.ends)
 
 -- so they are, and this is what each pack shows in the last one
 pub record IsTurnOf (p : PlanContents) (t : Turn) : Type 0 where
-  pub turn : IsTurn p t.ends.items t.parts.items t.packs.items t.shown.items
-  pub whole : part_start t.parts.items (length t.parts.items) ≡ length t.packs.items
-  pub last : (k : ℕ) → 0 < length t.ends.items → k < packs_of p →
-      IsPackOn p (round_start 0 t.ends.items (length t.ends.items - 1)) k (slice_index_or t.last.items k None)
+  pub turn : IsTurn p t.ends t.parts.items (packs_kept t) (shown_kept t)
+  pub whole : part_start t.parts.items (length t.parts.items) ≡ length (packs_kept t)
+  pub last : (k : ℕ) → 0 < length t.ends → k < packs_of p →
+      IsPackOn p (round_start 0 t.ends (length t.ends - 1)) k (slice_index_or t.last.items k None)
   pub long : length t.last.items ≡ packs_of p
-
--- whether something is told
-abbrev pub is_some : Option Leaf → Bool
-is_some None = false
-is_some (Some l) = true
 
 -- Of the first n packs those that show something else than before are among the ones that were looked at, and the lists have those that
 -- showed something and show nothing, and those that begin.
@@ -92,14 +95,15 @@ pub record AreNotedTo (before now : List (Option Leaf)) (n : ℕ) (changes : Cha
 pub record AreKept (p : PlanContents) (start : ℕ) (before after : Turn) (n : ℕ) : Type 0 where
   pub ends : after.ends ≡ before.ends
   pub parts : after.parts ≡ before.parts
-  pub turn : IsTurn p after.ends.items after.parts.items after.packs.items after.shown.items
+  pub turn : IsTurn p after.ends after.parts.items (packs_kept after) (shown_kept after)
   pub long : length after.last.items ≡ length before.last.items
-  pub entries : AreEntries p after.packs.items after.shown.items (length before.packs.items) (length after.packs.items) start
-  pub below : (j : ℕ) → length before.packs.items ≤ j → j < length after.packs.items → slice_index after.packs.items j < n
+  pub entries : AreEntries p (packs_kept after) (shown_kept after) (length (packs_kept before)) (length (packs_kept after)) start
+  pub below : (j : ℕ) → length (packs_kept before) ≤ j → j < length (packs_kept after) → slice_index (packs_kept after) j < n
+  pub few : length (packs_kept after) ≤ length (packs_kept before) + n
   pub later : (k : ℕ) → n ≤ k → slice_index_or after.last.items k None ≡ slice_index_or before.last.items k None
   pub on : (k : ℕ) → k < n → IsPackOn p start k (slice_index_or after.last.items k None)
-  pub rest : (k : ℕ) → k < n → IsNotAmong after.packs.items (length before.packs.items) (length after.packs.items) k →
-      (0 < length before.ends.items) × (slice_index_or after.last.items k None ≡ slice_index_or before.last.items k None)
+  pub rest : (k : ℕ) → k < n → IsNotAmong (packs_kept after) (length (packs_kept before)) (length (packs_kept after)) k →
+      (0 < length before.ends) × (slice_index_or after.last.items k None ≡ slice_index_or before.last.items k None)
 
 -- From number `from` on, a pack without a mark shows what the processor does that holds it, and nothing where none does.
 pub record AreStill (onto : List (Option ℕ)) (leaves shows : List (Option Leaf)) (marks : List Bool) (from : ℕ) : Type 0 where
@@ -136,12 +140,12 @@ pub record IsReplayOf (p : PlanContents) (tick : ℕ) (r : Replay) : Type 0 wher
   pub lap : IsTurnOf p r.lap
   pub turn : AreTurns p (turn_end r.lap)
   pub shift : AreTurns p r.shift
-  pub next : r.next < length r.lap.ends.items
-  pub at : tick ≡ min (round_start 0 r.lap.ends.items r.next + r.shift) (stop_of p)
+  pub next : r.next < length r.lap.ends
+  pub at : tick ≡ min (round_start 0 r.lap.ends r.next + r.shift) (stop_of p)
   pub event : IsRoundStart p tick
   pub places : r.places ≡ places_of p tick
   pub shown : (start k : ℕ) → IsRoundUpTo p start tick → k < packs_of p → IsPackOn p start k (slice_index_or r.shows.items k None)
-  pub gone : (k : ℕ) → 0 < r.next → k < packs_of p → IsPackOn p (round_start 0 r.lap.ends.items (r.next - 1)) k (slice_index_or r.shows.items k None)
+  pub gone : (k : ℕ) → 0 < r.next → k < packs_of p → IsPackOn p (round_start 0 r.lap.ends (r.next - 1)) k (slice_index_or r.shows.items k None)
   pub held : (k : ℕ) → k < packs_of p → is_held r.places.onto k ≡ is_some (slice_index_or r.shows.items k None)
   pub room : r.changes.room ≡ packs_of p
   pub long : length r.shows.items ≡ packs_of p

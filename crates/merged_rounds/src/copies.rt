@@ -11,7 +11,6 @@ ghost use Rattle.merged_rounds.specs.Replays.{IsSourceOf, IsTurnOf, turn_end};
 ghost use Rattle.merged_rounds.specs.Standings.{StandsAlike};
 
 use crate::counts::count_all;
-use crate::laps::start_of;
 use crate::passes::are_turns;
 use crate::sources::Source;
 use crate::sums::RoundSum;
@@ -30,20 +29,20 @@ pub(crate) struct Window {
 }
 
 // How many rounds begin before this tick, which isn't behind the end of the last one.
-fn starts_before(ends: &[u128], tick: u128) -> usize
-    requires some { 0 < length ends.now }
+fn starts_before(kept: &Turn, tick: u128) -> usize
+    requires some { 0 < length kept.now.ends }
     requires above { 0 < tick }
-    requires below { tick ≤ round_start 0 ends.now (length ends.now) }
+    requires below { tick ≤ round_start 0 kept.now.ends (length kept.now.ends) }
     ensures some { 0 < result }
-    ensures within { result ≤ length ends.now }
-    ensures begun { round_start 0 ends.now (result - 1) < tick }
-    ensures next { tick ≤ round_start 0 ends.now result }
+    ensures within { result ≤ length kept.now.ends }
+    ensures begun { round_start 0 kept.now.ends (result - 1) < tick }
+    ensures next { tick ≤ round_start 0 kept.now.ends result }
 {
     let mut low = 0;
-    let mut high = ends.len();
+    let mut high = kept.rounds();
     'halves: while low + 1 < high {
         let middle = low + (high - low) / 2;
-        if start_of(ends, 0, middle) < tick {
+        if kept.start(middle) < tick {
             low = middle;
         } else {
             high = middle;
@@ -57,7 +56,7 @@ fn count_by_kept(plan: &Plan, kept: &Turn) -> Result<u64, CountFault>
     requires can { CanComeRound plan.now }
     requires kept { IsTurnOf plan.now kept.now }
     requires turns { AreTurns plan.now (turn_end kept.now) }
-    requires few { length kept.now.ends.items ≤ row_limit }
+    requires few { length kept.now.ends ≤ row_limit }
     requires within { turn_end kept.now < stop_of plan.now }
     ensures count { IfOk result (λ count. (count ≡ rounds_of plan.now) × (count * plan.now.tree.processors ≤ row_limit)) }
     ensures fault { IfErr result (λ fault. IsCountFault plan.now fault) }
@@ -65,7 +64,7 @@ fn count_by_kept(plan: &Plan, kept: &Turn) -> Result<u64, CountFault>
     plan.know_lawful();
     let turn = kept.end();
     let last = plan.rounds_end() - 1;
-    let rest = starts_before(&kept.ends, last % turn + 1);
+    let rest = starts_before(kept, last % turn + 1);
     count_all(plan, last / turn, kept.rounds() as u64, rest as u64)
 }
 
@@ -125,7 +124,7 @@ fn copy_lanes(
 
 // Whether there are few enough kept rounds, and they end before all rounds do.
 fn is_short(plan: &Plan, kept: &Turn) -> bool
-    ensures few { result ≡ true → length kept.now.ends.items ≤ row_limit }
+    ensures few { result ≡ true → length kept.now.ends ≤ row_limit }
     ensures within { result ≡ true → turn_end kept.now < stop_of plan.now }
 {
     kept.rounds() as u64 <= ROW_LIMIT && kept.end() < plan.rounds_end()

@@ -14,9 +14,11 @@ mod recurrences;
 mod releases;
 mod replays;
 mod searches;
+mod shown;
 mod sources;
 mod standings;
 mod sums;
+mod tick_column;
 mod turns;
 
 pub use counts::round_count;

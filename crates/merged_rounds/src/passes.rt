@@ -22,7 +22,7 @@ use crate::searches::{merge_until_again, turn_of};
 use crate::sources::{Source, source_of, with_turn};
 use crate::standings::standing_at;
 use crate::sums::{RoundSum, add_round, all_rounds, no_rounds};
-use crate::turns::{merge_turn, no_turn};
+use crate::turns::{MOST_PACKS, merge_turn, no_turn, pack_count};
 use event_core::{Core, CountFault};
 use merged_rows::MergedRows;
 use round_looks::look_each;
@@ -215,14 +215,14 @@ fn computed(alloc: Global, plan: &Plan, core: Core) -> Result<Source, NoMemory>
     ensures belongs { IfOk result (λ source. IsSourceOf plan.now source) }
     ensures tick { IfOk result (λ source. source.tick ≡ core.tick) }
 {
-    source_of(alloc, plan, core, no_turn(alloc, plan)?, false)
+    source_of(alloc, plan, core, no_turn(alloc, plan, 0)?, false)
 }
 
 // With so few processors a round costs less than looking through what is kept of it.
 const FEW: u32 = 2;
 
-// Goes on for a hyperperiod of so many ticks, where there are more than a few processors and no task has an offset, and tells where
-// further rounds come from: by that one's where it is kept.
+// Goes on for a hyperperiod of so many ticks, where there are more than a few processors, not too many packs, and no task has an offset,
+// and tells where further rounds come from: by that one's where it is kept.
 fn merge_first(
     alloc: Global,
     plan: &Plan,
@@ -240,7 +240,7 @@ fn merge_first(
     ensures sum { IfOk result (λ pair. IsSumUpTo plan.now pair.1.tick pair.0) }
     ensures fault { IfErr result (λ fault. IsCountFault plan.now fault) }
 {
-    if plan.tree().processors() <= FEW || !is_on_time(plan) {
+    if plan.tree().processors() <= FEW || pack_count(plan) > MOST_PACKS || !is_on_time(plan) {
         return Ok((first, computed(alloc, plan, core)?));
     }
     let mut source = computed(alloc, plan, core)?;

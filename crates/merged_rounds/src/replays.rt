@@ -9,9 +9,10 @@ ghost use Rattle.event_core.specs.Rounds.{IsRoundUpTo};
 ghost use Rattle.event_core.specs.Told.{AreTold, IsTold};
 ghost use Rattle.merged_rounds.specs.Laps.{round_start};
 ghost use Rattle.round_looks.specs.Looks.{leaf_at};
-ghost use Rattle.merged_rounds.specs.Replays.{AreNotedTo, AreOrdered, BeginsAgain, HasPlaced, IsEntryTaken, IsReplayOf, IsTaken, is_some, packs_of, turn_end};
+ghost use Rattle.merged_rounds.specs.Replays.{AreNotedTo, AreOrdered, BeginsAgain, HasPlaced, IsEntryTaken, IsReplayOf, IsTaken, packs_of, turn_end};
+ghost use Rattle.merged_rounds.specs.Shown.{packs_in, shown_in};
 
-use crate::laps::end_of;
+use crate::shown::{Entry, Shown};
 use crate::turns::Turn;
 use cpu_assign::{Changes, Places};
 use event_core::Core;
@@ -28,23 +29,12 @@ pub(crate) struct Replay {
     shift: u128,
     places: Places,
     changes: Changes,
-    shows: Vec<Option<Leaf>>,
-}
-
-// Whether something is told.
-#[inline(always)]
-fn is_told(shows: Option<Leaf>) -> bool
-    ensures { result ≡ is_some shows }
-{
-    match shows {
-        None => false,
-        Some(_leaf) => true,
-    }
+    shows: Vec<Shown>,
 }
 
 // Pack k shows this now, and is listed where that is something else than before.
 #[inline(always)]
-fn take_entry(k: u32, leaf: Option<Leaf>, shows: &mut [Option<Leaf>], changes: &mut Changes)
+fn take_entry(k: u32, leaf: Shown, shows: &mut [Shown], changes: &mut Changes)
     requires pack { k < length shows.old }
     requires seen { length changes.old.seen < changes.old.room }
     requires stopped { length changes.old.stopped < changes.old.room }
@@ -55,30 +45,29 @@ fn take_entry(k: u32, leaf: Option<Leaf>, shows: &mut [Option<Leaf>], changes: &
 {
     let before = shows[k as usize];
     shows[k as usize] = leaf;
-    if leaf != before {
-        changes.see(k, is_told(leaf), is_told(before));
+    if !leaf.is_same(before) {
+        changes.see(k, leaf.is_some(), before.is_some());
     }
 }
 
 // Packs show what the entries from place `low` up to `high` tell, and those are listed that show something else than before.
 fn take_entries(
-    packs: &[u32],
-    shown: &[Option<Leaf>],
+    entries: &[Entry],
     low: usize,
     high: usize,
-    shows: &mut [Option<Leaf>],
+    shows: &mut [Shown],
     changes: &mut Changes,
 )
-    requires ordered { AreOrdered packs.now low high (length shows.old) }
-    requires both { length shown.now ≡ length packs.now }
+    requires ordered { AreOrdered (packs_in entries.now) low high (length shows.old) }
     requires room { changes.old.room ≡ length shows.old }
     ensures noted { AreNotedTo shows.old shows.new (length shows.old) changes.new }
-    ensures taken { (k : ℕ) → IsTaken packs.now shown.now low high shows.old shows.new k }
+    ensures taken { (k : ℕ) → IsTaken (packs_in entries.now) (shown_in entries.now) low high shows.old shows.new k }
     ensures room { changes.new.room ≡ changes.old.room }
 {
     changes.clear();
     for j in low..high {
-        take_entry(packs[j], shown[j], shows, changes);
+        let entry = &entries[j];
+        take_entry(entry.pack(), entry.shown(), shows, changes);
     }
 }
 
@@ -125,14 +114,14 @@ fn room_for_changes(alloc: Global, plan: &Plan) -> Result<Changes, NoMemory>
 
 // The round behind round i of a hyperperiod, which begins anew behind its last one, and how many ticks later it begins.
 fn behind(lap: &Turn, i: usize, shift: u128) -> (usize, u128)
-    requires round { i < length lap.now.ends.items }
+    requires round { i < length lap.now.ends }
     requires fits { shift + turn_end lap.now < 2 ^ 128 }
-    ensures within { result.0 < length lap.now.ends.items }
-    ensures at { round_start 0 lap.now.ends.items result.0 + result.1 ≡ slice_index lap.now.ends.items i + shift }
+    ensures within { result.0 < length lap.now.ends }
+    ensures at { round_start 0 lap.now.ends result.0 + result.1 ≡ slice_index lap.now.ends i + shift }
     ensures shift { (result.1 ≡ shift) ⊎ (result.1 ≡ shift + turn_end lap.now) }
     ensures next { (result.0 ≡ 0) ⊎ (result.0 ≡ i + 1) }
 {
-    if i + 1 < lap.rounds() {
+    if i < lap.rounds() - 1 {
         (i + 1, shift)
     } else {
         (0, shift + lap.end())
@@ -192,15 +181,14 @@ impl Replay {
         let low = self.lap.part(self.next);
         let high = self.lap.part(self.next + 1);
         take_entries(
-            &self.lap.packs,
-            &self.lap.shown,
+            &self.lap.entries,
             low,
             high,
             &mut self.shows,
             &mut self.changes,
         );
         self.places.place_again(&self.changes);
-        let end = end_of(&self.lap.ends, self.next, self.shift, plan.rounds_end());
+        let end = self.lap.end_of(self.next, self.shift, plan.rounds_end());
         let (next, shift) = behind(&self.lap, self.next, self.shift);
         self.next = next;
         self.shift = shift;
@@ -242,13 +230,13 @@ impl Replay {
         plan.know_lawful();
         let _start = start;
         let _end = end;
-        shown_in(&self.shows, self.places.pack_on(q))
+        leaf_of(&self.shows, self.places.pack_on(q))
     }
 }
 
 // What this pack shows, or nothing.
 #[inline(always)]
-fn shown_in(shows: &[Option<Leaf>], pack: Option<u32>) -> Leaf
+fn leaf_of(shows: &[Shown], pack: Option<u32>) -> Leaf
     requires { (k : ℕ) → pack ≡ Some k → k < length shows.now }
     ensures none { pack ≡ None → result ≡ empty_leaf }
     ensures some { (k : ℕ) (l : DeclaredLeaf) → pack ≡ Some k → slice_index_or shows.now k None ≡ Some l → result ≡ l }
@@ -256,7 +244,7 @@ fn shown_in(shows: &[Option<Leaf>], pack: Option<u32>) -> Leaf
     let Some(k) = pack else {
         return Leaf::Empty;
     };
-    match shows[k as usize] {
+    match shows[k as usize].leaf() {
         None => Leaf::Empty,
         Some(leaf) => leaf,
     }

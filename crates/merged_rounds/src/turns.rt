@@ -1,5 +1,5 @@
 //! The rounds of the first hyperperiod, kept by the packs that show something else than in the round before.
-ghost use Rattle.std.specs.Prelude.{◌≡◌, ◌<◌, ◌≤◌, ◌+◌, ◌++◌, ◌∷◌};
+ghost use Rattle.std.specs.Prelude.{◌≡◌, ◌<◌, ◌≤◌, ◌+◌, ◌^◌, ◌++◌, ◌∷◌, min};
 ghost use Rattle.std.specs.Prelude.{ℕ, [], true, false, length, IfErr, IfOk, None, Some, slice_index, slice_index_or, replicate, vec_len};
 ghost use Rattle.sched_base.specs.Places.{is_held};
 ghost use Rattle.run_tree.specs.Plans.{PlanContents, stop_of};
@@ -8,40 +8,47 @@ ghost use Rattle.event_core.specs.Counts.{IsCountFault};
 ghost use Rattle.event_core.specs.Rounds.{IsRoundUpTo};
 ghost use Rattle.merged_rounds.specs.declared.turns.Turn.{Turn as DeclaredTurn};
 ghost use Rattle.merged_rounds.specs.Changes.{IsNone, IsTurning};
-ghost use Rattle.merged_rounds.specs.Laps.{CanComeRound, IsAllTold, IsSumUpTo};
-ghost use Rattle.merged_rounds.specs.Replays.{AreHolding, AreKept, AreStill, IsPackOn, IsSourceOf, IsTurnOf, packs_of, part_start, turn_end};
+ghost use Rattle.merged_rounds.specs.Laps.{CanComeRound, IsAllTold, IsSumUpTo, round_start};
+ghost use Rattle.merged_rounds.specs.Replays.{AreHolding, AreKept, AreStill, IsPackOn, IsSourceOf, IsTurnOf, packs_kept, packs_of, part_start, shown_kept, turn_end};
 
 use crate::changed::{first_of, merge_telling, merge_whole, room_for_told};
-use crate::laps::start_of;
 use crate::looks::no_leaves;
 use crate::marks::Marks;
+use crate::shown::{Entry, Shown};
 use crate::sources::Source;
 use crate::sums::RoundSum;
+use crate::tick_column::TickColumn;
 use cpu_assign::Places;
 use event_core::CountFault;
 use run_tree::Plan;
 use sched_base::{Leaf, NoMemory};
 use std::alloc::Global;
 
-// So many entries are kept at most, with 16 bytes each.
+// So many entries are kept at most, with 8 bytes each.
 const MOST_KEPT: usize = 1179648;
 
-/// The rounds of the first hyperperiod: where each ends, and the packs that show something else in it than in the round before, by their
-/// numbers, with what they show. In the first round these are all packs. The entries of a round go up to its number in `parts`. And what
-/// each pack shows in the last round.
+// Room is taken at once for so many rounds and entries: lists of that size have pages of their own, which aren't copied where a list grows,
+// and of which those that aren't written cost nothing.
+const ROOM: usize = 32768;
+
+/// So many packs of level 0 a plan has at most whose rounds are kept.
+pub(crate) const MOST_PACKS: u32 = 65536;
+
+/// The rounds of the first hyperperiod: where each ends, and an entry of each pack that may show something else in it than in the round
+/// before. In the first round these are all packs. The entries of a round go up to its number in `parts`. And what each pack shows in the
+/// last round.
 #[derive(Drop)]
 pub(crate) struct Turn {
-    pub(crate) ends: Vec<u128>,
-    pub(crate) parts: Vec<usize>,
-    pub(crate) packs: Vec<u32>,
-    pub(crate) shown: Vec<Option<Leaf>>,
-    pub(crate) last: Vec<Option<Leaf>>,
+    pub(crate) ends: TickColumn,
+    pub(crate) parts: Vec<u32>,
+    pub(crate) entries: Vec<Entry>,
+    pub(crate) last: Vec<Shown>,
 }
 
 impl Turn {
     /// How many rounds there are.
     pub(crate) fn rounds(&self) -> usize
-        ensures { result ≡ length self.now.ends.items }
+        ensures { result ≡ length self.now.ends }
     {
         self.ends.len()
     }
@@ -49,7 +56,7 @@ impl Turn {
     // Whether there is none.
     #[inline(always)]
     fn is_none(&self) -> bool
-        ensures { result ≡ false → 0 < length self.now.ends.items }
+        ensures { result ≡ false → 0 < length self.now.ends }
     {
         self.ends.len() == 0
     }
@@ -58,7 +65,25 @@ impl Turn {
     pub(crate) fn end(&self) -> u128
         ensures { result ≡ turn_end self.now }
     {
-        start_of(&self.ends, 0, self.ends.len())
+        self.start(self.ends.len())
+    }
+
+    /// The tick at which round i begins; or where there are i rounds, the one at which the last ends.
+    pub(crate) fn start(&self, i: usize) -> u128
+        requires { i ≤ length self.now.ends }
+        ensures { result ≡ round_start 0 self.now.ends i }
+    {
+        if i == 0 { 0 } else { self.ends.at(i - 1) }
+    }
+
+    /// The tick at which round i ends, so many ticks later; or the end of all rounds where that is sooner.
+    #[inline(always)]
+    pub(crate) fn end_of(&self, i: usize, shift: u128, stop: u128) -> u128
+        requires round { i < length self.now.ends }
+        requires fits { slice_index self.now.ends i + shift < 2 ^ 128 }
+        ensures { result ≡ min (slice_index self.now.ends i + shift) stop }
+    {
+        (self.ends.at(i) + shift).min(stop)
     }
 
     /// The place of the first entry of round i, or behind the last one of the round before.
@@ -67,69 +92,53 @@ impl Turn {
         requires { i ≤ length self.now.parts.items }
         ensures { result ≡ part_start self.now.parts.items i }
     {
-        if i == 0 { 0 } else { self.parts[i - 1] }
+        if i == 0 { 0 } else { self.parts[i - 1] as usize }
     }
 
     // One entry more.
     #[inline(always)]
-    fn keep(&mut self, pack: u32, shows: Option<Leaf>) -> Result<(), NoMemory>
-        ensures packs { IfOk result (λ _. self.new.packs.items ≡ self.old.packs.items ++ pack ∷ []) }
-        ensures shown { IfOk result (λ _. self.new.shown.items ≡ self.old.shown.items ++ shows ∷ []) }
+    fn keep(&mut self, pack: u32, shows: Shown) -> Result<(), NoMemory>
+        requires { pack < 2 ^ 16 }
+        ensures packs { IfOk result (λ _. packs_kept self.new ≡ packs_kept self.old ++ pack ∷ []) }
+        ensures shown { IfOk result (λ _. shown_kept self.new ≡ shown_kept self.old ++ shows ∷ []) }
         ensures ends { IfOk result (λ _. self.new.ends ≡ self.old.ends) }
         ensures parts { IfOk result (λ _. self.new.parts ≡ self.old.parts) }
         ensures last { IfOk result (λ _. self.new.last ≡ self.old.last) }
     {
-        self.packs.push(pack)?;
-        self.shown.push(shows)?;
+        self.entries.push(Entry::new(pack, shows))?;
         Ok(())
     }
 
     // One round more, up to tick `end`, with the entries behind those of the others.
     fn close(&mut self, end: u128) -> Result<(), NoMemory>
-        ensures ends { IfOk result (λ _. self.new.ends.items ≡ self.old.ends.items ++ end ∷ []) }
-        ensures parts { IfOk result (λ _. self.new.parts.items ≡ self.old.parts.items ++ length self.old.packs.items ∷ []) }
-        ensures packs { IfOk result (λ _. self.new.packs ≡ self.old.packs) }
-        ensures shown { IfOk result (λ _. self.new.shown ≡ self.old.shown) }
+        requires { length self.old.entries.items < 2 ^ 32 }
+        ensures ends { IfOk result (λ _. self.new.ends ≡ self.old.ends ++ end ∷ []) }
+        ensures parts { IfOk result (λ _. self.new.parts.items ≡ self.old.parts.items ++ length self.old.entries.items ∷ []) }
+        ensures entries { IfOk result (λ _. self.new.entries ≡ self.old.entries) }
         ensures last { IfOk result (λ _. self.new.last ≡ self.old.last) }
     {
-        let count = self.packs.len();
+        let count = self.entries.len() as u32;
         self.ends.push(end)?;
         self.parts.push(count)?;
         Ok(())
     }
 
-    // Whether pack k shows what it did, where it isn't the first round.
+    // Pack k shows this, and an entry of it is kept.
     #[inline(always)]
-    fn shows_same(&self, k: u32, leaf: Option<Leaf>, whole: bool) -> bool
-        requires { k < length self.now.last.items }
-        ensures later { result ≡ true → whole ≡ false }
-        ensures same { result ≡ true → leaf ≡ slice_index_or self.now.last.items k None }
-    {
-        if whole {
-            false
-        } else {
-            leaf == self.last[k as usize]
-        }
-    }
-
-    // Pack k shows this, and is kept where that is something else than before, or in the first round.
-    #[inline(always)]
-    fn keep_pack(&mut self, k: u32, leaf: Option<Leaf>, whole: bool) -> Result<(), NoMemory>
-        requires { k < length self.old.last.items }
+    fn keep_pack(&mut self, k: u32, leaf: Shown) -> Result<(), NoMemory>
+        requires pack { k < length self.old.last.items }
+        requires few { k < 2 ^ 16 }
         ensures kept { IfOk result (λ _. (p : PlanContents) (start : ℕ) (before : DeclaredTurn) → AreKept p start before self.old k → k < packs_of p →
-            IsPackOn p start k leaf → (whole ≡ false → 0 < length before.ends.items) → AreKept p start before self.new (k + 1)) }
+            IsPackOn p start k leaf → AreKept p start before self.new (k + 1)) }
         ensures long { IfOk result (λ _. length self.new.last.items ≡ length self.old.last.items) }
     {
-        if self.shows_same(k, leaf, whole) {
-            return Ok(());
-        }
         self.keep(k, leaf)?;
         self.last[k as usize] = leaf;
         Ok(())
     }
 
-    // One round more, from `start` up to `end`, of which it is known what each processor shows. Packs are kept that show something else than
-    // before, or each of them, where it is the first round. All those that may do so have marks.
+    // One round more, from `start` up to `end`, of which it is known what each processor shows. Entries are kept of the packs with marks, which
+    // are all that may show something else than before; or of each pack, where it is the first round.
     fn keep_round(
         &mut self,
         plan: &Plan,
@@ -145,7 +154,9 @@ impl Turn {
         requires leaves { IsAllTold plan.now start end leaves.now }
         requires turn { IsTurnOf plan.now self.old }
         requires marks { length marks.now ≡ packs_of plan.now }
-        requires still { 0 < length self.old.ends.items → AreStill places.now.onto leaves.now self.old.last.items marks.now 0 }
+        requires few { packs_of plan.now ≤ 2 ^ 16 }
+        requires room { length self.old.entries.items + packs_of plan.now < 2 ^ 32 }
+        requires still { 0 < length self.old.ends → AreStill places.now.onto leaves.now self.old.last.items marks.now 0 }
         requires here { turn_end self.old ≡ start }
         ensures turn { IfOk result (λ _. IsTurnOf plan.now self.new) }
         ensures end { IfOk result (λ _. turn_end self.new ≡ end) }
@@ -156,8 +167,8 @@ impl Turn {
         let whole = self.is_none();
         let mut k = next_kept(marks, whole, 0);
         'packs: while k < count {
-            let leaf = shown_by(places, leaves, k);
-            self.keep_pack(k, leaf, whole)?;
+            let leaf = Shown::of(shown_by(places, leaves, k));
+            self.keep_pack(k, leaf)?;
             k = next_kept(marks, whole, k + 1);
         }
         self.close(end)?;
@@ -165,22 +176,22 @@ impl Turn {
     }
 }
 
-/// No round yet.
-pub(crate) fn no_turn(alloc: Global, plan: &Plan) -> Result<Turn, NoMemory>
+/// No round yet, with room for so many rounds and entries.
+pub(crate) fn no_turn(alloc: Global, plan: &Plan, room: usize) -> Result<Turn, NoMemory>
     ensures turn { IfOk result (λ turn. IsTurnOf plan.now turn) }
-    ensures none { IfOk result (λ turn. turn.ends.items ≡ []) }
+    ensures ends { IfOk result (λ turn. turn.ends ≡ []) }
+    ensures entries { IfOk result (λ turn. turn.entries.items ≡ []) }
 {
     Ok(Turn {
-        ends: Vec::new(alloc),
-        parts: Vec::new(alloc),
-        packs: Vec::new(alloc),
-        shown: Vec::new(alloc),
+        ends: TickColumn::with_room(alloc, room)?,
+        parts: Vec::with_capacity(alloc, room)?,
+        entries: Vec::with_capacity(alloc, room)?,
         last: no_packs(alloc, plan)?,
     })
 }
 
-// The number of packs of level 0.
-fn pack_count(plan: &Plan) -> u32
+/// The number of packs of level 0.
+pub(crate) fn pack_count(plan: &Plan) -> u32
     ensures { result ≡ packs_of plan.now }
 {
     plan.know_lawful();
@@ -188,11 +199,11 @@ fn pack_count(plan: &Plan) -> u32
 }
 
 // Of no pack of level 0 anything.
-fn no_packs(alloc: Global, plan: &Plan) -> Result<Vec<Option<Leaf>>, NoMemory>
+fn no_packs(alloc: Global, plan: &Plan) -> Result<Vec<Shown>, NoMemory>
     ensures { IfOk result (λ v. v.items ≡ replicate (packs_of plan.now) None) }
 {
     plan.know_lawful();
-    Ok(vec![in alloc; None; plan.tree().packs(0) as usize]?)
+    Ok(vec![in alloc; Shown::nothing(); plan.tree().packs(0) as usize]?)
 }
 
 // Room for marks of the packs of level 0.
@@ -303,11 +314,12 @@ fn begin_turn(
     requires sum { IsSumUpTo plan.now source.old.tick first }
     requires told { length told.old ≡ plan.now.tree.processors }
     requires marks { length marks.now ≡ packs_of plan.now }
+    requires few { packs_of plan.now ≤ 2 ^ 16 }
     ensures going { IfOk result (λ pair. IsTurning plan.now source.new pair.0 pair.1 told.new) }
     ensures fault { IfErr result (λ fault. IsCountFault plan.now fault) }
 {
     let start = source.now();
-    let mut turn = no_turn(alloc, plan)?;
+    let mut turn = no_turn(alloc, plan, ROOM)?;
     let sum = merge_whole(plan, source, told, first)?;
     let end = source.now();
     turn.keep_round(plan, source.places(plan), start, end, told, marks)?;
@@ -329,8 +341,10 @@ fn turn_next(
     requires going { IsTurning plan.now source.old sum.old turn.old told.old }
     requires holds { AreHolding plan.now source.old.tick holds.old }
     requires early { source.old.tick < stop_of plan.now }
-    requires room { length changed.old ≡ packs_of plan.now }
+    requires told { length changed.old ≡ packs_of plan.now }
     requires marks { length marks.old ≡ packs_of plan.now }
+    requires few { packs_of plan.now ≤ 2 ^ 16 }
+    requires room { length turn.old.entries.items < MOST_KEPT }
     ensures going { IfOk result (λ _. IsTurning plan.now source.new sum.new turn.new told.new) }
     ensures long { IfOk result (λ _. length marks.new ≡ packs_of plan.now) }
     ensures holds { IfOk result (λ _. AreHolding plan.now source.new.tick holds.new) }
@@ -363,6 +377,7 @@ pub(crate) fn merge_turn(
     requires early { source.old.tick < stop_of plan.now }
     requires sum { IsSumUpTo plan.now source.old.tick first }
     requires until { until ≤ stop_of plan.now }
+    requires few { packs_of plan.now ≤ 2 ^ 16 }
     ensures belongs { IfOk result (λ _. IsSourceOf plan.now source.new) }
     ensures sum { IfOk result (λ pair. IsSumUpTo plan.now source.new.tick pair.0) }
     ensures turn { IfOk result (λ pair. IsTurnOf plan.now pair.1) }
@@ -374,7 +389,7 @@ pub(crate) fn merge_turn(
     let mut told = no_leaves(alloc, plan)?;
     let (mut sum, mut turn) = begin_turn(alloc, plan, source, &mut told, &marks, first)?;
     let mut holds = holds_of(alloc, source.places(plan))?;
-    'rounds: while source.now() < until && turn.packs.len() < MOST_KEPT {
+    'rounds: while source.now() < until && turn.entries.len() < MOST_KEPT {
         turn_next(
             plan,
             source,

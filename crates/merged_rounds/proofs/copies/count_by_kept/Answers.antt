@@ -9,8 +9,6 @@ count_all-requires-clause-all c =
     let last = c.rounds_end-last.result - 1 in
     let rest = c.starts_before-rest.result in
     let is = c.starts_before-rest.ensures in
-    let At : List ℕ → Type 0 = λ ends. (rest ≤ length ends) × (round_start 0 ends (rest - 1) < last % turn + 1) × (last % turn + 1 ≤ round_start 0 ends rest) in
-    let at = subst At c.deref.ensures.value (is.within, is.begun, is.next) in
     all_by_kept c.args.plan.now c.know_lawful.ensures.lawful c.requires.can c.args.kept.now c.requires.kept c.requires.turns c.requires.within turn last rest
-    c.end-turn.ensures (ap (λ n. n - 1) c.rounds_end-last.ensures.value) is.some at.0 at.1 at.2
+    c.end-turn.ensures (ap (λ n. n - 1) c.rounds_end-last.ensures.value) is.some is.within is.begun is.next
     ∙ ap (λ n. last / turn * n + rest) (sym c.rounds.ensures)

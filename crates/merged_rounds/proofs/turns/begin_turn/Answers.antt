@@ -6,7 +6,7 @@ pub merge_whole-requires-clause-released : goal.merge_whole-requires-clause-rele
 merge_whole-requires-clause-released c = released_at_once c.args.plan.now c.args.source.now.tick c.requires.can.on_time
 
 pub keep_round-requires-clause-still : goal.keep_round-requires-clause-still
-keep_round-requires-clause-still c = λ l. absurd (let none = ap (λ (xs : List ℕ). length xs) c.in_ok-turn.ensures.none in omega (arith, l, none))
+keep_round-requires-clause-still c = λ l. absurd (let none = ap (λ (xs : List ℕ). length xs) c.in_ok-turn.ensures.ends in omega (arith, l, none))
 
 pub returns-clause-going : goal.returns-clause-going
 returns-clause-going c =

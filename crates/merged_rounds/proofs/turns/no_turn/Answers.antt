@@ -7,5 +7,5 @@ use Rattle.merged_rounds.proofs.turns.no_turn.Goals as goal
 
 pub returns-clause-turn : goal.returns-clause-turn
 returns-clause-turn c =
-    turn_none c.args.plan.now _ c.new.ensures.items c.new-2.ensures.items c.new-3.ensures.items c.new-4.ensures.items
+    turn_none c.args.plan.now _ c.in_ok-with_room.ensures c.in_ok-with_capacity.ensures.items c.in_ok-with_capacity-2.ensures.items
     (ap (λ (xs : List (Option Leaf)). length xs) c.in_ok-no_packs.ensures ∙ length-replicate {A = Option Leaf} (packs_of c.args.plan.now) None)

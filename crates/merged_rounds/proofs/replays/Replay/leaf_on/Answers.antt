@@ -15,8 +15,8 @@ pack_on-requires c =
     let l = c.requires.processor in
     omega (arith, onto, l)
 
-pub shown_in-requires : goal.shown_in-requires
-shown_in-requires c = λ k at.
+pub leaf_of-requires : goal.leaf_of-requires
+leaf_of-requires c = λ k at.
     let p = c.args.plan.now in
     let b = c.requires.belongs in
     let onto = ap (λ (w : Placing). w.onto) b.places ∙ onto_end p c.know_lawful.ensures.lawful c.args.start c.args.end c.requires.round in
@@ -30,6 +30,6 @@ returns c = λ none.
     let p = c.args.plan.now in
     let r = c.args.self.now in
     let b = c.requires.belongs in
-    shown_by p c.know_lawful.ensures.lawful c.args.start c.args.end r b c.requires.round c.args.q c.requires.processor none c.pack_on.result (sym c.pack_on.ensures) c.shown_in.result
-    c.shown_in.ensures.none
-    (λ k l at is. c.shown_in.ensures.some k l at (ap (λ (xs : List (Option Leaf)). get_or xs k None) c.deref.ensures.value ∙ is))
+    shown_by p c.know_lawful.ensures.lawful c.args.start c.args.end r b c.requires.round c.args.q c.requires.processor none c.pack_on.result (sym c.pack_on.ensures) c.leaf_of.result
+    c.leaf_of.ensures.none
+    (λ k l at is. c.leaf_of.ensures.some k l at (ap (λ (xs : List (Option Leaf)). get_or xs k None) c.deref.ensures.value ∙ is))

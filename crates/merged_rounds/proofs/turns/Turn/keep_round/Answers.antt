@@ -18,7 +18,7 @@ packs-init c =
     let marks = c.requires.marks in
     let within = c.next_kept-k.ensures.within in
     let long = c.requires.turn.long in
-    let some : 0 < next → 0 < length turn.ends.items = (λ l. c.is_none-whole.ensures (c.next_kept-k.ensures.later l)) in
+    let some : 0 < next → 0 < length turn.ends = (λ l. c.is_none-whole.ensures (c.next_kept-k.ensures.later l)) in
     let onto = ap (λ (w : Placing). w.onto) c.requires.places ∙ onto_end p h c.args.start c.args.end c.requires.round in
     record {
       kept = kept_to p c.args.start turn turn 0 next (omega arith) (kept_none p c.args.start turn c.requires.turn) some (λ k low high.
@@ -30,15 +30,15 @@ packs-init c =
       within = omega (arith, marks, within);
     }
 
-pub shown_by-leaf-requires-clause-pack : goal.shown_by-leaf-requires-clause-pack
-shown_by-leaf-requires-clause-pack c =
+pub shown_by-requires-clause-pack : goal.shown_by-requires-clause-pack
+shown_by-requires-clause-pack c =
     let many = c.pack_count-count.ensures in
     let on = c.packs-test.true in
     let last = ap (λ (w : Placing). length w.last) c.requires.places ∙ length-last c.args.plan.now c.args.end in
     omega (arith, many, on, last)
 
-pub shown_by-leaf-requires-clause-long : goal.shown_by-leaf-requires-clause-long
-shown_by-leaf-requires-clause-long c =
+pub shown_by-requires-clause-long : goal.shown_by-requires-clause-long
+shown_by-requires-clause-long c =
     let p = c.args.plan.now in
     c.requires.leaves.long ∙ sym (ap (λ (w : Placing). length w.onto) c.requires.places ∙ length-places (set_boundary p.set.tasks) p.tree c.args.end)
 
@@ -60,11 +60,10 @@ packs-preserved c =
     let marks = c.requires.marks in
     let within = c.next_kept-k-in-packs.ensures.within in
     let long = c.requires.turn.long in
-    let some : c.packs.k + 1 < next → 0 < length turn.ends.items = (λ l. c.is_none-whole.ensures (c.next_kept-k-in-packs.ensures.later l)) in
+    let some : c.packs.k + 1 < next → 0 < length turn.ends = (λ l. c.is_none-whole.ensures (c.next_kept-k-in-packs.ensures.later l)) in
     let onto = ap (λ (w : Placing). w.onto) c.requires.places ∙ onto_end p h c.args.start c.args.end c.requires.round in
     let kept = c.in_ok-keep_pack.ensures.kept p c.args.start turn c.packs.invariant.kept (omega (arith, many, on))
-    (pack_by p h c.requires.can c.args.start c.args.end c.args.places.now.onto onto c.args.leaves.now c.requires.leaves c.packs.k c.shown_by-leaf.result c.shown_by-leaf.ensures.none c.shown_by-leaf.ensures.some)
-    c.is_none-whole.ensures in
+    (pack_by p h c.requires.can c.args.start c.args.end c.args.places.now.onto onto c.args.leaves.now c.requires.leaves c.packs.k c.of-leaf.result (λ free. c.of-leaf.ensures ∙ c.shown_by.ensures.none free) (λ q at. c.of-leaf.ensures ∙ c.shown_by.ensures.some q at)) in
     record {
       kept = kept_to p c.args.start turn c.keep_pack.new.self (c.packs.k + 1) next c.next_kept-k-in-packs.ensures.after kept some (λ k low high.
           let inside : k < length turn.last.items = omega (arith, high, marks, within, long) in
@@ -86,6 +85,6 @@ returns c =
     let kept = subst (λ (n : ℕ). AreKept p c.args.start c.args.self.now c.packs.self n) all c.packs.invariant.kept in
     let e = c.in_ok-close.ensures in
     record {
-      turn = turn_on p c.args.start c.args.end c.args.self.now c.packs.self c.close.new.self c.requires.turn c.requires.here c.requires.round kept e.ends e.parts e.packs e.shown e.last;
-      end = end_on p c.args.start c.args.end c.args.self.now c.packs.self c.close.new.self c.requires.turn c.requires.here c.requires.round kept e.ends e.parts e.packs e.shown e.last;
+      turn = turn_on p c.args.start c.args.end c.args.self.now c.packs.self c.close.new.self c.requires.turn c.requires.here c.requires.round kept e.ends e.parts e.entries e.last;
+      end = end_on p c.args.start c.args.end c.args.self.now c.packs.self c.close.new.self c.requires.turn c.requires.here c.requires.round kept e.ends e.parts e.entries e.last;
     }
