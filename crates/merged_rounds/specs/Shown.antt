@@ -3,7 +3,6 @@ use Rattle.std.specs.Prelude.{ℕ, ◌≡◌, Bool, true, false, List, map, Opti
 use Rattle.std.proofs.Common.{ap, sym}
 use Rattle.sched_base.specs.declared.rows.Leaf.{Leaf}
 use Rattle.sched_base.specs.declared.rows.Leaf.TheVariants.{Empty, Idle, Task, Wait}
-use Rattle.sched_base.specs.declared.rows.TaskId.{TaskId}
 use Rattle.merged_rounds.specs.declared.shown.Kind.{Kind}
 use Rattle.merged_rounds.specs.declared.shown.Kind.TheVariants as kind
 use Rattle.merged_rounds.specs.declared.shown.Shown.TheInside.{Inside}

@@ -36,24 +36,26 @@ pub(crate) fn first_of(changed: &[u32], count: usize) -> &[u32]
     &changed[..count]
 }
 
-// Tells of these processors what they show in the round just gone, which began at tick `start`.
+// Tells of these processors what they show in the round just gone, which began at tick `start`, given what each node shows.
 #[inline(always)]
 fn look_changed(
     plan: &Plan,
     source: &Source,
+    leaves: &[Leaf],
     start: u128,
     changed: &[u32],
     told: &mut [Option<Leaf>],
 )
     requires belongs { IsSourceOf plan.now source.now }
     requires round { IsRoundUpTo plan.now start source.now.tick }
+    requires leaves { AreLeavesOf plan.now start leaves.now }
     requires within { (k : ℕ) → k < length changed.now → slice_index changed.now k < plan.now.tree.processors }
     requires told { length told.old ≡ plan.now.tree.processors }
     ensures { AreTold plan.now start source.now.tick changed.now (length changed.now) told.old told.new }
 {
     for k in 0..changed.len() {
         let q = changed[k];
-        told[q as usize] = Some(source.leaf_on(plan, start, q));
+        told[q as usize] = Some(source.leaf_by(plan, leaves, start, q));
     }
 }
 
@@ -88,12 +90,14 @@ pub(crate) fn merge_whole(
 pub(crate) fn merge_telling(
     plan: &Plan,
     source: &mut Source,
+    leaves: &[Leaf],
     told: &mut [Option<Leaf>],
     changed: &mut [u32],
     sum: &mut RoundSum,
 ) -> Result<usize, CountFault>
     requires showing { IsShowing plan.now source.old sum.old }
     requires early { source.old.tick < stop_of plan.now }
+    requires leaves { AreLeavesOf plan.now source.old.tick leaves.now }
     requires told { AreTheLeaves plan.now source.old.tick told.old }
     requires room { length changed.old ≡ length (packs_at plan.now.tree 0) }
     ensures showing { IfOk result (λ _. IsShowing plan.now source.new sum.new) }
@@ -108,14 +112,14 @@ pub(crate) fn merge_telling(
     let start = source.now();
     let count = source.go_telling(plan, changed);
     let seen = first_of(changed, count);
-    look_changed(plan, source, start, seen, told);
+    look_changed(plan, source, leaves, start, seen, told);
     let end = source.now();
     add_changed(plan, sum, start, end, seen, told)?;
     Ok(count)
 }
 
-// What each node shows from tick `start` on, where no task waits.
-fn shown_leaves(alloc: Global, plan: &Plan, start: u128) -> Result<Vec<Leaf>, NoMemory>
+/// What each node shows from tick `start` on, where no task waits.
+pub(crate) fn shown_leaves(alloc: Global, plan: &Plan, start: u128) -> Result<Vec<Leaf>, NoMemory>
     requires { AllReleased plan.now start }
     ensures { IfOk result (λ leaves. AreLeavesOf plan.now start leaves.items) }
 {

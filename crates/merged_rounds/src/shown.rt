@@ -1,6 +1,6 @@
 //! What packs show, as it is kept: a number and what it is the number of.
 ghost use Rattle.std.specs.Prelude.{◌≡◌, ◌↔◌, ◌<◌, ◌^◌, IsTrue};
-ghost use Rattle.merged_rounds.specs.Shown.{is_some};
+ghost use Rattle.merged_rounds.specs.Shown.{is_some, kind_of as shown_kind, number_of as shown_number};
 
 use sched_base::{Leaf, TaskId};
 use std::marker::Model;
@@ -59,6 +59,32 @@ impl Model for Entry {
     ghost invariant = { λ e. IsPlain e.kind e.number };
 }
 
+// The number that stands for this leaf, or for nothing.
+#[inline(always)]
+fn number_of(leaf: Option<Leaf>) -> u32
+    ensures { result ≡ shown_number leaf }
+{
+    match leaf {
+        Some(Leaf::Task(task) | Leaf::Wait(task)) => task.0,
+        Some(Leaf::Idle(number)) => number,
+        Some(Leaf::Empty) | None => 0,
+    }
+}
+
+// The kind of that number.
+#[inline(always)]
+fn kind_of(leaf: Option<Leaf>) -> Kind
+    ensures { result ≡ shown_kind leaf }
+{
+    match leaf {
+        Some(Leaf::Task(_task)) => Kind::Task,
+        Some(Leaf::Idle(_number)) => Kind::Idle,
+        Some(Leaf::Wait(_task)) => Kind::Wait,
+        Some(Leaf::Empty) => Kind::Empty,
+        None => Kind::Off,
+    }
+}
+
 impl Shown {
     /// Nothing.
     #[inline(always)]
@@ -76,14 +102,10 @@ impl Shown {
     pub(crate) fn of(leaf: Option<Leaf>) -> Shown
         ensures { result ≡ leaf }
     {
-        let (number, kind) = match leaf {
-            None => (0, Kind::Off),
-            Some(Leaf::Task(task)) => (task.0, Kind::Task),
-            Some(Leaf::Idle(number)) => (number, Kind::Idle),
-            Some(Leaf::Wait(task)) => (task.0, Kind::Wait),
-            Some(Leaf::Empty) => (0, Kind::Empty),
-        };
-        Shown { number, kind }
+        Shown {
+            number: number_of(leaf),
+            kind: kind_of(leaf),
+        }
     }
 
     /// The leaf that is shown.
@@ -119,7 +141,7 @@ impl Shown {
 }
 
 impl Entry {
-    /// Pack k shows this.
+    /// An entry of this pack, which shows this.
     #[inline(always)]
     pub(crate) fn new(pack: u32, shows: Shown) -> Entry
         requires { pack < 2 ^ 16 }

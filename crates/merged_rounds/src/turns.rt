@@ -7,11 +7,11 @@ ghost use Rattle.event_core.specs.Cores.{places_of};
 ghost use Rattle.event_core.specs.Counts.{IsCountFault};
 ghost use Rattle.event_core.specs.Rounds.{IsRoundUpTo};
 ghost use Rattle.merged_rounds.specs.declared.turns.Turn.{Turn as DeclaredTurn};
-ghost use Rattle.merged_rounds.specs.Changes.{IsNone, IsTurning};
+ghost use Rattle.merged_rounds.specs.Changes.{AreLeavesOf, IsNone, IsTurning};
 ghost use Rattle.merged_rounds.specs.Laps.{CanComeRound, IsAllTold, IsSumUpTo, round_start};
 ghost use Rattle.merged_rounds.specs.Replays.{AreHolding, AreKept, AreStill, IsPackOn, IsSourceOf, IsTurnOf, packs_kept, packs_of, part_start, shown_kept, turn_end};
 
-use crate::changed::{first_of, merge_telling, merge_whole, room_for_told};
+use crate::changed::{first_of, merge_telling, merge_whole, room_for_told, shown_leaves};
 use crate::looks::no_leaves;
 use crate::marks::Marks;
 use crate::shown::{Entry, Shown};
@@ -92,7 +92,11 @@ impl Turn {
         requires { i ≤ length self.now.parts.items }
         ensures { result ≡ part_start self.now.parts.items i }
     {
-        if i == 0 { 0 } else { self.parts[i - 1] as usize }
+        if i == 0 {
+            0
+        } else {
+            self.parts[i - 1] as usize
+        }
     }
 
     // One entry more.
@@ -326,10 +330,11 @@ fn begin_turn(
     Ok((sum, turn))
 }
 
-// One round more of a turn.
+// One round more of a turn, given what each node shows.
 fn turn_next(
     plan: &Plan,
     source: &mut Source,
+    leaves: &[Leaf],
     told: &mut [Option<Leaf>],
     changed: &mut [u32],
     holds: &mut [Option<u32>],
@@ -339,6 +344,7 @@ fn turn_next(
 ) -> Result<(), CountFault>
     requires can { CanComeRound plan.now }
     requires going { IsTurning plan.now source.old sum.old turn.old told.old }
+    requires leaves { AreLeavesOf plan.now source.old.tick leaves.now }
     requires holds { AreHolding plan.now source.old.tick holds.old }
     requires early { source.old.tick < stop_of plan.now }
     requires told { length changed.old ≡ packs_of plan.now }
@@ -353,7 +359,7 @@ fn turn_next(
 {
     plan.know_lawful();
     let start = source.now();
-    let count = merge_telling(plan, source, told, changed, sum)?;
+    let count = merge_telling(plan, source, leaves, told, changed, sum)?;
     let seen = first_of(changed, count);
     let end = source.now();
     marks.forget();
@@ -388,11 +394,13 @@ pub(crate) fn merge_turn(
     let mut marks = no_marks(alloc, plan)?;
     let mut told = no_leaves(alloc, plan)?;
     let (mut sum, mut turn) = begin_turn(alloc, plan, source, &mut told, &marks, first)?;
+    let leaves = shown_leaves(alloc, plan, 0)?;
     let mut holds = holds_of(alloc, source.places(plan))?;
     'rounds: while source.now() < until && turn.entries.len() < MOST_KEPT {
         turn_next(
             plan,
             source,
+            &leaves,
             &mut told,
             &mut changed,
             &mut holds,

@@ -4,7 +4,7 @@ use Rattle.event_core.specs.Rounds.{rows_of_round}
 use Rattle.event_core.specs.Told.{AllReleased}
 use Rattle.event_core.proofs.SettledPacks.{same_start}
 use Rattle.merged_rows.specs.Columns.{AreShown}
-use Rattle.merged_rounds.specs.Changes.{AreTold, IsNone}
+use Rattle.merged_rounds.specs.Changes.{AreLeavesOf, AreTold, IsNone}
 use Rattle.merged_rounds.specs.Laps.{IsAllTold, IsSumUpTo}
 use Rattle.round_looks.specs.Looks.{leaf_at}
 use Rattle.merged_rounds.proofs.ChangeLemmas.{changed_shown, released_later, showing_on, the_leaves, told_now}
@@ -27,6 +27,9 @@ add_changed-requires-clause-shown c =
     let shown = changed_shown p start end seen showing.start c.look_changed.new.told c.args.sum.now.rows.lanes all still showing.last in
     subst (λ (n : ℕ). AreShown c.args.sum.now.rows.lanes seen c.look_changed.new.told (rows_of_round p c.now-start.result n)) (sym c.now-end.ensures)
     (subst (λ (n : ℕ). AreShown c.args.sum.now.rows.lanes seen c.look_changed.new.told (rows_of_round p n end)) (sym c.now-start.ensures) shown)
+
+pub look_changed-requires-clause-leaves : goal.look_changed-requires-clause-leaves
+look_changed-requires-clause-leaves c = subst (λ (n : ℕ). AreLeavesOf c.args.plan.now n c.args.leaves.now) (sym c.now-start.ensures) c.requires.leaves
 
 pub returns-clause-showing : goal.returns-clause-showing
 returns-clause-showing c =

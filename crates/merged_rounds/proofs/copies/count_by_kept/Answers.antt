@@ -1,5 +1,4 @@
-use Rattle.std.proofs.Common.{◌∙◌, ◌+◌, ◌-◌, ◌*◌, ◌/◌, ◌%◌, ◌<◌, ◌≤◌, ℕ, List, ap, length, subst, sym}
-use Rattle.merged_rounds.specs.Laps.{round_start}
+use Rattle.std.proofs.Common.{◌∙◌, ◌+◌, ◌-◌, ◌*◌, ◌/◌, ap, sym}
 use Rattle.merged_rounds.proofs.KeptLemmas.{all_by_kept}
 use Rattle.merged_rounds.proofs.copies.count_by_kept.Goals as goal
 

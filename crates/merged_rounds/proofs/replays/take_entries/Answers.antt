@@ -1,4 +1,4 @@
-use Rattle.std.proofs.Common.{◌≡◌, ◌∙◌, ℕ, None, ap, arith, length, set, subst, sym}
+use Rattle.std.proofs.Common.{◌≡◌, ◌∙◌, ℕ, ap, arith, length, set, subst, sym}
 use Rattle.merged_rounds.specs.Replays.{IsEntryTaken, IsTaken}
 use Rattle.merged_rounds.specs.Shown.{packs_in, shown_in}
 use Rattle.merged_rounds.proofs.EntryLemmas.{in_level, pack_there, room_begun, room_seen, room_stopped, shown_there, taken_all, taken_none, taken_step}
