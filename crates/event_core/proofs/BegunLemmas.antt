@@ -27,6 +27,7 @@ begun_none t begins ends begun remains ready stale = record {
   kept_end = λ x i none. refl;
   long = λ p. refl;
   unmarked = λ p off. off;
+  as_many = refl;
 }
 
 -- the place of a member stands in its pack's knockout, which stays as long
@@ -103,6 +104,7 @@ module _ (t : Tree) (h : IsTree t) (begins ends begun remains : List ℕ) (ready
       | inl same ↦ absurd (both_ways (get_or stale'' p false) off (ap (λ q. get_or stale'' q false) same ∙ own_mark))
       | inr ne ↦ was.unmarked p (sym (other_mark p ne) ∙ off)
     ];
+    as_many = ap (λ (xs : List Bool). length xs) es ∙ length-set stale' (home t x) true ∙ was.as_many;
   }
     where
       before : (j y : ℕ) → j < n + 1 → get_or begun j 0 ≡ y → y ≢ x → j < n
@@ -126,6 +128,7 @@ begun_skip t begins ends begun remains ready stale remains' ready' stale' n none
   kept_end = λ x i other. was.kept_end x i (λ j l. other j (below_next j n l));
   long = was.long;
   unmarked = was.unmarked;
+  as_many = was.as_many;
 }
   where
     before : (j x : ℕ) → j < n + 1 → get_or begun j 0 ≡ x → IsMember t x → j < n

@@ -1,14 +1,20 @@
 -- The walk over packs that are to be looked at again.
-use Rattle.std.proofs.Common.{◌≡◌, ◌≢◌, ℕ, ◌+◌, ◌<◌, false, List, [], length, Option, Some, None, refl, ap, ap₂, arith, inl, inr, sym, subst, ◌∙◌, get_or, get_or-set_same, get_or-set_other}
+use Rattle.std.proofs.Common.{◌≡◌, ◌≢◌, ℕ, ◌+◌, ◌<◌, ◌≤◌, Bool, false, List, [], length, Option, Some, None, refl, ap, ap₂, arith, inl, inr, sym, subst, ◌∙◌, get_or, get_or-set_same, get_or-set_other}
 use Rattle.std.proofs.lemmas.Bool.{cases_eq, both_ways}
 use Rattle.std.proofs.lemmas.List.{length-map, length-set}
 use Rattle.std.proofs.Math.ListN.{set}
 use Rattle.sched_base.specs.declared.candidates.Candidate.{Candidate}
 use Rattle.sched_base.specs.Candidates.{is_at}
-use Rattle.run_tree.specs.Tree.{Tree, IsPack, IsMember, kind_at, is_pack, members, member}
+use Rattle.run_tree.specs.Tree.{Tree, IsTree, IsPack, IsMember, kind_at, is_pack, level, members, member}
 use Rattle.edf_pick.specs.Ready.{AreReady}
 use Rattle.tree_select.specs.Selected.{candidates}
-use Rattle.tree_select.specs.Marked.{AreLed, AreServed}
+use Rattle.run_tree.specs.Schedule.{packs_at}
+use Rattle.tree_select.specs.declared.masks.Group.{Group}
+use Rattle.tree_select.specs.declared.masks.Span.{Span}
+use Rattle.tree_select.specs.Marked.{AreFresh, AreLed, AreServed}
+use Rattle.tree_select.specs.Masks.{group_at, AreUnmarked, IsSpanOf}
+use Rattle.tree_select.proofs.LevelLemmas.{pack_of_level}
+use Rattle.tree_select.proofs.MaskLemmas.{pack_of_group}
 use Rattle.server_budget.specs.Dues.{DueContents}
 use Rattle.event_core.specs.Serving.{ServingContents, dry_by, AreFitting, IsServing}
 
@@ -81,3 +87,21 @@ serving_step t d d' ends s s' p next i b tick remains ready serves dry within no
 -- what is left still fits
 pub fitting_still : (t : Tree) (d d' : DueContents) → d'.tick ≡ d.tick → d'.remains ≡ d.remains → AreFitting t d → AreFitting t d'
 fitting_still t d d' tick remains fits x i = (let f = fits x i in let e = ap (λ (rs : List ℕ). get_or rs x 0) remains in omega (arith, f, e, tick))
+
+-- packs before a number up to which a level is fresh have no mark
+pub fresh_below : (t : Tree) → IsTree t → (stale : List Bool) (l n : ℕ) → n ≤ length (packs_at t l) → AreFresh t stale l n → (k : ℕ) → k < n → get_or stale (get_or (packs_at t l) k 0) false ≡ false
+fresh_below t h stale l n within fresh k m = fresh (get_or (packs_at t l) k 0) (pack_of_level t h l k (omega (arith, m, within))).0 (inr (k, m, refl))
+
+-- groups of a level that had no marked pack have none once a pack of the level was served
+pub unmarked_still : (t : Tree) (groups : List Group) (l : ℕ) (span : Span) → IsSpanOf t groups l span → (stale stale' : List Bool) (p g : ℕ) → level t p ≡ l → g < span.to → get_or stale' p false ≡ false →
+    ((q : ℕ) → IsPack t q → q ≢ p → level t p ≤ level t q → get_or stale' q false ≡ get_or stale q false) → AreUnmarked groups stale span.from g → AreUnmarked groups stale' span.from g
+unmarked_still t groups l span s stale stale' p g at inside own marks before i q low m of = elim (cases_eq q p) [
+  | inl same ↦ ap (λ x. get_or stale' x false) same ∙ own
+  | inr ne ↦
+      (let its = pack_of_group t l (group_at groups i) (s.each i low (omega (arith, m, inside))) q of in
+      marks q its.0 ne (let there = its.1 in omega (arith, at, there)) ∙ before i q low m of)
+]
+
+-- the level of the pack at a place of a level
+pub pack_level : (t : Tree) → IsTree t → (l i p : ℕ) → i < length (packs_at t l) → p ≡ get_or (packs_at t l) i 0 → level t p ≡ l
+pack_level t h l i p b at = ap (level t) at ∙ (pack_of_level t h l i b).1

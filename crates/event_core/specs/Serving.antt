@@ -101,6 +101,7 @@ pub record IsBlank (t : Tree) (s : ServingContents) : Type 0 where
 pub record AreUnchanged (t : Tree) (p : ℕ) (stale runs stale' runs' : List Bool) : Type 0 where
   pub unmarked : (q : ℕ) → IsPack t q → q ≢ p → slice_index_or stale' q false ≡ false → slice_index_or stale q false ≡ false
   pub unchanged : (q : ℕ) → IsPack t q → slice_index_or stale' q false ≡ false → slice_index_or runs' q false ≡ slice_index_or runs q false
+  pub long : length stale' ≡ length stale
 
 -- whether pack i of level 0 runs by this list
 abbrev pub first_runs : Tree → List Bool → ℕ → Bool
@@ -196,3 +197,4 @@ pub record AreBegun (t : Tree) (begins ends begun : List ℕ) (remains : List �
       slice_index (slice_index_or ready' (home t x) []) (place t x) ≡ slice_index (slice_index_or ready (home t x) []) (place t x)
   pub long : (p : ℕ) → length (slice_index_or ready' p []) ≡ length (slice_index_or ready p [])
   pub unmarked : (p : ℕ) → slice_index_or stale' p false ≡ false → slice_index_or stale p false ≡ false
+  pub as_many : length stale' ≡ length stale

@@ -11,6 +11,7 @@ use release_calendar::Calendar;
 use run_tree::Plan;
 use sched_base::NodeId;
 use server_budget::{Budgets, Dues};
+use tree_select::Marks;
 
 // The due of the window of leaf or dual n, and the window's end.
 fn window_of(plan: &Plan, calendar: &Calendar, n: NodeId) -> (u128, u64)
@@ -45,7 +46,7 @@ pub(crate) fn begin_one(
     n: NodeId,
     dues: &mut Dues,
     ready: &mut [Knockout],
-    stale: &mut [bool],
+    stale: &mut Marks,
 )
     requires plan { IsPlan plan.now }
     requires calendar { BelongsTo plan.now calendar.now }
@@ -75,7 +76,7 @@ pub(crate) fn begin_all(
     calendar: &Calendar,
     dues: &mut Dues,
     ready: &mut [Knockout],
-    stale: &mut [bool],
+    stale: &mut Marks,
 )
     requires plan { IsPlan plan.now }
     requires calendar { BelongsTo plan.now calendar.now }

@@ -9,9 +9,10 @@ use knockout::{Knockout, NEVER};
 use run_tree::Tree;
 use sched_base::NodeId;
 use server_budget::Dues;
+use tree_select::Marks;
 
 /// Member k of pack p is ready up to an end, and the pack is to be looked at.
-pub(crate) fn put_end(p: NodeId, k: u32, end: u64, ready: &mut [Knockout], stale: &mut [bool])
+pub(crate) fn put_end(p: NodeId, k: u32, end: u64, ready: &mut [Knockout], stale: &mut Marks)
     requires ready { p.0 < length ready.old }
     requires member { k < length (slice_index_or ready.old p.0 []) }
     requires end { end ≤ never }
@@ -20,11 +21,11 @@ pub(crate) fn put_end(p: NodeId, k: u32, end: u64, ready: &mut [Knockout], stale
     ensures stale { stale.new ≡ slice_set stale.old p.0 true }
 {
     ready[p.0 as usize].set(k, end);
-    stale[p.0 as usize] = true;
+    stale.mark(p);
 }
 
 // The member at this place, where there is one, is ready no more.
-fn take_out(p: NodeId, k: Option<u32>, ready: &mut [Knockout], stale: &mut [bool])
+fn take_out(p: NodeId, k: Option<u32>, ready: &mut [Knockout], stale: &mut Marks)
     requires ready { p.0 < length ready.old }
     requires member { (j : ℕ) → k ≡ Some j → j < length (slice_index_or ready.old p.0 []) }
     requires stale { p.0 < length stale.old }
@@ -51,7 +52,7 @@ pub(crate) fn run_dry(
     serves: &[Option<u32>],
     runs: &[bool],
     ready: &mut [Knockout],
-    stale: &mut [bool],
+    stale: &mut Marks,
 )
     requires places { ArePlaces number.now nodes.now (length dry.now) }
     requires narrowed { AreNarrowed narrow.now dry.now used }
@@ -60,7 +61,8 @@ pub(crate) fn run_dry(
     requires serves { length serves.now ≡ length tree.now.nodes }
     requires stale { length stale.old ≡ length tree.now.nodes }
     requires drying { IsDrying tree.now dues.now ends.now (lists ready.old serves.now (ticks_by number.now dry.now) stale.old runs.now) (λ q. ⊥) }
-    ensures { IsServing tree.now dues.now ends.now (lists ready.new serves.now (ticks_by number.now dry.now) stale.new runs.now) }
+    ensures serving { IsServing tree.now dues.now ends.now (lists ready.new serves.now (ticks_by number.now dry.now) stale.new runs.now) }
+    ensures long { length stale.new ≡ length stale.old }
 {
     let _tree = tree;
     let _number = number.len();

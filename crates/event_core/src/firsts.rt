@@ -25,6 +25,7 @@ use run_tree::Plan;
 use sched_base::{NoMemory, NodeId};
 use server_budget::Dues;
 use std::alloc::Global;
+use tree_select::{LevelMasks, Marks};
 
 // How many ends the knockout of a node has: one for each member of a pack, and one at least.
 fn room_of(plan: &Plan, n: NodeId) -> usize
@@ -108,7 +109,7 @@ fn blank_serving(alloc: Global, plan: &Plan) -> Result<Serving, NoMemory>
     let count = node_count(plan) as usize;
     let serves = no_places(alloc, count)?;
     let dry = Ticks::new(alloc, plan.tree())?;
-    let stale = all_marks(alloc, count)?;
+    let stale = Marks::new(alloc, node_count(plan))?;
     let runs = packs_run(alloc, plan)?;
     let ready = no_ends(alloc, plan)?;
     Ok(Serving {
@@ -127,7 +128,7 @@ fn begin_if(
     n: NodeId,
     dues: &mut Dues,
     ready: &mut [Knockout],
-    stale: &mut [bool],
+    stale: &mut Marks,
 )
     requires plan { IsPlan plan.now }
     requires calendar { BelongsTo plan.now calendar.now }
@@ -159,7 +160,7 @@ pub(crate) fn begin_first(
     calendar: &Calendar,
     dues: &mut Dues,
     ready: &mut [Knockout],
-    stale: &mut [bool],
+    stale: &mut Marks,
 )
     requires plan { IsPlan plan.now }
     requires calendar { BelongsTo plan.now calendar.now }
@@ -209,10 +210,12 @@ pub(crate) fn first_state(alloc: Global, plan: &Plan) -> Result<State, NoMemory>
     let places = Places::new(alloc, pack_count(plan), processor_count(plan))?;
     let calendar = Calendar::new(alloc, plan)?;
     let (dues, serving) = first_serving(alloc, plan, &calendar)?;
+    let masks = LevelMasks::new(alloc, plan.tree())?;
     Ok(State {
         dues,
         calendar,
         places,
         serving,
+        masks,
     })
 }

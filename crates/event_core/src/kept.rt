@@ -7,6 +7,7 @@ ghost use Rattle.run_tree.specs.Schedule.{packs_at};
 ghost use Rattle.cpu_assign.specs.Changed.{AreChanged};
 ghost use Rattle.release_calendar.specs.Calendars.{BelongsTo};
 ghost use Rattle.tree_select.specs.Marked.{AreFreshFrom};
+ghost use Rattle.tree_select.specs.Masks.{AreMasksOf};
 ghost use Rattle.event_core.specs.Serving.{due_of, no_tick, AreBegun, AreFitting, AreLong, AreOfPacks, AreSeen, AreSettledFrom};
 ghost use Rattle.event_core.specs.Serving.{IsBlank, IsDrying, IsServing, IsSoonest};
 ghost use Rattle.event_core.specs.Steps.{packs_by};
@@ -22,6 +23,7 @@ use run_tree::Plan;
 use sched_base::NodeId;
 use server_budget::Dues;
 use std::marker::Model;
+use tree_select::{LevelMasks, Marks};
 
 /// Lists by the numbers of nodes.
 #[derive(Drop)]
@@ -33,7 +35,7 @@ pub(crate) struct Serving {
     // The tick at which that one has nothing left.
     pub(crate) dry: Ticks,
     // Whether the pack is to be looked at.
-    pub(crate) stale: Vec<bool>,
+    pub(crate) stale: Marks,
     // Whether the node runs.
     pub(crate) runs: Vec<bool>,
 }
@@ -43,7 +45,7 @@ impl Model for Serving {
 
     ghost Value = { ServingContents };
 
-    ghost view = { λ s. lists s.ready.items s.serves.items s.dry s.stale.items s.runs.items };
+    ghost view = { λ s. lists s.ready.items s.serves.items s.dry s.stale s.runs.items };
 }
 
 impl Serving {
@@ -52,6 +54,7 @@ impl Serving {
     pub(crate) fn select(
         &mut self,
         plan: &Plan,
+        masks: &LevelMasks,
         ends: &[u128],
         dues: &mut Dues,
         places: &Places,
@@ -61,6 +64,7 @@ impl Serving {
         requires fits { AreFitting plan.now.tree dues.old }
         requires serving { IsServing plan.now.tree dues.old ends.now self.old }
         requires last { length places.now.last ≡ length (packs_at plan.now.tree 0) }
+        requires masks { AreMasksOf plan.now.tree masks.now }
         requires settled { AreSettledFrom plan.now.tree places.now.onto self.old.stale self.old.runs 0 }
         requires room { changes.old.room ≡ length (packs_at plan.now.tree 0) }
         ensures long { AreLong plan.now.tree dues.new self.new }
@@ -76,6 +80,7 @@ impl Serving {
     {
         serve_all(
             plan.tree(),
+            masks,
             ends,
             &self.ready,
             &mut self.serves,

@@ -12,7 +12,7 @@ use knockout::Knockout;
 use run_tree::Tree;
 use sched_base::NodeId;
 use server_budget::Dues;
-use tree_select::{Handed, hand_over_in};
+use tree_select::{Handed, Marks, hand_over_in};
 
 // Node n starts or stops.
 fn set_node(n: NodeId, on: bool, dues: &mut Dues)
@@ -168,7 +168,7 @@ pub(crate) fn serve(
     was: Option<u32>,
     leaves: bool,
     dues: &mut Dues,
-    stale: &mut [bool],
+    stale: &mut Marks,
     runs: &mut [bool],
 ) -> Served
     requires tree { IsTree tree.now }
@@ -197,6 +197,7 @@ pub(crate) fn serve(
         AreServed tree.now dues.old.remains ends stale.old runs.old → AreServed tree.now dues.old.remains ends stale.new runs.new }
     ensures others { (q j : ℕ) → IsPack tree.now q → q ≢ p.0 → j < length (members tree.now q) →
         slice_index_or runs.new (member tree.now q j) false ≡ slice_index_or runs.old (member tree.now q j) false }
+    ensures long { length stale.new ≡ length stale.old }
     ensures own { slice_index_or stale.new p.0 false ≡ false }
     ensures unmarked { (q : ℕ) → IsPack tree.now q → q ≢ p.0 → slice_index_or stale.new q false ≡ false →
         slice_index_or stale.old q false ≡ false }

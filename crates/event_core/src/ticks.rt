@@ -10,6 +10,7 @@ use sched_base::{NoMemory, NodeId};
 use server_budget::Dues;
 use std::alloc::Global;
 use std::marker::Model;
+use tree_select::Marks;
 
 /// How many places are a block.
 const BLOCK: usize = 8;
@@ -468,13 +469,14 @@ impl Ticks {
         serves: &[Option<u32>],
         runs: &[bool],
         ready: &mut [Knockout],
-        stale: &mut [bool],
+        stale: &mut Marks,
     )
         requires ready { length ready.old ≡ length tree.now.nodes }
         requires serves { length serves.now ≡ length tree.now.nodes }
         requires stale { length stale.old ≡ length tree.now.nodes }
         requires drying { IsDrying tree.now dues.now ends.now (lists ready.old serves.now self.now stale.old runs.now) (λ q. ⊥) }
-        ensures { IsServing tree.now dues.now ends.now (lists ready.new serves.now self.now stale.new runs.now) }
+        ensures serving { IsServing tree.now dues.now ends.now (lists ready.new serves.now self.now stale.new runs.now) }
+        ensures long { length stale.new ≡ length stale.old }
     {
         run_dry(
             tree,

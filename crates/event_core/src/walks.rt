@@ -7,6 +7,7 @@ ghost use Rattle.run_tree.specs.Schedule.{packs_at};
 ghost use Rattle.run_tree.specs.Runs.{runs_now};
 ghost use Rattle.cpu_assign.specs.Changed.{with_pack, AreChanged};
 ghost use Rattle.tree_select.specs.Marked.{AreFreshFrom};
+ghost use Rattle.tree_select.specs.Masks.{AreMasksOf};
 ghost use Rattle.event_core.specs.Serving.{first_served, lists, AreFitting, AreLong, AreSeen, AreSettledFrom, AreUnchanged, IsServing};
 ghost use Rattle.event_core.specs.Steps.{packs_by};
 
@@ -17,9 +18,7 @@ use knockout::Knockout;
 use run_tree::Tree;
 use sched_base::NodeId;
 use server_budget::Dues;
-
-/// Up to how many packs of a level it takes less to look at each than to search for the next that is marked.
-const FEW_PACKS: u32 = 8;
+use tree_select::{LevelMasks, Marks};
 
 // The knockout of pack p.
 fn ready_at(ready: &[Knockout], p: NodeId) -> &Knockout
@@ -41,7 +40,7 @@ fn serve_pack(
     serves: &mut [Option<u32>],
     dry: &mut Ticks,
     dues: &mut Dues,
-    stale: &mut [bool],
+    stale: &mut Marks,
     runs: &mut [bool],
 ) -> bool
     requires tree { IsTree tree.now }
@@ -69,85 +68,20 @@ fn serve_pack(
     next.is_other
 }
 
-/// Pack i of a level.
-pub(crate) fn pack_of(tree: &Tree, level: u32, i: u32) -> NodeId
-    requires tree { IsTree tree.now }
-    requires level { level < tree.now.levels }
-    requires pack { i < length (packs_at tree.now level) }
-    ensures value { result.0 ≡ slice_index (packs_at tree.now level) i }
-    ensures pack { IsPack tree.now result.0 }
-{
-    tree.pack(level, i)
-}
-
-// A pack of a level from number `from` on, of which there are `count`: none before it is marked. It is `count` where none is there. Few packs
-// aren't searched.
-fn next_marked(tree: &Tree, level: u32, count: u32, stale: &[bool], from: u32) -> u32
-    requires tree { IsTree tree.now }
-    requires level { level < tree.now.levels }
-    requires count { count ≡ length (packs_at tree.now level) }
-    requires from { from ≤ length (packs_at tree.now level) }
-    requires stale { length stale.now ≡ length tree.now.nodes }
-    ensures after { from ≤ result }
-    ensures within { result ≤ length (packs_at tree.now level) }
-    ensures skipped { (k : ℕ) → from ≤ k → k < result → slice_index_or stale.now (slice_index (packs_at tree.now level) k) false ≡ false }
-{
-    if count <= FEW_PACKS {
-        return from;
-    }
-    for i in from..count {
-        if stale[pack_of(tree, level, i).0 as usize] {
-            return i;
-        }
-    }
-    count
-}
-
-// Pack p serves the member that it picks now, where it is marked. Else nothing changes.
-#[inline(always)]
-fn serve_if(
-    tree: &Tree,
-    p: NodeId,
-    ends: &[u128],
-    ready: &[Knockout],
-    serves: &mut [Option<u32>],
-    dry: &mut Ticks,
-    dues: &mut Dues,
-    stale: &mut [bool],
-    runs: &mut [bool],
-)
-    requires tree { IsTree tree.now }
-    requires pack { IsPack tree.now p.0 }
-    requires long { AreLong tree.now dues.old (lists ready.now serves.old dry.old stale.old runs.old) }
-    requires fits { AreFitting tree.now dues.old }
-    requires serving { IsServing tree.now dues.old ends.now (lists ready.now serves.old dry.old stale.old runs.old) }
-    ensures tick { dues.new.tick ≡ dues.old.tick }
-    ensures remains { dues.new.remains ≡ dues.old.remains }
-    ensures nodes { length dues.new.runs ≡ length dues.old.runs }
-    ensures serving { IsServing tree.now dues.new ends.now (lists ready.now serves.new dry.new stale.new runs.new) }
-    ensures others { (q : ℕ) → q ≢ p.0 → slice_index_or serves.new q None ≡ slice_index_or serves.old q None }
-    ensures own { slice_index_or stale.new p.0 false ≡ false }
-    ensures unchanged { AreUnchanged tree.now p.0 stale.old runs.old stale.new runs.new }
-    ensures marks { (q : ℕ) → IsPack tree.now q → q ≢ p.0 → level tree.now p.0 ≤ level tree.now q →
-        slice_index_or stale.new q false ≡ slice_index_or stale.old q false }
-{
-    if stale[p.0 as usize] {
-        serve_pack(tree, p, false, ends, ready, serves, dry, dues, stale, runs);
-    }
-}
-
 // The marked packs of one level above the first, once none above it is marked.
 fn serve_level(
     tree: &Tree,
+    masks: &LevelMasks,
     level: u32,
     ends: &[u128],
     ready: &[Knockout],
     serves: &mut [Option<u32>],
     dry: &mut Ticks,
     dues: &mut Dues,
-    stale: &mut [bool],
+    stale: &mut Marks,
     runs: &mut [bool],
 )
+    requires masks { AreMasksOf tree.now masks.now }
     requires tree { IsTree tree.now }
     requires level { level < tree.now.levels }
     requires above_first { 1 ≤ level }
@@ -158,17 +92,22 @@ fn serve_level(
     ensures tick { dues.new.tick ≡ dues.old.tick }
     ensures remains { dues.new.remains ≡ dues.old.remains }
     ensures nodes { length dues.new.runs ≡ length dues.old.runs }
+    ensures long { length stale.new ≡ length stale.old }
     ensures serving { IsServing tree.now dues.new ends.now (lists ready.now serves.new dry.new stale.new runs.new) }
     ensures fresh { AreFreshFrom tree.now stale.new level }
     ensures settled { (onto : List (Option ℕ)) → AreSettledFrom tree.now onto stale.old runs.old 0 → AreSettledFrom tree.now onto stale.new runs.new 0 }
     ensures first { (i : ℕ) → i < length (packs_at tree.now 0) → first_served tree.now serves.new i ≡ first_served tree.now serves.old i }
 {
-    let count = tree.packs(level);
-    let mut i = next_marked(tree, level, count, stale, 0);
-    'marked: while i < count {
-        let p = pack_of(tree, level, i);
-        serve_if(tree, p, ends, ready, serves, dry, dues, stale, runs);
-        i = next_marked(tree, level, count, stale, i + 1);
+    let _count = tree.packs(level);
+    let span = masks.span(tree, level);
+    let mut group = span.from;
+    let mut from = 0;
+    'marked: while let Some(next) = masks.next(tree, level, stale, span, group, from) {
+        serve_pack(
+            tree, next.pack, false, ends, ready, serves, dry, dues, stale, runs,
+        );
+        group = next.group;
+        from = next.place + 1;
     }
 }
 
@@ -200,7 +139,7 @@ fn serve_listed(
     serves: &mut [Option<u32>],
     dry: &mut Ticks,
     dues: &mut Dues,
-    stale: &mut [bool],
+    stale: &mut Marks,
     runs: &mut [bool],
     places: &Places,
     changes: &mut Changes,
@@ -235,71 +174,22 @@ fn serve_listed(
     list_if(changes, is_other, i, runs[p.0 as usize], places.holds(i));
 }
 
-// Pack p, which is number i of level 0, serves the member that it picks now where it is marked, and is listed where anything changes. Else it
-// is where it belongs, and nothing changes.
-#[inline(always)]
-fn serve_listed_if(
-    tree: &Tree,
-    p: NodeId,
-    i: u32,
-    ends: &[u128],
-    ready: &[Knockout],
-    serves: &mut [Option<u32>],
-    dry: &mut Ticks,
-    dues: &mut Dues,
-    stale: &mut [bool],
-    runs: &mut [bool],
-    places: &Places,
-    changes: &mut Changes,
-)
-    requires tree { IsTree tree.now }
-    requires pack { IsPack tree.now p.0 }
-    requires first { level tree.now p.0 ≡ 0 }
-    requires held { i < length places.now.last }
-    requires long { AreLong tree.now dues.old (lists ready.now serves.old dry.old stale.old runs.old) }
-    requires fits { AreFitting tree.now dues.old }
-    requires serving { IsServing tree.now dues.old ends.now (lists ready.now serves.old dry.old stale.old runs.old) }
-    requires settled { slice_index_or stale.old p.0 false ≡ false → is_held places.now.onto i ≡ slice_index_or runs.old p.0 false }
-    requires seen { length changes.old.seen < changes.old.room }
-    requires stopped { length changes.old.stopped < changes.old.room }
-    requires begun { length changes.old.begun < changes.old.room }
-    ensures tick { dues.new.tick ≡ dues.old.tick }
-    ensures remains { dues.new.remains ≡ dues.old.remains }
-    ensures nodes { length dues.new.runs ≡ length dues.old.runs }
-    ensures serving { IsServing tree.now dues.new ends.now (lists ready.now serves.new dry.new stale.new runs.new) }
-    ensures others { (q : ℕ) → q ≢ p.0 → slice_index_or serves.new q None ≡ slice_index_or serves.old q None }
-    ensures own { slice_index_or stale.new p.0 false ≡ false }
-    ensures unchanged { AreUnchanged tree.now p.0 stale.old runs.old stale.new runs.new }
-    ensures marks { (q : ℕ) → IsPack tree.now q → q ≢ p.0 → level tree.now p.0 ≤ level tree.now q →
-        slice_index_or stale.new q false ≡ slice_index_or stale.old q false }
-    ensures seen { (changes.new.seen ≡ changes.old.seen ++ i ∷ []) ⊎ ((changes.new.seen ≡ changes.old.seen)
-        × (slice_index_or serves.new p.0 None ≡ slice_index_or serves.old p.0 None)
-        × (slice_index_or runs.new p.0 false ≡ is_held places.now.onto i)) }
-    ensures stopped { changes.new.stopped ≡ with_pack changes.old.stopped i (not (slice_index_or runs.new p.0 false) && is_held places.now.onto i) }
-    ensures begun { changes.new.begun ≡ with_pack changes.old.begun i (slice_index_or runs.new p.0 false && not (is_held places.now.onto i)) }
-    ensures room { changes.new.room ≡ changes.old.room }
-{
-    if stale[p.0 as usize] {
-        serve_listed(
-            tree, p, i, ends, ready, serves, dry, dues, stale, runs, places, changes,
-        );
-    }
-}
-
 // The marked packs of level 0, once none above it is marked. Those in which anything changes are
 // listed, and among them those that stop and begin.
 fn serve_first_level(
     tree: &Tree,
+    masks: &LevelMasks,
     ends: &[u128],
     ready: &[Knockout],
     serves: &mut [Option<u32>],
     dry: &mut Ticks,
     dues: &mut Dues,
-    stale: &mut [bool],
+    stale: &mut Marks,
     runs: &mut [bool],
     places: &Places,
     changes: &mut Changes,
 )
+    requires masks { AreMasksOf tree.now masks.now }
     requires tree { IsTree tree.now }
     requires levels { 0 < tree.now.levels }
     requires long { AreLong tree.now dues.old (lists ready.now serves.old dry.old stale.old runs.old) }
@@ -312,6 +202,7 @@ fn serve_first_level(
     ensures tick { dues.new.tick ≡ dues.old.tick }
     ensures remains { dues.new.remains ≡ dues.old.remains }
     ensures nodes { length dues.new.runs ≡ length dues.old.runs }
+    ensures long { length stale.new ≡ length stale.old }
     ensures serving { IsServing tree.now dues.new ends.now (lists ready.now serves.new dry.new stale.new runs.new) }
     ensures fresh { AreFreshFrom tree.now stale.new 0 }
     ensures changed { AreChanged (packs_by tree.now runs.new) places.now.onto changes.new }
@@ -319,14 +210,17 @@ fn serve_first_level(
     ensures room { changes.new.room ≡ changes.old.room }
 {
     changes.clear();
-    let count = tree.packs(0);
-    let mut i = next_marked(tree, 0, count, stale, 0);
-    'marked: while i < count {
-        let p = pack_of(tree, 0, i);
-        serve_listed_if(
-            tree, p, i, ends, ready, serves, dry, dues, stale, runs, places, changes,
+    let _count = tree.packs(0);
+    let span = masks.span(tree, 0);
+    let mut group = span.from;
+    let mut from = 0;
+    'marked: while let Some(next) = masks.next(tree, 0, stale, span, group, from) {
+        serve_listed(
+            tree, next.pack, next.place, ends, ready, serves, dry, dues, stale, runs, places,
+            changes,
         );
-        i = next_marked(tree, 0, count, stale, i + 1);
+        group = next.group;
+        from = next.place + 1;
     }
 }
 
@@ -334,16 +228,18 @@ fn serve_first_level(
 /// No mark is left at a pack. The packs of level 0 in which anything changes are listed, and among them those that stop and begin.
 pub(crate) fn serve_all(
     tree: &Tree,
+    masks: &LevelMasks,
     ends: &[u128],
     ready: &[Knockout],
     serves: &mut [Option<u32>],
     dry: &mut Ticks,
     dues: &mut Dues,
-    stale: &mut [bool],
+    stale: &mut Marks,
     runs: &mut [bool],
     places: &Places,
     changes: &mut Changes,
 )
+    requires masks { AreMasksOf tree.now masks.now }
     requires long { AreLong tree.now dues.old (lists ready.now serves.old dry.old stale.old runs.old) }
     requires fits { AreFitting tree.now dues.old }
     requires serving { IsServing tree.now dues.old ends.now (lists ready.now serves.old dry.old stale.old runs.old) }
@@ -353,6 +249,7 @@ pub(crate) fn serve_all(
     ensures tick { dues.new.tick ≡ dues.old.tick }
     ensures remains { dues.new.remains ≡ dues.old.remains }
     ensures nodes { length dues.new.runs ≡ length dues.old.runs }
+    ensures long { length stale.new ≡ length stale.old }
     ensures serving { IsServing tree.now dues.new ends.now (lists ready.now serves.new dry.new stale.new runs.new) }
     ensures fresh { AreFreshFrom tree.now stale.new 0 }
     ensures selected { (n : ℕ) → n < length tree.now.nodes → slice_index_or runs.new n false
@@ -364,9 +261,11 @@ pub(crate) fn serve_all(
     let mut level = tree.levels();
     while level > 1 {
         level -= 1;
-        serve_level(tree, level, ends, ready, serves, dry, dues, stale, runs);
+        serve_level(
+            tree, masks, level, ends, ready, serves, dry, dues, stale, runs,
+        );
     }
     serve_first_level(
-        tree, ends, ready, serves, dry, dues, stale, runs, places, changes,
+        tree, masks, ends, ready, serves, dry, dues, stale, runs, places, changes,
     );
 }

@@ -18,6 +18,7 @@ module _ (t : Tree) (h : IsTree t) where
     unmarked = λ q i off. (off, refl);
     others = λ q j i ne l. refl;
     marks = λ q i low. refl;
+    long = refl;
   }
 
   pub placed_one : (p k m : ℕ) (on : Bool) (stale runs stale' runs' : List Bool) → IsPack t p → k < length (members t p) → m ≡ member t p k → IsTurned t m on stale runs stale' runs' → IsPlaced t p (Some k) on stale runs stale' runs'
@@ -34,6 +35,7 @@ module _ (t : Tree) (h : IsTree t) where
     unmarked = λ q j off. (let old = turned.unmarked q off in (old.0, old.1 (apart t h q m j own.0)));
     others = λ q j i' ne b. (let its = h.members_are q j i' b in turned.others (member t q j) (λ e. ne (sym its.1 ∙ ap (home t) e ∙ own.1)) (member_no_primal (member t q j) its.0));
     marks = λ q j low. turned.marks q (no_primal q low);
+    long = turned.long;
   }
     where
       own : IsMember t m × (home t m ≡ p) × (place t m ≡ k)
@@ -67,6 +69,7 @@ module _ (t : Tree) (h : IsTree t) where
     unmarked = λ q i off. (off, refl);
     others = λ q j i ne l. refl;
     marks = λ q i low. refl;
+    long = refl;
   }
 
   -- one stops, then another starts
@@ -79,6 +82,7 @@ module _ (t : Tree) (h : IsTree t) where
     unmarked = λ q i off. (let late = b.unmarked q i off in let early = a.unmarked q i late.0 in (early.0, late.1 ∙ early.1));
     others = λ q j i ne l. b.others q j i ne l ∙ a.others q j i ne l;
     marks = λ q i low. b.marks q i low ∙ a.marks q i low;
+    long = b.long ∙ a.long;
   }
     where
       none : (j : ℕ) → j < length (members t p) → elim (is_at was j) as (λ z. Bool) [ true ↦ false | false ↦ get_or runs (member t p j) false ] ≡ false

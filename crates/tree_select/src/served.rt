@@ -6,6 +6,7 @@ ghost use Rattle.tree_select.specs.Selected.{picked};
 ghost use Rattle.tree_select.specs.Marked.{AreLed, AreServed, IsPlaced, IsHanded, served_by};
 
 use crate::marked::{id_of, turn};
+use crate::marks::Marks;
 use run_tree::Tree;
 use sched_base::NodeId;
 
@@ -50,7 +51,7 @@ fn set_place(
     node: Option<NodeId>,
     leaves: bool,
     on: bool,
-    stale: &mut [bool],
+    stale: &mut Marks,
     runs: &mut [bool],
 )
     requires tree { IsTree tree.now }
@@ -78,7 +79,7 @@ fn hand_on(
     before: Option<NodeId>,
     after: Option<NodeId>,
     leaves: bool,
-    stale: &mut [bool],
+    stale: &mut Marks,
     runs: &mut [bool],
 ) -> bool
     requires tree { IsTree tree.now }
@@ -112,7 +113,7 @@ pub fn hand_over_in(
     was: Option<u32>,
     chosen: Option<u32>,
     leaves: bool,
-    stale: &mut [bool],
+    stale: &mut Marks,
     runs: &mut [bool],
 ) -> Handed
     requires tree { IsTree tree.now }
@@ -136,6 +137,7 @@ pub fn hand_over_in(
         AreServed tree.now remains ends stale.new runs.new }
     ensures others { (q j : ℕ) → IsPack tree.now q → q ≢ p.0 → j < length (members tree.now q) →
         slice_index_or runs.new (member tree.now q j) false ≡ slice_index_or runs.old (member tree.now q j) false }
+    ensures long { length stale.new ≡ length stale.old }
     ensures own { slice_index_or stale.new p.0 false ≡ false }
     ensures unmarked { (q : ℕ) → IsPack tree.now q → q ≢ p.0 → slice_index_or stale.new q false ≡ false →
         slice_index_or stale.old q false ≡ false }
@@ -144,7 +146,7 @@ pub fn hand_over_in(
     ensures marks { (q : ℕ) → IsPack tree.now q → q ≢ p.0 → level tree.now p.0 ≤ level tree.now q →
         slice_index_or stale.new q false ≡ slice_index_or stale.old q false }
 {
-    stale[p.0 as usize] = false;
+    stale.unmark(p);
     let place = served_by(runs[p.0 as usize], chosen);
     let before = node_at(tree, p, was);
     let node = node_at(tree, p, place);

@@ -22,6 +22,9 @@ begin_one-requires-clause-place c =
 pub begin_one-requires-clause-early : goal.begin_one-requires-clause-early
 begin_one-requires-clause-early c = let e = c.requires.early in let s = c.loop-k.invariant.0 in omega (arith, e, s)
 
+pub begin_one-requires-clause-stale : goal.begin_one-requires-clause-stale
+begin_one-requires-clause-stale c = c.loop-k.invariant.2.as_many ∙ c.requires.stale
+
 pub begin_one-requires-clause-nodes : goal.begin_one-requires-clause-nodes
 begin_one-requires-clause-nodes c = ap (λ (rs : List Bool). length rs) c.loop-k.invariant.1 ∙ c.requires.nodes
 
@@ -36,7 +39,7 @@ loop-k-preserved c =
     let ready = c.requires.ready in
     let ready' = c.loop-k.auto.ready in
     let stale = c.requires.stale in
-    let stale' = c.loop-k.auto.stale in (
+    let stale' = c.loop-k.invariant.2.as_many in (
       c.begin_one.ensures.tick ∙ c.loop-k.invariant.0,
       c.begin_one.ensures.runs ∙ c.loop-k.invariant.1,
       begun_step p.tree c.requires.plan.tree.tree c.args.calendar.now.begins c.args.calendar.now.ends c.args.calendar.now.begun c.args.dues.now.remains c.args.ready.now c.args.stale.now c.loop-k.dues.remains c.loop-k.ready c.loop-k.stale

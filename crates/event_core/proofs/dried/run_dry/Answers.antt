@@ -1,4 +1,6 @@
-use Rattle.std.proofs.Common.{arith, ap, get_or, length, sym, ◌∙◌, ◌+◌, ◌<◌, ◌≤◌, inl, inr}
+use Rattle.std.proofs.Common.{arith, ap, get_or, length, refl, sym, true, ℕ, Bool, List, None, Option, Some, ◌≡◌, ◌∙◌, ◌+◌, ◌<◌, ◌≤◌, inl, inr}
+use Rattle.std.proofs.Math.ListN.{set}
+use Rattle.std.proofs.lemmas.List.{length-set}
 use Rattle.std.proofs.lemmas.Bool.{cases_lt}
 use Rattle.run_tree.specs.Tree.{IsPack}
 use Rattle.event_core.specs.Serving.{lists}
@@ -7,11 +9,17 @@ use Rattle.event_core.specs.Ticks.{ticks_by}
 use Rattle.event_core.proofs.TickLemmas.{skipped_by, tick_at, tick_of, ticks_long}
 use Rattle.event_core.proofs.dried.run_dry.Goals as goal
 
+-- what is marked is as long as before
+taken_long : (p : ℕ) (k : Option ℕ) (stale stale' : List Bool) → ((j : ℕ) → k ≡ Some j → stale' ≡ set stale p true) → (k ≡ None → stale' ≡ stale) → length stale' ≡ length stale
+taken_long p None stale stale' some none = ap (λ (xs : List Bool). length xs) (none refl)
+taken_long p (Some j) stale stale' some none = ap (λ (xs : List Bool). length xs) (some j refl) ∙ length-set stale p true
+
 pub dried-init : goal.dried-init
 dried-init c =
     let s = lists c.args.ready.now c.args.serves.now (ticks_by c.args.number.now c.args.dry.now) c.args.stale.now c.args.runs.now in (
       drying_wide c.args.tree.now c.args.dues.now c.args.ends.now s (λ q. ⊥) (λ q. get_or c.args.number.now q 0 < 0) (λ q i m. omega (arith, m)) c.requires.drying,
       omega arith,
+      refl,
     )
 
 pub dried-preserved : goal.dried-preserved
@@ -32,7 +40,7 @@ dried-preserved c =
     let ready = c.requires.ready in
     let ready' = c.dried.auto.ready in
     let stale = c.requires.stale in
-    let stale' = c.dried.auto.stale in
+    let stale' = c.dried.invariant.2 in
     let by = ticks_long number c.args.dry.now in
     let numbers = c.requires.places.number_long in
     let long = c.dried.invariant.0.ticks.long in (
@@ -40,10 +48,11 @@ dried-preserved c =
           (λ q i e. sym (c.requires.places.back q (let l = i.0 in omega (arith, l, long, by, numbers))) ∙ ap (λ j. get_or c.args.nodes.now j 0) e)
           (dried_is c.args.serves.now (ticks_by number c.args.dry.now) p c.now-now.result c.dried.ready c.take_out.new.ready c.dried.stale c.take_out.new.stale here c.take_out.ensures.some c.take_out.ensures.none) was,
       on,
+      taken_long p (get_or c.args.serves.now p None) c.dried.stale c.take_out.new.stale (λ j e. (c.take_out.ensures.some j e).1) (λ e. (c.take_out.ensures.none e).1) ∙ c.dried.invariant.2,
     )
 
-pub returns-then-next-used : goal.returns-then-next-used
-returns-then-next-used c =
+pub returns-then-next-used-clause-serving : goal.returns-then-next-used-clause-serving
+returns-then-next-used-clause-serving c =
     let t = c.args.tree.now in
     let s = lists c.dried.ready c.args.serves.now (ticks_by c.args.number.now c.args.dry.now) c.dried.stale c.args.runs.now in
     let number = c.args.number.now in
@@ -63,8 +72,8 @@ returns-then-next-used c =
           omega (arith, r, e, early, at))
     ]) was
 
-pub returns : goal.returns
-returns c =
+pub returns-clause-serving : goal.returns-clause-serving
+returns-clause-serving c =
     let t = c.args.tree.now in
     let off = c.dried-test.false in
     let long = c.dried.invariant.0.ticks.long in

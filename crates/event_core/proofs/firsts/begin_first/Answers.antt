@@ -7,6 +7,9 @@ use Rattle.event_core.proofs.firsts.begin_first.Goals as goal
 pub loop-x-init : goal.loop-x-init
 loop-x-init c = (c.requires.first, refl, begun_none c.args.plan.now.tree c.args.calendar.now.begins c.args.calendar.now.ends (range_with_len 0 (length c.args.plan.now.tree.nodes)) c.args.dues.now.remains c.args.ready.now c.args.stale.now)
 
+pub begin_if-requires-clause-stale : goal.begin_if-requires-clause-stale
+begin_if-requires-clause-stale c = c.loop-x.invariant.2.as_many ∙ c.requires.stale
+
 pub begin_if-requires-clause-nodes : goal.begin_if-requires-clause-nodes
 begin_if-requires-clause-nodes c = ap (λ (rs : List Bool). length rs) c.loop-x.invariant.1 ∙ c.requires.nodes
 
@@ -23,7 +26,7 @@ loop-x-preserved c =
     let ready = c.requires.ready in
     let ready' = c.loop-x.auto.ready in
     let stale = c.requires.stale in
-    let stale' = c.loop-x.auto.stale in (
+    let stale' = c.loop-x.invariant.2.as_many in (
       c.begin_if.ensures.tick,
       c.begin_if.ensures.runs ∙ c.loop-x.invariant.1,
       begun_next p.tree c.requires.plan.tree.tree c.args.calendar.now.begins c.args.calendar.now.ends c.args.dues.now.remains c.args.ready.now c.args.stale.now c.loop-x.dues.remains c.loop-x.ready c.loop-x.stale

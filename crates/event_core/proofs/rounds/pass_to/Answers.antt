@@ -72,3 +72,6 @@ returns-clause-calendar c = refl
 
 pub returns-clause-places : goal.returns-clause-places
 returns-clause-places c = refl
+
+pub returns-clause-masks : goal.returns-clause-masks
+returns-clause-masks c = refl

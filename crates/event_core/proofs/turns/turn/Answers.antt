@@ -54,3 +54,6 @@ returns-clause-runs c = c.begin.ensures.runs
 
 pub returns-clause-places : goal.returns-clause-places
 returns-clause-places c = refl
+
+pub returns-clause-masks : goal.returns-clause-masks
+returns-clause-masks c = refl

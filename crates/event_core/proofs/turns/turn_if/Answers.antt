@@ -86,3 +86,9 @@ returns-else-now-in_ticks-clause-runs c = refl
 
 pub returns-else-now-in_ticks-clause-places : goal.returns-else-now-in_ticks-clause-places
 returns-else-now-in_ticks-clause-places c = refl
+
+pub returns-then-now-in_ticks-clause-masks : goal.returns-then-now-in_ticks-clause-masks
+returns-then-now-in_ticks-clause-masks c = c.turn.ensures.masks
+
+pub returns-else-now-in_ticks-clause-masks : goal.returns-else-now-in_ticks-clause-masks
+returns-else-now-in_ticks-clause-masks c = refl

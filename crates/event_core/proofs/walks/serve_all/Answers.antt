@@ -13,14 +13,14 @@ loop-level-init c =
     let h = c.levels-level.ensures.lawful.tree in
     let is = c.levels-level.ensures.value in
     let some = some_level t h c.levels-level.ensures.lawful.sized.some_processors in
-    (omega (arith, is), refl, refl, refl, c.requires.serving, fresh_top t h c.args.stale.now c.levels-level.result is, omega (arith, some, is), c.requires.settled, λ k l. refl)
+    (omega (arith, is), refl, refl, refl, c.requires.serving, fresh_top t h c.args.stale.now c.levels-level.result is, omega (arith, some, is), c.requires.settled, λ k l. refl, refl)
 
 pub serve_level-requires-clause-long : goal.serve_level-requires-clause-long
 serve_level-requires-clause-long c = record {
   dues = c.loop-level.invariant.3 ∙ c.requires.long.dues;
   ready = c.requires.long.ready;
   serves = c.loop-level.auto.serves ∙ c.requires.long.serves;
-  stale = c.loop-level.auto.stale ∙ c.requires.long.stale;
+  stale = c.loop-level.invariant.9 ∙ c.requires.long.stale;
   runs = c.loop-level.auto.runs ∙ c.requires.long.runs;
 }
 
@@ -43,6 +43,7 @@ loop-level-preserved c =
       omega (arith, on),
       c.serve_level.ensures.settled c.args.places.now.onto c.loop-level.invariant.7,
       λ k l. c.serve_level.ensures.first k l ∙ c.loop-level.invariant.8 k l,
+      c.serve_level.ensures.long ∙ c.loop-level.invariant.9,
     )
 
 pub serve_first_level-requires-clause-long : goal.serve_first_level-requires-clause-long
@@ -50,7 +51,7 @@ serve_first_level-requires-clause-long c = record {
   dues = c.loop-level.invariant.3 ∙ c.requires.long.dues;
   ready = c.requires.long.ready;
   serves = c.loop-level.auto.serves ∙ c.requires.long.serves;
-  stale = c.loop-level.auto.stale ∙ c.requires.long.stale;
+  stale = c.loop-level.invariant.9 ∙ c.requires.long.stale;
   runs = c.loop-level.auto.runs ∙ c.requires.long.runs;
 }
 
@@ -94,8 +95,14 @@ returns-clause-remains c = c.serve_first_level.ensures.remains ∙ c.loop-level.
 pub returns-clause-nodes : goal.returns-clause-nodes
 returns-clause-nodes c = c.serve_first_level.ensures.nodes ∙ c.loop-level.invariant.3
 
+pub returns-clause-long : goal.returns-clause-long
+returns-clause-long c = c.serve_first_level.ensures.long ∙ c.loop-level.invariant.9
+
 pub returns-clause-serving : goal.returns-clause-serving
 returns-clause-serving c = c.serve_first_level.ensures.serving
+
+pub serve_level-requires-clause-masks : goal.serve_level-requires-clause-masks
+serve_level-requires-clause-masks c = c.requires.masks
 
 pub serve_level-requires-clause-tree : goal.serve_level-requires-clause-tree
 serve_level-requires-clause-tree c = c.levels-level.ensures.lawful.tree
@@ -111,6 +118,9 @@ serve_level-requires-clause-above c = let on = c.loop-level-test.true in let one
 
 pub loop-level-smaller : goal.loop-level-smaller
 loop-level-smaller c = let on = c.loop-level-test.true in omega (arith, on)
+
+pub serve_first_level-requires-clause-masks : goal.serve_first_level-requires-clause-masks
+serve_first_level-requires-clause-masks c = c.requires.masks
 
 pub serve_first_level-requires-clause-tree : goal.serve_first_level-requires-clause-tree
 serve_first_level-requires-clause-tree c = c.levels-level.ensures.lawful.tree

@@ -1,226 +1,216 @@
-use Rattle.std.proofs.Common.{arith, ap, le_refl, refl, sym, length, get_or, false, not, ℕ, List, [], ◌∷◌, Bool, ◌+◌, ◌<◌, ◌≡◌, ◌∙◌, ◌&&◌, inl, inr}
+use Rattle.std.proofs.Common.{arith, ap, le_refl, le_of_lt, refl, sym, length, get_or, false, not, ℕ, List, [], ◌∷◌, Bool, ◌<◌, ◌≤◌, ◌≡◌, ◌∙◌, ◌&&◌, inl, inr}
 use Rattle.std.proofs.lemmas.List.{length-append}
 use Rattle.sched_base.specs.Places.{is_held}
 use Rattle.run_tree.specs.Schedule.{packs_at}
 use Rattle.run_tree.proofs.TreeLemmas.{first_is_pack}
-use Rattle.run_tree.specs.Tree.{level}
-use Rattle.tree_select.proofs.LevelLemmas.{pack_of_level}
 use Rattle.tree_select.proofs.MarkedLemmas.{fresh_none, fresh_step, fresh_all}
-use Rattle.event_core.specs.Serving.{first_runs, stops_below, begins_below}
+use Rattle.event_core.specs.Serving.{first_runs}
 use Rattle.event_core.proofs.SettledPacks.{begins_skip, changed_are, few_pass, fresh_skip, listed_step, settled_rest, settled_skip, stops_skip}
 use Rattle.event_core.proofs.SeenLemmas.{none_begins, none_stops, seen_none, seen_same, seen_step}
-use Rattle.event_core.proofs.WalkLemmas.{fitting_still}
+use Rattle.event_core.proofs.WalkLemmas.{fitting_still, fresh_below, pack_level, unmarked_still}
 use Rattle.event_core.proofs.walks.serve_first_level.Goals as goal
-
-pub marked-init : goal.marked-init
-marked-init c =
-    let t = c.args.tree.now in
-    let onto = c.args.places.now.onto in
-    let stale = c.args.stale.now in
-    let runs = c.args.runs.now in
-    let i = c.next_marked-i.result in
-    let after = c.next_marked-i.ensures.after in
-    let within = c.next_marked-i.ensures.within in
-    let skipped = c.next_marked-i.ensures.skipped in
-    let settled = c.requires.settled in (
-      refl,
-      refl,
-      refl,
-      c.requires.serving,
-      fresh_skip t stale 0 0 i (fresh_none t c.requires.tree stale 0 c.requires.above) skipped,
-      settled_skip t onto stale runs 0 i after within skipped settled,
-      c.clear.ensures.room,
-      stops_skip t onto stale runs 0 i after within skipped settled c.clear.new.self.stopped c.clear.ensures.stopped,
-      begins_skip t onto stale runs 0 i after within skipped settled c.clear.new.self.begun c.clear.ensures.begun,
-      within,
-      seen_none t c.args.serves.now c.clear.new.self c.clear.ensures.seen c.clear.ensures.stopped c.clear.ensures.begun,
-      (let none = ap (λ (xs : List ℕ). length xs) c.clear.ensures.seen in omega (arith, none)),
-    )
-
-pub serve_listed_if-requires-clause-long : goal.serve_listed_if-requires-clause-long
-serve_listed_if-requires-clause-long c = record {
-  dues = c.marked.invariant.2 ∙ c.requires.long.dues;
-  ready = c.requires.long.ready;
-  serves = c.marked.auto.serves ∙ c.requires.long.serves;
-  stale = c.marked.auto.stale ∙ c.requires.long.stale;
-  runs = c.marked.auto.runs ∙ c.requires.long.runs;
-}
-
-pub serve_listed_if-requires-clause-serving : goal.serve_listed_if-requires-clause-serving
-serve_listed_if-requires-clause-serving c = c.marked.invariant.3
-
-pub serve_listed_if-requires-clause-held : goal.serve_listed_if-requires-clause-held
-serve_listed_if-requires-clause-held c = let n = c.packs-count.ensures in let b = c.marked-test.true in let last = c.requires.last in omega (arith, n, b, last)
-
-pub serve_listed_if-requires-clause-fits : goal.serve_listed_if-requires-clause-fits
-serve_listed_if-requires-clause-fits c = fitting_still c.args.tree.now c.args.dues.now c.marked.dues c.marked.invariant.0 c.marked.invariant.1 c.requires.fits
-
-pub serve_listed_if-requires-clause-seen : goal.serve_listed_if-requires-clause-seen
-serve_listed_if-requires-clause-seen c =
-    let n = c.packs-count.ensures in
-    let b = c.marked-test.true in
-    let room = c.requires.room in
-    let kept = c.marked.invariant.6 in
-    let few = c.marked.invariant.11 in
-    omega (arith, n, b, room, kept, few)
-
-pub serve_listed_if-requires-clause-stopped : goal.serve_listed_if-requires-clause-stopped
-serve_listed_if-requires-clause-stopped c =
-    let n = c.packs-count.ensures in
-    let b = c.marked-test.true in
-    let room = c.requires.room in
-    let kept = c.marked.invariant.6 in
-    let few = few_pass (λ i. not (first_runs c.args.tree.now c.marked.runs i) && is_held c.args.places.now.onto i) c.marked.i 0 in
-    let long = ap (λ (xs : List ℕ). length xs) c.marked.invariant.7 in
-    omega (arith, n, b, room, kept, few, long)
-
-pub serve_listed_if-requires-clause-begun : goal.serve_listed_if-requires-clause-begun
-serve_listed_if-requires-clause-begun c =
-    let n = c.packs-count.ensures in
-    let b = c.marked-test.true in
-    let room = c.requires.room in
-    let kept = c.marked.invariant.6 in
-    let few = few_pass (λ i. first_runs c.args.tree.now c.marked.runs i && not (is_held c.args.places.now.onto i)) c.marked.i 0 in
-    let long = ap (λ (xs : List ℕ). length xs) c.marked.invariant.8 in
-    omega (arith, n, b, room, kept, few, long)
-
-pub marked-preserved : goal.marked-preserved
-marked-preserved c =
-    let t = c.args.tree.now in
-    let n = c.packs-count.ensures in
-    let b = c.marked-test.true in
-    let i = c.marked.i in
-    let l : i < length (packs_at t 0) = omega (arith, n, b) in
-    let at = c.pack_of-p.ensures.value in
-    let onto = c.args.places.now.onto in
-    let stale = c.serve_listed_if.new.stale in
-    let runs = c.serve_listed_if.new.runs in
-    let next = c.next_marked-i-in-marked.result in
-    let after = c.next_marked-i-in-marked.ensures.after in
-    let within = c.next_marked-i-in-marked.ensures.within in
-    let skipped = c.next_marked-i-in-marked.ensures.skipped in
-    let fresh = fresh_step t c.requires.tree c.marked.stale stale 0 i c.pack_of-p.result.0 l at c.marked.invariant.4 c.serve_listed_if.ensures.own c.serve_listed_if.ensures.marks in
-    let settled = settled_rest t c.requires.tree onto c.marked.stale c.marked.runs stale runs c.pack_of-p.result.0 i l at c.serve_listed_if.ensures.unchanged c.marked.invariant.5 in
-    let same : (k : ℕ) → k < i → first_runs t runs k ≡ first_runs t c.marked.runs k =
-    (λ k m. let is_pack = first_is_pack t c.requires.tree k (omega (arith, m, l)) in c.serve_listed_if.ensures.unchanged.unchanged (get_or (packs_at t 0) k 0) is_pack (fresh (get_or (packs_at t 0) k 0) is_pack (inr (k, omega (arith, m), refl)))) in
-    let here : first_runs t runs i ≡ get_or runs c.pack_of-p.result.0 false = ap (λ q. get_or runs q false) (sym at) in
-    let stops : c.serve_listed_if.new.changes.stopped ≡ stops_below t onto runs (i + 1) =
-    listed_step (λ k. not (first_runs t c.marked.runs k) && is_held onto k) (λ k. not (first_runs t runs k) && is_held onto k) c.marked.changes.stopped c.serve_listed_if.new.changes.stopped i _
-    (λ k m. ap (λ (r : Bool). not r && is_held onto k) (same k m)) (ap (λ (r : Bool). not r && is_held onto i) here) c.marked.invariant.7 c.serve_listed_if.ensures.stopped in
-    let begins : c.serve_listed_if.new.changes.begun ≡ begins_below t onto runs (i + 1) =
-    listed_step (λ k. first_runs t c.marked.runs k && not (is_held onto k)) (λ k. first_runs t runs k && not (is_held onto k)) c.marked.changes.begun c.serve_listed_if.new.changes.begun i _
-    (λ k m. ap (λ (r : Bool). r && not (is_held onto k)) (same k m)) (ap (λ (r : Bool). r && not (is_held onto i)) here) c.marked.invariant.8 c.serve_listed_if.ensures.begun in (
-      c.serve_listed_if.ensures.tick ∙ c.marked.invariant.0,
-      c.serve_listed_if.ensures.remains ∙ c.marked.invariant.1,
-      c.serve_listed_if.ensures.nodes ∙ c.marked.invariant.2,
-      c.serve_listed_if.ensures.serving,
-      fresh_skip t stale 0 (i + 1) next fresh skipped,
-      settled_skip t onto stale runs (i + 1) next after within skipped settled,
-      c.serve_listed_if.ensures.room ∙ c.marked.invariant.6,
-      stops_skip t onto stale runs (i + 1) next after within skipped settled c.serve_listed_if.new.changes.stopped stops,
-      begins_skip t onto stale runs (i + 1) next after within skipped settled c.serve_listed_if.new.changes.begun begins,
-      within,
-      elim c.serve_listed_if.ensures.seen [
-        | inl more ↦ seen_step t c.args.serves.now c.marked.serves c.serve_listed_if.new.serves c.marked.changes c.serve_listed_if.new.changes c.pack_of-p.result.0 i l at _ _
-            c.serve_listed_if.ensures.others more c.serve_listed_if.ensures.stopped c.serve_listed_if.ensures.begun c.marked.invariant.10
-        | inr (none, own, still) ↦ seen_same t c.args.serves.now c.marked.serves c.serve_listed_if.new.serves c.marked.changes c.serve_listed_if.new.changes c.pack_of-p.result.0 i _ _ c.serve_listed_if.ensures.others own none
-            (none_stops _ _ still) (none_begins _ _ still) c.serve_listed_if.ensures.stopped c.serve_listed_if.ensures.begun c.marked.invariant.10
-      ],
-      elim c.serve_listed_if.ensures.seen [
-        | inl more ↦ (let few = c.marked.invariant.11 in let m = ap (λ (xs : List ℕ). length xs) more in let long = length-append c.marked.changes.seen (i ∷ []) in omega (arith, few, m, long, after))
-        | inr (none, own, still) ↦ (let few = c.marked.invariant.11 in let m = ap (λ (xs : List ℕ). length xs) none in omega (arith, few, m, after))
-      ],
-    )
-
-pub returns-clause-fresh : goal.returns-clause-fresh
-returns-clause-fresh c =
-    let n = c.packs-count.ensures in
-    let off = c.marked-test.false in
-    let most = c.marked.invariant.9 in
-    fresh_all c.args.tree.now c.requires.tree c.marked.stale 0 c.marked.i (omega (arith, n, off, most)) c.marked.invariant.4
-
-pub returns-clause-changed : goal.returns-clause-changed
-returns-clause-changed c =
-    let n = c.packs-count.ensures in
-    let off = c.marked-test.false in
-    let most = c.marked.invariant.9 in
-    changed_are c.args.tree.now c.args.places.now.onto c.marked.runs c.marked.changes c.marked.i (omega (arith, n, off, most)) c.marked.invariant.7 c.marked.invariant.8
-
-pub returns-clause-seen : goal.returns-clause-seen
-returns-clause-seen c = c.marked.invariant.10
-
-pub returns-clause-tick : goal.returns-clause-tick
-returns-clause-tick c = c.marked.invariant.0
-
-pub returns-clause-remains : goal.returns-clause-remains
-returns-clause-remains c = c.marked.invariant.1
-
-pub returns-clause-nodes : goal.returns-clause-nodes
-returns-clause-nodes c = c.marked.invariant.2
-
-pub returns-clause-serving : goal.returns-clause-serving
-returns-clause-serving c = c.marked.invariant.3
-
-pub returns-clause-room : goal.returns-clause-room
-returns-clause-room c = c.marked.invariant.6
 
 pub packs-count-requires : goal.packs-count-requires
 packs-count-requires c = c.requires.levels
 
-pub next_marked-i-requires-clause-tree : goal.next_marked-i-requires-clause-tree
-next_marked-i-requires-clause-tree c = c.requires.tree
+pub span-span-requires-clause-masks : goal.span-span-requires-clause-masks
+span-span-requires-clause-masks c = c.requires.masks
 
-pub next_marked-i-requires-clause-level : goal.next_marked-i-requires-clause-level
-next_marked-i-requires-clause-level c = c.requires.levels
+pub span-span-requires-clause-level : goal.span-span-requires-clause-level
+span-span-requires-clause-level c = c.requires.levels
 
-pub next_marked-i-requires-clause-stale : goal.next_marked-i-requires-clause-stale
-next_marked-i-requires-clause-stale c = c.requires.long.stale
+pub marked-init : goal.marked-init
+marked-init c = record {
+  tick = refl;
+  remains = refl;
+  nodes = refl;
+  long = refl;
+  serving = c.requires.serving;
+  fresh = fresh_none c.args.tree.now c.requires.tree c.args.stale.now 0 c.requires.above;
+  settled = c.requires.settled;
+  room = c.clear.ensures.room;
+  stopped = c.clear.ensures.stopped;
+  begun = c.clear.ensures.begun;
+  within = omega arith;
+  seen = seen_none c.args.tree.now c.args.serves.now c.clear.new.self c.clear.ensures.seen c.clear.ensures.stopped c.clear.ensures.begun;
+  few = (let none = ap (λ (xs : List ℕ). length xs) c.clear.ensures.seen in omega (arith, none));
+  group = le_refl c.span-span.result.from;
+  before = λ g p low up of. absurd (omega (arith, low, up));
+}
 
-pub pack_of-p-requires-clause-tree : goal.pack_of-p-requires-clause-tree
-pack_of-p-requires-clause-tree c = c.requires.tree
+pub next-requires-clause-tree : goal.next-requires-clause-tree
+next-requires-clause-tree c = c.requires.tree
 
-pub pack_of-p-requires-clause-level : goal.pack_of-p-requires-clause-level
-pack_of-p-requires-clause-level c = c.requires.levels
+pub next-requires-clause-masks : goal.next-requires-clause-masks
+next-requires-clause-masks c = c.requires.masks
 
-pub pack_of-p-requires-clause-pack : goal.pack_of-p-requires-clause-pack
-pack_of-p-requires-clause-pack c = let n = c.packs-count.ensures in let on = c.marked-test.true in omega (arith, n, on)
+pub next-requires-clause-level : goal.next-requires-clause-level
+next-requires-clause-level c = c.requires.levels
 
-pub serve_listed_if-requires-clause-tree : goal.serve_listed_if-requires-clause-tree
-serve_listed_if-requires-clause-tree c = c.requires.tree
+pub next-requires-clause-span : goal.next-requires-clause-span
+next-requires-clause-span c = c.span-span.ensures
 
-pub serve_listed_if-requires-clause-pack : goal.serve_listed_if-requires-clause-pack
-serve_listed_if-requires-clause-pack c = c.pack_of-p.ensures.pack
+pub next-requires-clause-group : goal.next-requires-clause-group
+next-requires-clause-group c = c.marked.invariant.group
 
-pub next_marked-i-requires-in-marked-clause-tree : goal.next_marked-i-requires-in-marked-clause-tree
-next_marked-i-requires-in-marked-clause-tree c = c.requires.tree
+pub next-requires-clause-stale : goal.next-requires-clause-stale
+next-requires-clause-stale c = c.marked.invariant.long ∙ c.requires.long.stale
 
-pub next_marked-i-requires-in-marked-clause-level : goal.next_marked-i-requires-in-marked-clause-level
-next_marked-i-requires-in-marked-clause-level c = c.requires.levels
+pub next-requires-clause-before : goal.next-requires-clause-before
+next-requires-clause-before c = c.marked.invariant.before
 
-pub next_marked-i-requires-in-marked-clause-from : goal.next_marked-i-requires-in-marked-clause-from
-next_marked-i-requires-in-marked-clause-from c = let n = c.packs-count.ensures in let on = c.marked-test.true in omega (arith, n, on)
+pub next-requires-clause-fresh : goal.next-requires-clause-fresh
+next-requires-clause-fresh c = fresh_below c.args.tree.now c.requires.tree c.marked.stale 0 c.marked.from c.marked.invariant.within c.marked.invariant.fresh
 
-pub next_marked-i-requires-in-marked-clause-stale : goal.next_marked-i-requires-in-marked-clause-stale
-next_marked-i-requires-in-marked-clause-stale c = c.serve_listed_if.auto.stale ∙ c.marked.auto.stale ∙ c.requires.long.stale
+pub serve_listed-requires-clause-tree : goal.serve_listed-requires-clause-tree
+serve_listed-requires-clause-tree c = c.requires.tree
+
+pub serve_listed-requires-clause-pack : goal.serve_listed-requires-clause-pack
+serve_listed-requires-clause-pack c = c.in-Some.ensures.some.pack
+
+pub serve_listed-requires-clause-first : goal.serve_listed-requires-clause-first
+serve_listed-requires-clause-first c = pack_level c.args.tree.now c.requires.tree 0 c.in-Some.next.place c.in-Some.next.pack.0 c.in-Some.ensures.some.place c.in-Some.ensures.some.at
+
+pub serve_listed-requires-clause-held : goal.serve_listed-requires-clause-held
+serve_listed-requires-clause-held c = let place = c.in-Some.ensures.some.place in let last = c.requires.last in omega (arith, place, last)
+
+pub serve_listed-requires-clause-long : goal.serve_listed-requires-clause-long
+serve_listed-requires-clause-long c = record {
+  dues = c.marked.invariant.nodes ∙ c.requires.long.dues;
+  ready = c.requires.long.ready;
+  serves = c.marked.auto.serves ∙ c.requires.long.serves;
+  stale = c.marked.invariant.long ∙ c.requires.long.stale;
+  runs = c.marked.auto.runs ∙ c.requires.long.runs;
+}
+
+pub serve_listed-requires-clause-fits : goal.serve_listed-requires-clause-fits
+serve_listed-requires-clause-fits c = fitting_still c.args.tree.now c.args.dues.now c.marked.dues c.marked.invariant.tick c.marked.invariant.remains c.requires.fits
+
+pub serve_listed-requires-clause-serving : goal.serve_listed-requires-clause-serving
+serve_listed-requires-clause-serving c = c.marked.invariant.serving
+
+pub serve_listed-requires-clause-seen : goal.serve_listed-requires-clause-seen
+serve_listed-requires-clause-seen c =
+    let place = c.in-Some.ensures.some.place in
+    let after = c.in-Some.ensures.some.after in
+    let room = c.requires.room in
+    let kept = c.marked.invariant.room in
+    let few = c.marked.invariant.few in
+    omega (arith, place, after, room, kept, few)
+
+pub serve_listed-requires-clause-stopped : goal.serve_listed-requires-clause-stopped
+serve_listed-requires-clause-stopped c =
+    let place = c.in-Some.ensures.some.place in
+    let after = c.in-Some.ensures.some.after in
+    let room = c.requires.room in
+    let kept = c.marked.invariant.room in
+    let few = few_pass (λ i. not (first_runs c.args.tree.now c.marked.runs i) && is_held c.args.places.now.onto i) c.marked.from 0 in
+    let long = ap (λ (xs : List ℕ). length xs) c.marked.invariant.stopped in
+    omega (arith, place, after, room, kept, few, long)
+
+pub serve_listed-requires-clause-begun : goal.serve_listed-requires-clause-begun
+serve_listed-requires-clause-begun c =
+    let place = c.in-Some.ensures.some.place in
+    let after = c.in-Some.ensures.some.after in
+    let room = c.requires.room in
+    let kept = c.marked.invariant.room in
+    let few = few_pass (λ i. first_runs c.args.tree.now c.marked.runs i && not (is_held c.args.places.now.onto i)) c.marked.from 0 in
+    let long = ap (λ (xs : List ℕ). length xs) c.marked.invariant.begun in
+    omega (arith, place, after, room, kept, few, long)
+
+pub overflow_add-from : goal.overflow_add-from
+overflow_add-from c = let n = c.packs-count.ensures in let few = c.packs-count.type_inv in let place = c.in-Some.ensures.some.place in omega (arith, n, few, place)
+
+pub marked-preserved : goal.marked-preserved
+marked-preserved c =
+    let t = c.args.tree.now in
+    let h = c.requires.tree in
+    let onto = c.args.places.now.onto in
+    let was = c.marked.invariant in
+    let found = c.in-Some.ensures.some in
+    let p = c.in-Some.next.pack.0 in
+    let i = c.in-Some.next.place in
+    let l = found.place in
+    let at = found.at in
+    let within : i ≤ length (packs_at t 0) = le_of_lt l in
+    let passed : (k : ℕ) → c.marked.from ≤ k → k < i → get_or c.marked.stale (get_or (packs_at t 0) k 0) false ≡ false = (λ k low up. found.skipped k up) in
+    let over = fresh_skip t c.marked.stale 0 c.marked.from i was.fresh passed in
+    let settled_there = settled_skip t onto c.marked.stale c.marked.runs c.marked.from i found.after within passed was.settled in
+    let stopped_there = stops_skip t onto c.marked.stale c.marked.runs c.marked.from i found.after within passed was.settled c.marked.changes.stopped was.stopped in
+    let begun_there = begins_skip t onto c.marked.stale c.marked.runs c.marked.from i found.after within passed was.settled c.marked.changes.begun was.begun in
+    let stale = c.serve_listed.new.stale in
+    let runs = c.serve_listed.new.runs in
+    let fresh = fresh_step t h c.marked.stale stale 0 i p l at over c.serve_listed.ensures.own c.serve_listed.ensures.marks in
+    let same : (k : ℕ) → k < i → first_runs t runs k ≡ first_runs t c.marked.runs k =
+    (λ k m. let is_pack = first_is_pack t h k (omega (arith, m, l)) in c.serve_listed.ensures.unchanged.unchanged (get_or (packs_at t 0) k 0) is_pack (fresh (get_or (packs_at t 0) k 0) is_pack (inr (k, omega (arith, m), refl)))) in
+    let here : first_runs t runs i ≡ get_or runs p false = ap (λ q. get_or runs q false) (sym at) in
+    let few = was.few in
+    let after = found.after in
+    record {
+      tick = c.serve_listed.ensures.tick ∙ was.tick;
+      remains = c.serve_listed.ensures.remains ∙ was.remains;
+      nodes = c.serve_listed.ensures.nodes ∙ was.nodes;
+      long = c.serve_listed.ensures.unchanged.long ∙ was.long;
+      serving = c.serve_listed.ensures.serving;
+      fresh = fresh;
+      settled = settled_rest t h onto c.marked.stale c.marked.runs stale runs p i l at c.serve_listed.ensures.unchanged settled_there;
+      room = c.serve_listed.ensures.room ∙ was.room;
+      stopped = listed_step (λ k. not (first_runs t c.marked.runs k) && is_held onto k) (λ k. not (first_runs t runs k) && is_held onto k) c.marked.changes.stopped c.serve_listed.new.changes.stopped i _
+          (λ k m. ap (λ (r : Bool). not r && is_held onto k) (same k m)) (ap (λ (r : Bool). not r && is_held onto i) here) stopped_there c.serve_listed.ensures.stopped;
+      begun = listed_step (λ k. first_runs t c.marked.runs k && not (is_held onto k)) (λ k. first_runs t runs k && not (is_held onto k)) c.marked.changes.begun c.serve_listed.new.changes.begun i _
+          (λ k m. ap (λ (r : Bool). r && not (is_held onto k)) (same k m)) (ap (λ (r : Bool). r && not (is_held onto i)) here) begun_there c.serve_listed.ensures.begun;
+      within = omega (arith, l);
+      seen = elim c.serve_listed.ensures.seen [
+        | inl more ↦ seen_step t c.args.serves.now c.marked.serves c.serve_listed.new.serves c.marked.changes c.serve_listed.new.changes p i l at _ _
+            c.serve_listed.ensures.others more c.serve_listed.ensures.stopped c.serve_listed.ensures.begun was.seen
+        | inr (none, own, still) ↦ seen_same t c.args.serves.now c.marked.serves c.serve_listed.new.serves c.marked.changes c.serve_listed.new.changes p i _ _ c.serve_listed.ensures.others own none
+            (none_stops _ _ still) (none_begins _ _ still) c.serve_listed.ensures.stopped c.serve_listed.ensures.begun was.seen
+      ];
+      few = elim c.serve_listed.ensures.seen [
+        | inl more ↦ (let m = ap (λ (xs : List ℕ). length xs) more in let long = length-append c.marked.changes.seen (i ∷ []) in omega (arith, few, m, long, after))
+        | inr (none, own, still) ↦ (let m = ap (λ (xs : List ℕ). length xs) none in omega (arith, few, m, after))
+      ];
+      group = found.group;
+      before = unmarked_still t c.args.masks.now.groups 0 c.span-span.result c.span-span.ensures c.marked.stale stale p c.in-Some.next.group (pack_level t h 0 i p l at) found.in_span
+          c.serve_listed.ensures.own c.serve_listed.ensures.marks found.before;
+    }
 
 pub marked-smaller : goal.marked-smaller
-marked-smaller c = let after = c.next_marked-i-in-marked.ensures.after in let on = c.marked-test.true in omega (arith, after, on)
+marked-smaller c = let after = c.in-Some.ensures.some.after in let place = c.in-Some.ensures.some.place in omega (arith, after, place)
 
-pub serve_listed_if-requires-clause-first : goal.serve_listed_if-requires-clause-first
-serve_listed_if-requires-clause-first c =
-    let n = c.packs-count.ensures in
-    let b = c.marked-test.true in
-    ap (level c.args.tree.now) c.pack_of-p.ensures.value ∙ (pack_of_level c.args.tree.now c.requires.tree 0 c.marked.i (omega (arith, n, b))).1
+pub returns-clause-tick : goal.returns-clause-tick
+returns-clause-tick c = c.marked.invariant.tick
 
-pub serve_listed_if-requires-clause-settled : goal.serve_listed_if-requires-clause-settled
-serve_listed_if-requires-clause-settled c =
-    let n = c.packs-count.ensures in
-    let b = c.marked-test.true in
-    let at = c.pack_of-p.ensures.value in
-    λ off. c.marked.invariant.5 c.marked.i (le_refl c.marked.i) (omega (arith, n, b)) (ap (λ q. get_or c.marked.stale q false) (sym at) ∙ off) ∙ ap (λ q. get_or c.marked.runs q false) (sym at)
+pub returns-clause-remains : goal.returns-clause-remains
+returns-clause-remains c = c.marked.invariant.remains
 
-pub next_marked-i-requires-clause-count : goal.next_marked-i-requires-clause-count
-next_marked-i-requires-clause-count c = c.packs-count.ensures
+pub returns-clause-nodes : goal.returns-clause-nodes
+returns-clause-nodes c = c.marked.invariant.nodes
 
-pub next_marked-i-requires-in-marked-clause-count : goal.next_marked-i-requires-in-marked-clause-count
-next_marked-i-requires-in-marked-clause-count c = c.packs-count.ensures
+pub returns-clause-long : goal.returns-clause-long
+returns-clause-long c = c.marked.invariant.long
+
+pub returns-clause-serving : goal.returns-clause-serving
+returns-clause-serving c = c.marked.invariant.serving
+
+pub returns-clause-fresh : goal.returns-clause-fresh
+returns-clause-fresh c =
+    let t = c.args.tree.now in
+    fresh_all t c.requires.tree c.marked.stale 0 (length (packs_at t 0)) refl (fresh_skip t c.marked.stale 0 c.marked.from (length (packs_at t 0)) c.marked.invariant.fresh (λ k low up. c.in_default.ensures.none refl k up))
+
+pub returns-clause-changed : goal.returns-clause-changed
+returns-clause-changed c =
+    let t = c.args.tree.now in
+    let onto = c.args.places.now.onto in
+    let was = c.marked.invariant in
+    let all = length (packs_at t 0) in
+    let passed : (k : ℕ) → c.marked.from ≤ k → k < all → get_or c.marked.stale (get_or (packs_at t 0) k 0) false ≡ false = (λ k low up. c.in_default.ensures.none refl k up) in
+    changed_are t onto c.marked.runs c.marked.changes all refl
+    (stops_skip t onto c.marked.stale c.marked.runs c.marked.from all was.within (le_refl all) passed was.settled c.marked.changes.stopped was.stopped)
+    (begins_skip t onto c.marked.stale c.marked.runs c.marked.from all was.within (le_refl all) passed was.settled c.marked.changes.begun was.begun)
+
+pub returns-clause-seen : goal.returns-clause-seen
+returns-clause-seen c = c.marked.invariant.seen
+
+pub returns-clause-room : goal.returns-clause-room
+returns-clause-room c = c.marked.invariant.room

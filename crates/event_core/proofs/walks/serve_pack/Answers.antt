@@ -32,7 +32,7 @@ returns-clause-serving c =
     (c.serve-next.ensures.served c.args.ends.now (subst (λ (xs : List ℕ). AreReady (candidates c.args.tree.now c.args.dues.now.remains c.args.ends.now c.args.p.0) xs) (sym c.ready_at.ensures) (c.requires.serving.picks c.args.p.0 c.requires.pack)) c.requires.serving.served) c.requires.serving
 
 pub returns-clause-unchanged : goal.returns-clause-unchanged
-returns-clause-unchanged c = record { unmarked = c.serve-next.ensures.unmarked; unchanged = c.serve-next.ensures.unchanged }
+returns-clause-unchanged c = record { unmarked = c.serve-next.ensures.unmarked; unchanged = c.serve-next.ensures.unchanged; long = c.serve-next.ensures.long }
 
 pub returns-clause-others : goal.returns-clause-others
 returns-clause-others c = λ q ne. rw get_or-set_other refl

@@ -1,4 +1,4 @@
-use Rattle.std.proofs.Common.{ap, length, get_or, subst, subst₂, sym, ◌∙◌, ◌<◌, ℕ, List, Bool, []}
+use Rattle.std.proofs.Common.{ap, length, get_or, refl, subst, subst₂, sym, ◌∙◌, ◌<◌, ℕ, List, Bool, []}
 use Rattle.run_tree.specs.Tree.{IsMember, home, place}
 use Rattle.event_core.specs.Serving.{ServingContents, AreBegun}
 use Rattle.event_core.proofs.KeptLemmas.{back, back_long}
@@ -10,7 +10,7 @@ begin_all-requires-clause-ready c =
 
 pub begin_all-requires-clause-stale : goal.begin_all-requires-clause-stale
 begin_all-requires-clause-stale c =
-    ap (λ (xs : List Bool). length xs) (c.deref_mut-2.ensures.value ∙ ap (λ (s : ServingContents). s.stale) c.self.view_is) ∙ c.requires.long.stale
+    ap (λ (s : ServingContents). length s.stale) c.self.view_is ∙ c.requires.long.stale
 
 pub begin_all-requires-clause-places : goal.begin_all-requires-clause-places
 begin_all-requires-clause-places c =
@@ -21,15 +21,15 @@ pub returns-clause-begun : goal.returns-clause-begun
 returns-clause-begun c =
     let Q : List (List ℕ) → List Bool → List (List ℕ) → List Bool → Type 0 =
     λ ready stale ready' stale'. AreBegun c.args.plan.now.tree c.args.calendar.now.begins c.args.calendar.now.ends c.args.calendar.now.begun c.args.dues.now.remains ready stale c.begin_all.new.dues.remains ready' stale' (length c.args.calendar.now.begun) in
-    subst₂ (λ ready stale. Q c.args.self.now.ready c.args.self.now.stale ready stale) (sym (back c.self.inside.ready _ _ c.deref_mut.ensures.value c.begin_all.auto.ready)) (sym (back c.self.inside.stale _ _ c.deref_mut-2.ensures.value c.begin_all.auto.stale))
-    (subst₂ (λ ready stale. Q ready stale c.begin_all.new.ready c.begin_all.new.stale) (c.deref_mut.ensures.value ∙ ap (λ (s : ServingContents). s.ready) c.self.view_is) (c.deref_mut-2.ensures.value ∙ ap (λ (s : ServingContents). s.stale) c.self.view_is) c.begin_all.ensures.begun)
+    subst₂ (λ ready stale. Q c.args.self.now.ready c.args.self.now.stale ready stale) (sym (back c.self.inside.ready _ _ c.deref_mut.ensures.value c.begin_all.auto.ready)) refl
+    (subst₂ (λ ready stale. Q ready stale c.begin_all.new.ready c.begin_all.new.stale) (c.deref_mut.ensures.value ∙ ap (λ (s : ServingContents). s.ready) c.self.view_is) (ap (λ (s : ServingContents). s.stale) c.self.view_is) c.begin_all.ensures.begun)
 
 pub returns-clause-long : goal.returns-clause-long
 returns-clause-long c = record {
   dues = ap (λ (xs : List Bool). length xs) c.begin_all.ensures.runs ∙ c.requires.long.dues;
   ready = back_long c.self.inside.ready _ _ c.deref_mut.ensures.value c.begin_all.auto.ready ∙ ap (λ (s : ServingContents). length s.ready) c.self.view_is ∙ c.requires.long.ready;
   serves = ap (λ (s : ServingContents). length s.serves) c.self.view_is ∙ c.requires.long.serves;
-  stale = back_long c.self.inside.stale _ _ c.deref_mut-2.ensures.value c.begin_all.auto.stale ∙ ap (λ (s : ServingContents). length s.stale) c.self.view_is ∙ c.requires.long.stale;
+  stale = c.begin_all.ensures.begun.as_many ∙ ap (λ (s : ServingContents). length s.stale) c.self.view_is ∙ c.requires.long.stale;
   runs = ap (λ (s : ServingContents). length s.runs) c.self.view_is ∙ c.requires.long.runs;
 }
 

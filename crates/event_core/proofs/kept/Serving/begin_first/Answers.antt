@@ -1,7 +1,7 @@
-use Rattle.std.proofs.Common.{ap, false, true, length, get_or, refl, subst, subst₂, sym, ◌∙◌, ◌<◌, ◌≡◌, ℕ, List, Option, None, Bool, []}
+use Rattle.std.proofs.Common.{ap, false, true, length, get_or, refl, subst, subst₂, sym, ◌∙◌, ◌<◌, ℕ, List, Option, None, Bool, []}
 use Rattle.std.proofs.lemmas.List.{length-replicate}
 use Rattle.std.specs.List.{range_with_len}
-use Rattle.run_tree.specs.Tree.{IsMember, IsPack, home, place}
+use Rattle.run_tree.specs.Tree.{IsMember, home, place}
 use Rattle.event_core.specs.Serving.{ServingContents, lists, AreBegun, IsServing}
 use Rattle.event_core.proofs.FirstLemmas.{blank_places, first_filled, first_marked, first_serving}
 use Rattle.event_core.proofs.KeptLemmas.{back, back_long, same_lists}
@@ -18,7 +18,7 @@ begin_first-requires-clause-ready c = ap (λ (xs : List (List ℕ)). length xs) 
 
 pub begin_first-requires-clause-stale : goal.begin_first-requires-clause-stale
 begin_first-requires-clause-stale c =
-    ap (λ (xs : List Bool). length xs) (c.deref_mut-2.ensures.value ∙ ap (λ (s : ServingContents). s.stale) c.self.view_is ∙ c.requires.blank.stale) ∙ length-replicate (length c.args.plan.now.tree.nodes) true
+    ap (λ (xs : List Bool). length xs) (ap (λ (s : ServingContents). s.stale) c.self.view_is ∙ c.requires.blank.stale) ∙ length-replicate (length c.args.plan.now.tree.nodes) true
 
 pub begin_first-requires-clause-places : goal.begin_first-requires-clause-places
 begin_first-requires-clause-places c =
@@ -32,7 +32,7 @@ returns-clause-filled c =
     let s' = lists c.begin_first.new.ready s.serves s.dry c.begin_first.new.stale s.runs in
     let Begun : List (List ℕ) → List Bool → Type 0 = λ ready stale.
     AreBegun p.tree c.args.calendar.now.begins c.args.calendar.now.ends (range_with_len 0 (length p.tree.nodes)) c.args.dues.now.remains ready stale c.begin_first.new.dues.remains c.begin_first.new.ready c.begin_first.new.stale (length p.tree.nodes) in
-    let a = subst₂ Begun (c.deref_mut.ensures.value ∙ ap (λ (k : ServingContents). k.ready) c.self.view_is) (c.deref_mut-2.ensures.value ∙ ap (λ (k : ServingContents). k.stale) c.self.view_is) c.begin_first.ensures.begun in
+    let a = subst₂ Begun (c.deref_mut.ensures.value ∙ ap (λ (k : ServingContents). k.ready) c.self.view_is) (ap (λ (k : ServingContents). k.stale) c.self.view_is) c.begin_first.ensures.begun in
     first_filled p c.requires.plan s s' c.requires.blank c.args.dues.now c.begin_first.new.dues c.requires.remains c.requires.dues c.args.calendar.now c.requires.calendar (c.begin_first.ensures.tick ∙ sym c.requires.first) c.begin_first.ensures.runs refl refl refl a
 
 pub returns-clause-serving : goal.returns-clause-serving
@@ -42,10 +42,10 @@ returns-clause-serving c =
     let s' = lists c.begin_first.new.ready s.serves s.dry c.begin_first.new.stale s.runs in
     let Begun : List (List ℕ) → List Bool → Type 0 = λ ready stale.
     AreBegun p.tree c.args.calendar.now.begins c.args.calendar.now.ends (range_with_len 0 (length p.tree.nodes)) c.args.dues.now.remains ready stale c.begin_first.new.dues.remains c.begin_first.new.ready c.begin_first.new.stale (length p.tree.nodes) in
-    let a = subst₂ Begun (c.deref_mut.ensures.value ∙ ap (λ (k : ServingContents). k.ready) c.self.view_is) (c.deref_mut-2.ensures.value ∙ ap (λ (k : ServingContents). k.stale) c.self.view_is) c.begin_first.ensures.begun in
+    let a = subst₂ Begun (c.deref_mut.ensures.value ∙ ap (λ (k : ServingContents). k.ready) c.self.view_is) (ap (λ (k : ServingContents). k.stale) c.self.view_is) c.begin_first.ensures.begun in
     subst (λ (k : ServingContents). IsServing p.tree c.begin_first.new.dues c.args.calendar.now.ends k)
     (same_lists _ _ _ _ _ _ _ _ _ _ (sym (back c.self.inside.ready _ _ c.deref_mut.ensures.value c.begin_first.auto.ready)) (sym (ap (λ (k : ServingContents). k.serves) c.self.view_is)) (sym (ap (λ (k : ServingContents). k.dry) c.self.view_is))
-    (sym (back c.self.inside.stale _ _ c.deref_mut-2.ensures.value c.begin_first.auto.stale)) (sym (ap (λ (k : ServingContents). k.runs) c.self.view_is)))
+    refl (sym (ap (λ (k : ServingContents). k.runs) c.self.view_is)))
     (first_serving p c.requires.plan s s' c.requires.blank c.args.dues.now c.begin_first.new.dues c.requires.remains c.requires.dues c.args.calendar.now c.requires.calendar (c.begin_first.ensures.tick ∙ sym c.requires.first) c.begin_first.ensures.runs refl refl refl a)
 
 pub returns-clause-marked : goal.returns-clause-marked
@@ -55,9 +55,8 @@ returns-clause-marked c =
     let s' = lists c.begin_first.new.ready s.serves s.dry c.begin_first.new.stale s.runs in
     let Begun : List (List ℕ) → List Bool → Type 0 = λ ready stale.
     AreBegun p.tree c.args.calendar.now.begins c.args.calendar.now.ends (range_with_len 0 (length p.tree.nodes)) c.args.dues.now.remains ready stale c.begin_first.new.dues.remains c.begin_first.new.ready c.begin_first.new.stale (length p.tree.nodes) in
-    let a = subst₂ Begun (c.deref_mut.ensures.value ∙ ap (λ (k : ServingContents). k.ready) c.self.view_is) (c.deref_mut-2.ensures.value ∙ ap (λ (k : ServingContents). k.stale) c.self.view_is) c.begin_first.ensures.begun in
-    let marked = first_marked p c.requires.plan s s' c.requires.blank c.args.dues.now c.begin_first.new.dues c.requires.remains c.requires.dues c.args.calendar.now c.requires.calendar (c.begin_first.ensures.tick ∙ sym c.requires.first) c.begin_first.ensures.runs refl refl refl a in
-    subst (λ (stale : List Bool). (q : ℕ) → IsPack p.tree q → get_or stale q false ≡ false → ⊥) (sym (back c.self.inside.stale _ _ c.deref_mut-2.ensures.value c.begin_first.auto.stale)) marked
+    let a = subst₂ Begun (c.deref_mut.ensures.value ∙ ap (λ (k : ServingContents). k.ready) c.self.view_is) (ap (λ (k : ServingContents). k.stale) c.self.view_is) c.begin_first.ensures.begun in
+    first_marked p c.requires.plan s s' c.requires.blank c.args.dues.now c.begin_first.new.dues c.requires.remains c.requires.dues c.args.calendar.now c.requires.calendar (c.begin_first.ensures.tick ∙ sym c.requires.first) c.begin_first.ensures.runs refl refl refl a
 
 pub returns-clause-nodes : goal.returns-clause-nodes
 returns-clause-nodes c = c.begin_first.ensures.begun.same ∙ ap (λ (xs : List ℕ). length xs) c.requires.remains ∙ length-replicate (length c.args.plan.now.tree.nodes) 0
@@ -67,7 +66,7 @@ returns-clause-long c = record {
   dues = ap (λ (xs : List Bool). length xs) (c.begin_first.ensures.runs ∙ c.requires.dues) ∙ length-replicate (length c.args.plan.now.tree.nodes) false;
   ready = back_long c.self.inside.ready _ _ c.deref_mut.ensures.value c.begin_first.auto.ready ∙ ap (λ (s : ServingContents). length s.ready) c.self.view_is ∙ c.requires.blank.ready_long;
   serves = ap (λ (s : ServingContents). length s.serves) c.self.view_is ∙ ap (λ (xs : List (Option ℕ)). length xs) c.requires.blank.serves ∙ length-replicate (length c.args.plan.now.tree.nodes) None;
-  stale = back_long c.self.inside.stale _ _ c.deref_mut-2.ensures.value c.begin_first.auto.stale ∙ ap (λ (s : ServingContents). length s.stale) c.self.view_is
+  stale = c.begin_first.ensures.begun.as_many ∙ ap (λ (s : ServingContents). length s.stale) c.self.view_is
       ∙ ap (λ (xs : List Bool). length xs) c.requires.blank.stale ∙ length-replicate (length c.args.plan.now.tree.nodes) true;
   runs = ap (λ (s : ServingContents). length s.runs) c.self.view_is ∙ c.requires.blank.runs_long;
 }

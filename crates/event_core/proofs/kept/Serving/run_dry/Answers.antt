@@ -1,4 +1,4 @@
-use Rattle.std.proofs.Common.{List, Option, Bool, ap, length, refl, subst₂, sym, ◌∙◌, ℕ}
+use Rattle.std.proofs.Common.{List, Option, ap, length, refl, subst₂, sym, ◌∙◌, ℕ}
 use Rattle.run_tree.specs.Tree.{Tree}
 use Rattle.event_core.specs.Serving.{ServingContents, IsServing, IsDrying}
 use Rattle.event_core.proofs.KeptLemmas.{back, back_long, same_lists}
@@ -14,25 +14,25 @@ run_dry-requires-clause-serves c =
 
 pub run_dry-requires-clause-stale : goal.run_dry-requires-clause-stale
 run_dry-requires-clause-stale c =
-    ap (λ (xs : List Bool). length xs) (c.deref_mut-2.ensures.value ∙ ap (λ (s : ServingContents). s.stale) c.self.view_is) ∙ c.requires.long.stale ∙ ap (λ (t : Tree). length t.nodes) (sym c.tree.ensures.value)
+    ap (λ (s : ServingContents). length s.stale) c.self.view_is ∙ c.requires.long.stale ∙ ap (λ (t : Tree). length t.nodes) (sym c.tree.ensures.value)
 
 pub run_dry-requires-clause-drying : goal.run_dry-requires-clause-drying
 run_dry-requires-clause-drying c =
     subst₂ (λ (t : Tree) (s : ServingContents). IsDrying t c.args.dues.now c.args.ends.now s (λ (q : ℕ). ⊥)) (sym c.tree.ensures.value)
-    (sym (same_lists _ _ _ _ _ _ _ _ _ _ c.deref_mut.ensures.value c.deref.ensures.value refl c.deref_mut-2.ensures.value c.deref-2.ensures.value ∙ c.self.view_is)) c.requires.drying
+    (sym (same_lists _ _ _ _ _ _ _ _ _ _ c.deref_mut.ensures.value c.deref.ensures.value refl refl c.deref-2.ensures.value ∙ c.self.view_is)) c.requires.drying
 
 pub returns-clause-serving : goal.returns-clause-serving
 returns-clause-serving c =
     subst₂ (λ (t : Tree) (s : ServingContents). IsServing t c.args.dues.now c.args.ends.now s) c.tree.ensures.value
     (same_lists _ _ _ _ _ _ _ _ _ _ (sym (back c.self.inside.ready _ _ c.deref_mut.ensures.value c.run_dry.auto.ready)) c.deref.ensures.value refl
-    (sym (back c.self.inside.stale _ _ c.deref_mut-2.ensures.value c.run_dry.auto.stale)) c.deref-2.ensures.value) c.run_dry.ensures
+    refl c.deref-2.ensures.value) c.run_dry.ensures.serving
 
 pub returns-clause-long : goal.returns-clause-long
 returns-clause-long c = record {
   dues = c.requires.long.dues;
   ready = back_long c.self.inside.ready _ _ c.deref_mut.ensures.value c.run_dry.auto.ready ∙ ap (λ (s : ServingContents). length s.ready) c.self.view_is ∙ c.requires.long.ready;
   serves = ap (λ (s : ServingContents). length s.serves) c.self.view_is ∙ c.requires.long.serves;
-  stale = back_long c.self.inside.stale _ _ c.deref_mut-2.ensures.value c.run_dry.auto.stale ∙ ap (λ (s : ServingContents). length s.stale) c.self.view_is ∙ c.requires.long.stale;
+  stale = c.run_dry.ensures.long ∙ ap (λ (s : ServingContents). length s.stale) c.self.view_is ∙ c.requires.long.stale;
   runs = ap (λ (s : ServingContents). length s.runs) c.self.view_is ∙ c.requires.long.runs;
 }
 
