@@ -1,4 +1,9 @@
 pub mod FlatTrees
+pub mod LongTicks
+pub mod AlikeLeaves
+pub mod PartNodes
+pub mod PartTicks
+pub mod PlanEvents
 pub mod OwnTicks
 pub mod OwnEvents
 pub mod OwnPlaces
