@@ -4,6 +4,7 @@ pub mod AlikeLeaves
 pub mod PartNodes
 pub mod PartTicks
 pub mod PlanEvents
+pub mod PartEvents
 pub mod OwnTicks
 pub mod OwnEvents
 pub mod OwnPlaces
