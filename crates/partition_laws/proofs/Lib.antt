@@ -5,6 +5,7 @@ pub mod PartNodes
 pub mod PartTicks
 pub mod PlanEvents
 pub mod PartEvents
+pub mod PartPlaces
 pub mod OwnTicks
 pub mod OwnEvents
 pub mod OwnPlaces

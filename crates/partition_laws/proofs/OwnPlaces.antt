@@ -1,5 +1,5 @@
 -- Where every pack of level 0 is a root, each processor holds the pack of its number, and what runs there is what the pack's own plan runs.
-use Rattle.std.proofs.Common.{Bool, List, None, Option, Some, ap, arith, false, filter, get_or, length, map, not, refl, replicate, suc, true, zero, zero-add, ℕ, ◌&&◌, ◌+◌, ◌/◌, ◌<◌, ◌∙◌, ◌∷◌, ◌≡◌, ◌≤◌}
+use Rattle.std.proofs.Common.{Bool, List, None, Option, Some, ap, arith, false, filter, get_or, length, map, not, refl, replicate, suc, sym, true, zero, zero-add, ℕ, ◌&&◌, ◌+◌, ◌/◌, ◌<◌, ◌∙◌, ◌∷◌, ◌≡◌, ◌≤◌}
 use Rattle.std.specs.List.{range_with_len}
 use Rattle.std.proofs.lemmas.Bool.{and_from, and_right, cond-true}
 use Rattle.sched_base.specs.Candidates.{is_at}
@@ -12,15 +12,15 @@ use Rattle.run_tree.specs.Boundaries.{set_boundary}
 use Rattle.run_tree.specs.Plans.{IsPlan, PlanContents}
 use Rattle.run_tree.specs.Runs.{runs}
 use Rattle.run_tree.specs.Schedule.{leaf_on, onto_at, packs_at, packs_running}
-use Rattle.run_tree.specs.Tree.{leaf, members}
-use Rattle.run_tree.proofs.ScheduleLemmas.{leaf_among_first, length-running, onto_is, running_is}
+use Rattle.run_tree.specs.Tree.{leaf}
+use Rattle.run_tree.proofs.ScheduleLemmas.{length-running, onto_is, running_is}
 use Rattle.sched_laws.proofs.LevelRates.{run_root}
 use Rattle.sched_laws.proofs.OneLevel.{onto_const}
-use Rattle.sched_laws.proofs.Packs.{server_serves}
 use Rattle.sched_laws.proofs.PlacedPacks.{running_count}
 use Rattle.partition_laws.specs.Partitions.{IsOwnPlan, IsPartitioned, first_pack, member_count, member_of}
 use Rattle.partition_laws.proofs.FlatTrees.{is_first, root_pack}
-use Rattle.partition_laws.proofs.OwnTicks.{its_is_pack, its_place, plan_leaves, runs_own}
+use Rattle.partition_laws.proofs.OwnTicks.{is_part, onto_member, onto_pack, own_is_pack, own_onto, plan_leaves}
+use Rattle.partition_laws.proofs.PartPlaces.{shown_there}
 
 -- nobody is kept where nobody was placed
 pub kept_nobody : (runs : List Bool) (n : ℕ) → map (kept runs) (replicate n None) ≡ replicate n None
@@ -109,7 +109,6 @@ pub leaf_own : (whole own : PlanContents) (i f : ℕ) (w : IsPlan whole) (o : Is
     (n k : ℕ) → k < member_count own.tree 0 → runs (set_boundary own.set.tasks) own.tree (member_of own.tree 0 k) (n / f) ≡ true →
     leaf_on (set_boundary whole.set.tasks) whole.tree n (Some i) ≡ leaf whole.tree (member_of whole.tree i k)
 leaf_own whole own i f w o roots is n k l on =
-    let run = runs_own whole own i f w o roots is n k l ∙ on in
-    let lk = its_place whole own i f w o roots is k l in
-    let law = server_serves (set_boundary whole.set.tasks) whole.tree w.tree.tree (plan_leaves whole w) (first_pack whole.tree i) (its_is_pack whole own i f w o roots is) in
-    leaf_among_first (set_boundary whole.set.tasks) whole.tree n (members whole.tree (first_pack whole.tree i)) k lk run (λ j lj other. law.alone j k n lj lk other run)
+    let p = own_is_pack whole own i f w o roots is in
+    shown_there whole own (own_onto whole own i) f w o (is_part whole own i f w o roots is) n i (first_pack own.tree 0) k p (sym (onto_pack whole own i f w o roots is (first_pack own.tree 0) p)) l on
+    ∙ ap (leaf whole.tree) (onto_member whole own i f w o roots is k l)

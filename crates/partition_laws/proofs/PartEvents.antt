@@ -1,21 +1,18 @@
--- The events of a plan are those of its parts' own plans, and what a part's packs show is what their likes show.
-use Rattle.std.proofs.Common.{Bool, None, Option, Some, ap, ap₂, arith, div-add-mod', false, inl, inr, length, mul-le-mul_right, refl, subst, suc, sym, true, zero, ℕ, ◌%◌, ◌*◌, ◌+◌, ◌/◌, ◌<◌, ◌∙◌, ◌≡◌, ◌⊎◌}
+-- The events of a plan are those of its parts' own plans.
+use Rattle.std.proofs.Common.{ap, ap₂, arith, div-add-mod', false, inl, inr, mul-le-mul_right, subst, suc, sym, true, zero, ℕ, ◌%◌, ◌*◌, ◌+◌, ◌/◌, ◌<◌, ◌∙◌, ◌≡◌, ◌⊎◌}
 use Rattle.std.proofs.lemmas.Bool.{both_ways, cases_Bool, cases_eq, false_from_ne_true}
 use Rattle.run_tree.specs.Boundaries.{set_boundary}
 use Rattle.run_tree.specs.Plans.{IsPlan, PlanContents}
 use Rattle.run_tree.specs.Rounds.{is_event}
 use Rattle.run_tree.specs.Runs.{runs}
-use Rattle.run_tree.specs.Schedule.{leaf_among, leaf_on}
-use Rattle.run_tree.specs.Tree.{IsLeaf, IsMember, IsPack, Tree, home, is_leaf, is_pack, kind_at, leaf, member, members, place, primal}
+use Rattle.run_tree.specs.Tree.{IsLeaf, IsMember, Tree, home, is_leaf, is_pack, kind_at, leaf, member, place, primal}
 use Rattle.run_tree.proofs.KindLemmas.{KindOf, dual_no_leaf, kind_of, not_pack_leaf}
 use Rattle.run_tree.proofs.RunLemmas.{left_at, left_is, on_time}
-use Rattle.run_tree.proofs.ScheduleLemmas.{leaf_among_first}
 use Rattle.sched_laws.proofs.Packs.{server_serves}
-use Rattle.partition_laws.specs.Partitions.{first_pack}
 use Rattle.partition_laws.specs.Parts.{AreParts, IsPartPlan, Parts}
 use Rattle.partition_laws.proofs.AlikeLeaves.{alike_boundary, alike_task}
 use Rattle.partition_laws.proofs.LongTicks.{step_at, step_inside}
-use Rattle.partition_laws.proofs.PartNodes.{dual_there, leaf_there, member_there, set_has, some_ticks, unit_there}
+use Rattle.partition_laws.proofs.PartNodes.{dual_there, leaf_there, member_there, plan_leaves, some_ticks, unit_there}
 use Rattle.partition_laws.proofs.PartTicks.{none_there, runs_there, some_there}
 use Rattle.partition_laws.proofs.PlanEvents.{Begins, Dries, begin_event, dry_event, event_parts}
 
@@ -24,10 +21,10 @@ pub some_left : (p : PlanContents) → IsPlan p → (n x : ℕ) → IsMember p.t
 some_left p is n x m =
     let b = set_boundary p.set.tasks in
     let (i, l, same) = is.tree.tree.homes_are x m in
-    let law = server_serves b p.tree is.tree.tree (set_has p is) (home p.tree x) i in
+    let law = server_serves b p.tree is.tree.tree (plan_leaves p is) (home p.tree x) i in
     let P : ℕ → Type 0 = λ y. runs b p.tree y n ≡ true → 0 < left_at b p.tree n y in
     let y = member p.tree (home p.tree x) (place p.tree x) in
-    let at = left_is b p.tree y n (on_time b p.tree is.tree.tree (set_has p is) y n (is.tree.tree.members_are (home p.tree x) (place p.tree x) i l).0) in
+    let at = left_is b p.tree y n (on_time b p.tree is.tree.tree (plan_leaves p is) y n (is.tree.tree.members_are (home p.tree x) (place p.tree x) i l).0) in
     subst P same (λ run. (let left = law.has_left (place p.tree x) n l run in omega (arith, left, at)))
 
 module _ (whole own : PlanContents) (onto : ℕ → ℕ) (f : ℕ) (w : IsPlan whole) (o : IsPlan own) (is : IsPartPlan whole own onto f) where
@@ -205,19 +202,3 @@ has_like whole parts w o are x m =
         let there = ap (λ y. is_pack (kind_at whole.tree y)) (sym (are.likes x m.0)) ∙ at.1 in
         absurd (both_ways (is_pack (kind_at whole.tree x)) m.1 there))
     no_pack (inr off) = off
-
--- what runs on the processor of a pack of level 0 is the leaf of the member whose like runs
-pub shown_there : (whole own : PlanContents) (onto : ℕ → ℕ) (f : ℕ) (w : IsPlan whole) (o : IsPlan own) (is : IsPartPlan whole own onto f) →
-    (n i p k : ℕ) → IsPack own.tree p → first_pack whole.tree i ≡ onto p → k < length (members own.tree p) →
-    runs (set_boundary own.set.tasks) own.tree (member own.tree p k) (n / f) ≡ true →
-    leaf_on (set_boundary whole.set.tasks) whole.tree n (Some i) ≡ leaf whole.tree (onto (member own.tree p k))
-shown_there whole own onto f w o is n i p k pack at l on =
-    let b = set_boundary whole.set.tasks in
-    let law = server_serves b whole.tree w.tree.tree (set_has whole w) (onto p) (is.packs p pack) in
-    let long = is.same p pack in
-    let place : k < length (members whole.tree (onto p)) = omega (arith, l, long) in
-    let same = is.members_are p k pack l in
-    let run = ap (λ x. runs b whole.tree x n) same ∙ runs_there whole own onto f w o is n (member own.tree p k) (o.tree.tree.members_are p k pack l).0 ∙ on in
-    ap (λ q. leaf_among b whole.tree n (members whole.tree q)) at
-    ∙ leaf_among_first b whole.tree n (members whole.tree (onto p)) k place run (λ j lj other. law.alone j k n lj place other run)
-    ∙ ap (leaf whole.tree) same

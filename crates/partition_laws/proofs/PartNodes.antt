@@ -9,7 +9,7 @@ use Rattle.run_tree.specs.Boundaries.{HaveBoundaries, any_of, is_boundary, membe
 use Rattle.run_tree.specs.Plans.{IsPlan, PlanContents}
 use Rattle.run_tree.specs.Tree.{IsDual, IsLeaf, IsMember, IsPack, IsTree, Tree, dual, home, is_pack, kind_at, leaf, level, member, members, place, primal}
 use Rattle.run_tree.proofs.BoundaryLemmas.{bound_dual, bound_leaf, bound_pack}
-use Rattle.run_tree.proofs.KindLemmas.{KindOf, kind_of, not_pack, not_pack_leaf}
+use Rattle.run_tree.proofs.KindLemmas.{KindOf, kind_of, not_pack_leaf}
 use Rattle.run_tree.proofs.PackBoundaryLemmas.{member_value}
 use Rattle.run_tree.proofs.SetBoundaryLemmas.{set_leaves}
 use Rattle.sched_laws.proofs.LevelRates.{dual_bounds}
@@ -17,8 +17,8 @@ use Rattle.partition_laws.specs.Parts.{IsPartPlan}
 use Rattle.partition_laws.proofs.AlikeLeaves.{alike_boundary, alike_leaf}
 
 -- a plan's leaves have boundaries
-pub set_has : (p : PlanContents) → IsPlan p → HaveBoundaries (set_boundary p.set.tasks) p.tree
-set_has p is = set_leaves p.set.tasks is.lawful.each p.tree is.tree.tasks
+pub plan_leaves : (p : PlanContents) → IsPlan p → HaveBoundaries (set_boundary p.set.tasks) p.tree
+plan_leaves p is = set_leaves p.set.tasks is.lawful.each p.tree is.tree.tasks
 
 -- some item of a list passes where one of another does, where all pass alike
 pub any_same : (p q : ℕ → Bool) (xs ys : List ℕ) → length xs ≡ length ys → ((k : ℕ) → k < length ys → p (get_or xs k 0) ≡ q (get_or ys k 0)) → any_of p xs ≡ any_of q ys
@@ -126,10 +126,10 @@ module _ (whole own : PlanContents) (onto : ℕ → ℕ) (f : ℕ) (w : IsPlan w
   pub same_over : (p u : ℕ) → IsPack own.tree p →
       ((q : ℕ) → IsPack own.tree q → suc (level own.tree q) ≡ level own.tree p → its_bound q u ≡ own_bound q u) → its_bound p u ≡ own_bound p u
   same_over p u i under =
-      pack_any (set_boundary whole.set.tasks) whole.tree w.tree.tree (set_has whole w) (onto p) u (is.packs p i)
+      pack_any (set_boundary whole.set.tasks) whole.tree w.tree.tree (plan_leaves whole w) (onto p) u (is.packs p i)
       ∙ any_same (λ x. is_boundary (set_boundary whole.set.tasks) whole.tree x u) (λ x. own_bound x u) (members whole.tree (onto p)) (members own.tree p) (is.same p i)
       (λ k l. ap (λ x. is_boundary (set_boundary whole.set.tasks) whole.tree x u) (is.members_are p k i l) ∙ same_under p k u i l under)
-      ∙ sym (pack_any (set_boundary own.set.tasks) own.tree o.tree.tree (set_has own o) p u i)
+      ∙ sym (pack_any (set_boundary own.set.tasks) own.tree o.tree.tree (plan_leaves own o) p u i)
 
   -- level by level
   pub same_pack : (l p u : ℕ) → IsPack own.tree p → level own.tree p ≡ l → its_bound p u ≡ own_bound p u

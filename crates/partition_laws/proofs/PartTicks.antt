@@ -17,7 +17,7 @@ use Rattle.run_tree.proofs.RunLemmas.{ends_at, ends_is, left_at, left_is, on_tim
 use Rattle.sched_laws.proofs.LevelRates.{run_rests, run_root}
 use Rattle.partition_laws.specs.Parts.{IsPartPlan}
 use Rattle.partition_laws.proofs.LongTicks.{left_scaled, ticks_scaled}
-use Rattle.partition_laws.proofs.PartNodes.{dual_there, member_there, members_there, root_there, same_member, set_has, some_ticks, unit_there}
+use Rattle.partition_laws.proofs.PartNodes.{dual_there, member_there, members_there, root_there, same_member, plan_leaves, some_ticks, unit_there}
 
 -- candidates of mapped members
 listed_map : (ends left g : ℕ → ℕ) (ms : List ℕ) → listed ends left (map g ms) ≡ listed (λ x. ends (g x)) (λ x. left (g x)) ms
@@ -66,8 +66,8 @@ module _ (whole own : PlanContents) (onto : ℕ → ℕ) (f : ℕ) (w : IsPlan w
         let u = n / f / own.tree.scale in
         let b = window_begin (own_test x) u in
         let e = window_end (own_test x) u in
-        let early = on_time (set_boundary whole.set.tasks) whole.tree w.tree.tree (set_has whole w) (onto x) n (member_there whole own onto f w o is x m).0 in
-        let early' = on_time (set_boundary own.set.tasks) own.tree o.tree.tree (set_has own o) x (n / f) m in
+        let early = on_time (set_boundary whole.set.tasks) whole.tree w.tree.tree (plan_leaves whole w) (onto x) n (member_there whole own onto f w o is x m).0 in
+        let early' = on_time (set_boundary own.set.tasks) own.tree o.tree.tree (plan_leaves own o) x (n / f) m in
         let here = left_is (set_boundary whole.set.tasks) whole.tree (onto x) n early in
         let there = left_is (set_boundary own.set.tasks) own.tree x (n / f) early' in
         let begins : window_begin (its_test x) (n / whole.tree.scale) ≡ b = ap₂ (λ t v. window_begin t v) test unit in
@@ -162,16 +162,16 @@ module _ (whole own : PlanContents) (onto : ℕ → ℕ) (f : ℕ) (w : IsPlan w
       where
         go : ((q : ℕ) → IsPack own.tree q → level own.tree q + above ≡ own.tree.levels → its_run q n ≡ own_run q (n / f)) → (c : Option ℕ) → dual own.tree p ≡ c → its_run p n ≡ own_run p (n / f)
         go ih None e =
-            run_root (set_boundary whole.set.tasks) whole.tree w.tree.tree (set_has whole w) (onto p) n (is.packs p i) (root_there whole own onto f w o is p i e)
-            ∙ sym (run_root (set_boundary own.set.tasks) own.tree o.tree.tree (set_has own o) p (n / f) i e)
+            run_root (set_boundary whole.set.tasks) whole.tree w.tree.tree (plan_leaves whole w) (onto p) n (is.packs p i) (root_there whole own onto f w o is p i e)
+            ∙ sym (run_root (set_boundary own.set.tasks) own.tree o.tree.tree (plan_leaves own o) p (n / f) i e)
         go ih (Some d) e =
             (let x = o.tree.tree.has_dual p d i e in
             let m : IsMember own.tree d = (x.0.0, not_pack (kind_at own.tree d) x.0.1) in
             let up = (o.tree.tree.duals_are d x.0).2 in
             let same = ap (level own.tree) x.1 in
-            run_rests (set_boundary whole.set.tasks) whole.tree w.tree.tree (set_has whole w) (onto p) (onto d) n (is.packs p i) (dual_there whole own onto f w o is p d i e)
+            run_rests (set_boundary whole.set.tasks) whole.tree w.tree.tree (plan_leaves whole w) (onto p) (onto d) n (is.packs p i) (dual_there whole own onto f w o is p d i e)
             ∙ ap not (under_then d m (ih (home own.tree d) (o.tree.tree.homes_are d m).0 (omega (arith, up, same, at))))
-            ∙ sym (run_rests (set_boundary own.set.tasks) own.tree o.tree.tree (set_has own o) p d (n / f) i e))
+            ∙ sym (run_rests (set_boundary own.set.tasks) own.tree o.tree.tree (plan_leaves own o) p d (n / f) i e))
 
     -- each pack does
     pub packs_then : (p : ℕ) → IsPack own.tree p → its_run p n ≡ own_run p (n / f)

@@ -5,7 +5,7 @@ ghost use Rattle.run_tree.specs.Plans.{IsPlan, PlanContents};
 ghost use Rattle.run_tree.specs.Rounds.{is_event};
 ghost use Rattle.run_tree.specs.Runs.{runs};
 ghost use Rattle.run_tree.specs.Schedule.{leaf_on};
-ghost use Rattle.run_tree.specs.Tree.{IsPack, leaf, member, members};
+ghost use Rattle.run_tree.specs.Tree.{IsPack, leaf, level, member, members};
 ghost use Rattle.partition_laws.specs.Partitions.{first_pack};
 ghost use Rattle.partition_laws.specs.Parts.{AreParts, IsPartPlan, Parts};
 
@@ -29,9 +29,12 @@ pub fn part_events_law()
         is_event (set_boundary whole.set.tasks) whole.tree n ≡ false }
 {}
 
-/// The law of what is shown: on the processor of a pack of level 0 runs the leaf of the member whose like runs in the part's own plan.
+/// The law of what is shown: a pack has the level of its like, and on the processor of one of level 0 runs the leaf of the member whose like runs
+/// in the part's own plan.
 pub fn part_leaf_law()
-    ensures { (whole own : PlanContents) (onto : ℕ → ℕ) (factor : ℕ) → IsPlan whole → IsPlan own → IsPartPlan whole own onto factor →
+    ensures level { (whole own : PlanContents) (onto : ℕ → ℕ) (factor : ℕ) → IsPlan whole → IsPlan own → IsPartPlan whole own onto factor →
+        (p : ℕ) → IsPack own.tree p → level whole.tree (onto p) ≡ level own.tree p }
+    ensures leaf { (whole own : PlanContents) (onto : ℕ → ℕ) (factor : ℕ) → IsPlan whole → IsPlan own → IsPartPlan whole own onto factor →
         (n i p k : ℕ) → IsPack own.tree p → first_pack whole.tree i ≡ onto p → k < length (members own.tree p) →
         runs (set_boundary own.set.tasks) own.tree (member own.tree p k) (n / factor) ≡ true →
         leaf_on (set_boundary whole.set.tasks) whole.tree n (Some i) ≡ leaf whole.tree (onto (member own.tree p k)) }
