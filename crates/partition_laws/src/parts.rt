@@ -1,5 +1,5 @@
 //! What the parts of a plan run.
-ghost use Rattle.std.specs.Prelude.{ℕ, ◌≡◌, ◌<◌, ◌/◌, ◌%◌, true, false, length, Some, slice_index_or};
+ghost use Rattle.std.specs.Prelude.{ℕ, ◌≡◌, ◌<◌, ◌/◌, ◌%◌, true, false, length, Some};
 ghost use Rattle.run_tree.specs.Boundaries.{set_boundary};
 ghost use Rattle.run_tree.specs.Plans.{IsPlan, PlanContents};
 ghost use Rattle.run_tree.specs.Rounds.{is_event};
