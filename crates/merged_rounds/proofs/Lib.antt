@@ -7,8 +7,8 @@ mod ChangeLemmas
 mod MarkLemmas
 mod WordLemmas
 pub mod CountLemmas
-mod ReplayLemmas
-mod ReplaySteps
+pub mod ReplayLemmas
+pub mod ReplaySteps
 mod TurnLemmas
 mod EntryLemmas
 mod BegunLemmas
