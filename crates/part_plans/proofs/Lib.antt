@@ -1,0 +1,3 @@
+mod Duals
+mod FirstPacks
+mod PartLemmas

@@ -1,1 +1,3 @@
+pub mod Covers
+pub mod Likeness
 pub mod PartPlans

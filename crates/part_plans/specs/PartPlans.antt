@@ -24,9 +24,13 @@ pub record IsPartPlanOf (whole : PlanContents) (found : PartPlan) : Type 0 where
   pub packs : (k : ℕ) → k < length (packs_at found.plan.tree 0) →
       first_pack whole.tree (slice_index found.packs.items k) ≡ onto_of found (first_pack found.plan.tree k)
 
+-- these are plans of parts
+abbrev pub ArePartPlans : PlanContents → List PartPlan → Type 0
+ArePartPlans whole parts = (c : ℕ) (p : PartPlan) → slice_get parts c ≡ Some p → IsPartPlanOf whole p
+
 -- the plan falls into these parts: each node stands in one
 pub record ArePartPlansOf (whole : PlanContents) (found : PartPlans) : Type 0 where
-  pub each : (c : ℕ) (p : PartPlan) → slice_get found.parts.items c ≡ Some p → IsPartPlanOf whole p
+  pub each : ArePartPlans whole found.parts.items
   pub part_long : length found.part.items ≡ length whole.tree.nodes
   pub like_long : length found.like.items ≡ length whole.tree.nodes
   pub within : (x : ℕ) → x < length whole.tree.nodes → slice_index found.part.items x < length found.parts.items
