@@ -1,0 +1,4 @@
+pub mod PartRounds
+pub mod Placed
+pub mod Parted
+pub mod Merging
