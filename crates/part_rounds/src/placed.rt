@@ -1,11 +1,13 @@
 //! Packs of level 0, placed by what each shows.
-ghost use Rattle.std.specs.Prelude.{ℕ, ◌≡◌, ◌<◌, ◌≤◌, length, IfOk, slice_index};
+ghost use Rattle.std.specs.Prelude.{ℕ, ◌≡◌, ◌<◌, ◌≤◌, ◌+◌, ◌^◌, length, IfOk, None, Some, slice_index, slice_index_or, slice_set};
 ghost use Rattle.std.specs.List.{AllByRecursion};
+ghost use Rattle.sched_base.specs.declared.rows.Leaf.{Leaf as DeclaredLeaf};
+ghost use Rattle.sched_base.specs.declared.rows.Leaf.TheVariants.{Empty as empty_leaf};
 ghost use Rattle.sched_base.specs.declared.rows.Row.{Row as DeclaredRow};
 ghost use Rattle.run_tree.specs.Plans.{stop_of};
 ghost use Rattle.event_core.specs.Rounds.{IsRoundUpTo};
-ghost use Rattle.event_core.specs.Told.{IsTold};
-ghost use Rattle.merged_rounds.specs.Replays.{packs_of};
+ghost use Rattle.event_core.specs.Told.{AreTold, IsTold};
+ghost use Rattle.merged_rounds.specs.Replays.{AreNotedTo, IsEntryTaken, is_some, packs_of};
 ghost use Rattle.round_looks.specs.Looks.{leaf_at};
 ghost use Rattle.part_rounds.specs.Placed.{AreShown, IsPlacedUpTo};
 
@@ -40,7 +42,9 @@ pub(crate) fn none_placed(alloc: Global, plan: &Plan) -> Result<Placed, NoMemory
 
 // Whether something is told.
 #[inline(always)]
-fn is_told(shows: Option<Leaf>) -> bool {
+fn is_told(shows: Option<Leaf>) -> bool
+    ensures { result ≡ is_some shows }
+{
     match shows {
         None => false,
         Some(_leaf) => true,
@@ -49,7 +53,15 @@ fn is_told(shows: Option<Leaf>) -> bool {
 
 // Pack k shows this now, and is listed where that is something else than before.
 #[inline(always)]
-fn note(k: u32, leaf: Option<Leaf>, before: &mut [Option<Leaf>], changes: &mut Changes) {
+fn note(k: u32, leaf: Option<Leaf>, before: &mut [Option<Leaf>], changes: &mut Changes)
+    requires pack { k < length before.old }
+    requires seen { length changes.old.seen < changes.old.room }
+    requires stopped { length changes.old.stopped < changes.old.room }
+    requires begun { length changes.old.begun < changes.old.room }
+    ensures shows { before.new ≡ slice_set before.old k leaf }
+    ensures noted { IsEntryTaken before.old k leaf changes.old changes.new }
+    ensures room { changes.new.room ≡ changes.old.room }
+{
     let was = before[k as usize];
     before[k as usize] = leaf;
     if leaf != was {
@@ -57,9 +69,29 @@ fn note(k: u32, leaf: Option<Leaf>, before: &mut [Option<Leaf>], changes: &mut C
     }
 }
 
+// Each pack shows this now, and those are listed that show something else than before.
+#[inline(always)]
+fn note_all(shows: &[Option<Leaf>], before: &mut [Option<Leaf>], changes: &mut Changes)
+    requires many { length shows.now ≡ length before.old }
+    requires few { length shows.now < 2 ^ 32 }
+    requires room { changes.old.room ≡ length before.old }
+    ensures noted { AreNotedTo before.old before.new (length before.old) changes.new }
+    ensures shown { (k : ℕ) → k < length shows.now → slice_index_or before.new k None ≡ slice_index_or shows.now k None }
+    ensures room { changes.new.room ≡ changes.old.room }
+{
+    changes.clear();
+    for k in 0..shows.len() {
+        note(k as u32, shows[k], before, changes);
+    }
+}
+
 // A processor, where there is one, is told behind the first `count`. How many are told then.
 #[inline(always)]
-fn tell(processor: Option<u32>, told: &mut [u32], count: usize) -> usize {
+fn tell(processor: Option<u32>, told: &mut [u32], count: usize) -> usize
+    requires { count < length told.old }
+    ensures some { (q : ℕ) → processor ≡ Some q → (result ≡ count + 1) × (told.new ≡ slice_set told.old count q) }
+    ensures none { processor ≡ None → (result ≡ count) × (told.new ≡ told.old) }
+{
     match processor {
         None => count,
         Some(q) => {
@@ -71,7 +103,13 @@ fn tell(processor: Option<u32>, told: &mut [u32], count: usize) -> usize {
 
 // Tells the processor that each of these packs holds, or held last, where there is one. How many are told; a processor may be told twice.
 #[inline(always)]
-fn tell_places(places: &Places, packs: &[u32], told: &mut [u32]) -> usize {
+fn tell_places(places: &Places, packs: &[u32], told: &mut [u32]) -> usize
+    requires packs { (k : ℕ) → k < length packs.now → slice_index packs.now k < length places.now.last }
+    requires room { length packs.now ≤ length told.old }
+    ensures within { result ≤ length told.new }
+    ensures told { AreTold places.now packs.now told.new (length packs.now) result }
+{
+    places.know_noted();
     let mut count = 0;
     for k in 0..packs.len() {
         count = tell(places.last_of(packs[k]), told, count);
@@ -105,11 +143,8 @@ impl Placed {
     {
         plan.know_lawful();
         let _start = start;
-        self.changes.clear();
-        for k in 0..shows.len() {
-            note(k as u32, shows[k], &mut self.before, &mut self.changes);
-        }
         self.places.know_noted();
+        note_all(shows, &mut self.before, &mut self.changes);
         self.places.place_again(&self.changes);
         self.places.know_noted();
         tell_places(&self.places, self.changes.seen(), told)
@@ -132,7 +167,11 @@ impl Placed {
 
 // What this pack shows, or nothing.
 #[inline(always)]
-fn shown_in(shows: &[Option<Leaf>], pack: Option<u32>) -> Leaf {
+fn shown_in(shows: &[Option<Leaf>], pack: Option<u32>) -> Leaf
+    requires { (k : ℕ) → pack ≡ Some k → k < length shows.now }
+    ensures none { pack ≡ None → result ≡ empty_leaf }
+    ensures some { (k : ℕ) (l : DeclaredLeaf) → pack ≡ Some k → slice_index_or shows.now k None ≡ Some l → result ≡ l }
+{
     let Some(k) = pack else {
         return Leaf::Empty;
     };
