@@ -37,11 +37,7 @@ pub fn merged_by_parts(alloc: Global, plan: &Plan) -> Result<Option<MergedRows>,
 }
 
 // The merged rows of a plan by its parts, all of whose rounds are to come.
-fn merge_parted(
-    alloc: Global,
-    plan: &Plan,
-    parted: &mut Parted,
-) -> Result<MergedRows, CountFault>
+fn merge_parted(alloc: Global, plan: &Plan, parted: &mut Parted) -> Result<MergedRows, CountFault>
     requires belongs { IsPartedOf plan.now parted.old }
     requires first { parted.old.tick ≡ 0 }
     ensures rows { IfOk result (λ merged. AreMergedOf plan.now merged.lanes) }
