@@ -13,6 +13,7 @@ use crate::partitions::{Partition, partition_of};
 use event_core::CountFault;
 use merged_rounds::{RoundSum, add_changed, all_rounds, hyperperiod_of, no_rounds};
 use merged_rows::MergedRows;
+use part_rounds::merged_by_parts;
 use repeat_laws::first_late;
 use run_tree::Plan;
 use sched_base::{Leaf, NoMemory};
@@ -20,7 +21,8 @@ use std::alloc::Global;
 
 /// The merged rows of a plan's schedule, where it has at most 2,097,152 rows, one for each round and processor. It goes over each round once, and
 /// keeps no row that is merged with the one before. A schedule with too many rows is refused as it comes to the first round without room, with the
-/// number of rows up to the end of that round. Of a partitioned plan the rounds of each processor are computed alone, where they come round so.
+/// number of rows up to the end of that round. Of a partitioned plan the rounds of each processor are computed alone, where they come round so, and
+/// of another plan that falls into parts those of each part.
 pub fn merged_of(alloc: Global, plan: &Plan) -> Result<MergedRows, CountFault>
     ensures rows { IfOk result (λ merged. AreMergedOf plan.now merged.lanes) }
     ensures lawful { IfOk result (λ merged. AreLawful plan.now.set merged.lanes) }
@@ -33,6 +35,9 @@ pub fn merged_of(alloc: Global, plan: &Plan) -> Result<MergedRows, CountFault>
     {
         if let Some(mut partition) = partition_of(alloc, plan)? {
             return merge_partition(alloc, plan, &mut partition);
+        }
+        if let Some(merged) = merged_by_parts(alloc, plan)? {
+            return Ok(merged);
         }
     }
     merged_rounds::merged_of(alloc, plan)
