@@ -27,7 +27,8 @@ use Rattle.event_core.proofs.QuietRounds.{plan_leaves}
 use Rattle.event_core.proofs.RowsGone.{as_many, pack_within}
 use Rattle.event_core.proofs.SettledPacks.{same_start}
 use Rattle.round_looks.specs.Looks.{leaf_at}
-use Rattle.merged_rounds.specs.Replays.{AreNotedTo, IsEntryTaken, IsPackOn, is_some, packs_of}
+use Rattle.merged_rounds.specs.Replays.{AreNotedTo, IsEntryTaken, IsPackOn, packs_of}
+use Rattle.merged_rounds.specs.Shown.{is_some}
 use Rattle.merged_rounds.proofs.LapLemmas.{leaf_is}
 use Rattle.merged_rounds.proofs.ReplayLemmas.{changed_by, few_begun, few_stopped, held_runs, noted_by, noted_none, noted_skip, noted_step, onto_end, places_end}
 use Rattle.merged_rounds.proofs.ReplaySteps.{held_some, held_there}

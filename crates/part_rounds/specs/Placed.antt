@@ -6,7 +6,8 @@ use Rattle.sched_base.specs.Places.{is_held}
 use Rattle.run_tree.specs.Plans.{PlanContents}
 use Rattle.event_core.specs.Cores.{places_of}
 use Rattle.event_core.specs.Rounds.{IsRoundUpTo}
-use Rattle.merged_rounds.specs.Replays.{IsPackOn, is_some, packs_of}
+use Rattle.merged_rounds.specs.Replays.{IsPackOn, packs_of}
+use Rattle.merged_rounds.specs.Shown.{is_some}
 use Rattle.part_rounds.specs.declared.placed.Placed.{Placed}
 
 -- at this tick this is what each pack of level 0 shows, or nothing, where it rests

@@ -57,12 +57,7 @@ fn leaf_for(leaves: &[Leaf], node: Option<NodeId>) -> Option<Leaf> {
 
 /// Moves the core of a part to the end of its next round, and tells what the whole plan shows there of each of its packs. It takes no memory.
 #[inline(always)]
-pub(crate) fn run_part(
-    plan: &Plan,
-    part: &PartPlan,
-    core: &mut Core,
-    shows: &mut [Option<Leaf>],
-)
+pub(crate) fn run_part(plan: &Plan, part: &PartPlan, core: &mut Core, shows: &mut [Option<Leaf>])
     requires part { IsPartPlanOf plan.now part.now }
     requires belongs { IsCoreOf part.now.plan core.old }
     requires early { core.old.tick < stop_of part.now.plan }

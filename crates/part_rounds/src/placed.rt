@@ -7,7 +7,8 @@ ghost use Rattle.sched_base.specs.declared.rows.Row.{Row as DeclaredRow};
 ghost use Rattle.run_tree.specs.Plans.{stop_of};
 ghost use Rattle.event_core.specs.Rounds.{IsRoundUpTo};
 ghost use Rattle.event_core.specs.Told.{AreTold, IsTold};
-ghost use Rattle.merged_rounds.specs.Replays.{AreNotedTo, IsEntryTaken, is_some, packs_of};
+ghost use Rattle.merged_rounds.specs.Replays.{AreNotedTo, IsEntryTaken, packs_of};
+ghost use Rattle.merged_rounds.specs.Shown.{is_some};
 ghost use Rattle.round_looks.specs.Looks.{leaf_at};
 ghost use Rattle.part_rounds.specs.Placed.{AreShown, IsPlacedUpTo};
 

@@ -43,7 +43,11 @@ fn no_shows(alloc: Global, part: &PartPlan) -> Result<Vec<Option<Leaf>>, NoMemor
 }
 
 /// The rounds of a part from tick 0 on, none of which has gone by.
-pub(crate) fn part_rounds(alloc: Global, plan: &Plan, part: PartPlan) -> Result<PartRounds, NoMemory>
+pub(crate) fn part_rounds(
+    alloc: Global,
+    plan: &Plan,
+    part: PartPlan,
+) -> Result<PartRounds, NoMemory>
     requires part { IsPartPlanOf plan.now part }
     ensures belongs { IfOk result (λ r. IsPartRoundsOf plan.now r) }
     ensures part { IfOk result (λ r. r.part ≡ part) }
