@@ -8,8 +8,8 @@ use Rattle.sched_base.specs.Counting.{bit}
 use Rattle.sched_base.specs.Places.{is_held, is_running}
 use Rattle.sched_base.proofs.CountingLemmas.{bit_at, bit_off}
 use Rattle.sched_base.proofs.HeldLemmas.{held, held-zero, held_some}
-use Rattle.sched_base.proofs.ListLemmas.{passing_increases, passing_on, passing_off}
-use Rattle.run_tree.specs.Tree.{Tree, IsTree, at_level, level}
+use Rattle.sched_base.proofs.ListLemmas.{passing_on, passing_off}
+use Rattle.run_tree.specs.Tree.{Tree, IsTree, level}
 use Rattle.run_tree.specs.Boundaries.{set_boundary}
 use Rattle.run_tree.specs.Schedule.{packs_at, packs_running, onto_at}
 use Rattle.run_tree.specs.Plans.{PlanContents, IsPlan}
@@ -18,6 +18,7 @@ use Rattle.run_tree.proofs.ScheduleLemmas.{running_is}
 use Rattle.sched_laws.proofs.PlacedPacks.{held_onto}
 use Rattle.tree_select.specs.Marked.{AreFresh}
 use Rattle.tree_select.proofs.LevelLemmas.{pack_of_level}
+use Rattle.tree_select.proofs.PlaceLemmas.{packs_rise}
 use Rattle.cpu_assign.specs.Changed.{ChangeLists, with_pack, AreChanged}
 use Rattle.cpu_assign.proofs.BackLemmas.{range_more}
 use Rattle.event_core.specs.Rounds.{event_at, IsRoundUpTo}
@@ -43,31 +44,11 @@ module _ (t : Tree) (h : IsTree t) (onto : List (Option ℕ)) (stale runs stale'
 
 -- ---- packs of level 0 stand once in their list
 
-pub packs_increase : (t : Tree) (i d : ℕ) → i + suc d < length (packs_at t 0) → get_or (packs_at t 0) i 0 < get_or (packs_at t 0) (i + suc d) 0
-packs_increase t i zero l =
-    let e : i + suc zero ≡ suc i = omega arith in
-    let s = passing_increases (at_level t 0) (length t.nodes) 0 i (omega (arith, l)) in
-    let same = ap (λ k. get_or (packs_at t 0) k 0) e in
-    omega (arith, s, same)
-packs_increase t i (suc d) l =
-    let e : i + suc (suc d) ≡ suc (i + suc d) = omega arith in
-    let ih = packs_increase t i d (omega (arith, l)) in
-    let s = passing_increases (at_level t 0) (length t.nodes) 0 (i + suc d) (omega (arith, l)) in
-    let same = ap (λ k. get_or (packs_at t 0) k 0) e in
-    omega (arith, ih, s, same)
-
-later_apart : (t : Tree) (i j : ℕ) → i < j → j < length (packs_at t 0) → get_or (packs_at t 0) i 0 < get_or (packs_at t 0) j 0
-later_apart t i j l b =
-    let e : i + suc (j - i - 1) ≡ j = omega (arith, l) in
-    let s = packs_increase t i (j - i - 1) (omega (arith, e, b)) in
-    let same = ap (λ k. get_or (packs_at t 0) k 0) e in
-    omega (arith, s, same)
-
 pub first_apart : (t : Tree) (i j : ℕ) → i < length (packs_at t 0) → j < length (packs_at t 0) → i ≢ j → get_or (packs_at t 0) i 0 ≢ get_or (packs_at t 0) j 0
 first_apart t i j b c ne same = elim (cases_lt i j) [
-  | inl l ↦ (let s = later_apart t i j l c in omega (arith, s, same))
+  | inl l ↦ (let s = packs_rise t 0 i j l c in omega (arith, s, same))
   | inr l ↦ elim (cases_lt j i) [
-    | inl m ↦ (let s = later_apart t j i m b in omega (arith, s, same))
+    | inl m ↦ (let s = packs_rise t 0 j i m b in omega (arith, s, same))
     | inr m ↦ ne (omega (arith, l, m))
   ]
 ]

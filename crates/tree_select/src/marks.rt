@@ -1,6 +1,6 @@
 //! Marks of nodes, in words of bits.
-ghost use Rattle.std.specs.Prelude.{ℕ, ◌≡◌, ◌≢◌, ◌<◌, ◌≤◌, ◌+◌, ◌-◌, ◌*◌, ◌/◌, ◌%◌, ◌^◌, false, true, length, replicate, slice_index, slice_index_or, slice_set};
-ghost use Rattle.std.specs.Prelude.{IfOk, IfSome, None, Some};
+ghost use Rattle.std.specs.Prelude.{ℕ, ◌≡◌, ◌≢◌, ◌<◌, ◌≤◌, ◌+◌, ◌-◌, ◌*◌, ◌/◌, ◌%◌, ◌^◌, false, true, length, replicate, slice_index, slice_set};
+ghost use Rattle.std.specs.Prelude.{slice_index_or, IfOk, IfSome, None, Some};
 ghost use Rattle.tree_select.specs.Marks.{has_bit, is_marked, IsShown};
 
 use sched_base::{NoMemory, NodeId};
