@@ -1,2 +1,4 @@
 mod PlacedLemmas
 mod MergingLemmas
+pub mod KeptParts
+mod SourceLemmas

@@ -1,10 +1,13 @@
 //! The rounds of the first hyperperiod of a part.
-ghost use Rattle.std.specs.Prelude.{◌≡◌, ◌<◌, ◌≤◌, ◌*◌, [], length, IfOk};
+ghost use Rattle.std.specs.Prelude.{◌≡◌, ◌<◌, ◌≤◌, ◌*◌, [], length, IfOk, None, Some, slice_index_or};
+ghost use Rattle.sched_base.specs.declared.rows.Leaf.TheVariants.{Empty as empty_leaf};
+ghost use Rattle.sched_base.specs.declared.rows.NodeId.{NodeId as DeclaredNodeId};
 ghost use Rattle.run_tree.specs.Plans.{stop_of};
 ghost use Rattle.event_core.specs.Cores.{IsCoreOf};
+ghost use Rattle.event_core.specs.Rounds.{IsRoundUpTo};
 ghost use Rattle.merged_rounds.specs.Replays.{packs_of};
 ghost use Rattle.part_plans.specs.PartPlans.{IsPartPlanOf};
-ghost use Rattle.part_rounds.specs.PartRounds.{AreKeptOf, IsPartRound, kept_end};
+ghost use Rattle.part_rounds.specs.PartRounds.{AreKeptOf, IsPartRound, IsShownAt, kept_end};
 
 use event_core::Core;
 use part_plans::PartPlan;
@@ -36,11 +39,20 @@ pub(crate) fn no_kept(alloc: Global) -> KeptRounds
 
 // What the whole plan shows of pack k of level 0 of a part in the round just gone, which began at the part's tick `start`.
 #[inline(always)]
-fn shown_of(part: &PartPlan, core: &Core, start: u128, k: u32) -> Option<Leaf> {
-    if !core.places().holds(k) {
+fn shown_of(part: &PartPlan, core: &Core, start: u128, k: u32) -> Option<Leaf>
+    requires leaves { length part.now.leaves.items ≡ length part.now.plan.tree.nodes }
+    requires belongs { IsCoreOf part.now.plan core.now }
+    requires round { IsRoundUpTo part.now.plan start core.now.tick }
+    requires pack { k < packs_of part.now.plan }
+    ensures { IsShownAt part.now start k result }
+{
+    part.plan.know_lawful();
+    let places = core.places();
+    places.know_noted();
+    if !places.holds(k) {
         return None;
     }
-    match core.places().last_of(k) {
+    match places.last_of(k) {
         None => None,
         Some(q) => leaf_for(&part.leaves, core.node_on(&part.plan, start, q)),
     }
@@ -48,7 +60,11 @@ fn shown_of(part: &PartPlan, core: &Core, start: u128, k: u32) -> Option<Leaf> {
 
 // What this node shows, where there is one.
 #[inline(always)]
-fn leaf_for(leaves: &[Leaf], node: Option<NodeId>) -> Option<Leaf> {
+fn leaf_for(leaves: &[Leaf], node: Option<NodeId>) -> Option<Leaf>
+    requires { (n : DeclaredNodeId) → node ≡ Some n → n.0 < length leaves.now }
+    ensures none { node ≡ None → result ≡ None }
+    ensures some { (n : DeclaredNodeId) → node ≡ Some n → result ≡ Some (slice_index_or leaves.now n.0 empty_leaf) }
+{
     match node {
         None => None,
         Some(n) => Some(leaves[n.0 as usize]),
@@ -99,9 +115,7 @@ pub(crate) fn keep_rounds(
     'rounds: while core.now() < until && kept.ends.len() < MOST_KEPT {
         run_part(plan, part, core, shows);
         kept.ends.push(core.now() * part.factor)?;
-        for k in 0..shows.len() {
-            kept.shows.push(shows[k])?;
-        }
+        kept.shows.extend_from_slice(shows)?;
     }
     Ok(kept)
 }

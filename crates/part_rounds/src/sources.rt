@@ -187,9 +187,7 @@ impl PartRounds {
         let i = self.next;
         let count = self.shows.len();
         let base = i * count;
-        for k in 0..count {
-            self.shows[k] = self.kept.shows[base + k];
-        }
+        self.shows.copy_from_slice(&self.kept.shows[base..base + count]);
         self.end = (self.kept.ends[i] + self.shift).min(self.stop);
         if i + 1 < self.kept.ends.len() {
             self.next = i + 1;
