@@ -1,7 +1,9 @@
 -- The rounds of one part go on, computed or kept.
-use Rattle.std.proofs.Common.{◌≡◌, ℕ, zero, suc, ◌+◌, ◌*◌, ◌<◌, ◌≤◌, ◌^◌, inl, inr, min, List, [], ◌∷◌, length, get_or, Option, None, Some, Vec, true, false, refl, sym, ap, subst, ◌∙◌, arith, mul-le-mul_right, le_of_lt}
+use Rattle.std.proofs.Common.{◌≡◌, ℕ, zero, suc, ◌+◌, ◌*◌, ◌<◌, ◌≤◌, ◌^◌, inl, inr, min, List, [], ◌∷◌, length, get_or, Option, None, Some, Vec, Global, true, false, refl, sym, ap, subst, ◌∙◌, arith, mul-le-mul_right, le_of_lt}
+use Rattle.std.specs.Vec.{with_items}
 use Rattle.std.proofs.Math.Nat.{lt_of_mul-lt-mul_right}
 use Rattle.std.proofs.lemmas.Bool.{cases_lt}
+use Rattle.std.proofs.lemmas.List.{with_items_is}
 use Rattle.sched_base.specs.declared.rows.Leaf.{Leaf}
 use Rattle.run_tree.specs.Plans.{IsPlan, PlanContents, stop_of}
 use Rattle.run_tree.specs.Tree.{IsPack, members}
@@ -61,11 +63,15 @@ within_part whole part is n l =
 pub ticks_fit : (whole : PlanContents) (part : PartPlan) → IsPartPlanOf whole part → IsPlan whole → (n : ℕ) → n ≤ stop_of part.plan → n * part.factor < 2 ^ 127
 ticks_fit whole part is w n l = let m = within_part whole part is n l in let fits = stop_fits whole w in omega (arith, m, fits)
 
+-- a list as long as a vector's elements that is written over them is all of them
+pub written : {X : Type 0} (v : Vec X Global) (new : List X) → length new ≡ length v.items → (with_items v new).items ≡ new
+written v new same = with_items_is v new (let ok = v.ok.0 in omega (arith, same, ok))
+
 -- ---- what a part's core computes
 
 -- a core that moved on computes them on
 pub computed_on : (whole : PlanContents) (r : PartRounds) → IsPartRoundsOf whole r → r.replays ≡ false → (core : CoreContents) → IsCoreOf r.part.plan core →
-    (end : ℕ) (shows : Vec (Option Leaf)) → length shows.items ≡ packs_of r.part.plan → end ≡ core.tick * r.part.factor →
+    (end : ℕ) (shows : Vec (Option Leaf) Global) → length shows.items ≡ packs_of r.part.plan → end ≡ core.tick * r.part.factor →
     IsPartRoundsOf whole (record r { core = core; end = end; shows = shows })
 computed_on whole r b off core belongs end shows long at = record {
   part = b.part;
@@ -217,6 +223,28 @@ module _ (whole : PlanContents) (r : PartRounds) (b : IsPartRoundsOf whole r) (o
     each = λ k m. subst (λ (o : Option Leaf). IsShownAt r.part (kept.first + again.past) k o) (sym (is k m)) (shown_part k m);
   }
 
+  -- so it is where what is kept of it is written over what was told
+  module _ (end : ℕ) (at : end ≡ min (get_or r.kept.ends.items r.next 0 + r.shift) r.stop) (count : ℕ) (many : count ≡ packs_of r.part.plan) (kept_shows shows new : List (Option Leaf))
+      (kept_is : kept_shows ≡ r.kept.shows.items) (was : shows ≡ r.shows.items) (same : length new ≡ length shows)
+      (each : (k : ℕ) → k < length shows → get_or new k None ≡ get_or kept_shows (r.next * count + k) None) where
+    pub written_long : length new ≡ packs_of r.part.plan
+    written_long = same ∙ ap (λ (xs : List (Option Leaf)). length xs) was ∙ b.long
+
+    pub written_is : (with_items r.shows new).items ≡ new
+    written_is = written r.shows new (same ∙ ap (λ (xs : List (Option Leaf)). length xs) was)
+
+    pub written_vec_long : length (with_items r.shows new).items ≡ packs_of r.part.plan
+    written_vec_long = ap (λ (xs : List (Option Leaf)). length xs) written_is ∙ written_long
+
+    pub written_round : IsPartRound r.part r.end end (with_items r.shows new).items
+    written_round =
+        subst (λ (xs : List (Option Leaf)). IsPartRound r.part r.end end xs) (sym written_is)
+        (again_round end new at written_long
+        (λ k m.
+        each k (let long = written_long in omega (arith, m, long, same))
+        ∙ ap (λ n. get_or kept_shows (r.next * n + k) None) many
+        ∙ ap (λ (xs : List (Option Leaf)). get_or xs (r.next * packs_of r.part.plan + k) None) kept_is))
+
   -- the kept one ends no later than all rounds
   end_within : get_or r.kept.ends.items r.next 0 ≤ stop_of whole
   end_within = let end = kept.end_is in let m = within_part whole r.part b.part kept.last kept.round.below in omega (arith, end, m)
@@ -243,7 +271,7 @@ module _ (whole : PlanContents) (r : PartRounds) (b : IsPartRoundsOf whole r) (o
       let e = over all in
       omega (arith, fits, e)
 
-  module _ (end : ℕ) (shows : Vec (Option Leaf)) (long : length shows.items ≡ packs_of r.part.plan) (at : end ≡ min (get_or r.kept.ends.items r.next 0 + r.shift) r.stop) where
+  module _ (end : ℕ) (shows : Vec (Option Leaf) Global) (long : length shows.items ≡ packs_of r.part.plan) (at : end ≡ min (get_or r.kept.ends.items r.next 0 + r.shift) r.stop) where
     -- it ends no later than all rounds
     ends_within : end ≤ stop_of whole
     ends_within = let stop = b.stop in omega (arith, at, stop)

@@ -1,5 +1,5 @@
 //! The rounds of one part of a plan.
-ghost use Rattle.std.specs.Prelude.{ℕ, ◌≡◌, ◌<◌, ◌≤◌, ◌*◌, true, false, length, IfOk, IfSome};
+ghost use Rattle.std.specs.Prelude.{ℕ, ◌≡◌, ◌<◌, ◌≤◌, ◌+◌, ◌*◌, true, false, length, IfOk, IfSome, None, slice_index_or};
 ghost use Rattle.run_tree.specs.Plans.{stop_of};
 ghost use Rattle.event_core.specs.Cores.{IsCoreOf};
 ghost use Rattle.merged_rounds.specs.Laps.{AreTurns, CanComeRound};
@@ -146,6 +146,17 @@ fn coming_again(
     }
 }
 
+// Of each pack it is told what is kept from place `base` on.
+#[inline(always)]
+fn tell_kept(kept: &[Option<Leaf>], base: usize, shows: &mut [Option<Leaf>])
+    requires { base + length shows.old ≤ length kept.now }
+    ensures long { length shows.new ≡ length shows.old }
+    ensures each { (k : ℕ) → k < length shows.old → slice_index_or shows.new k None ≡ slice_index_or kept.now (base + k) None }
+{
+    let end = base + shows.len();
+    shows.copy_from_slice(&kept[base..end]);
+}
+
 impl PartRounds {
     /// Whether kept rounds come again.
     pub(crate) fn replays(&self) -> bool
@@ -187,7 +198,7 @@ impl PartRounds {
         let i = self.next;
         let count = self.shows.len();
         let base = i * count;
-        self.shows.copy_from_slice(&self.kept.shows[base..base + count]);
+        tell_kept(&self.kept.shows, base, &mut self.shows);
         self.end = (self.kept.ends[i] + self.shift).min(self.stop);
         if i + 1 < self.kept.ends.len() {
             self.next = i + 1;
