@@ -18,7 +18,7 @@ use Rattle.run_tree.specs.Boundaries.{set_boundary}
 use Rattle.run_tree.specs.Plans.{IsPlan, PlanContents, stop_of}
 use Rattle.run_tree.specs.Runs.{runs}
 use Rattle.run_tree.specs.Schedule.{leaf_on, packs_at, shown}
-use Rattle.run_tree.specs.Tree.{IsLeaf, IsPack, Tree, IsTree, at_level, is_leaf, kind_at, leaf, leaf_of, level, member, members}
+use Rattle.run_tree.specs.Tree.{IsLeaf, IsPack, Tree, IsTree, at_level, is_leaf, kind_at, leaf, leaf_of, level, members}
 use Rattle.run_tree.specs.TreeOfSet.{HoldsTasks, NumbersIdles, is_real}
 use Rattle.run_tree.specs.declared.kinds.Kind.{Kind}
 use Rattle.run_tree.specs.declared.kinds.Kind.TheVariants as kind
@@ -183,7 +183,7 @@ module _ (part : PartPlan) (h : IsPlan part.plan) (start end k : ℕ) (round : I
         let here = leaf_here_is j l in
         let real = h.tree.tasks.real x here in
         let shows : shown tasks t.scale start (leaf t n) ≡ shown tasks t.scale start (leaf t x) =
-            sym (e none) ∙ shows_here none ∙ ap (shown tasks t.scale start) (same ∙ ap (λ m. leaf t (own_member part k m)) (sym alone)) in
+        sym (e none) ∙ shows_here none ∙ ap (shown tasks t.scale start) (same ∙ ap (λ m. leaf t (own_member part k m)) (sym alone)) in
         let some = some_shown tasks t.scale start (leaf t x) real in
         let there : IsLeaf t n = (w, leaf_here tasks t.scale start (kind_at t n) (λ nothing. some (sym shows ∙ nothing))) in
         one_leaf tasks t h.tree.tasks h.tree.idles n x there here (leaf t x) real (same_leaf tasks t.scale start (leaf t n) (leaf t x) (h.tree.tasks.real n there) real shows) refl
@@ -290,8 +290,8 @@ module _ (part : PartPlan) (kept next : KeptRounds) (start end : ℕ) (shows : L
         each = λ k m.
             let within = kept_within i k (length kept.ends.items) (packs_of part.plan) l m in
             let same : kept_at part next i k ≡ kept_at part kept i k =
-                ap (λ (xs : List (Option Leaf)). get_or xs (i * packs_of part.plan + k) None) shows_are
-                ∙ get_or-append kept.shows.items shows None (i * packs_of part.plan + k) (omega (arith, within, long)) in
+            ap (λ (xs : List (Option Leaf)). get_or xs (i * packs_of part.plan + k) None) shows_are
+            ∙ get_or-append kept.shows.items shows None (i * packs_of part.plan + k) (omega (arith, within, long)) in
             subst (λ (o : Option Leaf). IsShownAt part was.first k o) (sym same) (was.each k m);
       }
 
@@ -310,9 +310,9 @@ module _ (part : PartPlan) (kept next : KeptRounds) (start end : ℕ) (shows : L
     each = λ k m.
         let long : i * packs_of part.plan + k ≡ length kept.shows.items + k = ap (λ n. n + k) (ap (λ n. n * packs_of part.plan) e ∙ sym so_far.long) in
         let same : kept_at part next i k ≡ get_or shows k None =
-            ap (λ (xs : List (Option Leaf)). get_or xs (i * packs_of part.plan + k) None) shows_are
-            ∙ ap (λ n. get_or (kept.shows.items ++ shows) n None) long
-            ∙ get_or-append-add kept.shows.items shows k None in
+        ap (λ (xs : List (Option Leaf)). get_or xs (i * packs_of part.plan + k) None) shows_are
+        ∙ ap (λ n. get_or (kept.shows.items ++ shows) n None) long
+        ∙ get_or-append-add kept.shows.items shows k None in
         subst (λ (o : Option Leaf). IsShownAt part round.first k o) (sym same) (round.each k m);
   }
 

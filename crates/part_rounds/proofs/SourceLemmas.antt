@@ -1,12 +1,12 @@
 -- The rounds of one part go on, computed or kept.
-use Rattle.std.proofs.Common.{◌≡◌, ℕ, zero, suc, ◌+◌, ◌*◌, ◌<◌, ◌≤◌, ◌^◌, inl, inr, min, List, [], ◌∷◌, length, get_or, Option, None, Some, Vec, Global, true, false, refl, sym, ap, subst, ◌∙◌, arith, mul-le-mul_right, le_of_lt}
+use Rattle.std.proofs.Common.{◌≡◌, ℕ, zero, suc, ◌+◌, ◌*◌, ◌<◌, ◌≤◌, ◌^◌, inl, inr, min, List, [], ◌∷◌, length, get_or, Option, None, Vec, Global, true, false, refl, sym, ap, subst, ◌∙◌, arith, mul-le-mul_right, le_of_lt}
 use Rattle.std.specs.Vec.{with_items}
 use Rattle.std.proofs.Math.Nat.{lt_of_mul-lt-mul_right}
 use Rattle.std.proofs.lemmas.Bool.{cases_lt}
 use Rattle.std.proofs.lemmas.List.{with_items_is}
 use Rattle.sched_base.specs.declared.rows.Leaf.{Leaf}
 use Rattle.run_tree.specs.Plans.{IsPlan, PlanContents, stop_of}
-use Rattle.run_tree.specs.Tree.{IsPack, members}
+use Rattle.run_tree.specs.Tree.{IsPack}
 use Rattle.run_tree.proofs.TreeLemmas.{first_is_pack}
 use Rattle.hyperperiod_laws.proofs.LaterRuns.{runs_again}
 use Rattle.event_core.specs.Cores.{CoreContents, IsCoreOf, runs_at}
@@ -20,7 +20,6 @@ use Rattle.merged_rounds.specs.Replays.{packs_of}
 use Rattle.merged_rounds.proofs.LapLemmas.{early, next_round_at, recurs, turns_more}
 use Rattle.part_rounds.specs.declared.sources.PartRounds.{PartRounds}
 use Rattle.part_rounds.specs.PartRounds.{AreAgain, AreKeptOf, IsKeptRound, IsPartRound, IsPartRoundsOf, IsShownAt, kept_at, kept_end, own_member, own_pack}
-use Rattle.part_rounds.proofs.KeptParts.{kept_within}
 
 -- ---- ticks of the whole plan and of a part's own one
 

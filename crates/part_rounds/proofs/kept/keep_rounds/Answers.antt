@@ -1,5 +1,4 @@
-use Rattle.std.proofs.Common.{ap, arith, length, List, ◌∙◌, ◌≡◌, ◌++◌, ◌∷◌, [], ◌*◌}
-use Rattle.std.proofs.lemmas.Result.{IfOk-from_err}
+use Rattle.std.proofs.Common.{ap, arith, length, ◌∙◌, ◌≡◌, ◌++◌, ◌∷◌, [], ◌*◌}
 use Rattle.merged_rounds.specs.Laps.{round_start}
 use Rattle.part_rounds.specs.declared.kept.KeptRounds.{KeptRounds}
 use Rattle.part_rounds.proofs.KeptParts.{more_end, none_kept, one_more, round_above, tick_fits}

@@ -1,8 +1,7 @@
-use Rattle.std.proofs.Common.{◌≡◌, ◌∙◌, ◌<◌, ◌*◌, ℕ, None, ap, arith, get_or, length, length-set, refl, subst, sym}
+use Rattle.std.proofs.Common.{◌∙◌, ◌<◌, ap, arith, length, length-set, subst, sym}
 use Rattle.run_tree.specs.Schedule.{packs_at}
 use Rattle.run_tree.specs.Tree.{Tree}
 use Rattle.event_core.proofs.FirstLevel.{some_level}
-use Rattle.merged_rounds.specs.Replays.{packs_of}
 use Rattle.part_rounds.proofs.KeptParts.{one_more_shown}
 use Rattle.part_rounds.proofs.kept.run_part.Goals as goal
 

@@ -1,9 +1,7 @@
-use Rattle.std.proofs.Common.{◌≡◌, ◌∙◌, ◌<◌, ℕ, Option, List, None, Some, Bool, false, true, ap, arith, get_or, length, refl, subst, sym}
-use Rattle.std.proofs.lemmas.Bool.{both_ways}
+use Rattle.std.proofs.Common.{◌≡◌, ◌∙◌, ℕ, Option, List, None, Some, ap, arith, get_or, length, refl, subst, sym}
 use Rattle.sched_base.specs.declared.rows.Leaf.TheVariants.{Empty}
 use Rattle.sched_base.specs.Places.{Placing, is_held}
 use Rattle.event_core.proofs.OneRound.{length-last}
-use Rattle.merged_rounds.specs.Replays.{packs_of}
 use Rattle.round_looks.specs.Looks.{IsNodeOn}
 use Rattle.part_rounds.proofs.KeptParts.{node_shown, noted_here, rests_here}
 use Rattle.part_rounds.proofs.kept.shown_of.Goals as goal
