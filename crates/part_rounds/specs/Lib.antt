@@ -1,4 +1,5 @@
 pub mod PartRounds
 pub mod Placed
 pub mod Parted
+pub mod PartedSteps
 pub mod Merging

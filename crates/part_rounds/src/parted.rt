@@ -2,13 +2,16 @@
 ghost use Rattle.std.specs.Prelude.{ℕ, ◌≡◌, ◌<◌, ◌≤◌, length, slice_index, IfOk, IfSome};
 ghost use Rattle.std.specs.List.{AllByRecursion};
 ghost use Rattle.sched_base.specs.declared.rows.Row.{Row as DeclaredRow};
-ghost use Rattle.run_tree.specs.Plans.{stop_of};
+ghost use Rattle.run_tree.specs.Plans.{IsPlan, stop_of};
 ghost use Rattle.event_core.specs.Rounds.{IsRoundUpTo};
 ghost use Rattle.event_core.specs.Told.{IsTold};
 ghost use Rattle.merged_rounds.specs.Laps.{IsAllTold};
 ghost use Rattle.merged_rounds.specs.Replays.{packs_of};
 ghost use Rattle.round_looks.specs.Looks.{leaf_at};
-ghost use Rattle.part_rounds.specs.Parted.{IsPartedOf};
+ghost use Rattle.part_rounds.specs.PartRounds.{IsPartRound, IsPartRoundsOf};
+ghost use Rattle.part_rounds.specs.Parted.{IsCovered, IsPartedOf};
+ghost use Rattle.part_rounds.specs.PartedSteps.{AreLooked, ArePartsAt, IsTelling};
+ghost use Rattle.part_rounds.specs.Placed.{AreShown, IsPlacedUpTo};
 
 use crate::placed::{Placed, none_placed};
 use crate::sources::{PartRounds, part_rounds};
@@ -64,10 +67,23 @@ pub(crate) fn parted_of(alloc: Global, plan: &Plan) -> Result<Option<Parted>, No
 
 // Moves a part to the end of its next round where the present one ends at tick `now`, and tells what its packs show by their numbers in the plan.
 #[inline(always)]
-fn go_if(plan: &Plan, rounds: &mut PartRounds, now: u128, shows: &mut [Option<Leaf>]) {
+fn go_if(plan: &Plan, rounds: &mut PartRounds, now: u128, shows: &mut [Option<Leaf>])
+    requires belongs { IsPartRoundsOf plan.now rounds.old }
+    requires lawful { IsPlan rounds.old.part.plan }
+    requires early { now < stop_of plan.now }
+    requires many { length shows.old ≡ packs_of plan.now }
+    ensures belongs { IsPartRoundsOf plan.now rounds.new }
+    ensures part { rounds.new.part ≡ rounds.old.part }
+    ensures round { rounds.old.end ≡ now → IsPartRound rounds.new.part now rounds.new.end rounds.new.shows.items }
+    ensures told { rounds.old.end ≡ now →
+        IsTelling plan.now now rounds.new.part.packs.items (packs_of rounds.new.part.plan) shows.old shows.new }
+    ensures kept { (rounds.old.end ≡ now → ⊥) → rounds.new ≡ rounds.old }
+    ensures same { (rounds.old.end ≡ now → ⊥) → shows.new ≡ shows.old }
+{
     if rounds.end != now {
         return;
     }
+    plan.know_lawful();
     rounds.go(plan);
     for k in 0..rounds.shows.len() {
         shows[rounds.part.packs[k] as usize] = rounds.shows[k];
@@ -84,7 +100,14 @@ fn look(
     told: &[u32],
     count: usize,
     leaves: &mut [Option<Leaf>],
-) {
+)
+    requires belongs { IsPlacedUpTo plan.now end placed.now }
+    requires round { IsRoundUpTo plan.now start end }
+    requires within { count ≤ length told.now }
+    requires processors { (j : ℕ) → j < count → slice_index told.now j < plan.now.tree.processors }
+    requires many { length leaves.old ≡ plan.now.tree.processors }
+    ensures { AreLooked plan.now start end told.now count leaves.old leaves.new }
+{
     for j in 0..count {
         let q = told[j];
         leaves[q as usize] = Some(placed.leaf_on(plan, start, end, q));
@@ -102,7 +125,15 @@ impl Parted {
 
     // Moves each part to the end of the round that goes on at the tick: the first of these ends.
     #[inline(always)]
-    fn go_parts(&mut self, plan: &Plan) -> u128 {
+    fn go_parts(&mut self, plan: &Plan) -> u128
+        requires belongs { IsPartedOf plan.now self.old }
+        requires early { self.old.tick < stop_of plan.now }
+        ensures covered { IsCovered plan.now self.new.parts.items self.new.part.items self.new.like.items }
+        ensures parts { ArePartsAt plan.now self.new.parts.items result self.new.shows.items }
+        ensures shows { AreShown plan.now self.old.tick self.new.shows.items }
+        ensures round { IsRoundUpTo plan.now self.old.tick result }
+        ensures placed { self.new.placed ≡ self.old.placed }
+    {
         let now = self.tick;
         let mut end = plan.rounds_end();
         for c in 0..self.parts.len() {
