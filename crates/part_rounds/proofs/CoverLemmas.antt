@@ -1,6 +1,5 @@
 -- A part of a plan within the whole: its rounds, and what the whole shows of its packs in them.
-use Rattle.std.proofs.Common.{◌≡◌, ℕ, zero, suc, ◌+◌, ◌*◌, ◌%◌, ◌/◌, ◌-◌, ◌<◌, ◌≤◌, ◌^◌, ◌⊎◌, ◌∙◌, ◌∷◌, [], inl, inr, Bool, true, false, List, Option, None, Some, filter, length, get_or, slice_get, refl, sym, ap, subst, arith, div-add-mod', mul-le-mul_right, le_of_lt}
-use Rattle.std.specs.List.{range_with_len}
+use Rattle.std.proofs.Common.{◌≡◌, ℕ, zero, suc, ◌+◌, ◌*◌, ◌%◌, ◌/◌, ◌-◌, ◌<◌, ◌≤◌, ◌^◌, ◌∙◌, ◌∷◌, [], inl, inr, Bool, true, false, List, Option, None, Some, length, get_or, slice_get, refl, sym, ap, subst, arith, div-add-mod', mul-le-mul_right, le_of_lt}
 use Rattle.std.proofs.Math.Nat.{lt_of_mul-lt-mul_right, mul-div_cancel, mul-mod_left}
 use Rattle.std.proofs.lemmas.Bool.{both_ways, cases_Bool, cases_eq, cases_lt}
 use Rattle.std.proofs.lemmas.Nat.{div_below, le-div}
@@ -13,7 +12,7 @@ use Rattle.sched_base.proofs.ListLemmas.{first_from, passing_increases}
 use Rattle.run_tree.specs.Boundaries.{set_boundary}
 use Rattle.run_tree.specs.Plans.{IsPlan, PlanContents, stop_of}
 use Rattle.run_tree.specs.Schedule.{onto_at, packs_at}
-use Rattle.run_tree.specs.Tree.{IsLeaf, IsMember, IsPack, Tree, at_level, home, is_pack, kind_at, level, member, members}
+use Rattle.run_tree.specs.Tree.{IsLeaf, IsPack, Tree, at_level, is_pack, kind_at, level, member}
 use Rattle.run_tree.proofs.ScheduleLemmas.{running_is}
 use Rattle.run_tree.proofs.TreeLemmas.{at_from, first_is_pack, leaf_at_level, pack_at}
 use Rattle.sched_laws.proofs.BetweenEvents.{set_runs_still}
@@ -34,7 +33,7 @@ use Rattle.part_plans.specs.declared.parts.PartPlan.{PartPlan}
 use Rattle.part_plans.specs.PartPlans.{IsPartPlanOf, onto_of}
 use Rattle.part_rounds.specs.declared.sources.PartRounds.{PartRounds}
 use Rattle.part_rounds.specs.Parted.{IsCovered}
-use Rattle.part_rounds.specs.PartRounds.{IsGoing, IsPartRound, IsShownAt}
+use Rattle.part_rounds.specs.PartRounds.{IsPartRound}
 
 -- ---- within a round the same members run
 
@@ -222,6 +221,33 @@ module _ (whole : PlanContents) (w : IsPlan whole) (part : PartPlan) (o : IsPlan
             ∙ sym (is.leaves m a_leaf) ∙ sym (at.leaf x j e lj run));
       }
 
+  -- a node whose like is pack i of level 0 is a pack
+  pack_back : (i y : ℕ) → i < packs_of whole → y < length part.plan.tree.nodes → onto_of part y ≡ first_pack whole.tree i → IsPack part.plan.tree y
+  pack_back i y l ly onto = (
+    ly,
+    elim (cases_Bool (is_pack (kind_at part.plan.tree y))) [
+      | inl here ↦ here
+      | inr a_member ↦
+          (let there = (member_there whole part.plan (onto_of part) part.factor w o is.part y (ly, a_member)).0.1 in
+          let pack = first_is_pack whole.tree w.tree.tree i l in
+          absurd (both_ways (is_pack (kind_at whole.tree (first_pack whole.tree i))) (sym (ap (λ z. is_pack (kind_at whole.tree z)) onto) ∙ there) pack.1))
+    ],
+  )
+
+  -- of level 0
+  low_back : (i y : ℕ) → i < packs_of whole → IsPack part.plan.tree y → onto_of part y ≡ first_pack whole.tree i → level part.plan.tree y ≡ 0
+  low_back i y l pack onto =
+      sym (level_there whole part.plan (onto_of part) part.factor w o is.part (level part.plan.tree y) y pack refl) ∙ ap (level whole.tree) onto ∙ first_low whole.tree i l
+
+  -- with a number
+  pub pack_in : (i y : ℕ) → i < packs_of whole → y < length part.plan.tree.nodes → onto_of part y ≡ first_pack whole.tree i →
+      (k : ℕ) × (k < packs_of part.plan) × (get_or part.packs.items k 0 ≡ i)
+  pack_in i y l ly onto =
+      let pack = pack_back i y l ly onto in
+      let (k, lk, at) = found_in (at_level part.plan.tree 0) (length part.plan.tree.nodes) 0 y (omega arith) (omega (arith, ly)) (at_from part.plan.tree 0 y pack (low_back i y l pack onto)) in
+      let same : onto_of part (first_pack part.plan.tree k) ≡ first_pack whole.tree i = ap (onto_of part) at ∙ onto in
+      (k, lk, first_once whole.tree (get_or part.packs.items k 0) i (is.packs_within k lk) l (is.packs k lk ∙ same))
+
 -- ---- the parts that a plan falls into
 
 -- the one at a place of a list
@@ -245,7 +271,7 @@ abbrev factor_at : Option PartRounds → ℕ
 factor_at None = 1
 factor_at (Some r) = r.part.factor
 
-module _ (whole : PlanContents) (w : IsPlan whole) (parts : List PartRounds) (part like : List ℕ) (cov : IsCovered whole parts part like)
+module _ (whole : PlanContents) (w : IsPlan whole) (parts : List PartRounds) (part like : List ℕ) (covered : IsCovered whole parts part like)
     (each : (c : ℕ) (r : PartRounds) → slice_get parts c ≡ Some r → IsPartPlanOf whole r.part) (lawful : (c : ℕ) (r : PartRounds) → slice_get parts c ≡ Some r → IsPlan r.part.plan) where
   -- the parts
   abbrev the_parts : Parts
@@ -263,13 +289,13 @@ module _ (whole : PlanContents) (w : IsPlan whole) (parts : List PartRounds) (pa
     each = λ c l. (
         let s = some_at parts c l in
         subst (λ (v : Option PartRounds). IsPartPlan whole (own_at whole v) (λ x. onto_from v x) (factor_at v)) (sym s.1) (each c s.0 s.1).part);
-    within = λ x l. cov.within x l;
+    within = λ x l. covered.within x l;
     known = λ x l. (
-        let s = some_at parts (get_or part x 0) (cov.within x l) in
-        subst (λ (v : Option PartRounds). get_or like x 0 < length (own_at whole v).tree.nodes) (sym s.1) (cov.known x s.0 l s.1));
+        let s = some_at parts (get_or part x 0) (covered.within x l) in
+        subst (λ (v : Option PartRounds). get_or like x 0 < length (own_at whole v).tree.nodes) (sym s.1) (covered.known x s.0 l s.1));
     likes = λ x l. (
-        let s = some_at parts (get_or part x 0) (cov.within x l) in
-        subst (λ (v : Option PartRounds). onto_from v (get_or like x 0) ≡ x) (sym s.1) (cov.likes x s.0 l s.1));
+        let s = some_at parts (get_or part x 0) (covered.within x l) in
+        subst (λ (v : Option PartRounds). onto_from v (get_or like x 0) ≡ x) (sym s.1) (covered.likes x s.0 l s.1));
   }
 
   own_lawful : (c : ℕ) → c < length parts → IsPlan (own_at whole (slice_get parts c))
@@ -286,21 +312,8 @@ module _ (whole : PlanContents) (w : IsPlan whole) (parts : List PartRounds) (pa
   pub pack_covered : (i : ℕ) → i < packs_of whole → (c : ℕ) × (r : PartRounds) × (k : ℕ) × (slice_get parts c ≡ Some r) × (k < packs_of r.part.plan) × (get_or r.part.packs.items k 0 ≡ i)
   pack_covered i l =
       let x = first_pack whole.tree i in
-      let pack = first_is_pack whole.tree w.tree.tree i l in
-      let s = some_at parts (get_or part x 0) (cov.within x pack.0) in
-      let r = s.0 in
-      let y = get_or like x 0 in
-      let o = lawful (get_or part x 0) r s.1 in
-      let is = each (get_or part x 0) r s.1 in
-      let ly = cov.known x r pack.0 s.1 in
-      let onto : onto_of r.part y ≡ x = cov.likes x r pack.0 s.1 in
-      let a_pack : IsPack r.part.plan.tree y = (ly, elim (cases_Bool (is_pack (kind_at r.part.plan.tree y))) [
-        | inl here ↦ here
-        | inr a_member ↦
-            (let there = (member_there whole r.part.plan (onto_of r.part) r.part.factor w o is.part y (ly, a_member)).0.1 in
-            absurd (both_ways (is_pack (kind_at whole.tree x)) (sym (ap (λ z. is_pack (kind_at whole.tree z)) onto) ∙ there) pack.1))
-      ]) in
-      let low : level r.part.plan.tree y ≡ 0 =
-      sym (level_there whole r.part.plan (onto_of r.part) r.part.factor w o is.part (level r.part.plan.tree y) y a_pack refl) ∙ ap (level whole.tree) onto ∙ first_low whole.tree i l in
-      let (k, lk, at) = found_in (at_level r.part.plan.tree 0) (length r.part.plan.tree.nodes) 0 y (omega arith) (omega (arith, ly)) (at_from r.part.plan.tree 0 y a_pack low) in
-      (get_or part x 0, r, k, s.1, lk, first_once whole.tree (get_or r.part.packs.items k 0) i (is.packs_within k lk) l (is.packs k lk ∙ ap (onto_of r.part) at ∙ onto))
+      let c = get_or part x 0 in
+      let in_tree = (first_is_pack whole.tree w.tree.tree i l).0 in
+      let (r, at) = some_at parts c (covered.within x in_tree) in
+      let (k, lk, same) = pack_in whole w r.part (lawful c r at) (each c r at) i (get_or like x 0) l (covered.known x r in_tree at) (covered.likes x r in_tree at) in
+      (c, r, k, at, lk, same)

@@ -1,5 +1,5 @@
 -- The rounds of a plan, cut at the ends of the rounds of its parts.
-use Rattle.std.proofs.Common.{◌≡◌, ℕ, zero, suc, ◌+◌, ◌*◌, ◌%◌, ◌/◌, ◌<◌, ◌≤◌, ◌⊎◌, ◌∙◌, ◌∷◌, ◌++◌, [], inl, inr, true, false, List, length, length-set, get_or, get_or-set_other, get_or-set_same, min, set, slice_get, take, drop, Option, None, Some, refl, sym, ap, subst, arith}
+use Rattle.std.proofs.Common.{◌≡◌, ℕ, zero, suc, ◌+◌, ◌*◌, ◌<◌, ◌≤◌, ◌⊎◌, ◌∙◌, ◌∷◌, ◌++◌, [], inl, inr, true, List, length, length-set, map, get_or, get_or-set_other, get_or-set_same, min, set, slice_get, take, drop, Option, None, Some, refl, sym, ap, subst, arith}
 use Rattle.std.specs.List.{AllByRecursion}
 use Rattle.std.proofs.lemmas.Bool.{cases_eq, cases_lt}
 use Rattle.std.proofs.Math.Seq.{take-append_seam}
@@ -16,11 +16,10 @@ use Rattle.merged_rounds.specs.Replays.{IsPackOn, packs_of}
 use Rattle.round_looks.specs.Looks.{leaf_at}
 use Rattle.part_plans.specs.declared.parts.PartPlan.{PartPlan}
 use Rattle.part_plans.specs.declared.parts.PartPlans.{PartPlans}
-use Rattle.part_plans.specs.PartPlans.{ArePartPlansOf, IsPartPlanOf, onto_of}
+use Rattle.part_plans.specs.PartPlans.{ArePartPlansOf, onto_of}
 use Rattle.part_rounds.specs.declared.parted.Parted.{Parted}
-use Rattle.part_rounds.specs.declared.placed.Placed.{Placed}
 use Rattle.part_rounds.specs.declared.sources.PartRounds.{PartRounds}
-use Rattle.part_rounds.specs.Parted.{IsCovered, IsPartedOf, IsToldOf}
+use Rattle.part_rounds.specs.Parted.{IsCovered, IsPartedOf}
 use Rattle.part_rounds.specs.PartedSteps.{AreLooked, ArePartsAt, IsTelling}
 use Rattle.part_rounds.specs.PartRounds.{IsGoing, IsPartRound, IsPartRoundsOf}
 use Rattle.part_rounds.specs.Placed.{AreShown, IsPlacedUpTo}
@@ -366,10 +365,14 @@ looked_more whole start end told n before after q shows t at l is = record {
         elim (t.each p none lp) [
           | inl e ↦ inl (other ∙ e)
           | inr a ↦ inr (
-            λ m. a.0 (m.0, (let b = m.1 in elim (cases_eq m.0 n) [
-              | inl last ↦ absurd (ne (sym m.2 ∙ ap (λ j. get_or told j 0) last ∙ at))
-              | inr ne' ↦ omega (arith, b, ne')
-            ]), m.2),
+            λ m. a.0 (
+              m.0,
+              (let b = m.1 in elim (cases_eq m.0 n) [
+                | inl last ↦ absurd (ne (sym m.2 ∙ ap (λ j. get_or told j 0) last ∙ at))
+                | inr ne' ↦ omega (arith, b, ne')
+              ]),
+              m.2,
+            ),
             other ∙ a.1,
           )
         ])
@@ -414,16 +417,32 @@ no_part whole plans = record {
   own = λ c r at. absurd (let e : None ≡ Some r = at in cc);
 }
 
+-- what stands in a list stands there in a longer one
+slice_get_front : {X : Type 0} (xs ys : List X) (c : ℕ) (x : X) → slice_get xs c ≡ Some x → slice_get (xs ++ ys) c ≡ Some x
+slice_get_front [] ys c x at = absurd (let e : None ≡ Some x = at in cc)
+slice_get_front (y ∷ xs) ys zero x at = at
+slice_get_front (y ∷ xs) ys (suc c) x at = slice_get_front xs ys c x at
+
+-- and the new one last
+slice_get_last : {X : Type 0} (xs : List X) (x : X) → slice_get (xs ++ x ∷ []) (length xs) ≡ Some x
+slice_get_last [] x = refl
+slice_get_last (y ∷ xs) x = slice_get_last xs x
+
+-- each item as it is
+pub each_same : {X : Type 0} (xs : List X) → map (λ x. x) xs ≡ xs
+each_same [] = refl
+each_same (x ∷ xs) = ap (λ ys. x ∷ ys) (each_same xs)
+
 -- and so they are with those of the next
-pub one_part : (whole : PlanContents) (plans : List PartPlan) (parts : List PartRounds) (next : PartRounds) → AreFirst whole plans parts → IsPartRoundsOf whole next → IsPlan next.part.plan → next.end ≡ 0 →
-    slice_get plans (length parts) ≡ Some next.part → AreFirst whole plans (parts ++ next ∷ [])
-one_part whole plans parts next are is lawful zero_end own = record {
+pub one_part : (whole : PlanContents) (plans : List PartPlan) (plan : PartPlan) (parts : List PartRounds) (next : PartRounds) → AreFirst whole plans parts → length parts ≡ length plans →
+    IsPartRoundsOf whole next → IsPlan next.part.plan → next.end ≡ 0 → next.part ≡ plan → AreFirst whole (plans ++ plan ∷ []) (parts ++ next ∷ [])
+one_part whole plans plan parts next are long is lawful zero_end own = record {
   each = λ c r at. elim (slice_get-push parts next r c at) [ inl before ↦ are.each c r before.1 | inr last ↦ subst (λ (x : PartRounds). IsPartRoundsOf whole x) last.1 is ];
   lawful = λ c r at. elim (slice_get-push parts next r c at) [ inl before ↦ are.lawful c r before.1 | inr last ↦ subst (λ (x : PartRounds). IsPlan x.part.plan) last.1 lawful ];
   begin = λ c r at. elim (slice_get-push parts next r c at) [ inl before ↦ are.begin c r before.1 | inr last ↦ subst (λ (x : PartRounds). x.end ≡ 0) last.1 zero_end ];
   own = λ c r at. elim (slice_get-push parts next r c at) [
-    | inl before ↦ are.own c r before.1
-    | inr last ↦ ap (slice_get plans) last.0 ∙ own ∙ ap (λ (x : PartRounds). Some x.part) last.1
+    | inl before ↦ slice_get_front plans (plan ∷ []) c r.part (are.own c r before.1)
+    | inr last ↦ ap (slice_get (plans ++ plan ∷ [])) (last.0 ∙ long) ∙ slice_get_last plans plan ∙ ap (λ (x : PartPlan). Some x) (sym own) ∙ ap (λ (x : PartRounds). Some x.part) last.1
   ];
 }
 

@@ -1,4 +1,3 @@
-use Rattle.std.proofs.Common.{◌≡◌, length}
 use Rattle.part_rounds.specs.PartedSteps.{IsTelling}
 use Rattle.part_rounds.proofs.parted.go_if.Given as goal
 

@@ -1,6 +1,4 @@
-use Rattle.std.proofs.Common.{◌≡◌, ℕ, inr, arith, subst}
-use Rattle.part_rounds.specs.declared.placed.Placed.{Placed}
-use Rattle.part_rounds.specs.Placed.{IsPlacedUpTo}
+use Rattle.std.proofs.Common.{inr}
 use Rattle.part_rounds.proofs.PartedLemmas.{all_looked}
 use Rattle.part_rounds.proofs.parted.Parted.go_telling.Goals as goal
 
