@@ -114,6 +114,71 @@ const CASES: &[Case] = &[
         ],
         ticks: &[50, 80],
     },
+    // A plan with duals that falls into parts: all comes round after 21 units. The part of the duals, which comes round every three units, is kept.
+    Case {
+        processors: 3,
+        horizon: 13,
+        tasks: &[
+            ("a", 4, 7, 0),
+            ("b", 2, 3, 0),
+            ("c", 2, 3, 0),
+            ("d", 2, 3, 0),
+        ],
+        lanes: &[
+            &[
+                (0, 84, "a"),
+                (84, 147, "0"),
+                (147, 231, "a"),
+                (231, 273, "0"),
+            ],
+            &[
+                (0, 21, ".c"),
+                (21, 63, ".b"),
+                (63, 105, ".d"),
+                (105, 147, ".c"),
+                (147, 189, ".b"),
+                (189, 231, ".d"),
+                (231, 273, ".c"),
+            ],
+            &[
+                (0, 42, "..d"),
+                (42, 84, "..c"),
+                (84, 126, "..b"),
+                (126, 168, "..d"),
+                (168, 210, "..c"),
+                (210, 252, "..b"),
+                (252, 273, "..d"),
+            ],
+        ],
+        ticks: &[168, 168, 189, 189],
+    },
+    // Here the pack without duals is kept, and the round of the others comes once.
+    Case {
+        processors: 3,
+        horizon: 9,
+        tasks: &[
+            ("a", 1, 2, 0),
+            ("b", 6, 9, 0),
+            ("c", 6, 9, 0),
+            ("d", 6, 9, 0),
+        ],
+        lanes: &[
+            &[
+                (0, 18, "a"),
+                (18, 36, "0"),
+                (36, 54, "a"),
+                (54, 72, "0"),
+                (72, 90, "a"),
+                (90, 108, "0"),
+                (108, 126, "a"),
+                (126, 144, "0"),
+                (144, 162, "a"),
+            ],
+            &[(0, 54, ".c"), (54, 162, ".b")],
+            &[(0, 108, "..d"), (108, 162, "..c")],
+        ],
+        ticks: &[90, 108, 108, 108],
+    },
     Case {
         processors: 1,
         horizon: 3,
