@@ -64,14 +64,14 @@ pub(crate) fn merge_whole(
     plan: &Plan,
     source: &mut Source,
     told: &mut [Option<Leaf>],
-    first: RoundSum,
-) -> Result<RoundSum, CountFault>
+    sum: &mut RoundSum,
+) -> Result<(), CountFault>
     requires belongs { IsSourceOf plan.now source.old }
     requires released { AllReleased plan.now source.old.tick }
     requires early { source.old.tick < stop_of plan.now }
-    requires sum { IsSumUpTo plan.now source.old.tick first }
+    requires sum { IsSumUpTo plan.now source.old.tick sum.old }
     requires told { length told.old ≡ plan.now.tree.processors }
-    ensures showing { IfOk result (λ sum. IsShowing plan.now source.new sum) }
+    ensures showing { IfOk result (λ _. IsShowing plan.now source.new sum.new) }
     ensures round { IfOk result (λ _. IsRoundUpTo plan.now source.old.tick source.new.tick) }
     ensures told { IfOk result (λ _. IsAllTold plan.now source.old.tick source.new.tick told.new) }
     ensures fault { IfErr result (λ fault. IsCountFault plan.now fault) }
@@ -80,9 +80,8 @@ pub(crate) fn merge_whole(
     source.go(plan);
     look_all(plan, source, start, told);
     let end = source.now();
-    let mut sum = first;
-    add_round(plan, &mut sum, start, end, told)?;
-    Ok(sum)
+    add_round(plan, sum, start, end, told)?;
+    Ok(())
 }
 
 /// Goes on with one round, of which the processors are looked at that are told: how many they are. What each processor shows is told.
@@ -161,22 +160,21 @@ fn merge_changed(
     source: &mut Source,
     leaves: &[Leaf],
     changed: &mut [u32],
-    first: RoundSum,
+    sum: &mut RoundSum,
     until: u128,
-) -> Result<RoundSum, CountFault>
-    requires showing { IsShowing plan.now source.old first }
+) -> Result<(), CountFault>
+    requires showing { IsShowing plan.now source.old sum.old }
     requires until { until ≤ stop_of plan.now }
     requires leaves { AreLeavesOf plan.now source.old.tick leaves.now }
     requires room { length changed.old ≡ length (packs_at plan.now.tree 0) }
-    ensures showing { IfOk result (λ sum. IsShowing plan.now source.new sum) }
+    ensures showing { IfOk result (λ _. IsShowing plan.now source.new sum.new) }
     ensures reached { IfOk result (λ _. until ≤ source.new.tick) }
     ensures fault { IfErr result (λ fault. IsCountFault plan.now fault) }
 {
-    let mut sum = first;
     'rounds: while source.now() < until {
-        merge_seen(plan, source, leaves, changed, &mut sum)?;
+        merge_seen(plan, source, leaves, changed, sum)?;
     }
-    Ok(sum)
+    Ok(())
 }
 
 /// Goes on with rounds up to the first that begins at tick `until` or later, or to the end of all, in which no task waits; `told` is
@@ -186,25 +184,25 @@ pub(crate) fn merge_released(
     plan: &Plan,
     source: &mut Source,
     told: &mut [Option<Leaf>],
-    first: RoundSum,
+    sum: &mut RoundSum,
     until: u128,
-) -> Result<RoundSum, CountFault>
+) -> Result<(), CountFault>
     requires released { source.old.tick < until → AllReleased plan.now source.old.tick }
     requires belongs { IsSourceOf plan.now source.old }
-    requires sum { IsSumUpTo plan.now source.old.tick first }
+    requires sum { IsSumUpTo plan.now source.old.tick sum.old }
     requires told { length told.old ≡ plan.now.tree.processors }
     requires until { until ≤ stop_of plan.now }
     ensures belongs { IfOk result (λ _. IsSourceOf plan.now source.new) }
-    ensures sum { IfOk result (λ sum. IsSumUpTo plan.now source.new.tick sum) }
+    ensures sum { IfOk result (λ _. IsSumUpTo plan.now source.new.tick sum.new) }
     ensures reached { IfOk result (λ _. until ≤ source.new.tick) }
     ensures fault { IfErr result (λ fault. IsCountFault plan.now fault) }
 {
     let start = source.now();
     if start >= until {
-        return Ok(first);
+        return Ok(());
     }
     let mut changed = room_for_told(alloc, plan)?;
     let leaves = shown_leaves(alloc, plan, start)?;
-    let sum = merge_whole(plan, source, told, first)?;
+    merge_whole(plan, source, told, sum)?;
     merge_changed(plan, source, &leaves, &mut changed, sum, until)
 }

@@ -153,14 +153,14 @@ pub(crate) fn is_last_lap(plan: &Plan, source: &Source, turn: u128, ticks: u128)
 pub(crate) fn merge_copies(
     plan: &Plan,
     source: &mut Source,
-    first: RoundSum,
+    sum: &mut RoundSum,
     ticks: u128,
-) -> Result<RoundSum, CountFault>
+) -> Result<(), CountFault>
     requires belongs { IsSourceOf plan.now source.old }
-    requires sum { IsSumUpTo plan.now source.old.tick first }
+    requires sum { IsSumUpTo plan.now source.old.tick sum.old }
     requires last { IsLastLap plan.now source.old ticks }
     requires alike { StandsAlike plan.now (source.old.tick - ticks) source.old.tick }
-    ensures sum { IfOk result (λ sum. IsSumUpTo plan.now (stop_of plan.now) sum) }
+    ensures sum { IfOk result (λ _. IsSumUpTo plan.now (stop_of plan.now) sum.new) }
     ensures fault { IfErr result (λ fault. IsCountFault plan.now fault) }
 {
     plan.know_lawful();
@@ -173,13 +173,10 @@ pub(crate) fn merge_copies(
         until: stop - ticks,
         ticks,
     };
-    let RoundSum {
-        mut rows,
-        rounds: _rounds,
-    } = first;
-    rows.know_begun();
-    copy_lanes(plan, source, &mut rows, now, window)?;
-    rows.go_to(stop);
-    rows.know_begun();
-    Ok(RoundSum { rows, rounds })
+    sum.rows.know_begun();
+    copy_lanes(plan, source, &mut sum.rows, now, window)?;
+    sum.rows.go_to(stop);
+    sum.rows.know_begun();
+    sum.rounds = rounds;
+    Ok(())
 }

@@ -27,8 +27,8 @@ pub(crate) struct Later {
     pub(crate) ticks: u128,
 }
 
-// No round yet.
-fn no_lap(alloc: Global) -> Lap
+/// No round yet.
+pub(crate) fn no_lap(alloc: Global) -> Lap
     ensures ends { result.ends.items ≡ [] }
     ensures told { result.told.items ≡ [] }
 {
@@ -38,50 +38,49 @@ fn no_lap(alloc: Global) -> Lap
     }
 }
 
-// One round more, up to tick `end`.
-fn keep_round(lap: Lap, end: u128, told: &[Option<Leaf>]) -> Result<Lap, NoMemory>
-    ensures ends { IfOk result (λ next. next.ends.items ≡ lap.ends.items ++ end ∷ []) }
-    ensures told { IfOk result (λ next. next.told.items ≡ lap.told.items ++ told.now) }
-{
-    let Lap {
-        ends: mut ends,
-        told: mut all,
-    } = lap;
-    ends.push(end)?;
-    all.extend_from_slice(told)?;
-    Ok(Lap { ends, told: all })
+impl Lap {
+    // One round more, up to tick `end`.
+    fn keep_round(&mut self, end: u128, told: &[Option<Leaf>]) -> Result<(), NoMemory>
+        ensures ends { IfOk result (λ _. self.new.ends.items ≡ self.old.ends.items ++ end ∷ []) }
+        ensures told { IfOk result (λ _. self.new.told.items ≡ self.old.told.items ++ told.now) }
+    {
+        self.ends.push(end)?;
+        self.told.extend_from_slice(told)?;
+        Ok(())
+    }
 }
 
-/// Goes on with rounds up to the first that begins at tick `until` or later, and keeps them as a lap. The list `told` is overwritten.
+/// Goes on with rounds up to the first that begins at tick `until` or later, and keeps them as a lap, of no round yet. The list `told` is
+/// overwritten.
 pub(crate) fn merge_lap(
-    alloc: Global,
     plan: &Plan,
     source: &mut Source,
     told: &mut [Option<Leaf>],
-    first: RoundSum,
+    sum: &mut RoundSum,
+    lap: &mut Lap,
     until: u128,
-) -> Result<(RoundSum, Lap), CountFault>
+) -> Result<(), CountFault>
     requires belongs { IsSourceOf plan.now source.old }
-    requires sum { IsSumUpTo plan.now source.old.tick first }
+    requires sum { IsSumUpTo plan.now source.old.tick sum.old }
     requires told { length told.old ≡ plan.now.tree.processors }
+    requires ends { lap.old.ends.items ≡ [] }
+    requires none { lap.old.told.items ≡ [] }
     requires until { until ≤ stop_of plan.now }
     ensures belongs { IfOk result (λ _. IsSourceOf plan.now source.new) }
-    ensures sum { IfOk result (λ pair. IsSumUpTo plan.now source.new.tick pair.0) }
-    ensures lap { IfOk result (λ pair. IsLapFrom plan.now source.old.tick pair.1) }
-    ensures end { IfOk result (λ pair. lap_end source.old.tick pair.1 ≡ source.new.tick) }
+    ensures sum { IfOk result (λ _. IsSumUpTo plan.now source.new.tick sum.new) }
+    ensures lap { IfOk result (λ _. IsLapFrom plan.now source.old.tick lap.new) }
+    ensures end { IfOk result (λ _. lap_end source.old.tick lap.new ≡ source.new.tick) }
     ensures fault { IfErr result (λ fault. IsCountFault plan.now fault) }
 {
-    let mut sum = first;
-    let mut lap = no_lap(alloc);
     'rounds: while source.now() < until {
         let start = source.now();
         source.go(plan);
         look_all(plan, source, start, told);
         let end = source.now();
-        add_round(plan, &mut sum, start, end, told)?;
-        lap = keep_round(lap, end, told)?;
+        add_round(plan, sum, start, end, told)?;
+        lap.keep_round(end, told)?;
     }
-    Ok((sum, lap))
+    Ok(())
 }
 
 // What each of so many processors shows in round i of a lap.
@@ -138,18 +137,17 @@ fn add_lap_round(
 }
 
 // With the rounds of a lap that comes again, up to the end of all rounds.
-fn with_lap(plan: &Plan, lap: &Lap, again: Later, first: RoundSum) -> Result<RoundSum, CountFault>
+fn with_lap(plan: &Plan, lap: &Lap, again: Later, sum: &mut RoundSum) -> Result<(), CountFault>
     requires again { IsLapAgain plan.now again lap.now }
     requires early { again.from + again.ticks < stop_of plan.now }
-    requires sum { IsSumUpTo plan.now (again.from + again.ticks) first }
-    ensures sum { IfOk result (λ sum. IsSumUpTo plan.now (min (lap_end again.from lap.now + again.ticks) (stop_of plan.now)) sum) }
+    requires sum { IsSumUpTo plan.now (again.from + again.ticks) sum.old }
+    ensures sum { IfOk result (λ _. IsSumUpTo plan.now (min (lap_end again.from lap.now + again.ticks) (stop_of plan.now)) sum.new) }
     ensures fault { IfErr result (λ fault. IsCountFault plan.now fault) }
 {
-    let mut sum = first;
     for i in 0..lap.ends.len() {
-        add_lap_round(plan, lap, again, &mut sum, i)?;
+        add_lap_round(plan, lap, again, sum, i)?;
     }
-    Ok(sum)
+    Ok(())
 }
 
 /// With a lap again and again, so many ticks later each time, up to the end of all rounds. The rounds so far are those up to its end.
@@ -157,23 +155,22 @@ pub(crate) fn with_laps(
     plan: &Plan,
     lap: &Lap,
     again: Later,
-    first: RoundSum,
-) -> Result<RoundSum, CountFault>
+    sum: &mut RoundSum,
+) -> Result<(), CountFault>
     requires again { IsLapAgain plan.now again lap.now }
     requires some { 0 < again.ticks }
     requires within { again.from + again.ticks ≤ stop_of plan.now }
     requires end { lap_end again.from lap.now ≡ again.from + again.ticks }
-    requires sum { IsSumUpTo plan.now (again.from + again.ticks) first }
-    ensures sum { IfOk result (λ sum. IsSumUpTo plan.now (stop_of plan.now) sum) }
+    requires sum { IsSumUpTo plan.now (again.from + again.ticks) sum.old }
+    ensures sum { IfOk result (λ _. IsSumUpTo plan.now (stop_of plan.now) sum.new) }
     ensures fault { IfErr result (λ fault. IsCountFault plan.now fault) }
 {
     let stop = plan.rounds_end();
     let Later { from, ticks } = again;
-    let mut sum = first;
     let mut shift = ticks;
     'laps: while from + shift < stop {
-        sum = with_lap(plan, lap, Later { from, ticks: shift }, sum)?;
+        with_lap(plan, lap, Later { from, ticks: shift }, sum)?;
         shift += ticks;
     }
-    Ok(sum)
+    Ok(())
 }

@@ -1,5 +1,5 @@
 //! One pass over the rounds of a plan.
-ghost use Rattle.std.specs.Prelude.{ℕ, ◌≡◌, ◌<◌, ◌≤◌, ◌+◌, ◌-◌, ◌*◌, true, false, length, replicate, slice_index_or, IfOk, IfErr, None};
+ghost use Rattle.std.specs.Prelude.{ℕ, ◌≡◌, ◌<◌, ◌≤◌, ◌+◌, ◌-◌, ◌*◌, true, false, [], length, replicate, slice_index_or, IfOk, IfErr, None};
 ghost use Rattle.sched_base.specs.Tables.{row_limit};
 ghost use Rattle.run_tree.specs.Plans.{rounds_of, stop_of};
 ghost use Rattle.hyperperiod_laws.specs.Hyperperiods.{IdlesApart};
@@ -10,17 +10,17 @@ ghost use Rattle.merged_rows.specs.Lawful.{AreLawful};
 ghost use Rattle.merged_rounds.specs.Laps.{AreTurns, IsMerging, IsSumUpTo};
 ghost use Rattle.merged_rounds.specs.Passes.{AreMergedOf};
 ghost use Rattle.merged_rounds.specs.Replays.{IsComputed, IsMergingFrom, IsSourceOf};
-ghost use Rattle.merged_rounds.specs.Standings.{StandsAlike};
+ghost use Rattle.merged_rounds.specs.Standings.{IsStanding, StandsAlike};
 
 use crate::apart::{are_idles_apart, is_on_time};
 use crate::changed::merge_released;
 use crate::copies::{is_last_lap, merge_copies};
-use crate::laps::{Later, merge_lap, with_laps};
+use crate::laps::{Lap, Later, merge_lap, no_lap, with_laps};
 use crate::looks::no_leaves;
 use crate::releases::last_release;
 use crate::searches::{merge_until_again, turn_of};
-use crate::sources::{Source, source_of, with_turn};
-use crate::standings::standing_at;
+use crate::sources::{Source, replay_turn, source_of};
+use crate::standings::{Standing, standing_at};
 use crate::sums::{RoundSum, add_round, all_rounds, no_rounds};
 use crate::turns::{MOST_PACKS, merge_turn, no_turn, pack_count};
 use event_core::{Core, CountFault};
@@ -71,22 +71,22 @@ pub(crate) fn merge_up_to(
     source: &mut Source,
     kept: &mut [Option<NodeId>],
     told: &mut [Option<Leaf>],
-    first: RoundSum,
+    sum: &mut RoundSum,
     until: u128,
-) -> Result<RoundSum, CountFault>
-    requires merging { IsMergingFrom plan.now source.old first kept.old }
+) -> Result<(), CountFault>
+    requires merging { IsMergingFrom plan.now source.old sum.old kept.old }
     requires kept { length kept.old ≡ plan.now.tree.processors }
     requires told { length told.old ≡ plan.now.tree.processors }
     requires until { until ≤ stop_of plan.now }
-    ensures merging { IfOk result (λ sum. IsMergingFrom plan.now source.new sum kept.new) }
+    ensures merging { IfOk result (λ _. IsMergingFrom plan.now source.new sum.new kept.new) }
     ensures reached { IfOk result (λ _. until ≤ source.new.tick) }
     ensures fault { IfErr result (λ fault. IsCountFault plan.now fault) }
 {
     if source.replays(plan) {
-        return merge_changes(alloc, plan, source, kept, told, first, until);
+        return merge_changes(alloc, plan, source, kept, told, sum, until);
     }
     let released = until.min(last_release(plan));
-    let sum = merge_computed(plan, source, kept, told, first, released)?;
+    merge_computed(plan, source, kept, told, sum, released)?;
     merge_changes(alloc, plan, source, kept, told, sum, until)
 }
 
@@ -97,20 +97,20 @@ fn merge_changes(
     source: &mut Source,
     kept: &mut [Option<NodeId>],
     told: &mut [Option<Leaf>],
-    first: RoundSum,
+    sum: &mut RoundSum,
     until: u128,
-) -> Result<RoundSum, CountFault>
+) -> Result<(), CountFault>
     requires released { source.old.tick < until → AllReleased plan.now source.old.tick }
-    requires merging { IsMergingFrom plan.now source.old first kept.old }
+    requires merging { IsMergingFrom plan.now source.old sum.old kept.old }
     requires kept { length kept.old ≡ plan.now.tree.processors }
     requires told { length told.old ≡ plan.now.tree.processors }
     requires until { until ≤ stop_of plan.now }
-    ensures merging { IfOk result (λ sum. IsMergingFrom plan.now source.new sum kept.new) }
+    ensures merging { IfOk result (λ _. IsMergingFrom plan.now source.new sum.new kept.new) }
     ensures reached { IfOk result (λ _. until ≤ source.new.tick) }
     ensures fault { IfErr result (λ fault. IsCountFault plan.now fault) }
 {
     forget_nodes(kept);
-    merge_released(alloc, plan, source, told, first, until)
+    merge_released(alloc, plan, source, told, sum, until)
 }
 
 // So with rounds that a core computes, and a look at each processor in each of them.
@@ -119,22 +119,22 @@ fn merge_computed(
     source: &mut Source,
     kept: &mut [Option<NodeId>],
     told: &mut [Option<Leaf>],
-    first: RoundSum,
+    sum: &mut RoundSum,
     until: u128,
-) -> Result<RoundSum, CountFault>
+) -> Result<(), CountFault>
     requires computed { IsComputed plan.now source.old }
     requires off { source.old.replays ≡ false }
-    requires merging { IsMergingFrom plan.now source.old first kept.old }
+    requires merging { IsMergingFrom plan.now source.old sum.old kept.old }
     requires kept { length kept.old ≡ plan.now.tree.processors }
     requires told { length told.old ≡ plan.now.tree.processors }
     requires until { until ≤ stop_of plan.now }
-    ensures merging { IfOk result (λ sum. IsMergingFrom plan.now source.new sum kept.new) }
+    ensures merging { IfOk result (λ _. IsMergingFrom plan.now source.new sum.new kept.new) }
     ensures reached { IfOk result (λ _. until ≤ source.new.tick) }
     ensures fault { IfErr result (λ fault. IsCountFault plan.now fault) }
 {
-    let sum = merge_looking(plan, &mut source.core, kept, told, first, until)?;
+    merge_looking(plan, &mut source.core, kept, told, sum, until)?;
     source.tick = source.core.now();
-    Ok(sum)
+    Ok(())
 }
 
 // So with a look at each processor in each round.
@@ -143,26 +143,25 @@ fn merge_looking(
     core: &mut Core,
     kept: &mut [Option<NodeId>],
     told: &mut [Option<Leaf>],
-    first: RoundSum,
+    sum: &mut RoundSum,
     until: u128,
-) -> Result<RoundSum, CountFault>
-    requires merging { IsMerging plan.now core.old first kept.old }
+) -> Result<(), CountFault>
+    requires merging { IsMerging plan.now core.old sum.old kept.old }
     requires kept { length kept.old ≡ plan.now.tree.processors }
     requires told { length told.old ≡ plan.now.tree.processors }
     requires until { until ≤ stop_of plan.now }
-    ensures merging { IfOk result (λ sum. IsMerging plan.now core.new sum kept.new) }
+    ensures merging { IfOk result (λ _. IsMerging plan.now core.new sum.new kept.new) }
     ensures reached { IfOk result (λ _. until ≤ core.new.tick) }
     ensures fault { IfErr result (λ fault. IsCountFault plan.now fault) }
 {
-    let mut sum = first;
     'rounds: while core.now() < until {
         let start = core.now();
         core.go(plan);
         look_each(plan, core, start, kept, told);
         let end = core.now();
-        add_round(plan, &mut sum, start, end, told)?;
+        add_round(plan, sum, start, end, told)?;
     }
-    Ok(sum)
+    Ok(())
 }
 
 // Goes on up to the end of all rounds.
@@ -172,15 +171,15 @@ fn merge_to_end(
     source: &mut Source,
     kept: &mut [Option<NodeId>],
     told: &mut [Option<Leaf>],
-    first: RoundSum,
-) -> Result<RoundSum, CountFault>
-    requires merging { IsMergingFrom plan.now source.old first kept.old }
+    sum: &mut RoundSum,
+) -> Result<(), CountFault>
+    requires merging { IsMergingFrom plan.now source.old sum.old kept.old }
     requires kept { length kept.old ≡ plan.now.tree.processors }
     requires told { length told.old ≡ plan.now.tree.processors }
-    ensures sum { IfOk result (λ sum. IsSumUpTo plan.now (stop_of plan.now) sum) }
+    ensures sum { IfOk result (λ _. IsSumUpTo plan.now (stop_of plan.now) sum.new) }
     ensures fault { IfErr result (λ fault. IsCountFault plan.now fault) }
 {
-    merge_up_to(alloc, plan, source, kept, told, first, plan.rounds_end())
+    merge_up_to(alloc, plan, source, kept, told, sum, plan.rounds_end())
 }
 
 // Merges all rounds of the plan.
@@ -198,15 +197,36 @@ fn merge_rounds(
     ensures sum { IfOk result (λ sum. IsSumUpTo plan.now (stop_of plan.now) sum) }
     ensures fault { IfErr result (λ fault. IsCountFault plan.now fault) }
 {
-    let first = no_rounds(alloc, plan)?;
-    if let Some(turn) = turn_of(plan) {
-        if are_idles_apart(plan.tree()) {
-            let (sum, mut source) = merge_first(alloc, plan, core, first, turn)?;
-            return merge_with_laps(alloc, plan, &mut source, kept, told, sum, turn);
-        }
-    }
     let mut source = computed(alloc, plan, core)?;
-    merge_to_end(alloc, plan, &mut source, kept, told, first)
+    let mut sum = no_rounds(alloc, plan)?;
+    merge_all(alloc, plan, &mut source, kept, told, &mut sum)?;
+    Ok(sum)
+}
+
+// So from a source that computes the first round.
+fn merge_all(
+    alloc: Global,
+    plan: &Plan,
+    source: &mut Source,
+    kept: &mut [Option<NodeId>],
+    told: &mut [Option<Leaf>],
+    sum: &mut RoundSum,
+) -> Result<(), CountFault>
+    requires belongs { IsSourceOf plan.now source.old }
+    requires first { source.old.tick ≡ 0 }
+    requires sum { IsSumUpTo plan.now 0 sum.old }
+    requires kept { kept.old ≡ replicate plan.now.tree.processors None }
+    requires told { length told.old ≡ plan.now.tree.processors }
+    ensures sum { IfOk result (λ _. IsSumUpTo plan.now (stop_of plan.now) sum.new) }
+    ensures fault { IfErr result (λ fault. IsCountFault plan.now fault) }
+{
+    match turn_of(plan) {
+        Some(turn) if are_idles_apart(plan.tree()) => {
+            merge_first(alloc, plan, source, sum, turn)?;
+            merge_with_laps(alloc, plan, source, kept, told, sum, turn)
+        },
+        _ => merge_to_end(alloc, plan, source, kept, told, sum),
+    }
 }
 
 // The rounds that a core computes.
@@ -215,7 +235,7 @@ fn computed(alloc: Global, plan: &Plan, core: Core) -> Result<Source, NoMemory>
     ensures belongs { IfOk result (λ source. IsSourceOf plan.now source) }
     ensures tick { IfOk result (λ source. source.tick ≡ core.tick) }
 {
-    source_of(alloc, plan, core, no_turn(alloc, plan, 0)?, false)
+    source_of(alloc, plan, core, no_turn(alloc, plan, 0)?)
 }
 
 // With so few processors a round costs less than looking through what is kept of it.
@@ -226,26 +246,26 @@ const FEW: u32 = 2;
 fn merge_first(
     alloc: Global,
     plan: &Plan,
-    core: Core,
-    first: RoundSum,
+    source: &mut Source,
+    sum: &mut RoundSum,
     turn: u128,
-) -> Result<(RoundSum, Source), CountFault>
+) -> Result<(), CountFault>
     requires apart { IdlesApart plan.now.tree }
-    requires belongs { IsCoreOf plan.now core }
-    requires first { core.tick ≡ 0 }
-    requires sum { IsSumUpTo plan.now 0 first }
+    requires belongs { IsSourceOf plan.now source.old }
+    requires first { source.old.tick ≡ 0 }
+    requires sum { IsSumUpTo plan.now 0 sum.old }
     requires turn { turn ≡ plan.now.tree.scale * plan.now.tree.scale }
     requires within { turn < stop_of plan.now }
-    ensures belongs { IfOk result (λ pair. IsSourceOf plan.now pair.1) }
-    ensures sum { IfOk result (λ pair. IsSumUpTo plan.now pair.1.tick pair.0) }
+    ensures belongs { IfOk result (λ _. IsSourceOf plan.now source.new) }
+    ensures sum { IfOk result (λ _. IsSumUpTo plan.now source.new.tick sum.new) }
     ensures fault { IfErr result (λ fault. IsCountFault plan.now fault) }
 {
     if plan.tree().processors() <= FEW || pack_count(plan) > MOST_PACKS || !is_on_time(plan) {
-        return Ok((first, computed(alloc, plan, core)?));
+        return Ok(());
     }
-    let mut source = computed(alloc, plan, core)?;
-    let (sum, kept) = merge_turn(alloc, plan, &mut source, first, turn)?;
-    Ok((sum, with_turn(alloc, plan, source, kept, turn)?))
+    let kept = merge_turn(alloc, plan, source, sum, turn)?;
+    replay_turn(alloc, plan, source, kept, turn)?;
+    Ok(())
 }
 
 // Goes on up to the end of all rounds, of a plan whose idle leaves stand apart: then its schedule can come round.
@@ -255,21 +275,20 @@ fn merge_with_laps(
     source: &mut Source,
     kept: &mut [Option<NodeId>],
     told: &mut [Option<Leaf>],
-    first: RoundSum,
+    sum: &mut RoundSum,
     turn: u128,
-) -> Result<RoundSum, CountFault>
+) -> Result<(), CountFault>
     requires apart { IdlesApart plan.now.tree }
     requires belongs { IsSourceOf plan.now source.old }
-    requires sum { IsSumUpTo plan.now source.old.tick first }
+    requires sum { IsSumUpTo plan.now source.old.tick sum.old }
     requires kept { kept.old ≡ replicate plan.now.tree.processors None }
     requires told { length told.old ≡ plan.now.tree.processors }
     requires turn { turn ≡ plan.now.tree.scale * plan.now.tree.scale }
     requires within { turn < stop_of plan.now }
-    ensures sum { IfOk result (λ sum. IsSumUpTo plan.now (stop_of plan.now) sum) }
+    ensures sum { IfOk result (λ _. IsSumUpTo plan.now (stop_of plan.now) sum.new) }
     ensures fault { IfErr result (λ fault. IsCountFault plan.now fault) }
 {
-    let (sum, again) = merge_until_again(alloc, plan, source, kept, told, first, turn)?;
-    match again {
+    match merge_until_again(alloc, plan, source, kept, told, sum, turn)? {
         Some(ticks) => merge_again(alloc, plan, source, kept, told, sum, turn, ticks),
         None => merge_to_end(alloc, plan, source, kept, told, sum),
     }
@@ -308,33 +327,68 @@ fn merge_again(
     source: &mut Source,
     kept: &mut [Option<NodeId>],
     told: &mut [Option<Leaf>],
-    first: RoundSum,
+    sum: &mut RoundSum,
     turn: u128,
     ticks: u128,
-) -> Result<RoundSum, CountFault>
+) -> Result<(), CountFault>
     requires apart { IdlesApart plan.now.tree }
-    requires merging { IsMergingFrom plan.now source.old first kept.old }
+    requires merging { IsMergingFrom plan.now source.old sum.old kept.old }
     requires kept { length kept.old ≡ plan.now.tree.processors }
     requires told { length told.old ≡ plan.now.tree.processors }
     requires turn { turn ≡ plan.now.tree.scale * plan.now.tree.scale }
     requires alike { StandsAlike plan.now (source.old.tick - ticks) source.old.tick }
-    ensures sum { IfOk result (λ sum. IsSumUpTo plan.now (stop_of plan.now) sum) }
+    ensures sum { IfOk result (λ _. IsSumUpTo plan.now (stop_of plan.now) sum.new) }
+    ensures fault { IfErr result (λ fault. IsCountFault plan.now fault) }
+{
+    let from = source.now();
+    if is_last_lap(plan, source, turn, ticks) {
+        return merge_copies(plan, source, sum, ticks);
+    }
+    if !is_lap(plan, from, turn, ticks) || from < last_release(plan) {
+        return merge_to_end(alloc, plan, source, kept, told, sum);
+    }
+    let before = standing_at(alloc, plan, source)?;
+    let mut lap = no_lap(alloc);
+    merge_by_lap(
+        alloc, plan, source, kept, told, sum, &before, &mut lap, ticks,
+    )
+}
+
+// So for one lap of so many ticks, kept in a list of no round yet, and by that one where the schedule stands as before it.
+fn merge_by_lap(
+    alloc: Global,
+    plan: &Plan,
+    source: &mut Source,
+    kept: &mut [Option<NodeId>],
+    told: &mut [Option<Leaf>],
+    sum: &mut RoundSum,
+    before: &Standing,
+    lap: &mut Lap,
+    ticks: u128,
+) -> Result<(), CountFault>
+    requires apart { IdlesApart plan.now.tree }
+    requires belongs { IsSourceOf plan.now source.old }
+    requires sum { IsSumUpTo plan.now source.old.tick sum.old }
+    requires kept { length kept.old ≡ plan.now.tree.processors }
+    requires told { length told.old ≡ plan.now.tree.processors }
+    requires before { IsStanding plan.now before.now }
+    requires here { before.now.tick ≡ source.old.tick }
+    requires ends { lap.old.ends.items ≡ [] }
+    requires none { lap.old.told.items ≡ [] }
+    requires turns { AreTurns plan.now ticks }
+    requires some { 0 < ticks }
+    requires within { source.old.tick + ticks < stop_of plan.now }
+    requires released { AllReleased plan.now source.old.tick }
+    ensures sum { IfOk result (λ _. IsSumUpTo plan.now (stop_of plan.now) sum.new) }
     ensures fault { IfErr result (λ fault. IsCountFault plan.now fault) }
 {
     plan.know_lawful();
     let from = source.now();
-    if is_last_lap(plan, source, turn, ticks) {
-        return merge_copies(plan, source, first, ticks);
-    }
-    if !is_lap(plan, from, turn, ticks) || from < last_release(plan) {
-        return merge_to_end(alloc, plan, source, kept, told, first);
-    }
     let until = from + ticks;
-    let before = standing_at(alloc, plan, source)?;
-    let (sum, lap) = merge_lap(alloc, plan, source, told, first, until)?;
+    merge_lap(plan, source, told, sum, lap, until)?;
     let again = before.is_again(alloc, plan, source)?;
     if again && source.now() == until {
-        return with_laps(plan, &lap, Later { from, ticks }, sum);
+        return with_laps(plan, lap, Later { from, ticks }, sum);
     }
     forget_nodes(kept);
     merge_to_end(alloc, plan, source, kept, told, sum)

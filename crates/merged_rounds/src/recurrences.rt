@@ -24,11 +24,20 @@ pub struct Recurrence {
 }
 
 /// The places at a tick, and how many rounds begin before it.
-#[derive(Drop)]
 pub(crate) struct Seen {
     places: Places,
     tick: u128,
     rounds: u64,
+}
+
+impl Drop for Seen {
+    fn drop(self) {
+        let Self {
+            places: _places,
+            tick: _tick,
+            rounds: _rounds,
+        } = self;
+    }
 }
 
 /// When the rounds of a plan come again, where that shows within an eighth of its ticks. It goes over the rounds up to there.

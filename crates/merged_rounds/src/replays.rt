@@ -22,7 +22,6 @@ use std::alloc::Global;
 
 /// The rounds of the first hyperperiod as they come again: the next one by its number, how many ticks later it begins, the places, and
 /// what each pack shows in the round just gone.
-#[derive(Drop)]
 pub(crate) struct Replay {
     lap: Turn,
     next: usize,
@@ -30,6 +29,19 @@ pub(crate) struct Replay {
     places: Places,
     changes: Changes,
     shows: Vec<Shown>,
+}
+
+impl Drop for Replay {
+    fn drop(self) {
+        let Self {
+            lap: _lap,
+            next: _next,
+            shift: _shift,
+            places: _places,
+            changes: _changes,
+            shows: _shows,
+        } = self;
+    }
 }
 
 // Pack k shows this now, and is listed where that is something else than before.
@@ -139,9 +151,9 @@ pub(crate) fn replay_of(
     ensures { IfOk result (λ replay. BeginsAgain plan.now core.now.tick lap → IsReplayOf plan.now core.now.tick replay) }
 {
     plan.know_lawful();
-    let changes = room_for_changes(alloc, plan)?;
-    let places = core.places().copy(alloc)?;
     let shows = Vec::from_slice(alloc, &lap.last)?;
+    let places = core.places().copy(alloc)?;
+    let changes = room_for_changes(alloc, plan)?;
     Ok(Replay {
         lap,
         next: 0,

@@ -55,38 +55,39 @@ fn merge_before(
     source: &mut Source,
     kept: &mut [Option<NodeId>],
     told: &mut [Option<Leaf>],
-    first: RoundSum,
+    sum: &mut RoundSum,
     until: u128,
-) -> Result<RoundSum, CountFault>
-    requires merging { IsMergingFrom plan.now source.old first kept.old }
+) -> Result<(), CountFault>
+    requires merging { IsMergingFrom plan.now source.old sum.old kept.old }
     requires kept { length kept.old ≡ plan.now.tree.processors }
     requires told { length told.old ≡ plan.now.tree.processors }
     requires until { until ≤ stop_of plan.now }
-    ensures merging { IfOk result (λ sum. IsMergingFrom plan.now source.new sum kept.new) }
+    ensures merging { IfOk result (λ _. IsMergingFrom plan.now source.new sum.new kept.new) }
     ensures fault { IfErr result (λ fault. IsCountFault plan.now fault) }
 {
     if source.now() >= until {
-        return Ok(first);
+        return Ok(());
     }
-    merge_up_to(alloc, plan, source, kept, told, first, until)
+    merge_up_to(alloc, plan, source, kept, told, sum, until)
 }
 
-// Where the schedule stands at the source's tick, once tick `at` is twice as late as where it was seen, and that until then.
-fn later_seen(
+// Tells where the schedule stands at the source's tick, once tick `at` is twice as late as where it was seen, and what it told until then.
+fn see_later(
     alloc: Global,
     plan: &Plan,
     source: &Source,
-    seen: Standing,
+    seen: &mut Standing,
     at: u128,
-) -> Result<Standing, NoMemory>
+) -> Result<(), NoMemory>
     requires belongs { IsSourceOf plan.now source.now }
-    requires seen { IsStanding plan.now seen }
-    ensures { IfOk result (λ next. IsStanding plan.now next) }
+    requires seen { IsStanding plan.now seen.old }
+    ensures { IfOk result (λ _. IsStanding plan.now seen.new) }
 {
     if at / 2 < seen.tick {
-        return Ok(seen);
+        return Ok(());
     }
-    standing_at(alloc, plan, source)
+    *seen = standing_at(alloc, plan, source)?;
+    Ok(())
 }
 
 /// Goes on with rounds up to a multiple of `turn` at which the schedule stands as so many ticks before, which it tells, or up to the last
@@ -98,34 +99,60 @@ pub(crate) fn merge_until_again(
     source: &mut Source,
     kept: &mut [Option<NodeId>],
     told: &mut [Option<Leaf>],
-    first: RoundSum,
+    sum: &mut RoundSum,
     turn: u128,
-) -> Result<(RoundSum, Option<u128>), CountFault>
-    requires merging { IsMergingFrom plan.now source.old first kept.old }
+) -> Result<Option<u128>, CountFault>
+    requires merging { IsMergingFrom plan.now source.old sum.old kept.old }
     requires kept { length kept.old ≡ plan.now.tree.processors }
     requires told { length told.old ≡ plan.now.tree.processors }
     requires turn { turn ≡ plan.now.tree.scale * plan.now.tree.scale }
     requires within { turn < stop_of plan.now }
-    ensures merging { IfOk result (λ pair. IsMergingFrom plan.now source.new pair.0 kept.new) }
-    ensures again { IfOk result (λ pair. IfSome pair.1 (λ ticks. StandsAlike plan.now (source.new.tick - ticks) source.new.tick)) }
+    ensures merging { IfOk result (λ _. IsMergingFrom plan.now source.new sum.new kept.new) }
+    ensures again { IfOk result (λ again. IfSome again (λ ticks. StandsAlike plan.now (source.new.tick - ticks) source.new.tick)) }
+    ensures fault { IfErr result (λ fault. IsCountFault plan.now fault) }
+{
+    plan.know_lawful();
+    let Some(begin) = first_turn(plan, turn) else {
+        return Ok(None);
+    };
+    merge_before(alloc, plan, source, kept, told, sum, begin)?;
+    let mut seen = standing_at(alloc, plan, source)?;
+    let at = begin + turn;
+    merge_until_seen(alloc, plan, source, kept, told, sum, &mut seen, at, turn)
+}
+
+// So with the first look at the first round that begins at tick `first` or later, given where the schedule stood before.
+fn merge_until_seen(
+    alloc: Global,
+    plan: &Plan,
+    source: &mut Source,
+    kept: &mut [Option<NodeId>],
+    told: &mut [Option<Leaf>],
+    sum: &mut RoundSum,
+    seen: &mut Standing,
+    first: u128,
+    turn: u128,
+) -> Result<Option<u128>, CountFault>
+    requires merging { IsMergingFrom plan.now source.old sum.old kept.old }
+    requires kept { length kept.old ≡ plan.now.tree.processors }
+    requires told { length told.old ≡ plan.now.tree.processors }
+    requires seen { IsStanding plan.now seen.old }
+    requires turn { turn ≡ plan.now.tree.scale * plan.now.tree.scale }
+    requires within { turn < stop_of plan.now }
+    ensures merging { IfOk result (λ _. IsMergingFrom plan.now source.new sum.new kept.new) }
+    ensures again { IfOk result (λ again. IfSome again (λ ticks. StandsAlike plan.now (source.new.tick - ticks) source.new.tick)) }
     ensures fault { IfErr result (λ fault. IsCountFault plan.now fault) }
 {
     let stop = plan.rounds_end();
-    let Some(begin) = first_turn(plan, turn) else {
-        return Ok((first, None));
-    };
-    let mut sum = merge_before(alloc, plan, source, kept, told, first, begin)?;
-    let mut seen = standing_at(alloc, plan, source)?;
-    let mut at = begin + turn;
+    let mut at = first;
     'turns: while at < stop {
-        sum = merge_up_to(alloc, plan, source, kept, told, sum, at)?;
-        let now = source.now();
-        let again = seen.is_again(alloc, plan, source)?;
-        if again && now > seen.tick {
-            return Ok((sum, Some(now - seen.tick)));
+        merge_up_to(alloc, plan, source, kept, told, sum, at)?;
+        let again = seen.again_after(alloc, plan, source)?;
+        if again.is_some() {
+            return Ok(again);
         }
-        seen = later_seen(alloc, plan, source, seen, at)?;
+        see_later(alloc, plan, source, seen, at)?;
         at += turn;
     }
-    Ok((sum, None))
+    Ok(None)
 }

@@ -23,7 +23,6 @@ use sched_base::{Leaf, NoMemory, NodeId};
 use std::alloc::Global;
 
 /// Where rounds come from: a core computes them, or those of the first hyperperiod come again. They have gone by up to a tick.
-#[derive(Drop)]
 pub(crate) struct Source {
     pub(crate) core: Core,
     pub(crate) tick: u128,
@@ -31,16 +30,25 @@ pub(crate) struct Source {
     replay: Replay,
 }
 
-/// The rounds that a core computes from its tick on, or those of a hyperperiod again.
+impl Drop for Source {
+    fn drop(self) {
+        let Self {
+            core: _core,
+            tick: _tick,
+            replays: _replays,
+            replay: _replay,
+        } = self;
+    }
+}
+
+/// The rounds that a core computes from its tick on. Where others come again, this turn would tell which.
 pub(crate) fn source_of(
     alloc: Global,
     plan: &Plan,
     core: Core,
     turn: Turn,
-    replays: bool,
 ) -> Result<Source, NoMemory>
     requires belongs { IsCoreOf plan.now core }
-    requires again { replays ≡ true → BeginsAgain plan.now core.tick turn }
     ensures belongs { IfOk result (λ source. IsSourceOf plan.now source) }
     ensures tick { IfOk result (λ source. source.tick ≡ core.tick) }
 {
@@ -49,31 +57,33 @@ pub(crate) fn source_of(
     Ok(Source {
         core,
         tick,
-        replays,
+        replays: false,
         replay,
     })
 }
 
 /// The rounds of a hyperperiod of so many ticks come again, where it is over, and a core computed them.
-pub(crate) fn with_turn(
+pub(crate) fn replay_turn(
     alloc: Global,
     plan: &Plan,
-    source: Source,
+    source: &mut Source,
     kept: Turn,
     turn: u128,
-) -> Result<Source, NoMemory>
+) -> Result<(), NoMemory>
     requires can { CanComeRound plan.now }
-    requires belongs { IsSourceOf plan.now source }
+    requires belongs { IsSourceOf plan.now source.old }
     requires turn { turn ≡ plan.now.tree.scale * plan.now.tree.scale }
     requires kept { IsTurnOf plan.now kept }
-    requires end { turn_end kept ≡ source.tick }
-    ensures belongs { IfOk result (λ next. IsSourceOf plan.now next) }
-    ensures tick { IfOk result (λ next. next.tick ≡ source.tick) }
+    requires end { turn_end kept ≡ source.old.tick }
+    ensures belongs { IfOk result (λ _. IsSourceOf plan.now source.new) }
+    ensures tick { IfOk result (λ _. source.new.tick ≡ source.old.tick) }
 {
     if source.replays(plan) || source.now() != turn || !are_turns(plan, turn, turn) {
-        return Ok(source);
+        return Ok(());
     }
-    source_of(alloc, plan, source.core, kept, true)
+    source.replay = replay_of(alloc, plan, &source.core, kept)?;
+    source.replays = true;
+    Ok(())
 }
 
 impl Source {

@@ -1,5 +1,5 @@
 //! Where a plan's schedule stands at a tick, and whether it stands there again.
-ghost use Rattle.std.specs.Prelude.{ℕ, ◌≡◌, ◌<◌, true, false, length, IfOk, slice_index};
+ghost use Rattle.std.specs.Prelude.{ℕ, ◌≡◌, ◌<◌, ◌-◌, true, false, length, IfOk, IfSome, slice_index};
 ghost use Rattle.run_tree.specs.Tree.{leaf};
 ghost use Rattle.run_tree.specs.TreeOfSet.{is_idle};
 ghost use Rattle.merged_rounds.specs.Replays.{IsSourceOf};
@@ -13,11 +13,20 @@ use sched_base::{NoMemory, NodeId};
 use std::alloc::Global;
 
 /// The places at a tick, and what is left of each due there, where tasks have offsets: where none waits any more, these decide what follows.
-#[derive(Drop)]
 pub(crate) struct Standing {
     pub(crate) tick: u128,
     places: Places,
     left: Vec<u128>,
+}
+
+impl Drop for Standing {
+    fn drop(self) {
+        let Self {
+            tick: _tick,
+            places: _places,
+            left: _left,
+        } = self;
+    }
 }
 
 // What is left of each due at the source's tick, or nothing where no task has an offset.
@@ -83,5 +92,24 @@ impl Standing {
         }
         let left = left_at(alloc, plan, source)?;
         Ok(is_left_again(plan.tree(), &self.left, &left))
+    }
+
+    /// How many ticks later the schedule stands so again at the source's tick, where it does.
+    pub(crate) fn again_after(
+        &self,
+        alloc: Global,
+        plan: &Plan,
+        source: &Source,
+    ) -> Result<Option<u128>, NoMemory>
+        requires is { IsStanding plan.now self.now }
+        requires belongs { IsSourceOf plan.now source.now }
+        ensures { IfOk result (λ again. IfSome again (λ ticks. StandsAlike plan.now (source.now.tick - ticks) source.now.tick)) }
+    {
+        let now = source.now();
+        let again = self.is_again(alloc, plan, source)?;
+        if again && now > self.tick {
+            return Ok(Some(now - self.tick));
+        }
+        Ok(None)
     }
 }

@@ -20,10 +20,31 @@ use sched_base::{Leaf, NoMemory, ROW_LIMIT};
 use std::alloc::Global;
 
 /// The merged rows of the rounds up to a tick, and how many rounds they are.
-#[derive(Drop)]
 pub struct RoundSum {
     pub rows: MergedRows,
     pub rounds: u64,
+}
+
+impl Drop for RoundSum {
+    fn drop(self) {
+        let Self {
+            rows: _rows,
+            rounds: _rounds,
+        } = self;
+    }
+}
+
+impl RoundSum {
+    // The merged rows alone.
+    fn into_rows(self) -> MergedRows
+        ensures { result ≡ self.rows }
+    {
+        let Self {
+            rows,
+            rounds: _rounds,
+        } = self;
+        rows
+    }
 }
 
 /// No round yet.
@@ -172,9 +193,5 @@ pub fn all_rounds(plan: &Plan, sum: RoundSum) -> MergedRows
     ensures few { rounds_of plan.now * plan.now.tree.processors ≤ row_limit }
 {
     plan.know_lawful();
-    let RoundSum {
-        rows,
-        rounds: _rounds,
-    } = sum;
-    rows
+    sum.into_rows()
 }

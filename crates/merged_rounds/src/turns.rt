@@ -37,12 +37,22 @@ pub(crate) const MOST_PACKS: u32 = 65536;
 /// The rounds of the first hyperperiod: where each ends, and an entry of each pack that may show something else in it than in the round
 /// before. In the first round these are all packs. The entries of a round go up to its number in `parts`. And what each pack shows in the
 /// last round.
-#[derive(Drop)]
 pub(crate) struct Turn {
     pub(crate) ends: TickColumn,
     pub(crate) parts: Vec<u32>,
     pub(crate) entries: Vec<Entry>,
     pub(crate) last: Vec<Shown>,
+}
+
+impl Drop for Turn {
+    fn drop(self) {
+        let Self {
+            ends: _ends,
+            parts: _parts,
+            entries: _entries,
+            last: _last,
+        } = self;
+    }
 }
 
 impl Turn {
@@ -187,10 +197,10 @@ pub(crate) fn no_turn(alloc: Global, plan: &Plan, room: usize) -> Result<Turn, N
     ensures entries { IfOk result (λ turn. turn.entries.items ≡ []) }
 {
     Ok(Turn {
-        ends: TickColumn::with_room(alloc, room)?,
         parts: Vec::with_capacity(alloc, room)?,
         entries: Vec::with_capacity(alloc, room)?,
         last: no_packs(alloc, plan)?,
+        ends: TickColumn::with_room(alloc, room)?,
     })
 }
 
@@ -309,25 +319,25 @@ fn begin_turn(
     source: &mut Source,
     told: &mut [Option<Leaf>],
     marks: &Marks,
-    first: RoundSum,
-) -> Result<(RoundSum, Turn), CountFault>
+    sum: &mut RoundSum,
+) -> Result<Turn, CountFault>
     requires can { CanComeRound plan.now }
     requires belongs { IsSourceOf plan.now source.old }
     requires first { source.old.tick ≡ 0 }
     requires early { source.old.tick < stop_of plan.now }
-    requires sum { IsSumUpTo plan.now source.old.tick first }
+    requires sum { IsSumUpTo plan.now source.old.tick sum.old }
     requires told { length told.old ≡ plan.now.tree.processors }
     requires marks { length marks.now ≡ packs_of plan.now }
     requires few { packs_of plan.now ≤ 2 ^ 16 }
-    ensures going { IfOk result (λ pair. IsTurning plan.now source.new pair.0 pair.1 told.new) }
+    ensures going { IfOk result (λ turn. IsTurning plan.now source.new sum.new turn told.new) }
     ensures fault { IfErr result (λ fault. IsCountFault plan.now fault) }
 {
     let start = source.now();
-    let mut turn = no_turn(alloc, plan, ROOM)?;
-    let sum = merge_whole(plan, source, told, first)?;
+    merge_whole(plan, source, told, sum)?;
     let end = source.now();
+    let mut turn = no_turn(alloc, plan, ROOM)?;
     turn.keep_round(plan, source.places(plan), start, end, told, marks)?;
-    Ok((sum, turn))
+    Ok(turn)
 }
 
 // One round more of a turn, given what each node shows.
@@ -368,46 +378,105 @@ fn turn_next(
     Ok(())
 }
 
+// The rounds of a turn from one on, up to the first that begins at tick `until` or later, or until so much is kept as there is room for.
+fn turn_on(
+    plan: &Plan,
+    source: &mut Source,
+    leaves: &[Leaf],
+    told: &mut [Option<Leaf>],
+    changed: &mut [u32],
+    holds: &mut [Option<u32>],
+    marks: &mut Marks,
+    turn: &mut Turn,
+    sum: &mut RoundSum,
+    until: u128,
+) -> Result<(), CountFault>
+    requires can { CanComeRound plan.now }
+    requires going { IsTurning plan.now source.old sum.old turn.old told.old }
+    requires leaves { AreLeavesOf plan.now source.old.tick leaves.now }
+    requires holds { AreHolding plan.now source.old.tick holds.old }
+    requires until { until ≤ stop_of plan.now }
+    requires told { length changed.old ≡ packs_of plan.now }
+    requires marks { length marks.old ≡ packs_of plan.now }
+    requires few { packs_of plan.now ≤ 2 ^ 16 }
+    ensures going { IfOk result (λ _. IsTurning plan.now source.new sum.new turn.new told.new) }
+    ensures fault { IfErr result (λ fault. IsCountFault plan.now fault) }
+{
+    'rounds: while source.now() < until && turn.entries.len() < MOST_KEPT {
+        turn_next(plan, source, leaves, told, changed, holds, marks, turn, sum)?;
+    }
+    Ok(())
+}
+
+// The rounds of a turn from tick 0 on, with room for what is told, changed and marked.
+fn turn_from(
+    alloc: Global,
+    plan: &Plan,
+    source: &mut Source,
+    leaves: &[Leaf],
+    told: &mut [Option<Leaf>],
+    changed: &mut [u32],
+    marks: &mut Marks,
+    sum: &mut RoundSum,
+    until: u128,
+) -> Result<Turn, CountFault>
+    requires can { CanComeRound plan.now }
+    requires belongs { IsSourceOf plan.now source.old }
+    requires first { source.old.tick ≡ 0 }
+    requires early { source.old.tick < stop_of plan.now }
+    requires sum { IsSumUpTo plan.now source.old.tick sum.old }
+    requires leaves { AreLeavesOf plan.now 0 leaves.now }
+    requires until { until ≤ stop_of plan.now }
+    requires told { length told.old ≡ plan.now.tree.processors }
+    requires changed { length changed.old ≡ packs_of plan.now }
+    requires marks { length marks.old ≡ packs_of plan.now }
+    requires few { packs_of plan.now ≤ 2 ^ 16 }
+    ensures going { IfOk result (λ turn. IsTurning plan.now source.new sum.new turn told.new) }
+    ensures fault { IfErr result (λ fault. IsCountFault plan.now fault) }
+{
+    let mut turn = begin_turn(alloc, plan, source, told, marks, sum)?;
+    let mut holds = holds_of(alloc, source.places(plan))?;
+    turn_on(
+        plan, source, leaves, told, changed, &mut holds, marks, &mut turn, sum, until,
+    )?;
+    Ok(turn)
+}
+
 /// Goes on with rounds from tick 0 up to the first that begins at tick `until` or later, or until so much is kept of them as there is room
 /// for, and keeps them by the packs that show something else than before.
 pub(crate) fn merge_turn(
     alloc: Global,
     plan: &Plan,
     source: &mut Source,
-    first: RoundSum,
+    sum: &mut RoundSum,
     until: u128,
-) -> Result<(RoundSum, Turn), CountFault>
+) -> Result<Turn, CountFault>
     requires can { CanComeRound plan.now }
     requires belongs { IsSourceOf plan.now source.old }
     requires first { source.old.tick ≡ 0 }
     requires early { source.old.tick < stop_of plan.now }
-    requires sum { IsSumUpTo plan.now source.old.tick first }
+    requires sum { IsSumUpTo plan.now source.old.tick sum.old }
     requires until { until ≤ stop_of plan.now }
     requires few { packs_of plan.now ≤ 2 ^ 16 }
     ensures belongs { IfOk result (λ _. IsSourceOf plan.now source.new) }
-    ensures sum { IfOk result (λ pair. IsSumUpTo plan.now source.new.tick pair.0) }
-    ensures turn { IfOk result (λ pair. IsTurnOf plan.now pair.1) }
-    ensures end { IfOk result (λ pair. turn_end pair.1 ≡ source.new.tick) }
+    ensures sum { IfOk result (λ _. IsSumUpTo plan.now source.new.tick sum.new) }
+    ensures turn { IfOk result (λ turn. IsTurnOf plan.now turn) }
+    ensures end { IfOk result (λ turn. turn_end turn ≡ source.new.tick) }
     ensures fault { IfErr result (λ fault. IsCountFault plan.now fault) }
 {
     let mut changed = room_for_told(alloc, plan)?;
-    let mut marks = no_marks(alloc, plan)?;
     let mut told = no_leaves(alloc, plan)?;
-    let (mut sum, mut turn) = begin_turn(alloc, plan, source, &mut told, &marks, first)?;
     let leaves = shown_leaves(alloc, plan, 0)?;
-    let mut holds = holds_of(alloc, source.places(plan))?;
-    'rounds: while source.now() < until && turn.entries.len() < MOST_KEPT {
-        turn_next(
-            plan,
-            source,
-            &leaves,
-            &mut told,
-            &mut changed,
-            &mut holds,
-            &mut marks,
-            &mut turn,
-            &mut sum,
-        )?;
-    }
-    Ok((sum, turn))
+    let mut marks = no_marks(alloc, plan)?;
+    turn_from(
+        alloc,
+        plan,
+        source,
+        &leaves,
+        &mut told,
+        &mut changed,
+        &mut marks,
+        sum,
+        until,
+    )
 }

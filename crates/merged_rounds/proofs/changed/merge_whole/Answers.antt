@@ -13,7 +13,7 @@ pub look_all-requires-clause-round : goal.look_all-requires-clause-round
 look_all-requires-clause-round c = subst (λ (n : ℕ). IsRoundUpTo c.args.plan.now n c.go.new.self.tick) (sym c.now-start.ensures) c.go.ensures.round
 
 pub add_round-requires-clause-sum : goal.add_round-requires-clause-sum
-add_round-requires-clause-sum c = subst (λ (n : ℕ). IsSumUpTo c.args.plan.now n c.args.first) (sym c.now-start.ensures) c.requires.sum
+add_round-requires-clause-sum c = subst (λ (n : ℕ). IsSumUpTo c.args.plan.now n c.args.sum.now) (sym c.now-start.ensures) c.requires.sum
 
 pub add_round-requires-clause-round : goal.add_round-requires-clause-round
 add_round-requires-clause-round c =
@@ -22,7 +22,7 @@ add_round-requires-clause-round c =
 
 pub add_round-requires-clause-told : goal.add_round-requires-clause-told
 add_round-requires-clause-told c =
-    told_all c.args.plan.now c.now-start.result c.now-end.result c.look_all.new.told c.args.first.rows.lanes
+    told_all c.args.plan.now c.now-start.result c.now-end.result c.look_all.new.told c.args.sum.now.rows.lanes
     (subst (λ (n : ℕ). IsAllTold c.args.plan.now c.now-start.result n c.look_all.new.told) (sym c.now-end.ensures) c.look_all.ensures)
 
 pub returns-clause-showing : goal.returns-clause-showing

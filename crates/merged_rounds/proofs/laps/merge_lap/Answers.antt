@@ -9,9 +9,9 @@ pub rounds-init : goal.rounds-init
 rounds-init c = record {
   belongs = c.requires.belongs;
   sum = c.requires.sum;
-  lap = subst (λ (es : List ℕ). IsLap c.args.plan.now c.args.source.now.tick es c.no_lap-lap.result.told.items) (sym c.no_lap-lap.ensures.ends)
-      (subst (λ (ts : List (Option Leaf)). IsLap c.args.plan.now c.args.source.now.tick [] ts) (sym c.no_lap-lap.ensures.told) (no_lap c.args.plan.now c.args.source.now.tick));
-  end = ap (λ (es : List ℕ). round_start c.args.source.now.tick es (length es)) c.no_lap-lap.ensures.ends;
+  lap = subst (λ (es : List ℕ). IsLap c.args.plan.now c.args.source.now.tick es c.args.lap.now.told.items) (sym c.requires.ends)
+      (subst (λ (ts : List (Option Leaf)). IsLap c.args.plan.now c.args.source.now.tick [] ts) (sym c.requires.none) (no_lap c.args.plan.now c.args.source.now.tick));
+  end = ap (λ (es : List ℕ). round_start c.args.source.now.tick es (length es)) c.requires.ends;
 }
 
 pub go-requires-clause-belongs : goal.go-requires-clause-belongs
@@ -52,12 +52,12 @@ rounds-preserved c =
     let all = c.rounds.lap.told.items in
     let told = subst (λ (n : ℕ). IsAllTold p n end c.look_all.new.told) c.now-start.ensures c.look_all.ensures in
     let lap = lap_on p first start end ends all c.look_all.new.told c.rounds.invariant.lap c.rounds.invariant.end c.go.ensures.round told in
-    let ends_are : c.in_ok-lap.lap.ends.items ≡ ends ++ end ∷ [] = c.in_ok-lap.ensures.ends ∙ ap (λ n. ends ++ n ∷ []) c.now-end.ensures in
+    let ends_are : c.keep_round.new.self.ends.items ≡ ends ++ end ∷ [] = c.in_ok-keep_round.ensures.ends ∙ ap (λ n. ends ++ n ∷ []) c.now-end.ensures in
     record {
       belongs = c.go.ensures.belongs;
       sum = subst (λ (n : ℕ). IsSumUpTo p n c.add_round.new.sum) c.now-end.ensures c.in_ok-add_round.ensures.sum;
-      lap = subst (λ (es : List ℕ). IsLap p first es c.in_ok-lap.lap.told.items) (sym ends_are)
-          (subst (λ (ts : List (Option Leaf)). IsLap p first (ends ++ end ∷ []) ts) (sym c.in_ok-lap.ensures.told) lap);
+      lap = subst (λ (es : List ℕ). IsLap p first es c.keep_round.new.self.told.items) (sym ends_are)
+          (subst (λ (ts : List (Option Leaf)). IsLap p first (ends ++ end ∷ []) ts) (sym c.in_ok-keep_round.ensures.told) lap);
       end = ap (λ (es : List ℕ). round_start first es (length es)) ends_are ∙ last_start first end ends;
     }
 

@@ -9,7 +9,7 @@ laps-init c = record {
   again = λ l. c.requires.again.again;
   sum = (let within = c.requires.within in
       let e : c.args.again.from + c.args.again.ticks ≡ min (c.args.again.from + c.args.again.ticks) (stop_of c.args.plan.now) = omega (arith, within) in
-      subst (λ (n : ℕ). IsSumUpTo c.args.plan.now n c.args.first) e c.requires.sum);
+      subst (λ (n : ℕ). IsSumUpTo c.args.plan.now n c.args.sum.now) e c.requires.sum);
   near = (let within = c.requires.within in omega (arith, within));
 }
 
@@ -25,6 +25,6 @@ laps-preserved c =
     let e : round_start c.args.again.from ends (length ends) + c.laps.shift ≡ c.args.again.from + (c.laps.shift + c.args.again.ticks) = omega (arith, end) in
     record {
       again = λ l. next_lap p h c.args.again.from c.args.again.ticks c.laps.shift c.requires.again.again (c.laps.invariant.again early) l;
-      sum = subst (λ (n : ℕ). IsSumUpTo p (min n (stop_of p)) c.in_ok-sum.sum) e c.in_ok-sum.ensures.sum;
+      sum = subst (λ (n : ℕ). IsSumUpTo p (min n (stop_of p)) c.with_lap.new.sum) e c.in_ok-with_lap.ensures.sum;
       near = omega (arith, early);
     }

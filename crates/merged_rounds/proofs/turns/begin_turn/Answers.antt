@@ -14,8 +14,8 @@ returns-clause-going c =
     let start = c.args.source.now.tick in
     let end = c.merge_whole.new.source.tick in
     record {
-      showing = c.in_ok-sum.ensures.showing;
+      showing = c.in_ok-merge_whole.ensures.showing;
       turn = c.in_ok-keep_round.ensures.turn;
       end = c.in_ok-keep_round.ensures.end ∙ c.now-end.ensures;
-      leaves = the_leaves p start end c.merge_whole.new.told c.in_ok-sum.ensures.round c.in_ok-sum.ensures.told;
+      leaves = the_leaves p start end c.merge_whole.new.told c.in_ok-merge_whole.ensures.round c.in_ok-merge_whole.ensures.told;
     }

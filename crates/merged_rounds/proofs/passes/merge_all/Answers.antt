@@ -4,14 +4,14 @@ use Rattle.sched_base.specs.declared.rows.NodeId.{NodeId}
 use Rattle.sched_base.specs.Tables.{lane_of}
 use Rattle.merged_rounds.specs.Laps.{IsSumUpTo}
 use Rattle.merged_rounds.proofs.SumLemmas.{none_kept}
-use Rattle.merged_rounds.proofs.passes.merge_rounds.Goals as goal
+use Rattle.merged_rounds.proofs.passes.merge_all.Goals as goal
 
 pub merge_to_end-requires-clause-merging : goal.merge_to_end-requires-clause-merging
 merge_to_end-requires-clause-merging c =
-    let source = c.in_ok-source.source in
-    let first = c.in_ok-first.first in
+    let source = c.args.source.now in
+    let first = c.args.sum.now in
     record {
-      belongs = c.in_ok-source.ensures.belongs;
-      sum = subst (λ (n : ℕ). IsSumUpTo c.args.plan.now n first) (sym (c.in_ok-source.ensures.tick ∙ c.requires.first)) c.in_ok-first.ensures;
+      belongs = c.requires.belongs;
+      sum = subst (λ (n : ℕ). IsSumUpTo c.args.plan.now n first) (sym c.requires.first) c.requires.sum;
       kept = λ q l. none_kept c.args.plan.now source.tick q (lane_of first.rows.lanes q) (get_or c.args.kept.now q None) (ap (λ (xs : List (Option NodeId)). get_or xs q None) c.requires.kept ∙ get_or-replicate c.args.plan.now.tree.processors q None None l);
     }
