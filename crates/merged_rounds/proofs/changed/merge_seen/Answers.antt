@@ -5,6 +5,7 @@ use Rattle.merged_rows.specs.Columns.{AreShown}
 use Rattle.merged_rounds.specs.Changes.{IsNone, leaves_in}
 use Rattle.round_looks.specs.Looks.{leaf_at}
 use Rattle.merged_rounds.proofs.ChangeLemmas.{all_in, changed_shown, leaves_later, released_later, showing_on}
+use Rattle.std.proofs.lemmas.Result.{IfOk-from_err}
 use Rattle.merged_rounds.proofs.changed.merge_seen.Goals as goal
 
 pub add_seen-requires-clause-shown : goal.add_seen-requires-clause-shown
@@ -37,3 +38,12 @@ pub returns-clause-leaves : goal.returns-clause-leaves
 returns-clause-leaves c =
     let above = c.go_telling-count.ensures.round.above in
     leaves_later c.args.plan.now c.args.source.now.tick c.go_telling-count.new.self.tick c.args.leaves.now (omega (arith, above)) c.requires.leaves
+
+pub returns-in_err-add_seen-clause-showing : goal.returns-in_err-add_seen-clause-showing
+returns-in_err-add_seen-clause-showing c = IfOk-from_err _ _ c.from_residual.ensures.0
+
+pub returns-in_err-add_seen-clause-round : goal.returns-in_err-add_seen-clause-round
+returns-in_err-add_seen-clause-round c = IfOk-from_err _ _ c.from_residual.ensures.0
+
+pub returns-in_err-add_seen-clause-leaves : goal.returns-in_err-add_seen-clause-leaves
+returns-in_err-add_seen-clause-leaves c = IfOk-from_err _ _ c.from_residual.ensures.0

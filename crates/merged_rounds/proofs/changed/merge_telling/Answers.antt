@@ -8,6 +8,7 @@ use Rattle.merged_rounds.specs.Changes.{AreLeavesOf, AreTold, IsNone}
 use Rattle.merged_rounds.specs.Laps.{IsAllTold, IsSumUpTo}
 use Rattle.round_looks.specs.Looks.{leaf_at}
 use Rattle.merged_rounds.proofs.ChangeLemmas.{changed_shown, released_later, showing_on, the_leaves, told_now}
+use Rattle.std.proofs.lemmas.Result.{IfOk-from_err}
 use Rattle.merged_rounds.proofs.changed.merge_telling.Goals as goal
 
 pub add_changed-requires-clause-shown : goal.add_changed-requires-clause-shown
@@ -74,3 +75,24 @@ pub returns-clause-still : goal.returns-clause-still
 returns-clause-still c = λ q away.
     let many = c.first_of-seen.ensures.long in
     c.look_changed.ensures.rest q (λ k m e. (let l : k < c.go_telling-count.result = omega (arith, m, many) in away k l (sym (c.first_of-seen.ensures.each k l) ∙ e)))
+
+pub go_telling-count-requires-clause-belongs : goal.go_telling-count-requires-clause-belongs
+go_telling-count-requires-clause-belongs c = c.requires.showing.belongs
+
+pub returns-in_err-add_changed-clause-showing : goal.returns-in_err-add_changed-clause-showing
+returns-in_err-add_changed-clause-showing c = IfOk-from_err _ _ c.from_residual.ensures.0
+
+pub returns-in_err-add_changed-clause-round : goal.returns-in_err-add_changed-clause-round
+returns-in_err-add_changed-clause-round c = IfOk-from_err _ _ c.from_residual.ensures.0
+
+pub returns-in_err-add_changed-clause-changed : goal.returns-in_err-add_changed-clause-changed
+returns-in_err-add_changed-clause-changed c = IfOk-from_err _ _ c.from_residual.ensures.0
+
+pub returns-in_err-add_changed-clause-placed : goal.returns-in_err-add_changed-clause-placed
+returns-in_err-add_changed-clause-placed c = IfOk-from_err _ _ c.from_residual.ensures.0
+
+pub returns-in_err-add_changed-clause-told : goal.returns-in_err-add_changed-clause-told
+returns-in_err-add_changed-clause-told c = IfOk-from_err _ _ c.from_residual.ensures.0
+
+pub returns-in_err-add_changed-clause-still : goal.returns-in_err-add_changed-clause-still
+returns-in_err-add_changed-clause-still c = IfOk-from_err _ _ c.from_residual.ensures.0

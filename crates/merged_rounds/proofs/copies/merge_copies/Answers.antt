@@ -4,6 +4,7 @@ use Rattle.merged_rounds.specs.declared.copies.Window.{Window}
 use Rattle.merged_rounds.specs.declared.sums.RoundSum.{RoundSum}
 use Rattle.merged_rounds.specs.Copies.{AreCopied}
 use Rattle.merged_rounds.proofs.LastLemmas.{copies_sum, many_begun}
+use Rattle.std.proofs.lemmas.Result.{IfOk-from_err}
 use Rattle.merged_rounds.proofs.copies.merge_copies.Goals as goal
 
 pub copy_lanes-requires-clause-many : goal.copy_lanes-requires-clause-many
@@ -23,3 +24,9 @@ returns-clause-sum c =
     (subst (λ (n : ℕ). AreCopied p n w c.args.sum.now.rows.begun lanes p.tree.processors) c.now-now.ensures c.in_ok-copy_lanes.ensures.copied)
     next count.0 count.1 (c.go_to.ensures.end ∙ c.rounds_end-stop.ensures.value)
     (c.know_begun-2.ensures.lanes ∙ ap (lanes_up_to 0 c.go_to.new.self.end) c.go_to.ensures.begun)
+
+pub returns-in_err-rounds-clause-sum : goal.returns-in_err-rounds-clause-sum
+returns-in_err-rounds-clause-sum c = IfOk-from_err _ _ c.from_residual.ensures.0
+
+pub returns-in_err-copy_lanes-clause-sum : goal.returns-in_err-copy_lanes-clause-sum
+returns-in_err-copy_lanes-clause-sum c = IfOk-from_err _ _ c.from_residual-in_err-copy_lanes.ensures.0

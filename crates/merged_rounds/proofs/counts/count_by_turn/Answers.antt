@@ -5,6 +5,7 @@ use Rattle.event_core.specs.Rounds.{rounds_before}
 use Rattle.event_core.proofs.RoundsInOrder.{no_rounds}
 use Rattle.merged_rounds.proofs.CountLemmas.{all_rounds_by, few_count, rounds_stay, some_rounds}
 use Rattle.merged_rounds.proofs.LapLemmas.{turns_of}
+use Rattle.std.proofs.lemmas.Result.{IfOk-from_err}
 use Rattle.merged_rounds.proofs.counts.count_by_turn.Goals as goal
 
 -- a hyperperiod has ticks
@@ -60,3 +61,43 @@ count_all-requires-clause-few c =
 
 pub count_all-requires-clause-rest : goal.count_all-requires-clause-rest
 count_all-requires-clause-rest c = few_count c.in_ok-rest.rest c.args.plan.now.tree.processors c.know_lawful.ensures.lawful.sized.some_processors c.in_ok-rest.ensures.few
+
+pub nonzero_rem-last : goal.nonzero_rem-last
+nonzero_rem-last c = some_ticks c.args.plan.now c.know_lawful.ensures.lawful c.args.turn c.requires.turn
+
+pub count_up_to-requires-clause-belongs : goal.count_up_to-requires-clause-belongs
+count_up_to-requires-clause-belongs c = c.requires.belongs
+
+pub count_up_to-requires-clause-until : goal.count_up_to-requires-clause-until
+count_up_to-requires-clause-until c =
+    let end = c.rounds_end-last.ensures.value in
+    let within = c.requires.within in
+    let low = mod-lt (c.rounds_end-last.result - 1) (some_ticks c.args.plan.now c.know_lawful.ensures.lawful c.args.turn c.requires.turn) in
+    omega (arith, within, low)
+
+pub returns-in_err-rest-clause-count : goal.returns-in_err-rest-clause-count
+returns-in_err-rest-clause-count c = IfOk-from_err _ _ c.from_residual.ensures.0
+
+pub count_up_to-requires-2-clause-belongs : goal.count_up_to-requires-2-clause-belongs
+count_up_to-requires-2-clause-belongs c = c.in_ok-rest.ensures.belongs
+
+pub count_up_to-requires-2-clause-here : goal.count_up_to-requires-2-clause-here
+count_up_to-requires-2-clause-here c = c.in_ok-rest.ensures.here
+
+pub count_up_to-requires-2-clause-few : goal.count_up_to-requires-2-clause-few
+count_up_to-requires-2-clause-few c = c.in_ok-rest.ensures.few
+
+pub count_up_to-requires-2-clause-until : goal.count_up_to-requires-2-clause-until
+count_up_to-requires-2-clause-until c = let within = c.requires.within in omega (arith, within)
+
+pub returns-in_err-both-clause-count : goal.returns-in_err-both-clause-count
+returns-in_err-both-clause-count c = IfOk-from_err _ _ c.from_residual-in_err-both.ensures.0
+
+pub nonzero_div-last : goal.nonzero_div-last
+nonzero_div-last c = some_ticks c.args.plan.now c.know_lawful.ensures.lawful c.args.turn c.requires.turn
+
+pub returns-clause-count : goal.returns-clause-count
+returns-clause-count c = c.count_all.ensures.count
+
+pub returns-clause-fault : goal.returns-clause-fault
+returns-clause-fault c = c.count_all.ensures.fault

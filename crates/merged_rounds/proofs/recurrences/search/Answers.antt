@@ -2,6 +2,7 @@ use Rattle.std.proofs.Common.{◌*◌, ◌≤◌, ap, arith, mul-le-mul_left, sy
 use Rattle.event_core.specs.Rounds.{rounds_before}
 use Rattle.event_core.proofs.PlanRounds.{stop_fits}
 use Rattle.event_core.proofs.RoundsInOrder.{no_rounds}
+use Rattle.std.proofs.lemmas.Result.{IfOk-from_err}
 use Rattle.merged_rounds.proofs.recurrences.search.Goals as goal
 
 pub overflow_add-at : goal.overflow_add-at
@@ -32,3 +33,12 @@ turns-init c = record {
   seen = c.in_ok-seen.ensures;
   late = omega arith;
 }
+
+pub seen_at-requires-clause-belongs : goal.seen_at-requires-clause-belongs
+seen_at-requires-clause-belongs c = c.requires.belongs
+
+pub returns-in_err-seen : goal.returns-in_err-seen
+returns-in_err-seen c = IfOk-from_err _ _ c.from_residual.ensures.0
+
+pub returns-in_err-seen-2 : goal.returns-in_err-seen-2
+returns-in_err-seen-2 c = IfOk-from_err _ _ c.from_residual-in_err-seen-2.ensures.0

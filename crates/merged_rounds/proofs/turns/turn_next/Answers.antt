@@ -7,6 +7,7 @@ use Rattle.merged_rounds.specs.Changes.{IsNone}
 use Rattle.merged_rounds.specs.Laps.{IsAllTold}
 use Rattle.merged_rounds.specs.Replays.{AreHolding, AreStill}
 use Rattle.merged_rounds.proofs.MarkLemmas.{holds_now, last_on, packs_held, packs_listed, still_now}
+use Rattle.std.proofs.lemmas.Result.{IfOk-from_err}
 use Rattle.merged_rounds.proofs.turns.turn_next.Goals as goal
 
 pub mark_changed-requires-clause-within : goal.mark_changed-requires-clause-within
@@ -100,3 +101,27 @@ keep_round-requires-clause-marks c = c.mark_changed.ensures.long ∙ c.forget.en
 
 pub returns-clause-long : goal.returns-clause-long
 returns-clause-long c = c.mark_changed.ensures.long ∙ c.forget.ensures ∙ c.requires.marks
+
+pub returns-in_err-count-clause-going : goal.returns-in_err-count-clause-going
+returns-in_err-count-clause-going c = IfOk-from_err _ _ c.from_residual.ensures.0
+
+pub returns-in_err-count-clause-long : goal.returns-in_err-count-clause-long
+returns-in_err-count-clause-long c = IfOk-from_err _ _ c.from_residual.ensures.0
+
+pub returns-in_err-count-clause-holds : goal.returns-in_err-count-clause-holds
+returns-in_err-count-clause-holds c = IfOk-from_err _ _ c.from_residual.ensures.0
+
+pub returns-in_err-count-clause-later : goal.returns-in_err-count-clause-later
+returns-in_err-count-clause-later c = IfOk-from_err _ _ c.from_residual.ensures.0
+
+pub returns-in_err-keep_round-clause-going : goal.returns-in_err-keep_round-clause-going
+returns-in_err-keep_round-clause-going c = IfOk-from_err _ _ c.from_residual-in_err-keep_round.ensures.0
+
+pub returns-in_err-keep_round-clause-long : goal.returns-in_err-keep_round-clause-long
+returns-in_err-keep_round-clause-long c = IfOk-from_err _ _ c.from_residual-in_err-keep_round.ensures.0
+
+pub returns-in_err-keep_round-clause-holds : goal.returns-in_err-keep_round-clause-holds
+returns-in_err-keep_round-clause-holds c = IfOk-from_err _ _ c.from_residual-in_err-keep_round.ensures.0
+
+pub returns-in_err-keep_round-clause-later : goal.returns-in_err-keep_round-clause-later
+returns-in_err-keep_round-clause-later c = IfOk-from_err _ _ c.from_residual-in_err-keep_round.ensures.0
