@@ -108,9 +108,9 @@ fn blank_serving(alloc: Global, plan: &Plan) -> Result<Serving, NoMemory>
 {
     let count = node_count(plan) as usize;
     let serves = no_places(alloc, count)?;
-    let dry = Ticks::new(alloc, plan.tree())?;
-    let stale = Marks::new(alloc, node_count(plan))?;
     let runs = packs_run(alloc, plan)?;
+    let stale = Marks::new(alloc, node_count(plan))?;
+    let dry = Ticks::new(alloc, plan.tree())?;
     let ready = no_ends(alloc, plan)?;
     Ok(Serving {
         ready,
@@ -207,10 +207,10 @@ pub(crate) fn first_state(alloc: Global, plan: &Plan) -> Result<State, NoMemory>
     requires plan { IsPlan plan.now }
     ensures { IfOk result (λ s. (s.dues.tick ≡ 0) × IsCoreOf plan.now (contents s)) }
 {
+    let masks = LevelMasks::new(alloc, plan.tree())?;
     let places = Places::new(alloc, pack_count(plan), processor_count(plan))?;
     let calendar = Calendar::new(alloc, plan)?;
     let (dues, serving) = first_serving(alloc, plan, &calendar)?;
-    let masks = LevelMasks::new(alloc, plan.tree())?;
     Ok(State {
         dues,
         calendar,

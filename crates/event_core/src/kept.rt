@@ -26,7 +26,6 @@ use std::marker::Model;
 use tree_select::{LevelMasks, Marks};
 
 /// Lists by the numbers of nodes.
-#[derive(Drop)]
 pub(crate) struct Serving {
     // Of each pack, the ends of the members that have something left.
     pub(crate) ready: Vec<Knockout>,
@@ -38,6 +37,18 @@ pub(crate) struct Serving {
     pub(crate) stale: Marks,
     // Whether the node runs.
     pub(crate) runs: Vec<bool>,
+}
+
+impl Drop for Serving {
+    fn drop(self) {
+        let Self {
+            ready: _ready,
+            serves: _serves,
+            dry: _dry,
+            stale: _stale,
+            runs: _runs,
+        } = self;
+    }
 }
 
 impl Model for Serving {

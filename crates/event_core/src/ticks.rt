@@ -17,7 +17,6 @@ const BLOCK: usize = 8;
 
 /// The tick of each node, or the greatest number. It is seen as the list of these. Packs have the first places, since they alone get
 /// ticks; so only as many blocks as they fill are looked at.
-#[derive(Drop)]
 pub(crate) struct Ticks {
     // The place of each node, and the node at each place.
     number: Vec<u32>,
@@ -29,6 +28,19 @@ pub(crate) struct Ticks {
     least: Vec<u64>,
     // From this place on no node has a tick.
     used: usize,
+}
+
+impl Drop for Ticks {
+    fn drop(self) {
+        let Self {
+            number: _number,
+            nodes: _nodes,
+            by_place: _by_place,
+            narrow: _narrow,
+            least: _least,
+            used: _used,
+        } = self;
+    }
 }
 
 impl Model for Ticks {
@@ -361,7 +373,6 @@ fn stand(number: &mut [u32], nodes: &mut [u32], x: u32, place: u32)
 }
 
 // Packs get the first places, and members the others.
-#[tactic(auto, using(crate::proofs::TickLemmas::none_by))]
 fn number_all(tree: &Tree, number: &mut [u32], nodes: &mut [u32])
     requires number { number.old ≡ replicate (length tree.now.nodes) 0 }
     requires nodes { nodes.old ≡ replicate (length tree.now.nodes) 0 }

@@ -102,3 +102,62 @@ take_out-requires-clause-member c = λ j e.
     let at = tick_at number c.args.nodes.now c.args.dry.now next c.requires.places (omega (arith, off, few)) in
     let pack = dry_is_pack c.args.tree.now c.args.dues.now c.args.ends.now s _ was p at.0 (at.1 ∙ c.next_of-next.ensures.here (omega (arith, off)) ∙ c.now-now.ensures.value) in
     dry_within c.args.tree.now c.args.dues.now c.args.ends.now s _ was p j pack e
+
+pub next_of-next-requires-clause-narrowed : goal.next_of-next-requires-clause-narrowed
+next_of-next-requires-clause-narrowed c = c.requires.narrowed
+
+pub next_of-next-requires-clause-blocks : goal.next_of-next-requires-clause-blocks
+next_of-next-requires-clause-blocks c = c.requires.blocks
+
+pub next_of-next-requires-clause-from : goal.next_of-next-requires-clause-from
+next_of-next-requires-clause-from c = c.dried.invariant.1
+
+pub returns-then-next-used-clause-long : goal.returns-then-next-used-clause-long
+returns-then-next-used-clause-long c = c.dried.invariant.2
+
+pub bounds-nodes-next : goal.bounds-nodes-next
+bounds-nodes-next c = let off = c.if-next-used.false in let few = c.requires.narrowed.few in let long = c.requires.places.nodes_long in omega (arith, off, few, long)
+
+pub bounds-serves-p : goal.bounds-serves-p
+bounds-serves-p c =
+    let off = c.if-next-used.false in
+    let few = c.requires.narrowed.few in
+    let number = c.args.number.now in
+    let within = c.requires.places.within c.next_of-next.result (omega (arith, off, few)) in
+    let by = ticks_long number c.args.dry.now in
+    let numbers = c.requires.places.number_long in
+    let long = c.dried.invariant.0.ticks.long in
+    let serves = c.requires.serves in
+    omega (arith, within, by, numbers, long, serves)
+
+pub take_out-requires-clause-ready : goal.take_out-requires-clause-ready
+take_out-requires-clause-ready c =
+    let off = c.if-next-used.false in
+    let few = c.requires.narrowed.few in
+    let number = c.args.number.now in
+    let within = c.requires.places.within c.next_of-next.result (omega (arith, off, few)) in
+    let by = ticks_long number c.args.dry.now in
+    let numbers = c.requires.places.number_long in
+    let long = c.dried.invariant.0.ticks.long in
+    let ready = c.requires.ready in
+    let ready' = c.dried.auto.ready in
+    omega (arith, within, by, numbers, long, ready, ready')
+
+pub take_out-requires-clause-stale : goal.take_out-requires-clause-stale
+take_out-requires-clause-stale c =
+    let off = c.if-next-used.false in
+    let few = c.requires.narrowed.few in
+    let number = c.args.number.now in
+    let within = c.requires.places.within c.next_of-next.result (omega (arith, off, few)) in
+    let by = ticks_long number c.args.dry.now in
+    let numbers = c.requires.places.number_long in
+    let long = c.dried.invariant.0.ticks.long in
+    let stale = c.requires.stale in
+    let stale' = c.dried.invariant.2 in
+    omega (arith, within, by, numbers, long, stale, stale')
+
+pub dried-smaller : goal.dried-smaller
+dried-smaller c = let after = c.next_of-next.ensures.after in let off = c.if-next-used.false in omega (arith, after, off)
+
+pub returns-clause-long : goal.returns-clause-long
+returns-clause-long c = c.dried.invariant.2

@@ -32,7 +32,7 @@ pub first_serving-requires-clause-unit : goal.first_serving-requires-clause-unit
 first_serving-requires-clause-unit c = c.in_ok-calendar.ensures.0
 
 pub returns-in_err-places : goal.returns-in_err-places
-returns-in_err-places c = IfOk-from_err c.from_residual.result _ c.from_residual.ensures.0
+returns-in_err-places c = IfOk-from_err c.from_residual-in_err-places.result _ c.from_residual-in_err-places.ensures.0
 
 pub returns-in_err-calendar : goal.returns-in_err-calendar
 returns-in_err-calendar c = IfOk-from_err c.from_residual-in_err-calendar.result _ c.from_residual-in_err-calendar.ensures.0
@@ -41,4 +41,4 @@ pub returns-in_err-dues : goal.returns-in_err-dues
 returns-in_err-dues c = IfOk-from_err c.from_residual-in_err-dues.result _ c.from_residual-in_err-dues.ensures.0
 
 pub returns-in_err-masks : goal.returns-in_err-masks
-returns-in_err-masks c = IfOk-from_err c.from_residual-in_err-masks.result _ c.from_residual-in_err-masks.ensures.0
+returns-in_err-masks c = IfOk-from_err c.from_residual.result _ c.from_residual.ensures.0

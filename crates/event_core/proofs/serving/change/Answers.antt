@@ -35,3 +35,48 @@ returns-clause-dry c =
     let after = ap (option_map (λ (n : NodeId). n.0)) (sym c.in-Some-node.is) ∙ c.requires.after_at in
     c.hand_over.ensures.dry
     ∙ dry_still c.args.tree.now c.requires.tree c.args.p.0 c.requires.pack c.args.dues.now c.hand_over.new.self c.args.next.place c.in-Some-node.after.0 c.hand_over.ensures.tick c.hand_over.ensures.remains after
+
+pub returns-clause-tick : goal.returns-clause-tick
+returns-clause-tick c = c.hand_over.ensures.tick
+
+pub returns-clause-remains : goal.returns-clause-remains
+returns-clause-remains c = c.hand_over.ensures.remains
+
+pub change_one-requires-clause-tree : goal.change_one-requires-clause-tree
+change_one-requires-clause-tree c = c.requires.tree
+
+pub change_one-requires-clause-pack : goal.change_one-requires-clause-pack
+change_one-requires-clause-pack c = c.requires.pack
+
+pub change_one-requires-clause-before : goal.change_one-requires-clause-before
+change_one-requires-clause-before c = c.requires.before
+
+pub change_one-requires-clause-after : goal.change_one-requires-clause-after
+change_one-requires-clause-after c = c.requires.after
+
+pub change_one-requires-clause-before_at : goal.change_one-requires-clause-before_at
+change_one-requires-clause-before_at c = c.requires.before_at
+
+pub change_one-requires-clause-after_at : goal.change_one-requires-clause-after_at
+change_one-requires-clause-after_at c = c.requires.after_at
+
+pub change_one-requires-clause-nodes : goal.change_one-requires-clause-nodes
+change_one-requires-clause-nodes c = c.requires.nodes
+
+pub change_one-requires-clause-runs : goal.change_one-requires-clause-runs
+change_one-requires-clause-runs c = c.requires.runs
+
+pub change_one-requires-clause-fits : goal.change_one-requires-clause-fits
+change_one-requires-clause-fits c = c.requires.fits
+
+pub returns-2-clause-tick : goal.returns-2-clause-tick
+returns-2-clause-tick c = c.change_one.ensures.tick
+
+pub returns-2-clause-remains : goal.returns-2-clause-remains
+returns-2-clause-remains c = c.change_one.ensures.remains
+
+pub returns-2-clause-over : goal.returns-2-clause-over
+returns-2-clause-over c = c.change_one.ensures.over
+
+pub returns-2-clause-dry : goal.returns-2-clause-dry
+returns-2-clause-dry c = c.change_one.ensures.dry

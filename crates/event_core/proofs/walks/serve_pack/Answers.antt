@@ -81,3 +81,6 @@ bounds-serves-p c = let b = c.requires.pack.0 in let long = c.requires.long.serv
 
 pub set-requires : goal.set-requires
 set-requires c = let b = c.requires.pack.0 in let long = c.requires.serving.ticks.long in omega (arith, b, long)
+
+pub serve-next-requires-clause-leaves : goal.serve-next-requires-clause-leaves
+serve-next-requires-clause-leaves c = c.requires.leaves
