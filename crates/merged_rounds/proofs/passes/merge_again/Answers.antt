@@ -1,5 +1,4 @@
-use Rattle.std.proofs.Common.{arith, subst}
-use Rattle.event_core.specs.Told.{AllReleased}
+use Rattle.std.proofs.Common.{arith}
 use Rattle.merged_rounds.proofs.ChangeLemmas.{released_later}
 use Rattle.std.proofs.lemmas.Result.{IfOk-from_err}
 use Rattle.merged_rounds.proofs.passes.merge_again.Goals as goal

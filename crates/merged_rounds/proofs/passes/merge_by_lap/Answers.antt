@@ -1,4 +1,4 @@
-use Rattle.std.proofs.Common.{◌∙◌, ◌≡◌, ◌+◌, ℕ, ap, arith, get_or, None, sym}
+use Rattle.std.proofs.Common.{◌∙◌, ◌≡◌, ◌+◌, arith, get_or, None}
 use Rattle.sched_base.specs.Tables.{lane_of}
 use Rattle.event_core.proofs.PlanRounds.{stop_fits}
 use Rattle.merged_rounds.proofs.LapLemmas.{lap_again}

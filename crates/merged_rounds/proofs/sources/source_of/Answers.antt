@@ -1,4 +1,4 @@
-use Rattle.std.proofs.Common.{sym, Bool, true, false}
+use Rattle.std.proofs.Common.{sym}
 use Rattle.merged_rounds.proofs.sources.source_of.Goals as goal
 
 pub returns-clause-belongs : goal.returns-clause-belongs

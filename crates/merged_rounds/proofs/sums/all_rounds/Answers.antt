@@ -1,4 +1,4 @@
-use Rattle.std.proofs.Common.{ap, subst, sym}
+use Rattle.std.proofs.Common.{subst, sym}
 use Rattle.merged_rows.specs.Lawful.{AreLawful}
 use Rattle.merged_rounds.proofs.SumLemmas.{all_lawful}
 use Rattle.merged_rounds.proofs.sums.all_rounds.Goals as goal
