@@ -1,4 +1,4 @@
-use Rattle.std.proofs.Common.{subst}
+use Rattle.std.proofs.Common.{◌≡◌, true, false, refl, subst}
 use Rattle.plan_rounds.specs.PlanRows.{plan_rows}
 use Rattle.locked_book.specs.Promises.{IsNextRow, GivesRow}
 use Rattle.locked_book.proofs.LookLemmas.{job_may_work}
@@ -24,3 +24,60 @@ returns-in_default-work_on-clause-served g c =
     let at = rw (← c.lane.view_is) at next.at in
     let none = rw (← c.lane.view_is) at c.requires.fresh in
     rw (← c.lane.view_is, c.post_and_take.ensures.seat) (served_row (plan_rows c.args.work.now.plan.now) c.args.counts.now _ c.in-Ready.row _ _ _ at c.in_default.ensures.ok c.in_default.ensures.count none)
+
+pub post_and_take-requires-clause-agreed : goal.post_and_take-requires-clause-agreed
+post_and_take-requires-clause-agreed g c = c.requires.agreed
+
+pub take_next-requires : goal.take_next-requires
+take_next-requires g c = record { agreed = c.requires.agreed; }
+
+pub same-lane : goal.same-lane
+same-lane g c = refl
+
+pub same-lane-in-Waits-next : goal.same-lane-in-Waits-next
+same-lane-in-Waits-next g c = refl
+
+pub same-lane-in-Done : goal.same-lane-in-Done
+same-lane-in-Done g c = refl
+
+pub same-lane-in-Done-2 : goal.same-lane-in-Done-2
+same-lane-in-Done-2 g c = refl
+
+pub returns-in-Err-clause-more : goal.returns-in-Err-clause-more
+returns-in-Err-clause-more g c never = absurd (let e : false ≡ true = never in cc)
+
+pub returns-in-Err-clause-gives : goal.returns-in-Err-clause-gives
+returns-in-Err-clause-gives g c never = absurd (let e : false ≡ true = never in cc)
+
+pub returns-in-Err-work_on-clause-more : goal.returns-in-Err-work_on-clause-more
+returns-in-Err-work_on-clause-more g c never = absurd (let e : false ≡ true = never in cc)
+
+pub returns-in-Err-work_on-clause-gives : goal.returns-in-Err-work_on-clause-gives
+returns-in-Err-work_on-clause-gives g c never = absurd (let e : false ≡ true = never in cc)
+
+pub returns-then-not-wait-clause-served : goal.returns-then-not-wait-clause-served
+returns-then-not-wait-clause-served g c = served_none _ _ _ c.requires.fresh
+
+pub returns-then-not-wait-clause-more : goal.returns-then-not-wait-clause-more
+returns-then-not-wait-clause-more g c never = absurd (let e : false ≡ true = never in cc)
+
+pub returns-then-not-wait-clause-gives : goal.returns-then-not-wait-clause-gives
+returns-then-not-wait-clause-gives g c never = absurd (let e : false ≡ true = never in cc)
+
+pub returns-in-Done-clause-more : goal.returns-in-Done-clause-more
+returns-in-Done-clause-more g c never = absurd (let e : false ≡ true = never in cc)
+
+pub returns-in-Done-clause-gives : goal.returns-in-Done-clause-gives
+returns-in-Done-clause-gives g c never = absurd (let e : false ≡ true = never in cc)
+
+pub returns-in-Done-2-clause-more : goal.returns-in-Done-2-clause-more
+returns-in-Done-2-clause-more g c never = absurd (let e : false ≡ true = never in cc)
+
+pub returns-in-Done-2-clause-gives : goal.returns-in-Done-2-clause-gives
+returns-in-Done-2-clause-gives g c never = absurd (let e : false ≡ true = never in cc)
+
+pub returns-else-not-wait-clause-served : goal.returns-else-not-wait-clause-served
+returns-else-not-wait-clause-served g c = served_none _ _ _ c.requires.fresh
+
+pub returns-else-not-wait-clause-more : goal.returns-else-not-wait-clause-more
+returns-else-not-wait-clause-more g c _ = c.requires.fresh
