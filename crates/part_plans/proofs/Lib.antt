@@ -1,3 +1,5 @@
 mod Duals
-mod FirstPacks
+pub mod FirstPacks
+pub mod NodeLemmas
+mod NodeLikes
 mod PartLemmas

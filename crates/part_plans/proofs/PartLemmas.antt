@@ -42,6 +42,10 @@ ShowLikes whole onto leaves =
 abbrev pub AreFirst : Tree → List ℕ → Type 0
 AreFirst whole packs = (k : ℕ) → k < length packs → get_or packs k 0 < length (packs_at whole 0)
 
+-- these are nodes, by their numbers
+abbrev pub AreNodes : Tree → List ℕ → Type 0
+AreNodes whole onto = (x : ℕ) → x < length onto → get_or onto x 0 < length whole.nodes
+
 -- the same of trees and lists that are the same
 pub packs_moved : (s t whole own : Tree) (o q onto packs : List ℕ) → s ≡ whole → t ≡ own → o ≡ onto → q ≡ packs → ArePacksLike s t o q →
     ArePacksLike whole own onto packs

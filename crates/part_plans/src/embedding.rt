@@ -3,7 +3,7 @@ ghost use Rattle.std.specs.Prelude.{ℕ, ◌≡◌, ◌<◌, true, length, slice
 ghost use Rattle.run_tree.specs.Schedule.{packs_at};
 ghost use Rattle.run_tree.specs.Tree.{IsPack};
 
-use crate::first_packs::{first_pack, first_packs};
+use crate::first_level::{first_pack, first_packs};
 use run_tree::Tree;
 use sched_base::{NoMemory, NodeId};
 use std::alloc::Global;

@@ -8,7 +8,7 @@ use sched_base::{Leaf, NoMemory, NodeId};
 use std::alloc::Global;
 
 /// The leaf that node n is, or `Leaf::Empty`.
-pub(crate) fn leaf_of(tree: &Tree, n: NodeId) -> Leaf
+pub fn leaf_of(tree: &Tree, n: NodeId) -> Leaf
     requires { n.0 < length tree.now.nodes }
     ensures { result ≡ leaf tree.now n.0 }
 {

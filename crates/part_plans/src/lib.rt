@@ -3,7 +3,7 @@
 
 mod covers;
 mod embedding;
-mod first_packs;
+mod first_level;
 mod leaves;
 mod likeness;
 mod part_checks;
@@ -11,4 +11,9 @@ mod part_sets;
 mod parts;
 mod roots;
 
+pub use first_level::{first_pack, first_packs};
+pub use leaves::leaf_of;
+pub use likeness::{are_leaves_alike, are_rates_alike};
+pub use part_checks::factor_of;
+pub use part_sets::{plan_of, with_pack};
 pub use parts::{PartPlan, PartPlans, part_plans};

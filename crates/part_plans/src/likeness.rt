@@ -22,7 +22,7 @@ fn are_released_alike(whole: &TaskSet, own: &TaskSet, a: TaskId, b: TaskId) -> b
 }
 
 /// Whether node x of the whole plan and node y of the own one are leaves that are alike.
-pub(crate) fn are_leaves_alike(whole: &Plan, own: &Plan, x: NodeId, y: NodeId) -> bool
+pub fn are_leaves_alike(whole: &Plan, own: &Plan, x: NodeId, y: NodeId) -> bool
     requires whole { x.0 < length whole.now.tree.nodes }
     requires own { y.0 < length own.now.tree.nodes }
     ensures { result ≡ true → AreAlike whole.now.set.tasks own.now.set.tasks (leaf whole.now.tree x.0) (leaf own.now.tree y.0) }
@@ -37,7 +37,7 @@ pub(crate) fn are_leaves_alike(whole: &Plan, own: &Plan, x: NodeId, y: NodeId) -
 }
 
 /// Whether the rate of node x of the whole plan is that of node y of the own one, whose ticks are `factor` ticks each.
-pub(crate) fn are_rates_alike(whole: &Plan, own: &Plan, x: NodeId, y: NodeId, factor: u128) -> bool
+pub fn are_rates_alike(whole: &Plan, own: &Plan, x: NodeId, y: NodeId, factor: u128) -> bool
     requires whole { x.0 < length whole.now.tree.nodes }
     requires own { y.0 < length own.now.tree.nodes }
     requires scale { whole.now.tree.scale ≡ factor * own.now.tree.scale }

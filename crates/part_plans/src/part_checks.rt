@@ -4,13 +4,13 @@ ghost use Rattle.run_tree.specs.Schedule.{packs_at};
 ghost use Rattle.partition_laws.specs.Parts.{IsPartPlan};
 ghost use Rattle.part_plans.specs.Likeness.{ArePacksLike, IsNodeLike};
 
-use crate::first_packs::{first_pack, first_packs};
+use crate::first_level::{first_pack, first_packs};
 use crate::likeness::{are_leaves_alike, are_rates_alike, is_pack_like};
 use run_tree::{Kind, Plan, Tree};
 use sched_base::NodeId;
 
 /// How many ticks of the whole plan are one of the own plan, if that is a whole number.
-pub(crate) fn factor_of(whole: &Plan, own: &Plan) -> Option<u128>
+pub fn factor_of(whole: &Plan, own: &Plan) -> Option<u128>
     ensures { IfSome result (λ factor. whole.now.tree.scale ≡ factor * own.now.tree.scale) }
 {
     own.know_lawful();

@@ -4,7 +4,7 @@ ghost use Rattle.sched_base.specs.Limits.{processor_limit};
 ghost use Rattle.run_tree.specs.Schedule.{packs_at};
 ghost use Rattle.run_tree.specs.Tree.{IsPack};
 
-use crate::first_packs::first_pack;
+use crate::first_level::first_pack;
 use crate::leaves::leaf_of;
 use run_compile::{CompileFault, compile};
 use run_tree::{Plan, Tree};
@@ -42,8 +42,8 @@ fn with_leaf(set: TaskSet, whole: &Plan, n: NodeId) -> Result<Option<TaskSet>, N
     }
 }
 
-// The set with the tasks of a pack in the order of its members; `None` where there is no such set.
-fn with_pack(set: TaskSet, whole: &Plan, pack: NodeId) -> Result<Option<TaskSet>, NoMemory>
+/// The set with the tasks of a pack in the order of its members; `None` where there is no such set.
+pub fn with_pack(set: TaskSet, whole: &Plan, pack: NodeId) -> Result<Option<TaskSet>, NoMemory>
     requires { IsPack whole.now.tree pack.0 }
     ensures { IfOk result (λ found. IfSome found (λ more. more.horizon ≡ set.horizon)) }
 {
@@ -96,18 +96,24 @@ fn part_set(alloc: Global, whole: &Plan, packs: &[u32]) -> Result<Option<TaskSet
     Ok(Some(set))
 }
 
+/// The compiled plan of a set; `None` where it has none.
+pub fn plan_of(alloc: Global, set: TaskSet) -> Result<Option<Plan>, NoMemory>
+    ensures { IfOk result (λ found. IfSome found (λ plan. plan.set.horizon ≡ set.horizon)) }
+{
+    match compile(alloc, set) {
+        Ok(plan) => Ok(Some(plan)),
+        Err(CompileFault::NoMemory) => Err(NoMemory),
+        Err(CompileFault::ScaleTooLarge { .. } | CompileFault::Overload { .. }) => Ok(None),
+    }
+}
+
 /// The compiled plan of the tasks of these packs of level 0, on the processors that they fill; `None` where there is none.
 pub(crate) fn compiled(alloc: Global, whole: &Plan, packs: &[u32]) -> Result<Option<Plan>, NoMemory>
     requires { (k : ℕ) → k < length packs.now → slice_index packs.now k < length (packs_at whole.now.tree 0) }
     ensures { IfOk result (λ found. IfSome found (λ plan. plan.set.horizon ≡ whole.now.set.horizon)) }
 {
-    let set = match part_set(alloc, whole, packs)? {
-        Some(set) => set,
-        None => return Ok(None),
-    };
-    match compile(alloc, set) {
-        Ok(plan) => Ok(Some(plan)),
-        Err(CompileFault::NoMemory) => Err(NoMemory),
-        Err(CompileFault::ScaleTooLarge { .. } | CompileFault::Overload { .. }) => Ok(None),
+    match part_set(alloc, whole, packs)? {
+        Some(set) => plan_of(alloc, set),
+        None => Ok(None),
     }
 }

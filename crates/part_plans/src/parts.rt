@@ -4,7 +4,7 @@ ghost use Rattle.part_plans.specs.PartPlans.{ArePartPlans, ArePartPlansOf, IsPar
 
 use crate::covers::{are_covered, likes_of};
 use crate::embedding::embedding;
-use crate::first_packs::packs_of;
+use crate::first_level::packs_of;
 use crate::leaves::leaves_of;
 use crate::part_checks::{are_packs_like, factor_of, is_part};
 use crate::part_sets::compiled;

@@ -1,7 +1,7 @@
 //! The parts of a tree: what hangs together by members and duals, below one root.
 ghost use Rattle.std.specs.Prelude.{◌≡◌, ◌<◌, length, IfOk, IfSome};
 
-use crate::first_packs::{first_pack, first_packs};
+use crate::first_level::{first_pack, first_packs};
 use run_tree::Tree;
 use sched_base::{NoMemory, NodeId};
 use std::alloc::Global;

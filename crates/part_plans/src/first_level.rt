@@ -8,7 +8,7 @@ use sched_base::{NoMemory, NodeId};
 use std::alloc::Global;
 
 /// How many packs of level 0 a tree has.
-pub(crate) fn first_packs(tree: &Tree) -> u32
+pub fn first_packs(tree: &Tree) -> u32
     ensures { result ≡ length (packs_at tree.now 0) }
 {
     tree.know_lawful();
@@ -16,7 +16,7 @@ pub(crate) fn first_packs(tree: &Tree) -> u32
 }
 
 /// Pack i of level 0.
-pub(crate) fn first_pack(tree: &Tree, i: u32) -> NodeId
+pub fn first_pack(tree: &Tree, i: u32) -> NodeId
     requires { i < length (packs_at tree.now 0) }
     ensures value { result.0 ≡ slice_index (packs_at tree.now 0) i }
     ensures pack { IsPack tree.now result.0 }
