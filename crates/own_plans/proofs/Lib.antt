@@ -1,4 +1,3 @@
 mod LikeMembers
-mod FirstPacks
 mod LeafLemmas
 mod OwnLemmas

@@ -3,20 +3,10 @@ ghost use Rattle.std.specs.Prelude.{ℕ, ◌≡◌, ◌<◌, length, slice_index
 ghost use Rattle.sched_base.specs.declared.rows.Leaf.TheVariants.{Empty};
 ghost use Rattle.run_tree.specs.Tree.{IsPack, leaf, member, members};
 
-use run_tree::{Kind, Tree};
+use part_plans::leaf_of;
+use run_tree::Tree;
 use sched_base::{Leaf, NoMemory, NodeId};
 use std::alloc::Global;
-
-/// The leaf that node n is, or `Leaf::Empty`.
-pub(crate) fn leaf_of(tree: &Tree, n: NodeId) -> Leaf
-    requires { n.0 < length tree.now.nodes }
-    ensures { result ≡ leaf tree.now n.0 }
-{
-    match tree.kind(n) {
-        Kind::Leaf(leaf) => leaf,
-        Kind::Pack(_) | Kind::Dual(_) => Leaf::Empty,
-    }
-}
 
 // Writes for each member of pack q of the own tree the leaf of the like member of pack p of the whole one.
 fn write_leaves(whole: &Tree, own: &Tree, p: NodeId, q: NodeId, leaves: &mut [Leaf])

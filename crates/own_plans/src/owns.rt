@@ -4,9 +4,10 @@ ghost use Rattle.run_tree.specs.Schedule.{packs_at};
 ghost use Rattle.own_plans.specs.OwnPlans.{AreOwnPlansOf, IsOwnPlanOf};
 
 use crate::leaves::leaves_of;
-use crate::likeness::{factor_of, is_own};
+use crate::likeness::is_own;
 use crate::own_sets::compiled;
 use crate::partitions::is_partitioned;
+use part_plans::{factor_of, first_pack, first_packs};
 use run_tree::Plan;
 use sched_base::{Leaf, NoMemory};
 use std::alloc::Global;
@@ -25,8 +26,7 @@ fn own_plan(alloc: Global, whole: &Plan, i: u32) -> Result<Option<OwnPlan>, NoMe
     requires { i < length (packs_at whole.now.tree 0) }
     ensures { IfOk result (λ found. IfSome found (λ own. IsOwnPlanOf whole.now i own)) }
 {
-    whole.know_lawful();
-    let pack = whole.tree().pack(0, i);
+    let pack = first_pack(whole.tree(), i);
     let plan = match compiled(alloc, whole, pack)? {
         Some(plan) => plan,
         None => return Ok(None),
@@ -38,7 +38,7 @@ fn own_plan(alloc: Global, whole: &Plan, i: u32) -> Result<Option<OwnPlan>, NoMe
     if !is_own(whole, &plan, i, factor) {
         return Ok(None);
     }
-    let root = plan.tree().pack(0, 0);
+    let root = first_pack(plan.tree(), 0);
     let leaves = leaves_of(alloc, whole.tree(), plan.tree(), pack, root)?;
     Ok(Some(OwnPlan {
         plan,
@@ -52,12 +52,11 @@ fn own_plan(alloc: Global, whole: &Plan, i: u32) -> Result<Option<OwnPlan>, NoMe
 pub fn own_plans(alloc: Global, plan: &Plan) -> Result<Option<Vec<OwnPlan>>, NoMemory>
     ensures { IfOk result (λ found. IfSome found (λ plans. AreOwnPlansOf plan.now plans.items)) }
 {
-    plan.know_lawful();
     if !is_partitioned(plan.tree()) {
         return Ok(None);
     }
     let mut owns = Vec::new(alloc);
-    for i in 0..plan.tree().packs(0) {
+    for i in 0..first_packs(plan.tree()) {
         match own_plan(alloc, plan, i)? {
             Some(own) => owns.push(own)?,
             None => return Ok(None),

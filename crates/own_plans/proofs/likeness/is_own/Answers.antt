@@ -1,24 +1,27 @@
-use Rattle.std.proofs.Common.{arith, length, subst, sym, ◌<◌}
+use Rattle.std.proofs.Common.{◌∙◌, ◌<◌, length, subst, sym}
 use Rattle.run_tree.specs.Schedule.{packs_at}
-use Rattle.run_tree.specs.Tree.{Tree}
-use Rattle.own_plans.proofs.FirstPacks.{has_first, is_first}
+use Rattle.run_tree.specs.Tree.{IsPack, Tree}
+use Rattle.own_plans.proofs.OwnLemmas.{own_is, some_one}
 use Rattle.own_plans.proofs.likeness.is_own.Goals as goal
 
-pub packs-requires : goal.packs-requires
-packs-requires c = has_first c.args.own.now c.know_lawful-2.ensures.lawful c.tree-tree.result.now c.tree-tree.ensures.value
+pub first_pack-requires : goal.first_pack-requires
+first_pack-requires c = subst (λ (t : Tree). c.args.i < length (packs_at t 0)) (sym c.tree.ensures.value) c.requires.pack
 
-pub pack-requires-clause-level : goal.pack-requires-clause-level
-pack-requires-clause-level c = has_first c.args.whole.now c.know_lawful.ensures.lawful c.tree.result.now c.tree.ensures.value
-
-pub pack-requires-2-clause-level : goal.pack-requires-2-clause-level
-pack-requires-2-clause-level c = has_first c.args.own.now c.know_lawful-2.ensures.lawful c.tree-tree.result.now c.tree-tree.ensures.value
+pub first_pack-requires-2 : goal.first_pack-requires-2
+first_pack-requires-2 c = some_one (length (packs_at c.tree-tree.result.now 0)) (sym c.first_packs.ensures ∙ c.if-first_packs-ne1.false)
 
 pub are_members_alike-requires-clause-whole : goal.are_members_alike-requires-clause-whole
-are_members_alike-requires-clause-whole c =
-    is_first c.args.whole.now c.know_lawful.ensures.lawful c.tree.result.now c.tree.ensures.value c.args.i c.pack.result.0
-    (subst (λ (t : Tree). c.args.i < length (packs_at t 0)) (sym c.tree.ensures.value) c.requires.pack) c.pack.ensures
+are_members_alike-requires-clause-whole c = subst (λ (t : Tree). IsPack t c.first_pack.result.0) c.tree.ensures.value c.first_pack.ensures.pack
 
 pub are_members_alike-requires-clause-own : goal.are_members_alike-requires-clause-own
-are_members_alike-requires-clause-own c =
-    is_first c.args.own.now c.know_lawful-2.ensures.lawful c.tree-tree.result.now c.tree-tree.ensures.value 0 c.pack-2.result.0
-    (let one = c.if-packs-ne1.false in let many = c.packs.ensures in omega (arith, one, many)) c.pack-2.ensures
+are_members_alike-requires-clause-own c = subst (λ (t : Tree). IsPack t c.first_pack-2.result.0) c.tree-tree.ensures.value c.first_pack-2.ensures.pack
+
+pub are_members_alike-requires-clause-scale : goal.are_members_alike-requires-clause-scale
+are_members_alike-requires-clause-scale c = c.requires.scale
+
+pub returns : goal.returns
+returns c = λ told.
+    own_is c.args.whole.now c.args.own.now c.args.i c.args.factor c.tree.result.now c.tree-tree.result.now c.first_pack.result.0 c.first_pack-2.result.0
+    c.know_lawful.ensures.lawful.tree.tree.scaled c.requires.pack c.requires.scale c.requires.horizon c.tree.ensures.value c.tree-tree.ensures.value
+    c.first_pack.ensures.value c.first_pack-2.ensures.value (sym c.first_packs.ensures ∙ c.if-first_packs-ne1.false)
+    (c.is_partitioned.ensures c.if-not-is_partitioned.false) (c.are_members_alike.ensures told)

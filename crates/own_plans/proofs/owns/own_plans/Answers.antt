@@ -1,7 +1,17 @@
-use Rattle.std.proofs.Common.{[], ◌∷◌, ap, arith, length, length-append, subst, sym}
+use Rattle.std.proofs.Common.{[], ◌∷◌, ◌∙◌, ◌<◌, ap, arith, length, length-append, subst, sym}
+use Rattle.std.proofs.lemmas.Result.{IfOk-from_err}
+use Rattle.run_tree.specs.Schedule.{packs_at}
+use Rattle.run_tree.specs.Tree.{Tree}
 use Rattle.own_plans.specs.OwnPlans.{IsOwnPlanOf}
 use Rattle.own_plans.proofs.OwnLemmas.{AreInTurn, one_more}
 use Rattle.own_plans.proofs.owns.own_plans.Goals as goal
+
+pub own_plan-requires : goal.own_plan-requires
+own_plan-requires c =
+    subst (λ n. c.loop-i.i < n) (c.first_packs-i-end.ensures ∙ ap (λ (t : Tree). length (packs_at t 0)) c.tree-2.ensures.value) c.loop-i-test.true
+
+pub returns-in_err-own : goal.returns-in_err-own
+returns-in_err-own c = IfOk-from_err _ _ c.from_residual.ensures.0
 
 pub loop-i-preserved : goal.loop-i-preserved
 loop-i-preserved c =
