@@ -16,13 +16,24 @@ use std::alloc::Global;
 /// What a part of a plan does alone: a plan of its own, in which a tick is `factor` ticks of the whole plan. Of each of its nodes by its
 /// number the node of the whole plan whose like it is, and what that one shows, `Leaf::Empty` where it is no leaf; and of each of its packs of
 /// level 0 the number of that one among those of the whole plan.
-#[derive(Drop)]
 pub struct PartPlan {
     pub plan: Plan,
     pub factor: u128,
     pub onto: Vec<u32>,
     pub leaves: Vec<Leaf>,
     pub packs: Vec<u32>,
+}
+
+impl Drop for PartPlan {
+    fn drop(self) {
+        let Self {
+            plan: _plan,
+            factor: _,
+            onto: _onto,
+            leaves: _leaves,
+            packs: _packs,
+        } = self;
+    }
 }
 
 /// The parts into which a plan falls, and of each node of the plan by its number its part, and its like there.

@@ -20,10 +20,18 @@ const MOST_KEPT: usize = 65536;
 
 /// The rounds of a part from tick 0 on: where each ends, in ticks of the whole plan, and for each what the whole plan shows of each of the
 /// part's packs of level 0 in order, or nothing where it rests.
-#[derive(Drop)]
 pub(crate) struct KeptRounds {
     pub(crate) ends: Vec<u128>,
     pub(crate) shows: Vec<Option<Leaf>>,
+}
+
+impl Drop for KeptRounds {
+    fn drop(self) {
+        let Self {
+            ends: _ends,
+            shows: _shows,
+        } = self;
+    }
 }
 
 /// No round.

@@ -22,7 +22,6 @@ use std::alloc::Global;
 
 /// The rounds of a plan by those of its parts, with the part of each node and its like there. They have gone by up to a tick. `shows` tells what
 /// each pack of level 0 shows, by its number.
-#[derive(Drop)]
 pub(crate) struct Parted {
     parts: Vec<PartRounds>,
     part: Vec<u32>,
@@ -30,6 +29,19 @@ pub(crate) struct Parted {
     placed: Placed,
     shows: Vec<Option<Leaf>>,
     tick: u128,
+}
+
+impl Drop for Parted {
+    fn drop(self) {
+        let Self {
+            parts: _parts,
+            part: _part,
+            like: _like,
+            placed: _placed,
+            shows: _shows,
+            tick: _,
+        } = self;
+    }
 }
 
 /// The rounds of a plan from tick 0 on by those of its parts, where those of some part come round by themselves; else this way gains nothing, and

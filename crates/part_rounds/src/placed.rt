@@ -19,11 +19,20 @@ use sched_base::{Leaf, NoMemory};
 use std::alloc::Global;
 
 /// The places of packs of level 0, and what each showed in the round just gone.
-#[derive(Drop)]
 pub(crate) struct Placed {
     places: Places,
     changes: Changes,
     before: Vec<Option<Leaf>>,
+}
+
+impl Drop for Placed {
+    fn drop(self) {
+        let Self {
+            places: _places,
+            changes: _changes,
+            before: _before,
+        } = self;
+    }
 }
 
 /// No pack is placed, before the round that starts at tick 0.

@@ -20,7 +20,6 @@ const FEWEST_TURNS: u128 = 4;
 
 /// The rounds of one part of a plan: a core of its own plan computes them, or those of its first hyperperiod come again. They have gone by up to
 /// the end of the present one, at a tick of the whole plan. `shows` tells what the whole plan shows in it of each of the part's packs of level 0.
-#[derive(Drop)]
 pub(crate) struct PartRounds {
     pub(crate) part: PartPlan,
     core: Core,
@@ -32,6 +31,23 @@ pub(crate) struct PartRounds {
     stop: u128,
     pub(crate) end: u128,
     pub(crate) shows: Vec<Option<Leaf>>,
+}
+
+impl Drop for PartRounds {
+    fn drop(self) {
+        let Self {
+            part: _part,
+            core: _core,
+            kept: _kept,
+            replays: _,
+            next: _,
+            shift: _,
+            turn: _,
+            stop: _,
+            end: _,
+            shows: _shows,
+        } = self;
+    }
 }
 
 // Room for what each pack shows.
