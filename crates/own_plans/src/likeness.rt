@@ -1,14 +1,25 @@
 //! Whether a plan is the own plan of a pack.
 ghost use Rattle.std.specs.Prelude.{◌≡◌, ◌<◌, ◌*◌, true, length};
 ghost use Rattle.run_tree.specs.Schedule.{packs_at};
-ghost use Rattle.run_tree.specs.Tree.{IsPack};
-ghost use Rattle.partition_laws.specs.Partitions.{IsOwnPlan};
+ghost use Rattle.run_tree.specs.Tree.{IsPack, leaf, rate};
+ghost use Rattle.partition_laws.specs.Partitions.{AreAlike, IsOwnPlan};
 ghost use Rattle.own_plans.specs.OwnPlans.{AreMembersAlike};
 
 use crate::partitions::is_partitioned;
 use part_plans::{are_leaves_alike, are_rates_alike, first_pack, first_packs};
 use run_tree::Plan;
 use sched_base::NodeId;
+
+// Whether node x of the whole plan and node y of the own one are leaves that are alike, and so are their rates.
+fn are_alike(whole: &Plan, own: &Plan, x: NodeId, y: NodeId, factor: u128) -> bool
+    requires whole { x.0 < length whole.now.tree.nodes }
+    requires own { y.0 < length own.now.tree.nodes }
+    requires scale { whole.now.tree.scale ≡ factor * own.now.tree.scale }
+    ensures rates { result ≡ true → rate whole.now.tree x.0 ≡ factor * rate own.now.tree y.0 }
+    ensures leaves { result ≡ true → AreAlike whole.now.set.tasks own.now.set.tasks (leaf whole.now.tree x.0) (leaf own.now.tree y.0) }
+{
+    are_rates_alike(whole, own, x, y, factor) && are_leaves_alike(whole, own, x, y)
+}
 
 // Whether the members of pack p of the whole plan are like those of pack q of the own one in turn.
 fn are_members_alike(whole: &Plan, own: &Plan, p: NodeId, q: NodeId, factor: u128) -> bool
@@ -26,7 +37,7 @@ fn are_members_alike(whole: &Plan, own: &Plan, p: NodeId, q: NodeId, factor: u12
     for k in 0..count {
         let x = whole.tree().member(p, k);
         let y = own.tree().member(q, k);
-        if !are_rates_alike(whole, own, x, y, factor) || !are_leaves_alike(whole, own, x, y) {
+        if !are_alike(whole, own, x, y, factor) {
             return false;
         }
     }

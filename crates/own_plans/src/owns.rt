@@ -14,11 +14,20 @@ use std::alloc::Global;
 
 /// What a processor of a partitioned plan does alone: a plan of one processor, in which a tick is `factor` ticks of the whole plan. Of each of its
 /// nodes by its number, what the like node of the whole plan shows; `Leaf::Empty` for a pack.
-#[derive(Drop)]
 pub struct OwnPlan {
     pub plan: Plan,
     pub factor: u128,
     pub leaves: Vec<Leaf>,
+}
+
+impl Drop for OwnPlan {
+    fn drop(self) {
+        let Self {
+            plan: _plan,
+            factor: _,
+            leaves: _leaves,
+        } = self;
+    }
 }
 
 // The own plan of pack i of level 0, if one is found.

@@ -365,3 +365,7 @@ again_begins whole r part h can turn turns kept kept_is long on next shift turn_
     begins = inr (event_first r.part.plan);
   };
 }
+
+-- what is below is at most that
+pub up_to : (n m : ℕ) → n < m → n ≤ m
+up_to n m l = omega arith

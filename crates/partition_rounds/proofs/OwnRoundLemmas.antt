@@ -316,3 +316,7 @@ again_begins whole q r own h can turn turns kept kept_is on next shift turn_is s
     begins = inr (event_first r.own.plan);
   };
 }
+
+-- what is below is at most that
+pub up_to : (n m : ℕ) → n < m → n ≤ m
+up_to n m l = omega arith

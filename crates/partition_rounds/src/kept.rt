@@ -17,10 +17,18 @@ use std::alloc::Global;
 const MOST_KEPT: usize = 65536;
 
 /// The rounds of an own plan from tick 0 on: where each ends, in ticks of the whole plan, and what its processor shows in it.
-#[derive(Drop)]
 pub(crate) struct KeptRounds {
     pub(crate) ends: Vec<u128>,
     pub(crate) shows: Vec<Leaf>,
+}
+
+impl Drop for KeptRounds {
+    fn drop(self) {
+        let Self {
+            ends: _ends,
+            shows: _shows,
+        } = self;
+    }
 }
 
 /// No round.

@@ -19,7 +19,6 @@ const FEWEST_TURNS: u128 = 4;
 
 /// The rounds of one processor of a partitioned plan: a core of its own plan computes them, or those of its first hyperperiod come again.
 /// They have gone by up to the end of the present one, at a tick of the whole plan.
-#[derive(Drop)]
 pub(crate) struct OwnRounds {
     pub(crate) own: OwnPlan,
     core: Core,
@@ -31,6 +30,23 @@ pub(crate) struct OwnRounds {
     stop: u128,
     pub(crate) end: u128,
     pub(crate) shows: Leaf,
+}
+
+impl Drop for OwnRounds {
+    fn drop(self) {
+        let Self {
+            own: _own,
+            core: _core,
+            kept: _kept,
+            replays: _,
+            next: _,
+            shift: _,
+            turn: _,
+            stop: _,
+            end: _,
+            shows: _,
+        } = self;
+    }
 }
 
 /// The rounds of processor q from tick 0 on, none of which has gone by.

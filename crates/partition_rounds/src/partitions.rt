@@ -17,10 +17,18 @@ use sched_base::{Leaf, NoMemory};
 use std::alloc::Global;
 
 /// The rounds of a partitioned plan, by those of its processors in order. They have gone by up to a tick.
-#[derive(Drop)]
 pub(crate) struct Partition {
     lanes: Vec<OwnRounds>,
     tick: u128,
+}
+
+impl Drop for Partition {
+    fn drop(self) {
+        let Self {
+            lanes: _lanes,
+            tick: _,
+        } = self;
+    }
 }
 
 /// The rounds of a partitioned plan from tick 0 on, where those of some processor come round by themselves; else this way gains nothing, and there

@@ -1,8 +1,8 @@
-use Rattle.std.proofs.Common.{◌∙◌, ◌<◌, ℕ, length, subst, sym}
+use Rattle.std.proofs.Common.{below_more, ◌∙◌, ◌<◌, ℕ, length, subst, sym}
 use Rattle.std.proofs.lemmas.Bool.{false≢true}
 use Rattle.run_tree.specs.Tree.{Tree, members}
 use Rattle.part_plans.proofs.NodeLemmas.{below_end}
-use Rattle.own_plans.proofs.LikeMembers.{count_is, member_node, place_in}
+use Rattle.own_plans.proofs.LikeMembers.{AreAlikeAt, alike_at, count_is, member_node, place_in}
 use Rattle.own_plans.proofs.likeness.are_members_alike.Goals as goal
 
 pub members-count-requires : goal.members-count-requires
@@ -30,8 +30,8 @@ member-y-requires-clause-member c =
     place_in c.tree.result.now c.args.own.now.tree c.tree.ensures.value c.args.q.0 c.members-count.result.now c.members-count.ensures
     c.tree-in-loop-k-2.result.now c.tree-in-loop-k-2.ensures.value c.loop-k.k c.loop-k-test.true
 
-pub are_leaves_alike-requires-clause-whole : goal.are_leaves_alike-requires-clause-whole
-are_leaves_alike-requires-clause-whole c =
+pub are_alike-requires-clause-whole : goal.are_alike-requires-clause-whole
+are_alike-requires-clause-whole c =
     let whole = c.args.whole.now.tree in
     member_node whole c.tree-in-loop-k.result.now c.tree-in-loop-k.ensures.value c.args.p.0 c.loop-k.k c.member-x.result.0
     c.know_lawful.ensures.lawful.tree.tree c.requires.whole
@@ -39,14 +39,29 @@ are_leaves_alike-requires-clause-whole c =
     c.tree-in-loop-k.result.now c.tree-in-loop-k.ensures.value c.loop-k.k (subst (λ n. c.loop-k.k < n) (sym c.if-members-count.false) c.loop-k-test.true))
     c.member-x.ensures
 
-pub are_leaves_alike-requires-clause-own : goal.are_leaves_alike-requires-clause-own
-are_leaves_alike-requires-clause-own c =
+pub are_alike-requires-clause-own : goal.are_alike-requires-clause-own
+are_alike-requires-clause-own c =
     let own = c.args.own.now.tree in
     member_node own c.tree-in-loop-k-2.result.now c.tree-in-loop-k-2.ensures.value c.args.q.0 c.loop-k.k c.member-y.result.0
     c.know_lawful-2.ensures.lawful.tree.tree c.requires.own
     (place_in c.tree.result.now own c.tree.ensures.value c.args.q.0 c.members-count.result.now c.members-count.ensures
     c.tree-in-loop-k-2.result.now c.tree-in-loop-k-2.ensures.value c.loop-k.k c.loop-k-test.true)
     c.member-y.ensures
+
+pub are_alike-requires-clause-scale : goal.are_alike-requires-clause-scale
+are_alike-requires-clause-scale c = c.requires.scale
+
+pub returns-then-not-are_alike : goal.returns-then-not-are_alike
+returns-then-not-are_alike c = λ told. absurd (false≢true told)
+
+pub loop-k-preserved : goal.loop-k-preserved
+loop-k-preserved c =
+    let whole = c.args.whole.now in
+    let own = c.args.own.now in
+    below_more (AreAlikeAt whole own c.args.p.0 c.args.q.0 c.args.factor) c.loop-k.k c.loop-k.invariant
+    (alike_at whole own c.args.p.0 c.args.q.0 c.args.factor c.loop-k.k c.tree-in-loop-k.result.now c.tree-in-loop-k-2.result.now c.member-x.result.0 c.member-y.result.0
+    c.tree-in-loop-k.ensures.value c.tree-in-loop-k-2.ensures.value c.member-x.ensures c.member-y.ensures
+    (c.are_alike.ensures.rates c.if-not-are_alike.false) (c.are_alike.ensures.leaves c.if-not-are_alike.false))
 
 pub returns : goal.returns
 returns c =

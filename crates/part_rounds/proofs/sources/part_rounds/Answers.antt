@@ -1,5 +1,6 @@
-use Rattle.std.proofs.Common.{◌∙◌, ◌*◌, ap, sym}
+use Rattle.std.proofs.Common.{◌∙◌, ◌*◌, ap, length, sym}
 use Rattle.std.proofs.lemmas.Result.{IfOk-from_err}
+use Rattle.part_rounds.proofs.SourceLemmas.{up_to}
 use Rattle.part_rounds.proofs.sources.part_rounds.Goals as goal
 
 pub returns-in_err-shows-clause-belongs : goal.returns-in_err-shows-clause-belongs
@@ -80,3 +81,21 @@ returns-clause-part c = c.computed.ensures.part
 
 pub returns-clause-first : goal.returns-clause-first
 returns-clause-first c = c.computed.ensures.first
+
+pub keep_rounds-requires-clause-belongs : goal.keep_rounds-requires-clause-belongs
+keep_rounds-requires-clause-belongs c = c.in_ok-core.ensures.1
+
+pub keep_rounds-requires-clause-first : goal.keep_rounds-requires-clause-first
+keep_rounds-requires-clause-first c = c.in_ok-core.ensures.0
+
+pub keep_rounds-requires-clause-until : goal.keep_rounds-requires-clause-until
+keep_rounds-requires-clause-until c = up_to c.in-Some.turn _ c.in-Some.ensures.within
+
+pub keep_rounds-requires-clause-long : goal.keep_rounds-requires-clause-long
+keep_rounds-requires-clause-long c = ap length c.deref_mut.ensures.value ∙ c.in_ok-shows.ensures
+
+pub computed-requires-clause-belongs : goal.computed-requires-clause-belongs
+computed-requires-clause-belongs c = c.in_ok-core-2.ensures.1
+
+pub computed-requires-clause-first : goal.computed-requires-clause-first
+computed-requires-clause-first c = c.in_ok-core-2.ensures.0

@@ -1,6 +1,7 @@
 use Rattle.std.proofs.Common.{◌≡◌, ◌∙◌, ℕ, ap, slice_get, subst, sym, List}
+use Rattle.std.proofs.lemmas.Result.{IfOk-from_err}
 use Rattle.sched_base.specs.declared.rows.Row.{Row}
-use Rattle.event_core.specs.Rounds.{rows_of_round}
+use Rattle.event_core.specs.Rounds.{IsRoundUpTo, rows_of_round}
 use Rattle.merged_rows.specs.Columns.{AreShown}
 use Rattle.merged_rounds.specs.Laps.{IsSumUpTo}
 use Rattle.partition_rounds.proofs.MergingLemmas.{gone_told, merging_on, next_shown}
@@ -36,3 +37,35 @@ returns-clause-merging c =
     merging_on p start part c.go_telling-count.new.leaves sum went.belongs went.round went.all
     (subst (λ (n : ℕ). IsSumUpTo p n sum) c.now-end.ensures c.in_ok-add_changed.ensures.sum)
     (λ q r at. c.in_ok-add_changed.ensures.ends q r (ap (λ (rs : List Row). slice_get rs q) rows ∙ at))
+
+pub go_telling-count-requires-clause-belongs : goal.go_telling-count-requires-clause-belongs
+go_telling-count-requires-clause-belongs c = c.requires.merging.belongs
+
+pub go_telling-count-requires-clause-early : goal.go_telling-count-requires-clause-early
+go_telling-count-requires-clause-early c = c.requires.early
+
+pub go_telling-count-requires-clause-room : goal.go_telling-count-requires-clause-room
+go_telling-count-requires-clause-room c = c.requires.room
+
+pub go_telling-count-requires-clause-many : goal.go_telling-count-requires-clause-many
+go_telling-count-requires-clause-many c = c.requires.merging.many
+
+pub first_of-seen-requires : goal.first_of-seen-requires
+first_of-seen-requires c = c.go_telling-count.ensures.within
+
+pub add_changed-requires-clause-sum : goal.add_changed-requires-clause-sum
+add_changed-requires-clause-sum c = subst (λ (n : ℕ). IsSumUpTo c.args.plan.now n c.args.sum.now) (sym c.now-start.ensures) c.requires.merging.sum
+
+pub add_changed-requires-clause-round : goal.add_changed-requires-clause-round
+add_changed-requires-clause-round c =
+    subst (λ (n : ℕ). IsRoundUpTo c.args.plan.now n c.now-end.result) (sym c.now-start.ensures)
+    (subst (λ (n : ℕ). IsRoundUpTo c.args.plan.now c.args.partition.now.tick n) (sym c.now-end.ensures) c.go_telling-count.ensures.round)
+
+pub returns-clause-later : goal.returns-clause-later
+returns-clause-later c = c.go_telling-count.ensures.round.above
+
+pub returns-in_err-add_changed-clause-merging : goal.returns-in_err-add_changed-clause-merging
+returns-in_err-add_changed-clause-merging c = IfOk-from_err _ _ c.from_residual.ensures.0
+
+pub returns-in_err-add_changed-clause-later : goal.returns-in_err-add_changed-clause-later
+returns-in_err-add_changed-clause-later c = IfOk-from_err _ _ c.from_residual.ensures.0
