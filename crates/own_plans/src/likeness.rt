@@ -56,5 +56,11 @@ pub(crate) fn is_own(whole: &Plan, own: &Plan, i: u32, factor: u128) -> bool
     if first_packs(tree) != 1 || !is_partitioned(tree) {
         return false;
     }
-    are_members_alike(whole, own, first_pack(whole.tree(), i), first_pack(tree, 0), factor)
+    are_members_alike(
+        whole,
+        own,
+        first_pack(whole.tree(), i),
+        first_pack(tree, 0),
+        factor,
+    )
 }

@@ -69,7 +69,7 @@ returns c =
     let own = c.args.own.now.tree in
     let all = count_is c.tree.result.now own c.tree.ensures.value c.args.q.0 c.members-count.result.now c.members-count.ensures in
     let within = λ (k : ℕ) (l : k < length (members own c.args.q.0)).
-        below_end k (length (members own c.args.q.0)) (length c.members-count.result.now) c.loop-k.k l all c.loop-k-test.false in
+    below_end k (length (members own c.args.q.0)) (length c.members-count.result.now) c.loop-k.k l all c.loop-k-test.false in
     λ _. record {
       same = sym all ∙ sym c.if-members-count.false ∙ count_is c.tree-2.result.now whole c.tree-2.ensures.value c.args.p.0 c.members.result.now c.members.ensures;
       rates = λ k l. (c.loop-k.invariant k (within k l)).0;
