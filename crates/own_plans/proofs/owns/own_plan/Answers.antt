@@ -1,8 +1,8 @@
-use Rattle.std.proofs.Common.{◌≡◌, ◌∙◌, ◌<◌, ap, length, subst, sym}
+use Rattle.std.proofs.Common.{◌∙◌, ◌<◌, ap, length, subst, sym}
 use Rattle.std.proofs.lemmas.Result.{IfOk-from_err}
 use Rattle.run_tree.specs.Schedule.{packs_at}
 use Rattle.run_tree.specs.Tree.{IsPack, Tree}
-use Rattle.partition_laws.specs.Partitions.{IsOwnPlan, first_pack}
+use Rattle.partition_laws.specs.Partitions.{first_pack}
 use Rattle.own_plans.proofs.OwnLemmas.{own_found, same_members, some_one}
 use Rattle.own_plans.proofs.owns.own_plan.Goals as goal
 
