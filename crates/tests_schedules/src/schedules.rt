@@ -1,22 +1,20 @@
-//! Rounds of worked sets and of drawn ones, and what the tests of them share.
+//! Rounds of worked sets, and what the tests of them share.
 
 mod boundaries;
 mod cores;
-mod drawn;
 mod limits;
 mod merged;
 mod opened;
-mod packed;
 mod picks;
 mod schedules;
 mod selected;
 mod tables;
 mod trees;
-mod valid;
 mod windows;
 
-use plain_model::{NamedTask, plan_of};
+use run_compile::compile;
 use run_tree::Plan;
+use sample_sets::{NamedTask, set_of};
 use sched_base::{Leaf, Row, TaskId};
 use std::alloc::Global;
 use std::process::Abort;
@@ -44,7 +42,8 @@ fn plan_with(
     horizon: u64,
     tasks: &[NamedTask],
 ) -> Plan {
-    plan_of(alloc, processors, horizon, tasks).expect(rt, "a plan")
+    let set = set_of(alloc, processors, horizon, tasks).expect(rt, "a set");
+    compile(alloc, set).expect(rt, "a plan")
 }
 
 /// A round's start and end, and what each processor runs, a letter each.

@@ -1,9 +1,8 @@
 //! The next boundaries of nodes.
 use super::{OFFSET_OF_ONE, plan_with};
-use plain_model::NamedTask;
 use run_tree::{Plan, next_boundary};
+use sample_sets::NamedTask;
 use sched_base::NodeId;
-use std::alloc::Global;
 use std::process::Abort;
 
 /// A set, and next boundaries of its nodes: each row has a node, a unit, and the node's next boundary after it.
@@ -57,22 +56,16 @@ const CASES: &[Case] = &[
 /// Compares the next boundaries of nodes.
 fn assert_next(rt: &impl Abort, plan: &Plan, rows: &[(u32, u64, u64)]) {
     for (n, after, next) in rows {
-        assert!(rt; *n < plan.tree().nodes());
-        assert!(rt; *after <= plan.set().horizon());
+        assert!(rt; *n < plan.tree().nodes() && *after <= plan.set().horizon());
         let found = next_boundary(plan, NodeId(*n), *after);
         assert!(rt; found == *next, "of {n} after {after}");
     }
 }
 
-/// A copy of the plan of a set.
-fn copy_of(rt: &impl Abort, alloc: Global, case: &Case) -> Plan {
-    let plan = plan_with(rt, alloc, case.processors, case.horizon, case.tasks);
-    plan.copy().expect(rt, "there is memory")
-}
-
 #[test]
 fn tells_next_boundaries(rt: HostRuntime) {
     for case in CASES {
-        assert_next(&rt, &copy_of(&rt, rt.alloc(), case), case.rows);
+        let plan = plan_with(&rt, rt.alloc(), case.processors, case.horizon, case.tasks);
+        assert_next(&rt, &plan, case.rows);
     }
 }

@@ -2,61 +2,46 @@
 ghost use Rattle.std.specs.Prelude.{◌≡◌, length};
 ghost use Rattle.event_core.specs.Cores.{IsCoreOf};
 
-use event_core::{Core, count_rounds};
+use super::{Round, is_row};
+use event_core::Core;
 use run_tree::Plan;
 use sched_base::{Row, blank_rows};
 use std::alloc::Global;
 use std::process::Abort;
 
-/// Makes sure that these are rows of the round from a tick to another.
-fn assert_round(rt: &impl Abort, round: &[Row], start: u128, end: u128) {
-    for row in round {
-        assert!(rt;
-            row.start == start && row.end == end,
-            "processor {} from {start} to {end}",
-            row.processor
-        );
+/// Makes sure that these are the rows of a round, one for each of so many processors.
+fn assert_rows(rt: &impl Abort, rows: &[Row], processors: u32, round: &Round) {
+    for (row, processor) in rows.iter().zip(0..processors) {
+        assert!(rt; is_row(row, processor, round), "{processor}");
     }
 }
 
-/// Adds the rows of the next round to those before.
-fn push_round(rt: &impl Abort, plan: &Plan, core: &mut Core, round: &mut [Row], rows: &mut Vec<Row>)
+/// Makes sure that the next round is this one.
+fn assert_round(rt: &impl Abort, plan: &Plan, core: &mut Core, rows: &mut [Row], round: &Round)
     requires belongs { IsCoreOf plan.now core.old }
-    requires rows { length round.old ≡ plan.now.tree.processors }
+    requires rows { length rows.old ≡ plan.now.tree.processors }
     ensures belongs { IsCoreOf plan.now core.new }
-    ensures rows { length round.new ≡ plan.now.tree.processors }
+    ensures rows { length rows.new ≡ plan.now.tree.processors }
 {
-    let start = core.now();
-    assert!(rt; start < plan.rounds_end());
-    core.advance(plan, round);
-    assert_round(rt, round, start, core.now());
-    rows.extend_from_slice(round).expect(rt, "there is memory");
+    assert!(rt; core.now() < plan.rounds_end());
+    core.advance(plan, rows);
+    assert_rows(rt, rows, plan.tree().processors(), round);
 }
 
-/// Adds the rows of so many rounds, which are all that are left.
-fn push_rounds(
-    rt: &impl Abort,
-    plan: &Plan,
-    core: &mut Core,
-    round: &mut [Row],
-    rounds: u64,
-    rows: &mut Vec<Row>,
-)
+/// Makes sure that these rounds are all that are left.
+fn assert_rounds(rt: &impl Abort, plan: &Plan, core: &mut Core, rows: &mut [Row], rounds: &[Round])
     requires belongs { IsCoreOf plan.now core.old }
-    requires rows { length round.old ≡ plan.now.tree.processors }
+    requires rows { length rows.old ≡ plan.now.tree.processors }
 {
-    for _k in 0..rounds {
-        push_round(rt, plan, core, round, rows);
+    for round in rounds {
+        assert_round(rt, plan, core, rows, round);
     }
     assert!(rt; core.now() == plan.rounds_end());
 }
 
-/// The rows of all rounds.
-pub(super) fn rows_of(rt: &impl Abort, alloc: Global, plan: &Plan) -> Vec<Row> {
-    let rounds = count_rounds(alloc, plan).expect(rt, "few rounds");
-    let mut round = blank_rows(alloc, plan.tree().processors()).expect(rt, "there is memory");
+/// Makes sure that the core of a plan has these rounds.
+pub(super) fn assert_core(rt: &impl Abort, alloc: Global, plan: &Plan, rounds: &[Round]) {
+    let mut rows = blank_rows(alloc, plan.tree().processors()).expect(rt, "there is memory");
     let mut core = Core::new(alloc, plan).expect(rt, "there is memory");
-    let mut rows = Vec::new(alloc);
-    push_rounds(rt, plan, &mut core, &mut round, rounds, &mut rows);
-    rows
+    assert_rounds(rt, plan, &mut core, &mut rows, rounds);
 }

@@ -2,8 +2,8 @@
 use super::plan_with;
 use event_core::{CountFault, count_rounds};
 use partition_rounds::merged_of;
-use plain_model::NamedTask;
 use run_tree::Plan;
+use sample_sets::NamedTask;
 use std::alloc::Global;
 use std::process::Abort;
 

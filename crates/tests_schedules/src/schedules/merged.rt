@@ -4,8 +4,8 @@ ghost use Rattle.std.specs.Prelude.{◌<◌, length};
 use super::{OFFSET_OF_ONE, Round, THREE_TASKS, is_row, plan_with};
 use merged_rows::{MergedRows, totals_of_merged};
 use partition_rounds::merged_of;
-use plain_model::NamedTask;
 use run_tree::Plan;
+use sample_sets::NamedTask;
 use std::alloc::Global;
 use std::process::Abort;
 

@@ -1,71 +1,20 @@
-//! The schedules of worked sets, round by round: by the definitions, by the core, and as tables. Each expected row comes from
-//! the rules by hand.
-ghost use Rattle.std.specs.Prelude.{◌≤◌};
-
-use super::cores::rows_of;
+//! The schedules of worked sets, round by round: by the core, and as tables. Each expected row comes from the rules by hand.
+use super::cores::assert_core;
 use super::tables::is_table;
-use super::{OFFSET_OF_ONE, Round, THREE_TASKS, TWO_REDUCTIONS, is_row_of, plan_with};
+use super::{OFFSET_OF_ONE, Round, THREE_TASKS, TWO_REDUCTIONS, plan_with};
 use event_core::count_rounds;
-use plain_model::{NamedTask, plain_places, plain_rounds, plain_schedule};
 use round_table::table_of;
 use run_tree::Plan;
-use sched_base::Row;
+use sample_sets::NamedTask;
 use std::alloc::Global;
 use std::process::Abort;
-
-/// Whether this is row i of the rounds, of which each has so many rows.
-fn is_row_at(row: &Row, i: usize, processors: u32, rounds: &[Round]) -> bool
-    requires { 1 ≤ processors }
-{
-    let k = i / processors as usize;
-    let p = i % processors as usize;
-    row.processor as usize == p && is_row_of(row, row.processor, rounds, k)
-}
-
-/// Whether these rows are those of the rounds, one round after another, each with a row for each of so many processors.
-fn are_rounds(rows: &[Row], processors: u32, rounds: &[Round]) -> bool {
-    if processors < 1 {
-        return false;
-    }
-    for (i, row) in rows.iter().enumerate() {
-        if !is_row_at(row, i, processors, rounds) {
-            return false;
-        }
-    }
-    rows.len() == rounds.len().saturating_mul(processors as usize)
-}
-
-/// Makes sure that the definitions tell so many rounds, and a place for each tick.
-fn assert_counts(rt: &impl Abort, alloc: Global, plan: &Plan, rounds: usize) {
-    assert!(rt; plan.rounds_end() <= 1 << 32);
-    let ticks = plan.rounds_end() as usize;
-    assert!(rt; plain_rounds(alloc, plan).expect(rt, "there is memory") == rounds);
-    let places = plain_places(alloc, plan).expect(rt, "there is memory");
-    assert!(rt; places.len() == ticks + 1);
-}
-
-/// Makes sure that the definitions tell these rounds.
-fn assert_plain(rt: &impl Abort, alloc: Global, plan: &Plan, rounds: &[Round]) {
-    assert_counts(rt, alloc, plan, rounds.len());
-    assert!(rt; plan.rounds_end() <= 1 << 32);
-    let rows = plain_schedule(alloc, plan).expect(rt, "there is memory");
-    assert!(rt; are_rounds(&rows, plan.tree().processors(), rounds));
-}
 
 /// Makes sure that the table of all rounds has these.
 fn assert_table(rt: &impl Abort, alloc: Global, plan: &Plan, rounds: &[Round]) {
     let count = count_rounds(alloc, plan).expect(rt, "few rounds");
-    let table = table_of(alloc, plan, count).expect(rt, "there is memory");
     assert!(rt; count == rounds.len() as u64);
+    let table = table_of(alloc, plan, count).expect(rt, "there is memory");
     assert!(rt; is_table(&table, plan.tree().processors(), rounds));
-}
-
-/// Makes sure that the definitions, the core and the table of a plan have these rounds.
-fn assert_rounds(rt: &impl Abort, alloc: Global, plan: &Plan, rounds: &[Round]) {
-    assert_plain(rt, alloc, plan, rounds);
-    let rows = rows_of(rt, alloc, plan);
-    assert!(rt; are_rounds(&rows, plan.tree().processors(), rounds));
-    assert_table(rt, alloc, plan, rounds);
 }
 
 /// A set, and its rounds.
@@ -190,6 +139,7 @@ const CASES: &[Case] = &[
 fn schedules_worked_sets(rt: HostRuntime) {
     for case in CASES {
         let plan = plan_with(&rt, rt.alloc(), case.processors, case.horizon, case.tasks);
-        assert_rounds(&rt, rt.alloc(), &plan, case.rounds);
+        assert_core(&rt, rt.alloc(), &plan, case.rounds);
+        assert_table(&rt, rt.alloc(), &plan, case.rounds);
     }
 }

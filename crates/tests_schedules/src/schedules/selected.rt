@@ -4,9 +4,9 @@ ghost use Rattle.release_calendar.specs.Calendars.{BelongsTo};
 
 use super::windows::refill;
 use super::{OFFSET_OF_ONE, THREE_TASKS, TWO_REDUCTIONS, plan_with};
-use plain_model::NamedTask;
 use release_calendar::Calendar;
 use run_tree::{Kind, Plan};
+use sample_sets::NamedTask;
 use sched_base::{Leaf, NodeId};
 use server_budget::Budgets;
 use std::alloc::Global;

@@ -3,9 +3,9 @@ ghost use Rattle.std.specs.Prelude.{◌<◌, ◌≤◌, ◌^◌, length};
 ghost use Rattle.release_calendar.specs.Calendars.{BelongsTo};
 
 use super::{OFFSET_OF_ONE, THREE_TASKS, plan_with};
-use plain_model::NamedTask;
 use release_calendar::Calendar;
 use run_tree::{Kind, Plan};
+use sample_sets::NamedTask;
 use sched_base::NodeId;
 use server_budget::Budgets;
 use std::alloc::Global;
