@@ -1,72 +1,42 @@
-//! Packings of worked rates, idle clients in them, and duals.
+//! Packings of worked rates, and idle clients in them.
 ghost use Rattle.std.specs.Prelude.{◌≤◌, ◌^◌, ◌*◌, length, sum, All};
 
-use dual_step::duals;
 use idle_fill::fill;
 use sched_base::NoMemory;
 use server_pack::{Packing, first_fit};
 use std::alloc::Global;
 use std::process::Abort;
 
-/// The packing, once it is seen that the rates meet its conditions.
-fn packing_of(rt: &impl Abort, alloc: Global, rates: &[u128], scale: u128) -> Packing {
-    assert!(rt; scale <= 1 << 94);
-    assert!(rt; rates.len() <= 1024);
-    assert!(rt; rates.iter().all(|rate| 1 <= *rate && *rate <= scale));
-    first_fit(alloc, rates, scale).expect(rt, "there is memory")
-}
+/// A server: its rate, that of its idle client, and its members.
+type Server<'a> = (u128, u128, &'a [u32]);
 
-/// Compares the servers with their rates and those of their idle clients.
-fn assert_servers(rt: &impl Abort, packing: &Packing, servers: &[(u128, u128)]) {
+/// Compares the servers.
+fn assert_servers(rt: &impl Abort, packing: &Packing, servers: &[Server]) {
     assert!(rt; packing.servers() as usize == servers.len());
-    for (s, (rate, idle)) in (0..packing.servers()).zip(servers) {
+    for (s, (rate, idle, members)) in (0..packing.servers()).zip(servers) {
         assert!(rt; s < packing.servers());
-        assert!(rt; packing.rate(s) == *rate, "server {s}");
-        assert!(rt; packing.idle(s) == *idle, "server {s}");
+        assert!(rt;
+            (packing.rate(s), packing.idle(s), packing.members(s)) == (*rate, *idle, *members),
+            "server {s}"
+        );
     }
 }
 
-/// The rates, the scale, and the servers, each with its rate and its members.
-type Packed = (&'static [u128], u128, &'static [(u128, &'static [u32])]);
-
-const PACKED: &[Packed] = &[
-    (&[2, 2, 2], 3, &[(2, &[0]), (2, &[1]), (2, &[2])]),
-    (
-        &[6, 6, 6, 6, 6, 2, 3, 3, 2],
-        10,
-        &[
-            (10, &[0, 5, 8]),
-            (9, &[1, 6]),
-            (9, &[2, 7]),
-            (6, &[3]),
-            (6, &[4]),
-        ],
-    ),
-    (&[], 1, &[]),
-];
-
-/// Compares the servers with their rates and their members. None has an idle client.
-fn assert_packed(rt: &impl Abort, packing: &Packing, scale: u128, servers: &[(u128, &[u32])]) {
-    assert!(rt; packing.scale() == scale);
-    assert!(rt; packing.servers() as usize == servers.len());
-    for (s, (rate, members)) in (0..packing.servers()).zip(servers) {
-        assert!(rt; s < packing.servers());
-        assert!(rt; packing.rate(s) == *rate, "server {s}");
-        assert!(rt; packing.members(s) == *members, "server {s}");
-        assert!(rt; packing.idle(s) == 0, "server {s}");
-    }
-}
-
-/// A packing that takes idle clients.
-fn compare_idle(rt: &impl Abort, alloc: Global) {
-    let mut packing = packing_of(rt, alloc, &[3, 3, 3], 5);
-    assert!(rt; packing.servers() == 3);
-    assert!(rt; packing.scale() == 5);
-    assert!(rt; packing.rate(0) == 3 && packing.idle(0) == 0);
-    packing.reserve(1).expect(rt, "there is memory");
-    packing.give_idle(0, 1);
-    packing.add_idle(5);
-    assert_servers(rt, &packing, &[(4, 1), (3, 0), (3, 0), (5, 5)]);
+fn compare_packed(rt: &impl Abort, alloc: Global) {
+    let alone = first_fit(alloc, &[2, 2, 2], 3).expect(rt, "there is memory");
+    assert_servers(rt, &alone, &[(2, 0, &[0]), (2, 0, &[1]), (2, 0, &[2])]);
+    let rates = [6, 6, 6, 6, 6, 2, 3, 3, 2];
+    let shared = first_fit(alloc, &rates, 10).expect(rt, "there is memory");
+    let servers: [Server; 5] = [
+        (10, 0, &[0, 5, 8]),
+        (9, 0, &[1, 6]),
+        (9, 0, &[2, 7]),
+        (6, 0, &[3]),
+        (6, 0, &[4]),
+    ];
+    assert_servers(rt, &shared, &servers);
+    let none = first_fit(alloc, &[], 1).expect(rt, "there is memory");
+    assert_servers(rt, &none, &[]);
 }
 
 /// The packing of these rates, filled up to two processors.
@@ -83,28 +53,19 @@ fn filled(alloc: Global, rates: &[u128], scale: u128) -> Result<Packing, NoMemor
 
 fn compare_filled(rt: &impl Abort, alloc: Global) {
     let one_idle_leaf = filled(alloc, &[3, 3, 3], 5).expect(rt, "there is memory");
-    assert_servers(rt, &one_idle_leaf, &[(4, 1), (3, 0), (3, 0)]);
+    assert_servers(
+        rt,
+        &one_idle_leaf,
+        &[(4, 1, &[0]), (3, 0, &[1]), (3, 0, &[2])],
+    );
     let full = filled(alloc, &[2, 2, 2], 3).expect(rt, "there is memory");
-    assert_servers(rt, &full, &[(2, 0), (2, 0), (2, 0)]);
+    assert_servers(rt, &full, &[(2, 0, &[0]), (2, 0, &[1]), (2, 0, &[2])]);
     let no_task = filled(alloc, &[], 1).expect(rt, "there is memory");
-    assert_servers(rt, &no_task, &[(1, 1), (1, 1)]);
-}
-
-/// The duals of three tasks.
-fn compare_duals(rt: &impl Abort, alloc: Global) {
-    let servers: &[u128] = &[2, 2, 2];
-    assert!(rt; servers.iter().all(|rate| 0 < *rate && *rate < 3));
-    let rates = duals(alloc, servers, 3).expect(rt, "there is memory");
-    assert!(rt; rates.as_slice() == [1, 1, 1].as_slice());
+    assert_servers(rt, &no_task, &[(1, 1, &[]), (1, 1, &[])]);
 }
 
 #[test]
 fn packs_and_fills(rt: HostRuntime) {
-    for (rates, scale, servers) in PACKED {
-        let packing = packing_of(&rt, rt.alloc(), rates, *scale);
-        assert_packed(&rt, &packing, *scale, servers);
-    }
-    compare_idle(&rt, rt.alloc());
+    compare_packed(&rt, rt.alloc());
     compare_filled(&rt, rt.alloc());
-    compare_duals(&rt, rt.alloc());
 }

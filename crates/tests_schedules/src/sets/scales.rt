@@ -1,16 +1,9 @@
 //! Scales, rates and totals of worked sets.
-use rate_scale::{ScaleTooLarge, fits, rate, rates_of, scale_of, total};
+use rate_scale::{ScaleTooLarge, fits, rates_of, scale_of, total};
 use sample_sets::{NamedTask, set_of};
 use sched_base::TaskSet;
 use std::alloc::Global;
 use std::process::Abort;
-
-/// The rate, once it is seen that the numbers meet its conditions.
-fn rate_at(rt: &impl Abort, work: u64, period: u64, scale: u128) -> u128 {
-    assert!(rt; 1 <= period && work <= period && scale <= 1 << 94);
-    assert!(rt; scale % u128::from(period) == 0);
-    rate(work, period, scale)
-}
 
 /// The processors, the tasks, the scale or where it passes the limit, the rates, their total, and whether they fit.
 type Scaled = (
@@ -92,31 +85,6 @@ fn compare(
     }
 }
 
-/// A work, a period, a scale, and the rate.
-const RATES: &[(u64, u64, u128, u128)] = &[
-    (2, 3, 3, 2),
-    (2, 3, 6, 4),
-    (1, 2, 6, 3),
-    (
-        1,
-        4294967295,
-        9903520288918769111801004030,
-        2305843003844984834,
-    ),
-    (
-        1,
-        4294967294,
-        9903520288918769111801004030,
-        2305843004381855745,
-    ),
-    (
-        1,
-        1073741822,
-        9903520288918769111801004030,
-        9223372030412324865,
-    ),
-];
-
 fn set_with(rt: &impl Abort, alloc: Global, processors: u32, tasks: &[NamedTask]) -> TaskSet {
     set_of(alloc, processors, 1, tasks).expect(rt, "a set")
 }
@@ -126,11 +94,5 @@ fn scales_totals_and_rates(rt: HostRuntime) {
     for (processors, tasks, scale, rates, sum, fitting) in SCALED {
         let set = set_with(&rt, rt.alloc(), *processors, tasks);
         compare(&rt, rt.alloc(), &set, scale, rates, *sum, *fitting);
-    }
-    for (work, period, scale, ticks) in RATES {
-        assert!(rt;
-            rate_at(&rt, *work, *period, *scale) == *ticks,
-            "{work} in {period}"
-        );
     }
 }

@@ -349,19 +349,25 @@ fn worked_traces_have_their_pictures(rt: HostRuntime) {
     compare(&rt, alloc, OVERLAP, &all, &[], OVERLAP_PICTURE);
 }
 
+/// The first unit and the number of units that are asked for, and those that are shown.
+const WINDOWS: &[(u64, Option<u64>, u64, u64)] = &[
+    (0, None, 0, 5),
+    (2, None, 2, 3),
+    (4, Some(9), 4, 1),
+    (5, None, 4, 1),
+    (4_294_967_296, Some(1), 4, 1),
+];
+
 /// A window past the horizon is its last unit, and one never has no unit.
 fn compare_windows(rt: &impl Abort, trace: &ReadTrace) {
-    let table: [(u64, Option<u64>, u64, u64); 5] = [
-        (0, None, 0, 5),
-        (2, None, 2, 3),
-        (4, Some(9), 4, 1),
-        (5, None, 4, 1),
-        (4_294_967_296, Some(1), 4, 1),
-    ];
-    for (from, units, first, count) in table {
-        let window = shown_window(trace, &Asked { from, units });
+    for (from, units, first, count) in WINDOWS {
+        let asked = Asked {
+            from: *from,
+            units: *units,
+        };
+        let window = shown_window(trace, &asked);
         assert!(rt;
-            (window.scale, window.from, window.units) == (2, first, count),
+            (window.scale, window.from, window.units) == (2, *first, *count),
             "from unit {from}"
         );
     }

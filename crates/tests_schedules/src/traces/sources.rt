@@ -1,4 +1,6 @@
 //! The trace of three tasks from a source of which so many bytes are taken: read, or told why not.
+ghost use Rattle.std.specs.Prelude.{◌≤◌};
+
 use super::THREE_TASKS;
 use sched_edges::{MemSource, TakeFault};
 use std::alloc::Global;
@@ -6,7 +8,7 @@ use std::process::Abort;
 use trace_check::{SourceFault, Verdict, check_trace, read_checked_source, read_trace_source};
 
 /// The bytes that are taken, the calls of the source that fail, and why the text of 169 bytes isn't read, where it isn't.
-const LIMITS: [(usize, &[u64], Option<TakeFault>); 5] = [
+const LIMITS: &[(usize, &[u64], Option<TakeFault>)] = &[
     (169, &[], None),
     (168, &[], Some(TakeFault::TooLong { count: 169 })),
     (0, &[], Some(TakeFault::TooLong { count: 1 })),
@@ -32,17 +34,32 @@ fn assert_told(
     }
 }
 
+/// The verdict on the trace of a source.
+fn verdict_of(alloc: Global, source: &mut MemSource, limit: usize) -> Result<Verdict, SourceFault>
+    requires { limit ≤ 1024 }
+{
+    Ok(check_trace(&read_trace_source(alloc, source, limit)?))
+}
+
+/// The verdict where nobody asks for orders.
+fn checked_verdict_of(
+    alloc: Global,
+    source: &mut MemSource,
+    limit: usize,
+) -> Result<Verdict, SourceFault>
+    requires { limit ≤ 1024 }
+{
+    Ok(read_checked_source(alloc, source, limit)?.verdict())
+}
+
 #[test]
 fn a_source_is_read_or_told_why_not(rt: HostRuntime) {
     let alloc = rt.alloc();
     for (number, (limit, fails, unread)) in LIMITS.iter().enumerate() {
-        let mut source = source_of(&rt, alloc, fails);
-        let read = read_trace_source(alloc, &mut source, *limit);
-        let read = read.map(|trace| check_trace(&trace));
+        assert!(rt; *limit <= 1024);
+        let read = verdict_of(alloc, &mut source_of(&rt, alloc, fails), *limit);
         assert_told(&rt, read, *unread, number);
-        let mut source = source_of(&rt, alloc, fails);
-        let read = read_checked_source(alloc, &mut source, *limit);
-        let read = read.map(|trace| trace.verdict());
+        let read = checked_verdict_of(alloc, &mut source_of(&rt, alloc, fails), *limit);
         assert_told(&rt, read, *unread, number);
     }
 }

@@ -1,9 +1,9 @@
 //! Worked schedules in C, and a sink that fails. That of three tasks stands whole in the tests of the command `table`.
-ghost use Rattle.std.specs.Prelude.{◌≡◌, ◌≤◌, ◌*◌, ◌<◌, ◌^◌, length, IfOk};
+ghost use Rattle.std.specs.Prelude.{◌≡◌, ◌≤◌, ◌*◌, ◌<◌, ◌^◌, length};
 
 use super::A;
 use merged_rows::MergedRows;
-use sched_base::{Leaf, NoMemory, TaskId, TaskSet};
+use sched_base::{Leaf, TaskId, TaskSet};
 use sched_edges::MemSink;
 use std::alloc::Global;
 use std::process::Abort;
@@ -30,50 +30,60 @@ fn written(
 }
 
 /// Rows of one processor that begin at 0 and at this tick, and end at another.
-fn two_rows(alloc: Global, tick: u128, end: u128) -> Result<MergedRows, NoMemory>
-    ensures { IfOk result (λ rows. length rows.lanes ≡ 1) }
+fn two_rows(rt: &impl Abort, alloc: Global, tick: u128, end: u128) -> MergedRows
+    ensures { length result.lanes ≡ 1 }
 {
-    let mut rows = MergedRows::new(alloc, 1)?;
-    rows.add_round(tick, &[Some(A)])?;
-    rows.add_round(end, &[Some(Leaf::Idle(0))])?;
-    Ok(rows)
+    let mut rows = MergedRows::new(alloc, 1).expect(rt, "there is memory");
+    rows.add_round(tick, &[Some(A)])
+        .expect(rt, "there is memory");
+    rows.add_round(end, &[Some(Leaf::Idle(0))])
+        .expect(rt, "there is memory");
+    rows
+}
+
+/// A tick that a row ends at besides the horizon, which is as many ticks as the scale, the scale, and the line of the type.
+const NARROWEST: &[(u128, u128, &[u8])] = &[
+    (1, 255, b"  uint8_t start, end;\n"),
+    (1, 256, b"  uint16_t start, end;\n"),
+    (1, 65_535, b"  uint16_t start, end;\n"),
+    (1, 65_536, b"  uint32_t start, end;\n"),
+    (1, 4_294_967_295, b"  uint32_t start, end;\n"),
+    (1, 4_294_967_296, b"  uint64_t start, end;\n"),
+    (1, 18_446_744_073_709_551_615, b"  uint64_t start, end;\n"),
+    // 2^64 - 1 is 3 * 5 * 17 * 257 * 641 * 65537 * 6700417: in steps of all but the first four it ends at 65,535, of all but three at 255.
+    (
+        281_479_271_743_489,
+        18_446_744_073_709_551_615,
+        b"  uint16_t start, end;\n",
+    ),
+    (
+        72_340_172_838_076_673,
+        18_446_744_073_709_551_615,
+        b"  uint8_t start, end;\n",
+    ),
+];
+
+/// Compares the line of the type, which is the last that a sink takes whose third call fails.
+fn compare_type(rt: &impl Abort, alloc: Global, set: &TaskSet, tick: u128, scale: u128, line: &[u8])
+    requires processors { set.now.processors ≡ 1 }
+    requires horizon { set.now.horizon ≡ 1 }
+{
+    assert!(rt; 1 <= scale && scale < 1 << 64);
+    let rows = two_rows(rt, alloc, tick, scale);
+    let sink = written(rt, alloc, set, scale, &rows, 0, &[3]);
+    assert!(rt;
+        sink.taken().ends_with(line),
+        "a row ends at {tick} of {scale}"
+    );
 }
 
 /// The numbers of a row have the narrowest type that holds the steps up to the horizon.
 #[test]
-fn the_narrowest_types(rt: HostRuntime) -> Result<(), NoMemory> {
+fn the_narrowest_types(rt: HostRuntime) {
     let set = TaskSet::start(rt.alloc(), 1, 1);
-    // A tick that a row ends at besides the horizon, which is as many ticks as the scale.
-    let table: [(u128, u128, &[u8]); 9] = [
-        (1, 255, b"  uint8_t start, end;\n"),
-        (1, 256, b"  uint16_t start, end;\n"),
-        (1, 65_535, b"  uint16_t start, end;\n"),
-        (1, 65_536, b"  uint32_t start, end;\n"),
-        (1, 4_294_967_295, b"  uint32_t start, end;\n"),
-        (1, 4_294_967_296, b"  uint64_t start, end;\n"),
-        (1, 18_446_744_073_709_551_615, b"  uint64_t start, end;\n"),
-        // 2^64 - 1 is 3 * 5 * 17 * 257 * 641 * 65537 * 6700417: in steps of all but the first four it ends at 65,535, of all but three at 255.
-        (
-            281_479_271_743_489,
-            18_446_744_073_709_551_615,
-            b"  uint16_t start, end;\n",
-        ),
-        (
-            72_340_172_838_076_673,
-            18_446_744_073_709_551_615,
-            b"  uint8_t start, end;\n",
-        ),
-    ];
-    for (tick, scale, line) in table {
-        assert!(rt; 1 <= scale && scale < 1 << 64);
-        let rows = two_rows(rt.alloc(), tick, scale)?;
-        let sink = written(&rt, rt.alloc(), &set, scale, &rows, 0, &[]);
-        assert!(rt;
-            sink.taken().windows(line.len()).any(|part| part == line),
-            "a row ends at {tick} of {scale}"
-        );
+    for (tick, scale, line) in NARROWEST {
+        compare_type(&rt, rt.alloc(), &set, *tick, *scale, line);
     }
-    Ok(())
 }
 
 // Neither the late task's waiting row nor the idle one has a task. 6, 256 and 300 are told in steps of 2.
@@ -108,19 +118,19 @@ const struct furnacelime_table furnacelime_table = {
 ";
 
 #[test]
-fn a_late_task_waits_in_its_table(rt: HostRuntime) -> Result<(), NoMemory> {
-    let mut rows = MergedRows::new(rt.alloc(), 1)?;
-    rows.add_round(6, &[Some(Leaf::Wait(TaskId(0)))])?;
-    rows.add_round(256, &[Some(A)])?;
-    rows.add_round(300, &[Some(Leaf::Idle(0))])?;
+fn a_late_task_waits_in_its_table(rt: HostRuntime) {
+    let mut rows = MergedRows::new(rt.alloc(), 1).expect(&rt, "there is memory");
+    rows.add_round(6, &[Some(Leaf::Wait(TaskId(0)))])
+        .expect(&rt, "there is memory");
+    rows.add_round(256, &[Some(A)])
+        .expect(&rt, "there is memory");
+    rows.add_round(300, &[Some(Leaf::Idle(0))])
+        .expect(&rt, "there is memory");
     let mut set = TaskSet::start(rt.alloc(), 1, 50);
-    set.add_late(b"late", 1, 2, 1)?;
-    assert!(rt;
-        written(&rt, rt.alloc(), &set, 6, &rows, 44, &[])
-            .taken()
-            .ends_with(LATE)
-    );
-    Ok(())
+    set.add_late(b"late", 1, 2, 1)
+        .expect(&rt, "there is memory");
+    let sink = written(&rt, rt.alloc(), &set, 6, &rows, 44, &[]);
+    assert!(rt; sink.taken().ends_with(LATE));
 }
 
 const NONE: &[u8] = b"struct furnacelime_task furnacelime_tasks[] = {
@@ -156,17 +166,21 @@ const struct furnacelime_table furnacelime_table = {
 };
 ";
 
+/// The calls of a sink that fail, and the end of what it takes of the table of no tasks.
+const TAKEN: &[(&[u64], &[u8])] = &[
+    (&[], NONE),
+    (&[3], b"struct furnacelime_row {\n  uint8_t start, end;\n"),
+];
+
 /// The table of no tasks, and what a sink takes of it whose third call fails.
 #[test]
-fn a_table_of_no_tasks_is_told(rt: HostRuntime) -> Result<(), NoMemory> {
-    let mut rows = MergedRows::new(rt.alloc(), 2)?;
-    rows.add_round(1, &[Some(Leaf::Idle(0)), Some(Leaf::Empty)])?;
+fn a_table_of_no_tasks_is_told(rt: HostRuntime) {
+    let mut rows = MergedRows::new(rt.alloc(), 2).expect(&rt, "there is memory");
+    rows.add_round(1, &[Some(Leaf::Idle(0)), Some(Leaf::Empty)])
+        .expect(&rt, "there is memory");
     let set = TaskSet::start(rt.alloc(), 2, 1);
-    let first = b"struct furnacelime_row {\n  uint8_t start, end;\n";
-    let rows_taken: [(&[u64], &[u8]); 2] = [(&[], NONE), (&[3], first)];
-    for (fails, taken) in rows_taken {
+    for (fails, taken) in TAKEN {
         let sink = written(&rt, rt.alloc(), &set, 1, &rows, 0, fails);
         assert!(rt; sink.taken().ends_with(taken), "{} calls fail", fails.len());
     }
-    Ok(())
 }

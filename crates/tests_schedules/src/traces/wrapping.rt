@@ -4,28 +4,36 @@ ghost use Rattle.sched_base.specs.Scale.{Fits, IsScale};
 
 use merged_rows::MergedRows;
 use rate_scale::{fits, scale_of};
-use sample_sets::{NoSet, add_task, set_of};
+use sample_sets::{add_task, set_of};
 use sched_base::{Leaf, Row, RowTable, TaskSet};
 use std::alloc::Global;
 use std::process::Abort;
-use std::test::Fail;
 use wrap_sched::{WrapFault, merged_wrap, wrap, wrap_rounds};
 
-/// A set of groups of equal tasks, each told by the number of its tasks, their work, period and offset.
+/// Equal tasks: their number, work, period and offset.
+type Group = (u32, u64, u64, u64);
+
+/// A set of groups of equal tasks.
 fn grouped_set(
+    rt: &impl Abort,
     alloc: Global,
     processors: u32,
     horizon: u64,
-    groups: &[(u32, u64, u64, u64)],
-) -> Result<TaskSet, NoSet> {
-    let mut set = set_of(alloc, processors, horizon, &[])?;
-    for (count, work, period, offset) in groups {
-        for _task in 0..*count {
-            let name = name_of(set.count());
-            add_task(&mut set, &name, *work, *period, *offset)?;
-        }
+    groups: &[Group],
+) -> TaskSet {
+    let mut set = set_of(alloc, processors, horizon, &[]).expect(rt, "a set");
+    for group in groups {
+        add_group(rt, &mut set, group);
     }
-    Ok(set)
+    set
+}
+
+/// Adds the tasks of a group.
+fn add_group(rt: &impl Abort, set: &mut TaskSet, (count, work, period, offset): &Group) {
+    for _task in 0..*count {
+        let name = name_of(set.count());
+        add_task(set, &name, *work, *period, *offset).expect(rt, "a task");
+    }
 }
 
 /// The name of a task by its place, of which at most a hundred are told apart.
@@ -88,80 +96,69 @@ fn compare(rt: &impl Abort, table: &RowTable, p: u32, starts: &[u128], letters: 
 }
 
 /// Compares the first lanes of a set that is wrapped, each with letters as in `compare`.
-fn compare_wrapped(
-    rt: &impl Abort,
-    alloc: Global,
-    set: &TaskSet,
-    starts: &[u128],
-    lanes: &[&str],
-) -> Result<(), WrapFault> {
+fn compare_wrapped(rt: &impl Abort, alloc: Global, set: &TaskSet, starts: &[u128], lanes: &[&str]) {
     let scale = scale_that_fits(rt, set);
-    let rounds = wrap_rounds(alloc, set, scale)?;
+    let rounds = wrap_rounds(alloc, set, scale).expect(rt, "few rounds");
     assert!(rt; rounds.saturating_add(1) == starts.len() as u64);
-    let Ok(table) = wrap(alloc, set, scale, rounds) else {
-        return Err(WrapFault::NoMemory);
-    };
+    let table = wrap(alloc, set, scale, rounds).expect(rt, "there is memory");
     assert!(rt; table.processors() == set.processors());
     assert!(rt; lanes.len() <= table.processors() as usize);
-    for p in 0..lanes.len() {
-        compare(rt, &table, p as u32, starts, lanes[p]);
+    for (letters, p) in lanes.iter().zip(0..table.processors()) {
+        compare(rt, &table, p, starts, letters);
     }
-    Ok(())
 }
 
+/// Processors, a horizon, tasks, the ticks at which the rounds start with the end, and the leaves of the first processors.
+type Wrapped = (
+    u32,
+    u64,
+    &'static [Group],
+    &'static [u128],
+    &'static [&'static str],
+);
+
+const WRAPPED: &[Wrapped] = &[
+    (2, 3, &[(3, 2, 3, 0)], &[0, 3, 6, 9], &["aab", "bcc"]),
+    (
+        2,
+        4,
+        &[(2, 1, 2, 0), (1, 1, 4, 0)],
+        &[0, 2, 4, 8, 10, 12, 16],
+        &["aabaab", "c..c.."],
+    ),
+    (2, 4, &[(1, 2, 2, 0)], &[0, 4, 8], &["aa", ".."]),
+    (1, 3, &[(1, 1, 2, 1)], &[0, 1, 2, 4, 6], &["A.a."]),
+    (
+        1,
+        4,
+        &[(1, 1, 2, 0), (1, 1, 2, 1)],
+        &[0, 1, 2, 3, 4, 5, 6, 7, 8],
+        &["aBababab"],
+    ),
+    (1, 1, &[(1, 1, 2, 5)], &[0, 1, 2], &["A."]),
+    (2, 1, &[], &[0, 1], &[".", "."]),
+    (
+        32,
+        2,
+        &[(3, 2, 3, 0), (30, 1, 1, 0)],
+        &[0, 1, 2, 3, 4, 5, 6],
+        &["aabaab", "bccbcc", "dddddd", "eeeeee"],
+    ),
+];
+
 #[test]
-fn wraps_worked_sets(rt: HostRuntime) -> Result<(), Fail> {
-    let two_thirds: &[(u32, u64, u64, u64)] = &[(3, 2, 3, 0)];
-    let halves: &[(u32, u64, u64, u64)] = &[(2, 1, 2, 0), (1, 1, 4, 0)];
-    let full_rate: &[(u32, u64, u64, u64)] = &[(1, 2, 2, 0)];
-    let late: &[(u32, u64, u64, u64)] = &[(1, 1, 2, 1)];
-    let one_is_late: &[(u32, u64, u64, u64)] = &[(1, 1, 2, 0), (1, 1, 2, 1)];
-    let never_released: &[(u32, u64, u64, u64)] = &[(1, 1, 2, 5)];
-    let filled: &[(u32, u64, u64, u64)] = &[(3, 2, 3, 0), (30, 1, 1, 0)];
-    // processors, horizon, tasks, the ticks at which the rounds start with the end, and the leaves of the first processors
-    let rows: [(u32, u64, &[(u32, u64, u64, u64)], &[u128], &[&str]); 8] = [
-        (2, 3, two_thirds, &[0, 3, 6, 9], &["aab", "bcc"]),
-        (
-            2,
-            4,
-            halves,
-            &[0, 2, 4, 8, 10, 12, 16],
-            &["aabaab", "c..c.."],
-        ),
-        (2, 4, full_rate, &[0, 4, 8], &["aa", ".."]),
-        (1, 3, late, &[0, 1, 2, 4, 6], &["A.a."]),
-        (
-            1,
-            4,
-            one_is_late,
-            &[0, 1, 2, 3, 4, 5, 6, 7, 8],
-            &["aBababab"],
-        ),
-        (1, 1, never_released, &[0, 1, 2], &["A."]),
-        (2, 1, &[], &[0, 1], &[".", "."]),
-        (
-            32,
-            2,
-            filled,
-            &[0, 1, 2, 3, 4, 5, 6],
-            &["aabaab", "bccbcc", "dddddd", "eeeeee"],
-        ),
-    ];
-    for (processors, horizon, tasks, starts, lanes) in rows {
-        let set = grouped_set(rt.alloc(), processors, horizon, tasks)?;
-        compare_wrapped(&rt, rt.alloc(), &set, starts, lanes)?;
+fn wraps_worked_sets(rt: HostRuntime) {
+    for (processors, horizon, tasks, starts, lanes) in WRAPPED {
+        let set = grouped_set(&rt, rt.alloc(), *processors, *horizon, tasks);
+        compare_wrapped(&rt, rt.alloc(), &set, starts, lanes);
     }
-    Ok(())
 }
 
 /// The merged rows of a set that is wrapped to three rounds.
-fn merged(rt: &impl Abort, alloc: Global, set: &TaskSet) -> Result<MergedRows, WrapFault> {
+fn merged(rt: &impl Abort, alloc: Global, set: &TaskSet) -> MergedRows {
     let scale = scale_that_fits(rt, set);
-    assert!(rt; wrap_rounds(alloc, set, scale)? == 3);
-    match merged_wrap(alloc, set, scale) {
-        Ok(rows) => Ok(rows),
-        Err(_) => Err(WrapFault::NoMemory),
-    }
+    assert!(rt; wrap_rounds(alloc, set, scale) == Ok(3));
+    merged_wrap(alloc, set, scale).expect(rt, "there is memory")
 }
 
 /// Compares the two rows of a processor with these, each told by its start, its end and a letter.
@@ -179,28 +176,26 @@ fn compare_merged(rt: &impl Abort, rows: &MergedRows, processor: u32, want: [(u1
 
 // Three tasks of rate 2/3 on two processors: on each of them two rounds under one name are one row.
 #[test]
-fn merges_the_rows_of_a_worked_set(rt: HostRuntime) -> Result<(), Fail> {
-    let set = grouped_set(rt.alloc(), 2, 3, &[(3, 2, 3, 0)])?;
-    let rows = merged(&rt, rt.alloc(), &set)?;
+fn merges_the_rows_of_a_worked_set(rt: HostRuntime) {
+    let set = grouped_set(&rt, rt.alloc(), 2, 3, &[(3, 2, 3, 0)]);
+    let rows = merged(&rt, rt.alloc(), &set);
     assert!(rt; rows.processors() == 2);
     compare_merged(&rt, &rows, 0, [(0, 6, b'a'), (6, 9, b'b')]);
     compare_merged(&rt, &rows, 1, [(0, 3, b'b'), (3, 9, b'c')]);
-    Ok(())
 }
 
-// With 32 processors as many as 65536 rounds are within the limit of rows.
+/// A horizon, and how many rounds it has: with 32 processors as many as 65536 are within the limit of rows.
+const COUNTS: &[(u64, Result<u64, WrapFault>)] = &[
+    (65_536, Ok(65_536)),
+    (65_537, Err(WrapFault::TooLong { rows: 2_097_184 })),
+];
+
 #[test]
-fn counts_up_to_the_limit(rt: HostRuntime) -> Result<(), Fail> {
-    for (horizon, count) in [
-        (65_536, Ok(65_536)),
-        (65_537, Err(WrapFault::TooLong { rows: 2_097_184 })),
-    ] {
-        let set = grouped_set(rt.alloc(), 32, horizon, &[(1, 1, 1, 0)])?;
+fn counts_up_to_the_limit(rt: HostRuntime) {
+    for (horizon, count) in COUNTS {
+        let set = grouped_set(&rt, rt.alloc(), 32, *horizon, &[(1, 1, 1, 0)]);
         let scale = scale_that_fits(&rt, &set);
-        assert!(rt;
-            wrap_rounds(rt.alloc(), &set, scale) == count,
-            "horizon {horizon}"
-        );
+        let found = wrap_rounds(rt.alloc(), &set, scale);
+        assert!(rt; found == *count, "horizon {horizon}");
     }
-    Ok(())
 }

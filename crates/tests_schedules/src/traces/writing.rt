@@ -9,9 +9,9 @@ use std::alloc::Global;
 use trace_writer::{Finishes, write_met, write_trace};
 
 #[test]
-fn numbers_past_64_bits(rt: HostRuntime) -> Result<(), NoMemory> {
-    let mut sink = MemSink::new(rt.alloc(), 1024, &[])?;
-    let mut table = RowTable::new(rt.alloc(), 1, 5)?;
+fn numbers_past_64_bits(rt: HostRuntime) {
+    let mut sink = MemSink::new(rt.alloc(), 1024, &[]).expect(&rt, "there is memory");
+    let mut table = RowTable::new(rt.alloc(), 1, 5).expect(&rt, "there is memory");
     table.push_round(&[row(0, 0, 18_446_744_073_709_551_615, A)]);
     table.push_round(&[row(
         0,
@@ -38,7 +38,7 @@ fn numbers_past_64_bits(rt: HostRuntime) -> Result<(), NoMemory> {
         A,
     )]);
     let mut set = TaskSet::start(rt.alloc(), 1, 1);
-    set.add(b"a", 1, 1)?;
+    set.add(b"a", 1, 1).expect(&rt, "there is memory");
     let total = 70_141_183_460_469_231_831_687_303_715_884_105_733;
     assert!(rt; write_trace(&mut sink, &set, 1, &table, &[total]).is_ok());
     let text = concat!(
@@ -51,7 +51,6 @@ fn numbers_past_64_bits(rt: HostRuntime) -> Result<(), NoMemory> {
         "total a 70141183460469231831687303715884105733\nrows 5\n",
     );
     assert!(rt; sink.taken() == text.as_bytes());
-    Ok(())
 }
 
 /// So many rounds of one tick each, in which task a runs on the one processor.

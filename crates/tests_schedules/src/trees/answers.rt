@@ -28,6 +28,16 @@ pub(super) const ONE_IDLE: &str =
     "run-tree 1\nprocessors 2\nhorizon 5\nscale 5\ntasks 3\ntask a 3 5\ntask b 3 5\ntask c 3 5\nidles 1\n\
     idle 0 1\nlevel 0 3\npack 4 a -0\npack 3 b\npack 3 c\nlevel 1 1\npack 5 ~0 ~1 ~2\nlevels 2\n";
 
+/// What is told of line i, counted from 0, where lines are told by their numbers from 1; else the line itself.
+fn told_line<'a>(told: &[(usize, &'a str)], i: usize, line: &'a str) -> &'a str {
+    for (number, other) in told {
+        if *number == i.saturating_add(1) {
+            return other;
+        }
+    }
+    line
+}
+
 /// The text with each of these lines, counted from 1, as it is told.
 pub(super) fn with_lines(
     rt: &impl Abort,
@@ -37,17 +47,15 @@ pub(super) fn with_lines(
 ) -> String {
     let mut edited = String::new(alloc);
     for (i, line) in text.split_inclusive('\n').enumerate() {
-        let line = match told.iter().find(|(at, _)| *at == i + 1) {
-            Some((_, other)) => other,
-            None => line,
-        };
-        edited.push_str(line).expect(rt, "there is memory");
+        edited
+            .push_str(told_line(&*told, i, line))
+            .expect(rt, "there is memory");
     }
     edited
 }
 
 /// What is answered for these bytes. Where they are the text of a tree, it is written as this text.
-pub(super) fn answer_for(rt: &impl Abort, alloc: Global, bytes: &[u8], written: &str) -> Answer {
+pub(super) fn answer_for(rt: &impl Abort, alloc: Global, bytes: &[u8], written: &[u8]) -> Answer {
     match read_tree(alloc, bytes) {
         Ok(tree) => answer_checked(rt, alloc, &tree, written),
         Err(TreeFault::BadLine { line }) => Answer::BadLine(line),
@@ -55,12 +63,12 @@ pub(super) fn answer_for(rt: &impl Abort, alloc: Global, bytes: &[u8], written: 
     }
 }
 
-fn answer_checked(rt: &impl Abort, alloc: Global, tree: &ReadTree, written: &str) -> Answer {
+fn answer_checked(rt: &impl Abort, alloc: Global, tree: &ReadTree, written: &[u8]) -> Answer {
     match check_tree(alloc, tree) {
         Ok(plan) => {
             let mut sink = MemSink::new(alloc, 4096, &[]).expect(rt, "there is memory");
             assert!(rt; write_tree(&plan, &mut sink).is_ok());
-            assert!(rt; sink.taken() == written.as_bytes());
+            assert!(rt; sink.taken() == written);
             Answer::Tree
         }
         Err(TreeRefused::Fault { line, kind }) => Answer::Fault(line, kind),
@@ -75,9 +83,7 @@ pub(super) type Row<'a> = (&'a [(usize, &'a str)], Answer);
 pub(super) fn compare(rt: &impl Abort, alloc: Global, text: &str, rows: &[Row]) {
     for (told, answer) in rows {
         let edited = with_lines(rt, alloc, text, told);
-        assert!(rt;
-            answer_for(rt, alloc, edited.as_bytes(), &edited) == *answer,
-            "{edited}"
-        );
+        let found = answer_for(rt, alloc, edited.as_bytes(), edited.as_bytes());
+        assert!(rt; found == *answer, "{edited}");
     }
 }

@@ -1,6 +1,6 @@
 //! Texts that aren't of the form.
 use super::answers::Answer::BadLine;
-use super::answers::{ONE_IDLE, Row, THREE_LEVELS, answer_for, compare};
+use super::answers::{Row, THREE_LEVELS, compare};
 
 /// the lines that differ, and the line at fault
 const ROWS: &[Row] = &[
@@ -79,25 +79,4 @@ const ROWS: &[Row] = &[
 #[test]
 fn the_first_line_at_fault_is_told(rt: HostRuntime) {
     compare(&rt, rt.alloc(), THREE_LEVELS, ROWS);
-}
-
-#[test]
-fn a_text_that_ends_early_is_at_fault_behind_its_last_line(rt: HostRuntime) {
-    for (text, lines) in [(THREE_LEVELS, 24), (ONE_IDLE, 17)] {
-        let mut end: usize = 0;
-        let mut line: u64 = 1;
-        for next in text.split_inclusive('\n') {
-            assert!(rt; end <= text.len());
-            assert!(rt;
-                answer_for(&rt, rt.alloc(), &text.as_bytes()[..end], "") == BadLine(line),
-                "the first {end} bytes of {text}"
-            );
-            end = end.saturating_add(next.len());
-            line = line.saturating_add(1);
-        }
-        assert!(rt;
-            (end, line) == (text.len(), lines + 1),
-            "the lines of {text}"
-        );
-    }
 }

@@ -15,13 +15,14 @@ const NO_TASK: &str =
 fn trees_are_written_again(rt: HostRuntime) {
     for text in [THREE_LEVELS, ONE_IDLE, ROOT_BESIDE_PACKS, NO_TASK] {
         assert!(rt;
-            answer_for(&rt, rt.alloc(), text.as_bytes(), text) == Tree,
+            answer_for(&rt, rt.alloc(), text.as_bytes(), text.as_bytes()) == Tree,
             "{text}"
         );
     }
     // The last line feed may be missing.
     let text = with_lines(&rt, rt.alloc(), THREE_LEVELS, &[(24, "levels 3")]);
-    assert!(rt; answer_for(&rt, rt.alloc(), text.as_bytes(), THREE_LEVELS) == Tree);
+    let found = answer_for(&rt, rt.alloc(), text.as_bytes(), THREE_LEVELS.as_bytes());
+    assert!(rt; found == Tree);
 }
 
 const PACKED: &[Row] = &[

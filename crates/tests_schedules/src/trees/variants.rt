@@ -15,108 +15,124 @@ fn marked(mark: u8, line: u64) -> Answer {
     }
 }
 
-#[test]
-fn texts_cut_after_each_byte(rt: HostRuntime) {
-    for worked in TEXTS {
-        let bytes = worked.text.as_bytes();
-        let mut line: u64 = 1;
-        assert!(rt;
-            worked.cuts.len() + 1 == bytes.len(),
-            "a mark for each byte but the last of {}",
-            worked.text
-        );
-        for (i, mark) in worked.cuts.as_bytes().iter().enumerate() {
-            if bytes[i] == b'\n' {
-                line = line.saturating_add(1);
-            }
-            assert!(rt;
-                answer_for(&rt, rt.alloc(), &bytes[..=i], worked.text) == marked(*mark, line),
-                "the first bytes up to {i} of {}",
-                worked.text
-            );
+/// Cuts a text after each byte but the last.
+fn assert_cuts(rt: &impl Abort, alloc: Global, worked: &Worked) {
+    let bytes = worked.text.as_bytes();
+    let mut line: u64 = 1;
+    assert!(rt; worked.cuts.len() + 1 == bytes.len());
+    for (i, mark) in worked.cuts.as_bytes().iter().enumerate() {
+        if *mark == b'\n' {
+            line = line.saturating_add(1);
         }
-        assert!(rt; bytes.ends_with(b"\n"), "the last byte of {}", worked.text);
+        let found = answer_for(rt, alloc, &bytes[..=i], bytes);
+        assert!(rt; found == marked(*mark, line), "{i} of {}", worked.text);
     }
 }
 
-/// The text with the line of this number, counted from 0, so often as told.
-fn with_line_repeated(
+/// Some bytes of a text, and some others.
+fn spliced(
     rt: &impl Abort,
     alloc: Global,
-    text: &str,
-    number: usize,
-    times: usize,
-) -> String {
-    let mut edited = String::new(alloc);
-    for (i, line) in text.split_inclusive('\n').enumerate() {
-        let count = if i == number { times } else { 1 };
-        for _ in 0..count {
-            edited.push_str(line).expect(rt, "there is memory");
+    first: Option<&[u8]>,
+    middle: &[u8],
+    last: Option<&[u8]>,
+) -> Vec<u8> {
+    let (Some(first), Some(last)) = (first, last) else {
+        panic!(rt; "no place of the text");
+    };
+    let parts: [&[u8]; 3] = [first, middle, last];
+    parts.concat(alloc).expect(rt, "there is memory")
+}
+
+/// Makes sure of what is answered for the bytes up to a place, others, and the bytes from another place on.
+fn assert_spliced(
+    rt: &impl Abort,
+    alloc: Global,
+    bytes: &[u8],
+    (end, middle, start): (usize, &[u8], usize),
+    answer: Answer,
+) {
+    let text = spliced(rt, alloc, bytes.get(..end), middle, bytes.get(start..));
+    assert!(rt;
+        answer_for(rt, alloc, &text, &text) == answer,
+        "up to {end} and from {start} on"
+    );
+}
+
+/// Has each line of a text twice, and leaves it out.
+fn assert_lines(rt: &impl Abort, alloc: Global, worked: &Worked) {
+    let bytes = worked.text.as_bytes();
+    let mut start: usize = 0;
+    let rows = worked.doubled.iter().zip(worked.left_out);
+    for (line, (doubled, left_out)) in worked.text.split_inclusive('\n').zip(rows) {
+        let end = start.saturating_add(line.len());
+        assert_spliced(
+            rt,
+            alloc,
+            bytes,
+            (end, b"", start),
+            Answer::BadLine(*doubled),
+        );
+        assert_spliced(
+            rt,
+            alloc,
+            bytes,
+            (start, b"", end),
+            Answer::BadLine(*left_out),
+        );
+        start = end;
+    }
+    assert!(rt;
+        start == bytes.len(),
+        "a row for each line of {}",
+        worked.text
+    );
+}
+
+/// The digits in place of a number's last one, where the number is one more. No number of two digits ends in 9.
+fn raised(digit: u8) -> &'static [u8] {
+    match digit {
+        b'0' => b"1",
+        b'1' => b"2",
+        b'2' => b"3",
+        b'3' => b"4",
+        b'4' => b"5",
+        b'5' => b"6",
+        b'6' => b"7",
+        b'7' => b"8",
+        b'8' => b"9",
+        _ => b"10",
+    }
+}
+
+/// Whether the byte at a place is a digit.
+fn is_digit(bytes: &[u8], i: usize) -> bool {
+    match bytes.get(i) {
+        Some(byte) => byte.is_ascii_digit(),
+        None => false,
+    }
+}
+
+/// Has each number of a text one more.
+fn assert_raised(rt: &impl Abort, alloc: Global, worked: &Worked) {
+    let bytes = worked.text.as_bytes();
+    let mut answers = worked.raised.iter();
+    for (i, byte) in bytes.iter().enumerate() {
+        let next = i.saturating_add(1);
+        if is_digit(bytes, i) && !is_digit(bytes, next) {
+            let answer = answers.next().expect(rt, "an answer for each number");
+            assert_spliced(rt, alloc, bytes, (i, raised(*byte), next), *answer);
         }
     }
-    edited
+    assert!(rt; answers.next().is_none(), "the numbers of {}", worked.text);
 }
 
 #[test]
-fn texts_with_a_line_twice_or_left_out(rt: HostRuntime) {
+fn texts_that_differ_in_one_place(rt: HostRuntime) {
+    assert!(rt; answer_for(&rt, rt.alloc(), b"", b"") == Answer::BadLine(1));
     for worked in TEXTS {
-        for (times, lines) in [(2, worked.doubled), (0, worked.left_out)] {
-            assert!(rt;
-                lines.len() == worked.text.lines().count(),
-                "the lines of {}",
-                worked.text
-            );
-            for (i, line) in lines.iter().enumerate() {
-                let text = with_line_repeated(&rt, rt.alloc(), worked.text, i, times);
-                assert!(rt;
-                    answer_for(&rt, rt.alloc(), text.as_bytes(), "") == Answer::BadLine(*line),
-                    "{text}"
-                );
-            }
-        }
-    }
-}
-
-/// The text with the number of this place, counted from 0, one more, and how many numbers it has.
-fn with_number_raised(rt: &impl Abort, alloc: Global, text: &str, place: usize) -> (String, usize) {
-    let mut edited = String::new(alloc);
-    let mut count: usize = 0;
-    let mut number: Option<u64> = None;
-    for c in text.chars() {
-        match c.to_digit(10) {
-            Some(digit) => {
-                let front = number.unwrap_or(0).saturating_mul(10);
-                number = Some(front.saturating_add(u64::from(digit)));
-            }
-            None => {
-                if let Some(found) = number {
-                    let more = found.saturating_add(u64::from(count == place));
-                    push_number(rt, alloc, &mut edited, more);
-                    count = count.saturating_add(1);
-                }
-                number = None;
-                edited.push(c).expect(rt, "there is memory");
-            }
-        }
-    }
-    (edited, count)
-}
-
-fn push_number(rt: &impl Abort, alloc: Global, text: &mut String, number: u64) {
-    let digits = format!(in alloc; "{number}").expect(rt, "there is memory");
-    text.push_str(&digits).expect(rt, "there is memory");
-}
-
-#[test]
-fn texts_with_a_number_one_more(rt: HostRuntime) {
-    for worked in TEXTS {
-        for (i, answer) in worked.raised.iter().enumerate() {
-            let (text, count) = with_number_raised(&rt, rt.alloc(), worked.text, i);
-            assert!(rt; count == worked.raised.len(), "the numbers of {text}");
-            assert!(rt;
-                answer_for(&rt, rt.alloc(), text.as_bytes(), &text) == *answer,
-                "{text}"
-            );
-        }
+        assert_cuts(&rt, rt.alloc(), worked);
+        assert_lines(&rt, rt.alloc(), worked);
+        assert_raised(&rt, rt.alloc(), worked);
     }
 }
