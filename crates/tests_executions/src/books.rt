@@ -6,10 +6,9 @@ ghost use Rattle.exec_book.specs.Books.{IsDismissed};
 ghost use Rattle.sched_edges.specs.Jobs.{JobAt, CountHeld};
 ghost use Rattle.plan_rounds.specs.PlanRows.{IsCompiled};
 
-mod beside;
 mod halts;
-mod ledgers;
 mod machines;
+mod steps;
 mod worker_calls;
 
 use self::Step::{Dismiss, Done, Fail, Halted, Turn, Wait};
@@ -45,6 +44,9 @@ const FIVE_TASKS: Set = (
         ("e", 3, 5, 0),
     ],
 );
+
+/// Two tasks that take turns on one processor, twice, so that their rounds come again.
+const TURNS: Set = (1, 4, &[("a", 1, 2, 0), ("b", 1, 2, 0)]);
 
 /// Tasks by their places.
 const A: u32 = 0;
@@ -170,6 +172,17 @@ const SCRIPTS: &[Script] = &[
             Turn(2, 5, 10, D),
             Turn(2, 10, 15, D),
             Wait(1, 0, 0),
+        ],
+    ),
+    (
+        TURNS,
+        1,
+        &[
+            Turn(0, 0, 2, A),
+            Turn(0, 2, 4, B),
+            Turn(0, 4, 6, A),
+            Turn(0, 6, 8, B),
+            Done(0),
         ],
     ),
     // Lane 0 posts its first two rows and fails at its third. Then no lane gets a row.

@@ -171,8 +171,13 @@ fn assert_front(rt: &impl Abort, first: &[Row], second: &[Row], window: u32) {
 
 /// How many rows of a task are among these.
 fn rows_of(rows: &[Row], task: u32) -> u128 {
-    let leaf = Leaf::Task(TaskId(task));
-    rows.iter().filter(|row| row.leaf == leaf).count() as u128
+    let mut count: u128 = 0;
+    for row in rows {
+        if row.leaf == Leaf::Task(TaskId(task)) {
+            count = count.saturating_add(1);
+        }
+    }
+    count
 }
 
 /// Makes sure that the job of a task has worked three ticks for each row of its task that the gates ran, but for the row at which
