@@ -1,10 +1,78 @@
 use Rattle.std.proofs.Common.{◌++◌, not, refl, sym, subst, arith}
-use Rattle.std.proofs.lemmas.Result.{err_from_is_err_and}
+use Rattle.std.proofs.lemmas.Result.{IfOk-from_err, err_from_is_err_and}
 use Rattle.trace_check.specs.WholeRows.{StopIs}
+use Rattle.trace_check.proofs.RestLemmas.{later_on, left_less, passed_small, passed_within, twice_fits, twice_more_fits}
 use Rattle.trace_check.proofs.WholeRowLemmas.{stop_behind}
-use Rattle.trace_check.proofs.SourceLemmas.{going_passed, going_filled, going_stops, going_some, going_ended, rows_stop, rows_stop_ended}
+use Rattle.trace_check.proofs.SourceLemmas.{going_none, going_passed, going_filled, going_stops, going_some, going_ended, rows_stop, rows_stop_ended}
 use Rattle.trace_check.proofs.TailSourceLemmas.{not_true_is}
 use Rattle.trace_check.proofs.source_reading.read_rows.Goals as goal
+
+pub loop-stop-init : goal.loop-stop-init
+loop-stop-init g c = going_none _ _ c.args.window.now _ _ _ c.requires.within c.requires.none
+
+pub take_from-requires : goal.take_from-requires
+take_from-requires g c = (c.args.window.now.ahead ++ c.loop-stop.invariant.more, c.loop-stop.invariant.rows)
+
+pub returns-in_err-stop-clause-read : goal.returns-in_err-stop-clause-read
+returns-in_err-stop-clause-read g c = IfOk-from_err _ _ c.from_residual.ensures.0
+
+pub returns-in_err-stop-clause-stops : goal.returns-in_err-stop-clause-stops
+returns-in_err-stop-clause-stops g c = (let (fault, is, same) = err_from_is_err_and c.from_residual.result c.from_residual.ensures.1 in rw (is, same) tt)
+
+pub returns-in_err-stop-clause-later : goal.returns-in_err-stop-clause-later
+returns-in_err-stop-clause-later g c = c.loop-stop.invariant.later
+
+pub fill-requires-clause-within : goal.fill-requires-clause-within
+fill-requires-clause-within g c = passed_within c.loop-stop.window c.take_from.new.window c.loop-stop.invariant.within c.in_ok-stop.ensures.count c.in_ok-stop.ensures.limit
+
+pub fill-requires-clause-small : goal.fill-requires-clause-small
+fill-requires-clause-small g c = passed_small c.args.window.now c.loop-stop.window c.take_from.new.window _ c.loop-stop.invariant.limit c.in_ok-stop.ensures.limit c.requires.small
+
+pub returns-in_err-ended-clause-read : goal.returns-in_err-ended-clause-read
+returns-in_err-ended-clause-read g c = IfOk-from_err _ _ c.from_residual-in_err-ended.ensures.0
+
+pub returns-in_err-ended-clause-later : goal.returns-in_err-ended-clause-later
+returns-in_err-ended-clause-later g c = later_on _ _ _ c.loop-stop.invariant.later c.fill.ensures.later
+
+pub returns-then-not-is_cut-clause-later : goal.returns-then-not-is_cut-clause-later
+returns-then-not-is_cut-clause-later g c = later_on _ _ _ c.loop-stop.invariant.later c.fill.ensures.later
+
+pub fill-requires-in-loop-stop-clause-within : goal.fill-requires-in-loop-stop-clause-within
+fill-requires-in-loop-stop-clause-within g c = passed_within c.loop-stop.window c.take_from.new.window c.loop-stop.invariant.within c.in_ok-stop.ensures.count c.in_ok-stop.ensures.limit
+
+pub fill-requires-in-loop-stop-clause-small : goal.fill-requires-in-loop-stop-clause-small
+fill-requires-in-loop-stop-clause-small g c = passed_small c.args.window.now c.loop-stop.window c.take_from.new.window _ c.loop-stop.invariant.limit c.in_ok-stop.ensures.limit c.requires.small
+
+pub returns-in_err-fill-clause-read : goal.returns-in_err-fill-clause-read
+returns-in_err-fill-clause-read g c = IfOk-from_err _ _ c.from_residual-in_err-fill.ensures.0
+
+pub returns-in_err-fill-clause-later : goal.returns-in_err-fill-clause-later
+returns-in_err-fill-clause-later g c = later_on _ _ _ c.loop-stop.invariant.later c.fill-in-loop-stop.ensures.later
+
+pub returns-in_err-stop-2-clause-read : goal.returns-in_err-stop-2-clause-read
+returns-in_err-stop-2-clause-read g c = IfOk-from_err _ _ c.from_residual-in_err-stop-2.ensures.0
+
+pub returns-in_err-stop-2-clause-stops : goal.returns-in_err-stop-2-clause-stops
+returns-in_err-stop-2-clause-stops g c = (let (fault, is, same) = err_from_is_err_and c.from_residual-in_err-stop-2.result c.from_residual-in_err-stop-2.ensures.1 in rw (is, same) tt)
+
+pub returns-in_err-stop-2-clause-later : goal.returns-in_err-stop-2-clause-later
+returns-in_err-stop-2-clause-later g c = later_on _ _ _ c.loop-stop.invariant.later c.fill-in-loop-stop.ensures.later
+
+pub returns-then-not-branch-clause-later : goal.returns-then-not-branch-clause-later
+returns-then-not-branch-clause-later g c = later_on _ _ _ c.loop-stop.invariant.later c.fill-in-loop-stop.ensures.later
+
+pub overflow_mul-least : goal.overflow_mul-least
+overflow_mul-least g c = twice_fits _ c.ahead.type_inv.1
+
+pub overflow_add-least : goal.overflow_add-least
+overflow_add-least g c = twice_more_fits _ c.ahead.type_inv.1
+
+pub loop-stop-smaller : goal.loop-stop-smaller
+loop-stop-smaller g c =
+    let filled = c.in_ok-fill.ensures.fills in
+    left_less c.loop-stop.window c.take_from.new.window c.fill-in-loop-stop.new.self _ filled.more c.in_ok-stop.ensures.count c.in_ok-stop.ensures.limit c.ahead.ensures filled.ahead filled.count filled.limit
+    filled.within (c.in_ok-fill.ensures.more c.if-not-branch.false)
+
 
 pub returns-in_err-ended-clause-stops : goal.returns-in_err-ended-clause-stops
 returns-in_err-ended-clause-stops g c =

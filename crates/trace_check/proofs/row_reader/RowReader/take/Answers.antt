@@ -1,8 +1,62 @@
-use Rattle.std.proofs.Common.{◌++◌, drop, length, subst, sym, ap, ◌∙◌, append_assoc}
+use Rattle.std.proofs.Common.{[], ◌++◌, drop, length, refl, subst, sym, ap, ◌∙◌, append_assoc}
 use Rattle.std.proofs.lemmas.List.{take_at}
-use Rattle.trace_check.specs.WholeRows.{AreRowsOf}
-use Rattle.trace_check.proofs.WholeRowLemmas.{rows_more, rows_left}
+use Rattle.std.proofs.lemmas.Result.{IfOk-from_err}
+use Rattle.trace_check.specs.declared.row_reader.Stop.TheVariants as stops
+use Rattle.trace_check.specs.WholeRows.{AreRowsOf, StopIs}
+use Rattle.trace_check.proofs.RestLemmas.{difference_within, less_still, rest_within}
+use Rattle.trace_check.proofs.WholeRowLemmas.{rows_more, rows_left, rest_is}
 use Rattle.trace_check.proofs.row_reader.RowReader.take.Goals as goal
+
+pub loop-row-init : goal.loop-row-init
+loop-row-init c = (([], refl), λ whole so. so)
+
+pub overflow_sub-gone : goal.overflow_sub-gone
+overflow_sub-gone c = rest_within _ c.loop-row.invariant.0.0 _ c.loop-row.invariant.0.1
+
+pub add_ticks-requires-clause-read : goal.add_ticks-requires-clause-read
+add_ticks-requires-clause-read c = c.in-Row.ensures.0
+
+pub returns-in_err-push-in-Row-clause-within : goal.returns-in_err-push-in-Row-clause-within
+returns-in_err-push-in-Row-clause-within c = IfOk-from_err _ _ c.from_residual.ensures.0
+
+pub returns-in_err-push-in-Row-clause-read : goal.returns-in_err-push-in-Row-clause-read
+returns-in_err-push-in-Row-clause-read c = IfOk-from_err _ _ c.from_residual.ensures.0
+
+pub returns-in_err-push-in-Row-clause-stop : goal.returns-in_err-push-in-Row-clause-stop
+returns-in_err-push-in-Row-clause-stop c = IfOk-from_err _ _ c.from_residual.ensures.0
+
+pub returns-in_err-behind-in-Row-clause-within : goal.returns-in_err-behind-in-Row-clause-within
+returns-in_err-behind-in-Row-clause-within c = IfOk-from_err _ _ c.from_residual-in_err-behind-in-Row.ensures.0
+
+pub returns-in_err-behind-in-Row-clause-read : goal.returns-in_err-behind-in-Row-clause-read
+returns-in_err-behind-in-Row-clause-read c = IfOk-from_err _ _ c.from_residual-in_err-behind-in-Row.ensures.0
+
+pub returns-in_err-behind-in-Row-clause-stop : goal.returns-in_err-behind-in-Row-clause-stop
+returns-in_err-behind-in-Row-clause-stop c = IfOk-from_err _ _ c.from_residual-in_err-behind-in-Row.ensures.0
+
+pub loop-row-smaller : goal.loop-row-smaller
+loop-row-smaller c = less_still _ _ _ c.in_ok-behind-in-Row.ensures.less c.in-Row.ensures.2
+
+pub returns-in-Ends-clause-within : goal.returns-in-Ends-clause-within
+returns-in-Ends-clause-within c = difference_within _ _
+
+pub returns-in-Ends-clause-stop : goal.returns-in-Ends-clause-stop
+returns-in-Ends-clause-stop c =
+    subst (λ t. StopIs c.args.set.now.tasks c.loop-row.self.rows t stops.Ends) (sym (rest_is c.args.text.now c.loop-row.invariant.0.0 c.loop-row.rest.now c.loop-row.invariant.0.1)) c.in-Ends.ensures
+
+pub returns-in-Fault-clause-within : goal.returns-in-Fault-clause-within
+returns-in-Fault-clause-within c = difference_within _ _
+
+pub returns-in-Fault-clause-stop : goal.returns-in-Fault-clause-stop
+returns-in-Fault-clause-stop c =
+    subst (λ t. StopIs c.args.set.now.tasks c.loop-row.self.rows t stops.Fault) (sym (rest_is c.args.text.now c.loop-row.invariant.0.0 c.loop-row.rest.now c.loop-row.invariant.0.1)) c.in-Fault.ensures
+
+pub returns-in-Cut-clause-within : goal.returns-in-Cut-clause-within
+returns-in-Cut-clause-within c = difference_within _ _
+
+pub returns-in-Cut-clause-stop : goal.returns-in-Cut-clause-stop
+returns-in-Cut-clause-stop c =
+    subst (λ t. StopIs c.args.set.now.tasks c.loop-row.self.rows t stops.Cut) (sym (rest_is c.args.text.now c.loop-row.invariant.0.0 c.loop-row.rest.now c.loop-row.invariant.0.1)) c.in-Cut.ensures
 
 pub next_line-requires-clause-totals : goal.next_line-requires-clause-totals
 next_line-requires-clause-totals c =

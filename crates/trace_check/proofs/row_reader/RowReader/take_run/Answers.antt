@@ -1,6 +1,8 @@
-use Rattle.std.proofs.Common.{◌++◌, drop, length, subst, sym, ap, ◌∙◌, append_assoc}
+use Rattle.std.proofs.Common.{[], ◌++◌, drop, length, refl, subst, sym, ap, ◌∙◌, append_assoc}
 use Rattle.std.proofs.lemmas.List.{take_at}
+use Rattle.std.proofs.lemmas.Result.{IfOk-from_err}
 use Rattle.trace_check.specs.WholeRows.{AreRowsOf}
+use Rattle.trace_check.proofs.RestLemmas.{no_more, rest_within}
 use Rattle.trace_check.proofs.RunLemmas.{run_taken}
 use Rattle.trace_check.proofs.WholeRowLemmas.{rows_more}
 use Rattle.trace_check.proofs.row_reader.RowReader.take_run.Goals as goal
@@ -42,3 +44,54 @@ loop-words-preserved c =
           (rows_more tasks whole c.loop-words.rest.now later done c.push.new.self c.in-Some-run_row.row old.items new (c.loop-words.invariant.1 whole so) c.in-Some-run_row.ensures.read
           (run_taken tasks done c.in-Some-run_row.row c.loop-words.rest.now w says c.in-Some-run_row.ensures.row) c.in_ok-push.ensures c.add_ticks.ensures long),
     )
+
+pub returns-in_default-clause-split : goal.returns-in_default-clause-split
+returns-in_default-clause-split c = ([], refl)
+
+pub returns-in_default-clause-less : goal.returns-in_default-clause-less
+returns-in_default-clause-less c = no_more _
+
+pub returns-in_default-clause-read : goal.returns-in_default-clause-read
+returns-in_default-clause-read c = λ whole so. so
+
+pub returns-in_default-short-clause-split : goal.returns-in_default-short-clause-split
+returns-in_default-short-clause-split c = ([], refl)
+
+pub returns-in_default-short-clause-less : goal.returns-in_default-short-clause-less
+returns-in_default-short-clause-less c = no_more _
+
+pub returns-in_default-short-clause-read : goal.returns-in_default-short-clause-read
+returns-in_default-short-clause-read c = λ whole so. so
+
+pub loop-words-init : goal.loop-words-init
+loop-words-init c = (([], refl), λ whole so. so)
+
+pub run_row-requires-clause-leaf : goal.run_row-requires-clause-leaf
+run_row-requires-clause-leaf c = c.in-Some-run_words.ensures.leaf
+
+pub run_row-requires-clause-known : goal.run_row-requires-clause-known
+run_row-requires-clause-known c = c.in-Some-run_words.ensures.known
+
+pub add_ticks-requires-clause-read : goal.add_ticks-requires-clause-read
+add_ticks-requires-clause-read c = c.in-Some-run_row.ensures.read
+
+pub returns-in_err-push-clause-split : goal.returns-in_err-push-clause-split
+returns-in_err-push-clause-split c = IfOk-from_err _ _ c.from_residual.ensures.0
+
+pub returns-in_err-push-clause-less : goal.returns-in_err-push-clause-less
+returns-in_err-push-clause-less c = IfOk-from_err _ _ c.from_residual.ensures.0
+
+pub returns-in_err-push-clause-read : goal.returns-in_err-push-clause-read
+returns-in_err-push-clause-read c = IfOk-from_err _ _ c.from_residual.ensures.0
+
+pub loop-words-smaller : goal.loop-words-smaller
+loop-words-smaller c = c.in-Some-run_words.ensures.says.less
+
+pub returns-clause-split : goal.returns-clause-split
+returns-clause-split c = c.loop-words.invariant.0
+
+pub returns-clause-less : goal.returns-clause-less
+returns-clause-less c = rest_within _ c.loop-words.invariant.0.0 _ c.loop-words.invariant.0.1
+
+pub returns-clause-read : goal.returns-clause-read
+returns-clause-read c = c.loop-words.invariant.1

@@ -1,6 +1,8 @@
-use Rattle.std.proofs.Common.{◌≡◌, ◌++◌, List, ℕ, drop, length, subst, sym, ap, ◌∙◌, append_assoc, arith}
+use Rattle.std.proofs.Common.{◌≡◌, [], ◌++◌, List, ℕ, drop, length, refl, subst, sym, ap, ◌∙◌, append_assoc, arith}
 use Rattle.std.proofs.lemmas.List.{take_at}
+use Rattle.std.proofs.lemmas.Result.{IfOk-from_err}
 use Rattle.trace_check.specs.WholeRows.{AreRowsOf}
+use Rattle.trace_check.proofs.RestLemmas.{less_still, no_more}
 use Rattle.trace_check.proofs.RunLemmas.{run_taken}
 use Rattle.trace_check.proofs.WholeRowLemmas.{rows_more}
 use Rattle.trace_check.proofs.row_reader.RowReader.take_short.Goals as goal
@@ -64,3 +66,66 @@ loop-words-preserved c =
           (run_taken tasks done c.in-Some-run_row.row c.loop-words.rest.now w says c.in-Some-run_row.ensures.row) c.in_ok-push.ensures c.add_ticks.ensures long)),
       omega (arith, less, c.in_ok-behind.ensures.less, c.loop-words.invariant.2),
     )
+
+pub returns-then-is_none-clause-split : goal.returns-then-is_none-clause-split
+returns-then-is_none-clause-split c = ([], refl)
+
+pub returns-then-is_none-clause-less : goal.returns-then-is_none-clause-less
+returns-then-is_none-clause-less c = no_more _
+
+pub returns-then-is_none-clause-read : goal.returns-then-is_none-clause-read
+returns-then-is_none-clause-read c = λ whole so. so
+
+pub take_run-requires : goal.take_run-requires
+take_run-requires c = c.requires
+
+pub returns-in_err-rest-clause-split : goal.returns-in_err-rest-clause-split
+returns-in_err-rest-clause-split c = IfOk-from_err _ _ c.from_residual.ensures.0
+
+pub returns-in_err-rest-clause-less : goal.returns-in_err-rest-clause-less
+returns-in_err-rest-clause-less c = IfOk-from_err _ _ c.from_residual.ensures.0
+
+pub returns-in_err-rest-clause-read : goal.returns-in_err-rest-clause-read
+returns-in_err-rest-clause-read c = IfOk-from_err _ _ c.from_residual.ensures.0
+
+pub loop-words-init : goal.loop-words-init
+loop-words-init c = (c.in_ok-rest.ensures.split, c.in_ok-rest.ensures.read, c.in_ok-rest.ensures.less)
+
+pub run_row-requires-clause-leaf : goal.run_row-requires-clause-leaf
+run_row-requires-clause-leaf c = c.in-Some.ensures.leaf
+
+pub run_row-requires-clause-known : goal.run_row-requires-clause-known
+run_row-requires-clause-known c = c.in-Some.ensures.known
+
+pub add_ticks-requires-clause-read : goal.add_ticks-requires-clause-read
+add_ticks-requires-clause-read c = c.in-Some-run_row.ensures.read
+
+pub returns-in_err-push-clause-split : goal.returns-in_err-push-clause-split
+returns-in_err-push-clause-split c = IfOk-from_err _ _ c.from_residual-in_err-push.ensures.0
+
+pub returns-in_err-push-clause-less : goal.returns-in_err-push-clause-less
+returns-in_err-push-clause-less c = IfOk-from_err _ _ c.from_residual-in_err-push.ensures.0
+
+pub returns-in_err-push-clause-read : goal.returns-in_err-push-clause-read
+returns-in_err-push-clause-read c = IfOk-from_err _ _ c.from_residual-in_err-push.ensures.0
+
+pub returns-in_err-behind-clause-split : goal.returns-in_err-behind-clause-split
+returns-in_err-behind-clause-split c = IfOk-from_err _ _ c.from_residual-in_err-behind.ensures.0
+
+pub returns-in_err-behind-clause-less : goal.returns-in_err-behind-clause-less
+returns-in_err-behind-clause-less c = IfOk-from_err _ _ c.from_residual-in_err-behind.ensures.0
+
+pub returns-in_err-behind-clause-read : goal.returns-in_err-behind-clause-read
+returns-in_err-behind-clause-read c = IfOk-from_err _ _ c.from_residual-in_err-behind.ensures.0
+
+pub loop-words-smaller : goal.loop-words-smaller
+loop-words-smaller c = less_still _ _ _ c.in_ok-behind.ensures.less c.in-Some.ensures.says.less
+
+pub returns-clause-split : goal.returns-clause-split
+returns-clause-split c = c.loop-words.invariant.0
+
+pub returns-clause-less : goal.returns-clause-less
+returns-clause-less c = c.loop-words.invariant.2
+
+pub returns-clause-read : goal.returns-clause-read
+returns-clause-read c = c.loop-words.invariant.1
