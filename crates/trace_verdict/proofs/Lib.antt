@@ -25,3 +25,5 @@ mod NearLemmas
 mod CrossLemmas
 mod ShortWalkLemmas
 pub mod FoundLemmas
+mod FilledLemmas
+mod StepLemmas
