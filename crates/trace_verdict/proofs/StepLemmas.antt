@@ -1,6 +1,7 @@
 -- What a task's walk keeps to as a row more goes by.
-use Rattle.std.proofs.Common.{ℕ, ◌<◌, ◌≤◌, ◌≡◌, ◌^◌, List, length, map, get_or, ap, sym, subst, arith}
+use Rattle.std.proofs.Common.{ℕ, ◌+◌, ◌-◌, ◌<◌, ◌≤◌, ◌≡◌, ◌^◌, true, false, Bool, Fits, w64, List, length, map, get_or, ap, sym, subst, arith}
 use Rattle.std.proofs.lemmas.List.{length-map}
+use Rattle.sched_base.specs.Counting.{bit}
 use Rattle.sched_base.specs.declared.rows.Row.{Row}
 use Rattle.sched_base.specs.Sets.{SetContents}
 use Rattle.trace_verdict.specs.declared.short_walks.ShortWalk.{ShortWalk}
@@ -57,3 +58,20 @@ short_each s scale rows walks items is g i none within =
     let size : length walks ≡ length items = ap length is in
     let wide = length-map items wide_of in
     subst (λ ws. HasGone rows i (get_or (map wide_of ws) i none)) (sym is) (g.each i none (omega arith) (omega (arith, size, wide, within)))
+
+-- a row that ends by the end of the schedule begins before it
+pub begins_early : (start end stop : ℕ) → start < end → end ≤ stop → start < stop
+begins_early start end stop long ends = omega arith
+
+-- a row begins no later than it ends
+pub no_later : (start end : ℕ) → start < end → start ≤ end
+no_later start end long = omega arith
+
+-- a period that begins by a row's begin begins by its end
+pub begins_by : (begin start end : ℕ) → begin ≤ start → start < end → begin ≤ end
+begins_by begin start end begun long = omega arith
+
+-- one more is counted, or none
+pub counted_fits : (n m : ℕ) (b : Bool) → m ≡ bit b → n < 2 ^ 63 → Fits w64 (n + m)
+counted_fits n m true is few = omega (arith, is)
+counted_fits n m false is few = omega (arith, is)

@@ -1,8 +1,9 @@
-use Rattle.std.proofs.Common.{◌≡◌, ◌+◌, ◌&&◌, Some, ap, ◌∙◌, max, subst}
+use Rattle.std.proofs.Common.{◌≡◌, ◌+◌, ◌&&◌, Some, ap, ◌∙◌, max, subst, refl}
 use Rattle.sched_base.specs.Counting.{bit}
 use Rattle.sched_base.specs.declared.rows.Row.{Row}
 use Rattle.trace_verdict.specs.Orders.{task_key}
 use Rattle.trace_verdict.proofs.ShortWalkLemmas.{short_near_gone}
+use Rattle.trace_verdict.proofs.StepLemmas.{begins_by, counted_fits, no_later}
 use Rattle.trace_verdict.proofs.short_walks.ShortWalk.step_near.Goals as goal
 
 pub returns-clause-gone : goal.returns-clause-gone
@@ -16,3 +17,21 @@ returns-clause-gone c =
     (ap (λ x. w.preemptions + x) (c.one_if.ensures ∙ ap (λ b. bit (n.same && b)) c.is_preempted.ensures))
     (ap (λ x. w.migrations + x) (c.one_if-2.ensures ∙ ap (λ b. bit (n.same && b)) c.is_moved.ensures))
     (c.max-self.ensures ∙ ap (λ x. max w.response x) c.finished.ensures)
+
+pub is_preempted-requires : goal.is_preempted-requires
+is_preempted-requires c = c.requires.paced
+
+pub overflow_add-self : goal.overflow_add-self
+overflow_add-self c = counted_fits _ _ _ c.one_if.ensures c.requires.few_preempted
+
+pub overflow_add-self-2 : goal.overflow_add-self-2
+overflow_add-self-2 c = counted_fits _ _ _ c.one_if-2.ensures c.requires.few_moved
+
+pub finished-requires : goal.finished-requires
+finished-requires c = begins_by _ _ _ c.requires.near.period.begun c.requires.long
+
+pub overflow_sub-self : goal.overflow_sub-self
+overflow_sub-self c = no_later _ _ c.requires.long
+
+pub returns-clause-periods : goal.returns-clause-periods
+returns-clause-periods c = refl

@@ -1,8 +1,9 @@
-use Rattle.std.proofs.Common.{◌≡◌, ◌+◌, ◌&&◌, Some, ap, ◌∙◌, subst}
+use Rattle.std.proofs.Common.{◌≡◌, ◌+◌, ◌&&◌, true, false, Some, refl, ap, ◌∙◌, subst}
 use Rattle.sched_base.specs.Counting.{bit}
 use Rattle.sched_base.specs.declared.rows.Row.{Row}
 use Rattle.trace_verdict.specs.Orders.{task_key}
 use Rattle.trace_verdict.proofs.ShortWalkLemmas.{short_cross_gone}
+use Rattle.trace_verdict.proofs.StepLemmas.{counted_fits, no_later}
 use Rattle.trace_verdict.proofs.short_walks.ShortWalk.step_over.Goals as goal
 
 pub returns-clause-gone : goal.returns-clause-gone
@@ -16,3 +17,39 @@ returns-clause-gone c = λ t.
     (ap (λ x. w.preemptions + x) (c.one_if.ensures ∙ ap (λ b. bit (n.same && b)) c.is_preempted.ensures))
     (ap (λ x. w.migrations + x) (c.one_if-2.ensures ∙ ap (λ b. bit (n.same && b)) c.is_moved.ensures))
     c.max-self.ensures
+
+pub returns-in_default-clause-periods : goal.returns-in_default-clause-periods
+returns-in_default-clause-periods c = refl
+
+pub returns-in_default-clause-gone : goal.returns-in_default-clause-gone
+returns-in_default-clause-gone c = λ is. (let e : false ≡ true = is in cc)
+
+pub returns-in_default-clause-same : goal.returns-in_default-clause-same
+returns-in_default-clause-same c = λ _. refl
+
+pub returns-in_default-checked_add-clause-periods : goal.returns-in_default-checked_add-clause-periods
+returns-in_default-checked_add-clause-periods c = refl
+
+pub returns-in_default-checked_add-clause-gone : goal.returns-in_default-checked_add-clause-gone
+returns-in_default-checked_add-clause-gone c = λ is. (let e : false ≡ true = is in cc)
+
+pub returns-in_default-checked_add-clause-same : goal.returns-in_default-checked_add-clause-same
+returns-in_default-checked_add-clause-same c = λ _. refl
+
+pub is_preempted-requires : goal.is_preempted-requires
+is_preempted-requires c = c.requires.paced
+
+pub overflow_add-self : goal.overflow_add-self
+overflow_add-self c = counted_fits _ _ _ c.one_if.ensures c.requires.few_preempted
+
+pub overflow_add-self-2 : goal.overflow_add-self-2
+overflow_add-self-2 c = counted_fits _ _ _ c.one_if-2.ensures c.requires.few_moved
+
+pub overflow_sub-self : goal.overflow_sub-self
+overflow_sub-self c = no_later _ _ c.requires.long
+
+pub returns-clause-periods : goal.returns-clause-periods
+returns-clause-periods c = refl
+
+pub returns-clause-same : goal.returns-clause-same
+returns-clause-same c = λ is. (let e : true ≡ false = is in cc)
