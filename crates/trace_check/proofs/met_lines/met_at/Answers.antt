@@ -31,3 +31,34 @@ returns c =
           ∙ ap (λ ls. c.met_line-line.result ∷ ls) (sym c.behind_met.ensures.left),
       c.behind_met.ensures.place,
     )
+
+pub period_start-begin-requires-clause-scale : goal.period_start-begin-requires-clause-scale
+period_start-begin-requires-clause-scale c = c.requires.tail.scale
+
+pub period_start-end-requires-clause-scale : goal.period_start-end-requires-clause-scale
+period_start-end-requires-clause-scale c = c.requires.tail.scale
+
+pub bounds-tasks-met : goal.bounds-tasks-met
+bounds-tasks-met c = subst (λ ts. c.args.met.now.task < length ts) (sym c.tasks.ensures.value) c.requires.place.task
+
+pub bounds-tail-met : goal.bounds-tail-met
+bounds-tail-met c =
+    let reaches = c.requires.tail.reaches c.requires.place.version in
+    subst (λ n. c.args.met.now.task < n) (sym reaches.count) c.requires.place.task
+
+pub reach-reached-requires-clause-ends : goal.reach-reached-requires-clause-ends
+reach-reached-requires-clause-ends c =
+    let reaches = c.requires.tail.reaches c.requires.place.version in
+    reaches.ends c.args.met.now.task c.index-tail-met.result (subst (λ n. c.args.met.now.task < n) (sym reaches.count) c.requires.place.task)
+
+pub reach-reached-requires-clause-before : goal.reach-reached-requires-clause-before
+reach-reached-requires-clause-before c = c.requires.place.reached c.index-tail-met.result
+
+pub behind_met-requires-clause-tail : goal.behind_met-requires-clause-tail
+behind_met-requires-clause-tail c = c.requires.tail
+
+pub behind_met-requires-clause-place : goal.behind_met-requires-clause-place
+behind_met-requires-clause-place c = c.requires.place
+
+pub behind_met-requires-clause-room : goal.behind_met-requires-clause-room
+behind_met-requires-clause-room c = c.if-met-ge-MOST_METS.false

@@ -1,5 +1,5 @@
 use Rattle.std.proofs.Common.{ℕ, ◌≡◌, ◌+◌, ◌≤◌, ◌++◌, [], Some, None, Err, length, refl, ap, ◌∙◌, arith, Fits, w64}
-use Rattle.std.proofs.lemmas.Result.{err_from_is_err_and}
+use Rattle.std.proofs.lemmas.Result.{IfOk-from_err, err_from_is_err_and}
 use Rattle.trace_check.specs.TailLines.{tail_lines}
 use Rattle.trace_check.proofs.ReadingLemmas.{trace_read}
 use Rattle.trace_check.proofs.ScaleTest.{is_scale_to}
@@ -122,3 +122,39 @@ returns-in-None-clause-lawful g c =
     let (one, some, at) = c.in_ok-at.ensures.read in
     let all = rows_known _ _ _ _ _ _ at (c.if-is_fault.ensures.other refl) in
     trace_read c.args.set c.args.head.now.scale c.read_rows.new.rows.rows c.requires.scale all.few all.each
+
+pub returns-in_err-reader-clause-read : goal.returns-in_err-reader-clause-read
+returns-in_err-reader-clause-read g c = IfOk-from_err _ _ c.from_residual.ensures.0
+
+pub returns-in_err-reader-clause-lawful : goal.returns-in_err-reader-clause-lawful
+returns-in_err-reader-clause-lawful g c = IfOk-from_err _ _ c.from_residual.ensures.0
+
+pub returns-in_err-reader-clause-stops : goal.returns-in_err-reader-clause-stops
+returns-in_err-reader-clause-stops g c = (let (fault, is, same) = err_from_is_err_and c.from_residual.result c.from_residual.ensures.1 in rw (is, same) tt)
+
+pub read_rows-requires-clause-within : goal.read_rows-requires-clause-within
+read_rows-requires-clause-within g c = c.requires.within
+
+pub read_rows-requires-clause-small : goal.read_rows-requires-clause-small
+read_rows-requires-clause-small g c = c.requires.small
+
+pub read_rows-requires-clause-none : goal.read_rows-requires-clause-none
+read_rows-requires-clause-none g c = c.in_ok-reader.ensures c.args.window.now.ahead
+
+pub returns-in_err-at-clause-read : goal.returns-in_err-at-clause-read
+returns-in_err-at-clause-read g c = IfOk-from_err _ _ c.from_residual-in_err-at.ensures.0
+
+pub returns-in_err-at-clause-lawful : goal.returns-in_err-at-clause-lawful
+returns-in_err-at-clause-lawful g c = IfOk-from_err _ _ c.from_residual-in_err-at.ensures.0
+
+pub returns-in_err-skip_rest-clause-read : goal.returns-in_err-skip_rest-clause-read
+returns-in_err-skip_rest-clause-read g c = IfOk-from_err _ _ c.from_residual-in_err-skip_rest.ensures.0
+
+pub returns-in_err-skip_rest-clause-lawful : goal.returns-in_err-skip_rest-clause-lawful
+returns-in_err-skip_rest-clause-lawful g c = IfOk-from_err _ _ c.from_residual-in_err-skip_rest.ensures.0
+
+pub returns-in_err-place-clause-read : goal.returns-in_err-place-clause-read
+returns-in_err-place-clause-read g c = IfOk-from_err _ _ c.from_residual-in_err-place.ensures.0
+
+pub returns-in_err-place-clause-lawful : goal.returns-in_err-place-clause-lawful
+returns-in_err-place-clause-lawful g c = IfOk-from_err _ _ c.from_residual-in_err-place.ensures.0
