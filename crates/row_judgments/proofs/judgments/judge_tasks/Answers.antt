@@ -89,3 +89,33 @@ returns-in_err-starts_of-clause-verdict c = IfOk-from_err _ _ c.from_residual-in
 
 pub returns-clause-verdict : goal.returns-clause-verdict
 returns-clause-verdict c = c.verdict_of-verdict.ensures
+
+pub returns-in_err-order-clause-all : goal.returns-in_err-order-clause-all
+returns-in_err-order-clause-all c = IfOk-from_err _ _ c.from_residual.ensures.0
+
+pub returns-in_err-entries-clause-all : goal.returns-in_err-entries-clause-all
+returns-in_err-entries-clause-all c = IfOk-from_err _ _ c.from_residual-in_err-entries.ensures.0
+
+pub returns-in_err-places_of-clause-all : goal.returns-in_err-places_of-clause-all
+returns-in_err-places_of-clause-all c = IfOk-from_err _ _ c.from_residual-in_err-places_of.ensures.0
+
+pub returns-in_err-starts_of-clause-all : goal.returns-in_err-starts_of-clause-all
+returns-in_err-starts_of-clause-all c = IfOk-from_err _ _ c.from_residual-in_err-starts_of.ensures.0
+
+pub returns-in_err-found_by-clause-order : goal.returns-in_err-found_by-clause-order
+returns-in_err-found_by-clause-order c = IfOk-from_err _ _ c.from_residual-in_err-found_by.ensures.0
+
+pub returns-in_err-found_by-clause-found : goal.returns-in_err-found_by-clause-found
+returns-in_err-found_by-clause-found c = IfOk-from_err _ _ c.from_residual-in_err-found_by.ensures.0
+
+pub returns-in_err-found_by-clause-all : goal.returns-in_err-found_by-clause-all
+returns-in_err-found_by-clause-all c = IfOk-from_err _ _ c.from_residual-in_err-found_by.ensures.0
+
+pub returns-in_err-found_by-clause-verdict : goal.returns-in_err-found_by-clause-verdict
+returns-in_err-found_by-clause-verdict c = IfOk-from_err _ _ c.from_residual-in_err-found_by.ensures.0
+
+pub found_by-requires-clause-trace : goal.found_by-requires-clause-trace
+found_by-requires-clause-trace c = c.requires.trace
+
+pub found_by-requires-clause-verdict : goal.found_by-requires-clause-verdict
+found_by-requires-clause-verdict c = c.verdict_of-verdict.ensures

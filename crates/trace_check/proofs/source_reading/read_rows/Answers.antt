@@ -73,7 +73,6 @@ loop-stop-smaller g c =
     left_less c.loop-stop.window c.take_from.new.window c.fill-in-loop-stop.new.self _ filled.more c.in_ok-stop.ensures.count c.in_ok-stop.ensures.limit c.ahead.ensures filled.ahead filled.count filled.limit
     filled.within (c.in_ok-fill.ensures.more c.if-not-branch.false)
 
-
 pub returns-in_err-ended-clause-stops : goal.returns-in_err-ended-clause-stops
 returns-in_err-ended-clause-stops g c =
     let (fault, is, same) = err_from_is_err_and c.from_residual-in_err-ended.result c.from_residual-in_err-ended.ensures.1 in
