@@ -1,5 +1,5 @@
 -- What a task's walk keeps to as a row more goes by.
-use Rattle.std.proofs.Common.{ℕ, ◌+◌, ◌-◌, ◌<◌, ◌≤◌, ◌≡◌, ◌^◌, true, false, Bool, Fits, w64, List, length, map, get_or, ap, sym, subst, arith}
+use Rattle.std.proofs.Common.{ℕ, ◌+◌, ◌<◌, ◌≤◌, ◌≡◌, ◌^◌, true, false, Bool, Fits, w64, List, length, map, get_or, ap, sym, subst, arith}
 use Rattle.std.proofs.lemmas.List.{length-map}
 use Rattle.sched_base.specs.Counting.{bit}
 use Rattle.sched_base.specs.declared.rows.Row.{Row}
@@ -8,7 +8,6 @@ use Rattle.trace_verdict.specs.declared.short_walks.ShortWalk.{ShortWalk}
 use Rattle.trace_verdict.specs.declared.task_walks.TaskWalk.{TaskWalk}
 use Rattle.trace_verdict.specs.ShortWalks.{wide_of}
 use Rattle.trace_verdict.specs.Supplied.{StandsAt}
-use Rattle.trace_verdict.specs.Supply.{AreLawful}
 use Rattle.trace_verdict.specs.Timed.{walk_of, IsPaced, HasGone, AreGoing}
 use Rattle.trace_verdict.proofs.NearLemmas.{in_time, gone_few}
 

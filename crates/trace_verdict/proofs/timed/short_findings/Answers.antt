@@ -1,4 +1,4 @@
-use Rattle.std.proofs.Common.{◌++◌, ◌∙◌, length, drop, map, sym, ap, subst}
+use Rattle.std.proofs.Common.{◌∙◌, length, drop, map, sym, ap, subst}
 use Rattle.std.proofs.lemmas.List.{length-map, take_at}
 use Rattle.std.proofs.lemmas.Result.{IfOk-from_err}
 use Rattle.trace_verdict.specs.ShortWalks.{wide_of}

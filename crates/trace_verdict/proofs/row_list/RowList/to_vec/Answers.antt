@@ -1,4 +1,4 @@
-use Rattle.std.proofs.Common.{◌≡◌, ◌<◌, ◌≤◌, subst}
+use Rattle.std.proofs.Common.{◌<◌, ◌≤◌, subst}
 use Rattle.std.proofs.lemmas.Result.{IfOk-from_err}
 use Rattle.trace_verdict.proofs.FilledLemmas.{copied_more, copied_all}
 use Rattle.trace_verdict.proofs.row_list.RowList.to_vec.Goals as goal

@@ -1,4 +1,4 @@
-use Rattle.std.proofs.Common.{◌≡◌, ◌<◌, true, false, refl, arith}
+use Rattle.std.proofs.Common.{◌≡◌, true, false, refl, arith}
 use Rattle.trace_verdict.specs.ShortWalks.{wide_of}
 use Rattle.trace_verdict.proofs.StepLemmas.{some_gone, step_stands, step_paced, step_begun, step_small, step_preempted, step_moved}
 use Rattle.trace_verdict.proofs.short_walks.ShortWalk.step_close.Goals as goal

@@ -1,4 +1,4 @@
-use Rattle.std.proofs.Common.{◌≡◌, ◌∙◌, ◌<◌, ◌≤◌, ◌^◌, false, true, sym, ap, subst, arith}
+use Rattle.std.proofs.Common.{◌≡◌, ◌∙◌, ◌<◌, ◌≤◌, sym, ap, subst, arith}
 use Rattle.trace_verdict.specs.declared.task_walks.TaskWalk.{TaskWalk}
 use Rattle.trace_verdict.specs.Timed.{HasGone}
 use Rattle.trace_verdict.proofs.NearLemmas.{in_time}
