@@ -1,5 +1,5 @@
 -- What is left of a text, and of a window.
-use Rattle.std.proofs.Common.{ℕ, ◌+◌, ◌-◌, ◌*◌, ◌^◌, ◌≡◌, ◌≤◌, ◌<◌, true, false, Bool, not, cond, List, ◌++◌, length, length-append, refl, sym, ap, ◌∙◌, subst, arith, Fits, w64}
+use Rattle.std.proofs.Common.{ℕ, ◌+◌, ◌-◌, ◌*◌, ◌≡◌, ◌≤◌, ◌<◌, true, false, Bool, not, cond, List, ◌++◌, length, length-append, refl, sym, ap, ◌∙◌, subst, arith, Fits, w64}
 use Rattle.text_window.specs.Windows.{WindowHeld}
 
 -- so many are no more than they are

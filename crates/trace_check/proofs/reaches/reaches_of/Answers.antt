@@ -1,4 +1,4 @@
-use Rattle.std.proofs.Common.{◌++◌, ◌∙◌, [], length, drop, sym, ap, subst}
+use Rattle.std.proofs.Common.{◌∙◌, [], length, drop, sym, ap, subst}
 use Rattle.std.proofs.lemmas.List.{take_at}
 use Rattle.std.proofs.lemmas.Result.{IfOk-from_err}
 use Rattle.trace_check.specs.Reaches.{HaveEnds, AreReachesOf}
