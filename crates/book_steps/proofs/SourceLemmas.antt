@@ -1,5 +1,5 @@
 -- What gives the next round, from one round to the next.
-use Rattle.std.proofs.Common.{◌≡◌, ◌≢◌, ◌⊎◌, inl, inr, ℕ, ◌+◌, ◌*◌, ◌<◌, ◌≤◌, min, List, [], ◌∷◌, ◌++◌, Option, Some, None, length, get_or, refl, sym, true, ap, ◌∙◌, subst, arith, mul-le-mul_right}
+use Rattle.std.proofs.Common.{◌≡◌, ◌≢◌, ◌⊎◌, inl, inr, ℕ, ◌+◌, ◌*◌, ◌<◌, ◌≤◌, ◌^◌, min, List, [], ◌∷◌, ◌++◌, Option, Some, None, length, get_or, refl, sym, true, ap, ◌∙◌, subst, add-one, arith, mul-le-mul_right}
 use Rattle.std.specs.Prelude.{IfSome, slice_get, slice_index, slice_index_or}
 use Rattle.std.specs.List.{AllByRecursion}
 use Rattle.std.proofs.lemmas.Option.{slice_get-get_or}
@@ -16,6 +16,7 @@ use Rattle.event_core.specs.Cores.{places_of}
 use Rattle.event_core.specs.Rounds.{IsRoundUpTo, event_at, rows_of_round}
 use Rattle.event_core.specs.Told.{AllReleased}
 use Rattle.event_core.proofs.OneRound.{length-last}
+use Rattle.event_core.proofs.PlanRounds.{stop_fits}
 use Rattle.merged_rounds.specs.Laps.{ComesAgain, StandsLaterAgain, round_start}
 use Rattle.round_looks.specs.Looks.{leaf_at}
 use Rattle.merged_rounds.specs.Recurrences.{IsRecurrence}
@@ -117,6 +118,22 @@ module _ (p : PlanContents) (start end : ℕ) (ends : List ℕ) (shown : List (O
 
 -- ---- a round that comes again
 
+-- some units are some ticks
+some_ticks : (units scale ticks from : ℕ) → ticks ≡ units * scale → 1 ≤ units → 0 < scale → from ≡ from + ticks → ⊥
+some_ticks units scale ticks from are some scaled same =
+    let m : 1 * scale ≤ units * scale = mul-le-mul_right scale some in
+    omega (arith, m, are, scaled, same)
+
+-- a tick of the schedule, as many ticks later as are passed at an early one, fits
+sum_fits : (n passed start tick stop : ℕ) → tick ≡ start + passed → tick < stop → n ≤ stop → stop < 2 ^ 127 → n + passed < 2 ^ 128
+sum_fits n passed start tick stop at early below fits = omega arith
+
+below_as_many : (n most many : ℕ) → n < most → many ≡ most * 1 → n < many
+below_as_many n most many low same = omega arith
+
+up_to : (past tick end : ℕ) → past ≤ tick → tick < end → past ≤ end
+up_to past tick end before above = omega arith
+
 -- where all are released at tick 0, none waits
 released_at_once : (p : PlanContents) (n : ℕ) → AllByRecursion (λ t. t.offset ≡ 0) p.set.tasks → AllReleased p n
 released_at_once p n all = go p.set.tasks all
@@ -166,6 +183,14 @@ module _ (p : PlanContents) (h : IsPlan p) (tick : ℕ) (ends : List ℕ) (shown
         past = is.past;
       }
 
+  -- some rounds are kept
+  pub some_ends : 0 < length ends
+  some_ends = some ends is.end
+    where
+      some : (es : List ℕ) → round_start r.from es (length es) ≡ r.from + r.ticks → 0 < length es
+      some [] end = absurd (some_ticks is.turn.turns.units p.tree.scale r.ticks r.from is.turn.turns.are is.turn.turns.some h.tree.tree.scaled end)
+      some (e ∷ es) end = omega arith
+
   module _ (low : r.next < length ends) where
     abbrev start : ℕ
     start = round_start r.from ends r.next
@@ -179,6 +204,28 @@ module _ (p : PlanContents) (h : IsPlan p) (tick : ℕ) (ends : List ℕ) (shown
     pub repeats_round : IsRoundUpTo p tick (min (slice_index ends r.next + r.passed) (stop_of p))
     repeats_round = subst (λ (n : ℕ). IsRoundUpTo p n (min (slice_index ends r.next + r.passed) (stop_of p))) (sym here)
         (next_round p h is.turn.can r.from r.passed is.shift start (slice_index ends r.next) (let some = is.later in omega (arith, some, behind)) soon (is.lap.round r.next low))
+
+    -- its end fits
+    pub end_fits : slice_index ends r.next + r.passed < 2 ^ 128
+    end_fits = sum_fits (slice_index ends r.next) r.passed start tick (stop_of p) here early (is.lap.round r.next low).below (stop_fits p h)
+
+    -- and something is shown in it
+    pub shown_low : r.next < length shown
+    shown_low = below_as_many r.next (length ends) (length shown) low (is.lap.long ∙ ap (λ m. length ends * m) is.turn.alone)
+
+    -- behind it comes the next one
+    pub IsRepeating-next : (end : ℕ) → end ≡ min (slice_index ends r.next + r.passed) (stop_of p) → IsRepeating p end ends shown (record r { next = r.next + 1 })
+    IsRepeating-next end at = record {
+      turn = is.turn;
+      later = is.later;
+      again = is.again;
+      shift = is.shift;
+      lap = is.lap;
+      end = is.end;
+      next = omega (arith, low);
+      here = rw add-one at;
+      past = up_to (r.from + r.ticks) tick end is.past (subst (λ (n : ℕ). tick < n) (sym at) repeats_round.above);
+    }
 
     -- what is kept of it
     pub shown_at : (end : ℕ) → slice_index_or shown r.next None ≡ Some (leaf_at p tick end 0 no_row)

@@ -65,10 +65,10 @@ impl Pending {
     {
         let processors = plan.tree().processors();
         let tasks = plan.set().count();
-        let held = Ring::new(alloc, window as usize * processors as usize)?;
         let given = vec![in alloc; 0u128; tasks as usize]?;
         let last = vec![in alloc; 0u64; processors as usize * tasks as usize]?;
         let rows = blank_rows(alloc, processors)?;
+        let held = Ring::new(alloc, window as usize * processors as usize)?;
         let source = Source::new(alloc, plan)?;
         Ok(Pending {
             source,

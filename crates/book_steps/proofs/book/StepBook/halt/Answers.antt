@@ -1,4 +1,4 @@
-use Rattle.std.proofs.Common.{◌≡◌, ◌<◌, false, true, refl, arith, length}
+use Rattle.std.proofs.Common.{◌≡◌, ◌<◌, ◌∙◌, false, true, refl, arith, length, subst, sym}
 use Rattle.book_machine.specs.declared.machine.LaneState.{LaneState}
 use Rattle.book_machine.specs.declared.events.Event.TheVariants.{Halt}
 use Rattle.book_machine.specs.Machine.{posted_at, IsOut}
@@ -47,3 +47,8 @@ invariant_of-self c =
       totals = AreTotals-same plan s c.self.inside.totals.items q lane true (within r) refl c.self.invariant.totals;
       faults = AreFaults-halt s c.self.inside.pending.computed q c.args.why lane c.self.inside.faults.items refl (below r) (within r) c.self.invariant.faults;
     })
+
+pub index_mut-requires : goal.index_mut-requires
+index_mut-requires c =
+    let all = c.self.inside.faults.ok.0 ∙ c.self.invariant.faults.many in
+    subst (λ n. c.args.p < n) (sym all) (within (goal.at.index_mut-requires c).After-know_lawful)
