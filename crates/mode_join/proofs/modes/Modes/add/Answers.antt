@@ -1,5 +1,5 @@
-use Rattle.std.proofs.Common.{rules, ◌≡◌, ◌+◌, ◌*◌, ◌≤◌, ◌<◌, ◌^◌, ◌++◌, ◌∷◌, [], length, sym, ap, ◌∙◌, arith}
-use Rattle.std.proofs.lemmas.Result.{IfOk-from_err, err_from_is_err_and}
+use Rattle.std.proofs.Common.{rules, ◌≡◌, ◌+◌, ◌*◌, ◌≤◌, ◌<◌, ◌^◌, ◌++◌, ◌∷◌, [], length, refl, sym, ap, ◌∙◌, arith}
+use Rattle.std.proofs.lemmas.Result.{IfOk-from_err, MatchResult-from_err, err_from_is_err_and}
 use Rattle.std.proofs.lemmas.List.Sums.{sum_by_push}
 use Rattle.sched_base.specs.Sets.{SetContents}
 use Rattle.sched_base.specs.Tables.{row_limit}
@@ -151,3 +151,21 @@ overflow_add-self c =
     let most = few after in
     let so_far = c.self.invariant.1 in
     omega (arith, by, row, most, so_far)
+
+pub same-self : goal.same-self
+same-self c = refl
+
+pub same-self-in_err-plan : goal.same-self-in_err-plan
+same-self-in_err-plan c = refl
+
+pub same-self-in_err-rounds : goal.same-self-in_err-rounds
+same-self-in_err-rounds c = refl
+
+pub returns-in-Some-clause-err : goal.returns-in-Some-clause-err
+returns-in-Some-clause-err c = refl
+
+pub returns-in_err-plan-clause-err : goal.returns-in_err-plan-clause-err
+returns-in_err-plan-clause-err c = MatchResult-from_err _ _ _ c.from_residual.ensures.0 (λ _. refl)
+
+pub returns-in_err-rounds-clause-err : goal.returns-in_err-rounds-clause-err
+returns-in_err-rounds-clause-err c = MatchResult-from_err _ _ _ c.from_residual-in_err-rounds.ensures.0 (λ _. refl)
