@@ -1,5 +1,5 @@
 -- The frames of the row at fault: which row it is, and where there is none.
-use Rattle.std.proofs.Common.{ℕ, ◌+◌, ◌-◌, ◌<◌, ◌≤◌, ◌≡◌, ◌&&◌, leb, ltb, Bool, true, false, List, [], length, sym, ap, ◌∙◌, subst, arith}
+use Rattle.std.proofs.Common.{ℕ, Option, Result, ◌+◌, ◌-◌, ◌<◌, ◌≤◌, ◌≡◌, ◌&&◌, leb, ltb, Bool, true, false, List, [], length, sym, ap, ◌∙◌, subst, arith}
 use Rattle.std.specs.List.{concat}
 use Rattle.std.proofs.lemmas.Bool.{and_parts, and_from, both_ways, leb-true, le-leb, ltb-true, lt-ltb, false_from_ne_true, cond-true, cond-false}
 use Rattle.trace_verdict.specs.declared.faults.FaultKind.{FaultKind}
@@ -9,7 +9,10 @@ use Rattle.trace_check.specs.Traces.{Trace}
 use Rattle.trace_draw.specs.declared.shown_units.ShownUnits.{ShownUnits}
 use Rattle.sched_base.specs.declared.rows.Row.{Row}
 use Rattle.trace_draw.specs.ShownUnits.{reaches, place, span}
-use Rattle.trace_draw.specs.Rows.{frame_lines}
+use Rattle.sched_edges.specs.Streams.{Wrote}
+use Rattle.sched_base.specs.Sets.{SetContents}
+use Rattle.trace_draw.specs.declared.rows.Part.{Part}
+use Rattle.trace_draw.specs.Rows.{frame_lines, rows_text}
 use Rattle.trace_draw.specs.Picture.{framed_row, fault_text}
 
 pub fault_framed : (t : Trace) (w : ShownUnits) (line : ℕ) (kind : FaultKind) (first i : ℕ) → first ≡ 6 + length t.set.tasks → first ≤ line → i ≡ line - first
@@ -37,3 +40,13 @@ framed_apart t w rows i b same is off =
 pub framed_shown : (t : Trace) (w : ShownUnits) (i : ℕ) → i < length t.rows → reaches w (row_at t.rows i) ≡ true
     → framed_row t w i ≡ concat (frame_lines t.set (row_at t.rows i) (place w (row_at t.rows i).start) (span w (row_at t.rows i).start (row_at t.rows i).end))
 framed_shown t w i within is = cond-true (ltb i (length t.rows) && reaches w (row_at t.rows i)) _ _ (and_from _ _ (lt-ltb i (length t.rows) within) is)
+
+wrote_same : {T E : Type 0} (a b : Option (List ℕ)) (text : SetContents → List Row → List ℕ) (known told : SetContents) (rows shown : List Row) (r : Result T E) → told ≡ known → shown ≡ rows
+    → Wrote a b (text told shown) r → Wrote a b (text known rows) r
+wrote_same a b text known told rows shown r same these wrote =
+    subst (λ (xs : List Row). Wrote a b (text known xs) r) these (subst (λ (x : SetContents). Wrote a b (text x shown) r) same wrote)
+
+-- a write of rows of a set, where these are the rows and the set of a trace
+pub rows_wrote : {T E : Type 0} (a b : Option (List ℕ)) (part : Part) (w : ShownUnits) (known told : SetContents) (rows shown : List Row) (r : Result T E) → told ≡ known → shown ≡ rows
+    → Wrote a b (rows_text part told w shown) r → Wrote a b (rows_text part known w rows) r
+rows_wrote a b part w = wrote_same a b (λ s rows. rows_text part s w rows)

@@ -5,6 +5,7 @@ use Rattle.trace_draw.specs.declared.rows.Part.TheVariants.{Words}
 use Rattle.trace_draw.specs.Rows.{rows_text}
 use Rattle.trace_draw.specs.Picture.{fault_text, closing_lines}
 use Rattle.sched_edges.proofs.CauseLemmas.{cause_cut, cause_then}
+use Rattle.trace_draw.proofs.PictureLemmas.{rows_wrote}
 use Rattle.trace_draw.proofs.picture.write_end.Goals as goal
 
 pub returns-in_err-write_fault-clause-wrote : goal.returns-in_err-write_fault-clause-wrote
@@ -18,7 +19,7 @@ pub returns-in_err-write_rows-clause-wrote : goal.returns-in_err-write_rows-clau
 returns-in_err-write_rows-clause-wrote g c =
     let t = c.args.scene.now.trace.now in
     let w = c.args.scene.now.window.now in
-    let words = rw (c.rows.ensures.value, c.set.ensures) at c.in_err-write_rows.ensures.wrote in
+    let words = rows_wrote _ _ Words w t.set _ t.rows _ _ c.set.ensures c.rows.ensures.value c.in_err-write_rows.ensures.wrote in
     wrote_then _ _ _ (fault_text t w c.args.scene.now.verdict) (rows_text Words t.set w t.rows ++ concat (closing_lines t.set)) _ _ c.in_ok-write_fault.ensures.wrote
     (wrote_cut _ _ (rows_text Words t.set w t.rows) (concat (closing_lines t.set)) _ _ words c.from_residual-in_err-write_rows.ensures.0)
 
@@ -26,7 +27,7 @@ pub returns-clause-wrote : goal.returns-clause-wrote
 returns-clause-wrote g c =
     let t = c.args.scene.now.trace.now in
     let w = c.args.scene.now.window.now in
-    let words = rw (c.rows.ensures.value, c.set.ensures) at c.in_ok-write_rows.ensures.wrote in
+    let words = rows_wrote _ _ Words w t.set _ t.rows _ _ c.set.ensures c.rows.ensures.value c.in_ok-write_rows.ensures.wrote in
     let closing = rw c.set-2.ensures at c.write_closing.ensures.wrote in
     wrote_then _ _ _ (fault_text t w c.args.scene.now.verdict) (rows_text Words t.set w t.rows ++ concat (closing_lines t.set)) _ _ c.in_ok-write_fault.ensures.wrote
     (wrote_then _ _ _ (rows_text Words t.set w t.rows) (concat (closing_lines t.set)) _ _ words closing)

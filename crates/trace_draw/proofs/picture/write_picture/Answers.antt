@@ -2,6 +2,7 @@ use Rattle.sched_edges.proofs.Wrote.{wrote_then, wrote_cut}
 use Rattle.trace_draw.specs.declared.rows.Part.TheVariants.{Boxes}
 use Rattle.trace_draw.specs.Rows.{rows_text}
 use Rattle.trace_draw.specs.Picture.{picture}
+use Rattle.trace_draw.proofs.PictureLemmas.{rows_wrote}
 use Rattle.trace_draw.proofs.Parts.{base_text, tasks_text, end_text}
 use Rattle.std.proofs.Common.{◌++◌, le_refl, le_trans}
 use Rattle.sched_edges.proofs.CauseLemmas.{cause_cut, cause_then}
@@ -21,7 +22,7 @@ returns-in_err-write_rows-clause-wrote g c =
     let t = c.args.trace.now in
     let w = c.args.window.now in
     let v = c.args.verdict in
-    let rows = rw (c.rows.ensures.value, c.set.ensures) at c.in_err-write_rows.ensures.wrote in
+    let rows = rows_wrote _ _ Boxes w t.set _ t.rows _ _ c.set.ensures c.rows.ensures.value c.in_err-write_rows.ensures.wrote in
     wrote_then _ _ _ (base_text t w v) _ _ _ c.in_ok-write_base.ensures.wrote
     (wrote_cut _ _ (rows_text Boxes t.set w t.rows) (tasks_text t w v ++ end_text t w v) _ _ rows c.from_residual-in_err-write_rows.ensures.0)
 
@@ -31,7 +32,7 @@ returns-in_err-write_tasks-clause-wrote g c =
     let t = c.args.trace.now in
     let w = c.args.window.now in
     let v = c.args.verdict in
-    let rows = rw (c.rows.ensures.value, c.set.ensures) at c.in_ok-write_rows.ensures.wrote in
+    let rows = rows_wrote _ _ Boxes w t.set _ t.rows _ _ c.set.ensures c.rows.ensures.value c.in_ok-write_rows.ensures.wrote in
     wrote_then _ _ _ (base_text t w v) _ _ _ c.in_ok-write_base.ensures.wrote
     (wrote_then _ _ _ (rows_text Boxes t.set w t.rows) (tasks_text t w v ++ end_text t w v) _ _ rows
     (wrote_cut _ _ (tasks_text t w v) (end_text t w v) _ _ c.in_err-write_tasks.ensures.wrote c.from_residual-in_err-write_tasks.ensures.0))
@@ -42,7 +43,7 @@ returns-clause-wrote g c =
     let t = c.args.trace.now in
     let w = c.args.window.now in
     let v = c.args.verdict in
-    let rows = rw (c.rows.ensures.value, c.set.ensures) at c.in_ok-write_rows.ensures.wrote in
+    let rows = rows_wrote _ _ Boxes w t.set _ t.rows _ _ c.set.ensures c.rows.ensures.value c.in_ok-write_rows.ensures.wrote in
     wrote_then _ _ _ (base_text t w v) _ _ _ c.in_ok-write_base.ensures.wrote
     (wrote_then _ _ _ (rows_text Boxes t.set w t.rows) (tasks_text t w v ++ end_text t w v) _ _ rows
     (wrote_then _ _ _ (tasks_text t w v) (end_text t w v) _ _ c.in_ok-write_tasks.ensures.wrote c.write_end.ensures.wrote))
