@@ -1,5 +1,5 @@
 -- Digits that are written in parts.
-use Rattle.std.proofs.Common.{ℕ, zero, suc, ◌+◌, ◌-◌, ◌*◌, ◌/◌, ◌%◌, ◌^◌, ◌<◌, ◌≤◌, ◌≡◌, List, [], ◌∷◌, ◌++◌, length, take, refl, sym, subst, ap, ◌∙◌, arith, append_assoc, append-nil, length-append}
+use Rattle.std.proofs.Common.{ℕ, Fits, w32, w64, zero, suc, ◌+◌, ◌-◌, ◌*◌, ◌/◌, ◌%◌, ◌^◌, ◌<◌, ◌≤◌, ◌≡◌, List, [], ◌∷◌, ◌++◌, length, take, refl, sym, subst, ap, ◌∙◌, arith, append_assoc, append-nil, length-append}
 use Rattle.std.specs.Fmt.{decimal}
 use Rattle.std.proofs.Math.Nat.{mul_left_comm}
 use Rattle.std.proofs.lemmas.Fmt.{decimal_digit, decimal_step_wide}
@@ -142,3 +142,26 @@ parts_put high low raised len first middle whole some few short long is put_firs
     let front : take (len - 16) middle ≡ decimal high =
     ap (λ k. take k middle) e' ∙ put_middle ∙ ap (λ xs. xs ++ low_digits 8 (high % 10 ^ 8)) (put_first ∙ is.digits) ∙ sym (eight_parts high some (omega (arith, few))) in
     ap (λ k. take k whole) e ∙ put_last ∙ ap (λ xs. xs ++ low_digits 16 low) front ∙ sym (split 16 high low (omega (arith, some)) short (omega (arith, few, short)))
+
+-- a number is as long as its raised front asks for
+pub long_enough : (top raise len : ℕ) → 10000000 ≤ top * raise → (1 ≤ raise → 25 ≤ len) → (16 ≤ len) × (24 ≤ len)
+long_enough top raise len some long =
+    let longer : 25 ≤ len = long (factors_some top raise (omega (arith, some))).1 in
+    (omega (arith, longer), omega (arith, longer))
+
+-- what is in front of the last eight digits, and these
+pub record IsCutAtEight (n : ℕ) : Type 0 where
+  pub fits : Fits w64 n
+  pub within : n / 100000000 * 100000000 ≤ n
+  pub front_fits : Fits w64 (n / 100000000 * 100000000)
+  pub rest : n - n / 100000000 * 100000000 < 100000000
+  pub rest_fits : Fits w32 (n - n / 100000000 * 100000000)
+
+pub cut_at_eight : (n : ℕ) → n < 2 ^ 64 → IsCutAtEight n
+cut_at_eight n few = record {
+  fits = omega arith;
+  within = omega arith;
+  front_fits = omega arith;
+  rest = omega arith;
+  rest_fits = omega arith;
+}

@@ -1,7 +1,7 @@
 -- When a period was done, while rows go by.
-use Rattle.std.proofs.Common.{ℕ, zero, suc, ◌+◌, ◌-◌, ◌*◌, ◌/◌, ◌^◌, ◌<◌, ◌≤◌, ◌≡◌, ◌≢◌, inl, inr, min, max, ltb, Bool, true, false, ◌&&◌, List, [], ◌∷◌, ◌++◌, length, get_or, set, map, cond, sym, refl, subst, ap, ◌∙◌, arith, get_or-set_same, get_or-set_other}
+use Rattle.std.proofs.Common.{ℕ, zero, suc, ◌+◌, ◌-◌, ◌*◌, ◌/◌, ◌^◌, ◌<◌, ◌≤◌, ◌≡◌, ◌≢◌, inl, inr, min, max, ltb, Bool, true, false, ◌&&◌, List, [], ◌∷◌, ◌++◌, length, le_trans, get_or, set, map, cond, sym, refl, subst, ap, ◌∙◌, arith, get_or-set_same, get_or-set_other, take, drop, append-nil}
 use Rattle.std.proofs.lemmas.Bool.{cases_Bool, cases_lt, cases_order, cond-true, cond-false, lt-ltb, le-ltb, ne_eqb}
-use Rattle.std.proofs.lemmas.List.{length-set, length-map, get_or_default}
+use Rattle.std.proofs.lemmas.List.{length-set, length-map, get_or_default, drop_all, take_all}
 use Rattle.std.proofs.Math.Nat.{mul-le-mul_right, le-div_iff_mul-le}
 use Rattle.std.specs.List.{AllByRecursion}
 use Rattle.sched_base.specs.declared.rows.Leaf.{Leaf}
@@ -121,6 +121,33 @@ period_before scale tick n t some whole is first =
     let v : n * t.period ≤ tick / scale - t.offset = (le-div_iff_mul-le some).0 (omega (arith, is)) in
     let w : 1 * t.period ≤ n * t.period = mul-le-mul_right t.period first in
     (le-div_iff_mul-le whole).0 (omega (arith, v, w, some))
+
+-- the periods before one that began by a tick end by it
+pub past_before : (scale : ℕ) (t : Task) (at tick : ℕ) → period_start scale t at ≤ tick → (k : ℕ) → k < at → period_start scale t (k + 1) ≤ tick
+past_before scale t at tick begun k below = le_trans (begins_later scale t (k + 1) at (omega (arith, below))) begun
+
+-- so do those before a number that isn't more
+pub past_few : (scale : ℕ) (t : Task) (few at tick : ℕ) → few ≤ at → (1 ≤ at → period_start scale t at ≤ tick) → (k : ℕ) → k < few → period_start scale t (k + 1) ≤ tick
+past_few scale t few at tick less begun k below = past_before scale t at tick (begun (omega (arith, below, less))) k (omega (arith, below, less))
+
+-- one period more is told to be done when it begins
+pub starts_next : (scale : ℕ) (t : Task) (k v : ℕ) (ends : List ℕ) → k < length ends → v ≡ period_start scale t k
+    → ((i : ℕ) → i < k → get_or ends i 0 ≡ period_start scale t i) → (i : ℕ) → i < k + 1 → get_or (set ends k v) i 0 ≡ period_start scale t i
+starts_next scale t k v ends within is before i below =
+    elim (cases_order i k) [
+      | inl same ↦ ap (λ n. get_or (set ends k v) n 0) same ∙ get_or-set_same ends k v 0 within ∙ is ∙ ap (period_start scale t) (sym same)
+      | inr away ↦ elim away [
+        | inl less ↦ get_or-set_other ends k i v 0 (λ e. omega (arith, e, less)) ∙ before i less
+        | inr more ↦ absurd (omega (arith, more, below))
+      ]
+    ]
+
+-- a list that was written back over one of the same length
+pub written_whole : {A : Type 0} (new old : List A) (n : ℕ) → length new ≡ n → length old ≡ n → take n (new ++ drop (length new) old) ≡ new
+written_whole new old n long was =
+    let rest : drop (length new) old ≡ [] = drop_all (length new) old (omega (arith, long, was)) in
+    let whole : new ++ drop (length new) old ≡ new = ap (λ xs. new ++ xs) rest ∙ append-nil new in
+    ap (take n) whole ∙ take_all n new (omega (arith, long))
 
 -- ---- one row more
 

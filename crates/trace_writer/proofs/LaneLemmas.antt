@@ -1,6 +1,7 @@
 -- The lines of the rows, processor by processor.
-use Rattle.std.proofs.Common.{ℕ, zero, suc, ◌+◌, ◌<◌, ◌≡◌, List, [], ◌∷◌, ◌++◌, length, Option, Result, Ok, Err, sym, refl, ap, ◌∙◌, subst, arith, append_assoc, append-nil, length-append}
-use Rattle.std.specs.Prelude.{IsErr}
+use Rattle.std.proofs.Common.{ℕ, zero, suc, ◌+◌, ◌<◌, ◌≤◌, ◌≡◌, ◌≢◌, inl, inr, List, [], ◌∷◌, ◌++◌, length, Option, Some, None, Result, Ok, Err, sym, refl, ap, ◌∙◌, subst, arith, append_assoc, append-nil, length-append}
+use Rattle.std.proofs.lemmas.Bool.{cases_lt}
+use Rattle.std.specs.Prelude.{IsErr, IfNone}
 use Rattle.std.specs.List.{AllByRecursion, flat_map}
 use Rattle.std.specs.Io.KnownBytes.{Appends}
 use Rattle.std.proofs.KnownBytes.{Appends-trans}
@@ -47,6 +48,19 @@ nothing : (rows : List Row) → length rows ≡ 0 → rows ≡ []
 nothing [] e = refl
 nothing (r ∷ rows) e = absurd (omega (arith, e))
 
+-- the lines of a page are no more than its rows
+pub page_few : (tasks : List Task) (rows left : List Row) (lines most : ℕ) (page : List ℕ) → IsPage tasks rows left lines page → length rows ≤ most → lines ≤ most
+page_few tasks rows left lines most page is few = (let each = page_counts tasks rows left lines page is in omega (arith, each, few))
+
+-- one row fewer is left
+pub left_smaller : (left later : List Row) (r : Row) → left ≡ r ∷ later → length later < length left
+left_smaller left later r first = (let more = ap length first in omega (arith, more))
+
+-- what holds where there is no next row
+pub none_next : {A P : Type 0} (next : Option A) → ((r : A) → next ≢ Some r) → IfNone next P → P
+none_next None none h = h
+none_next (Some r) none h = absurd (none r refl)
+
 -- where none is left and none has a line there was none
 pub page_empty : (tasks : List Task) (rows left : List Row) (lines : ℕ) (page : List ℕ) → left ≡ [] → IsPage tasks rows left lines page → lines ≡ 0 → rows ≡ []
 page_empty tasks rows left lines page none h few =
@@ -69,6 +83,28 @@ written_counts tasks a b rows left count h =
     let (written, all, took, counted) = h.parts in
     let e : length rows ≡ length written + length left = ap length all ∙ length-append written left in
     omega (arith, e, counted)
+
+-- those that are left are no more than all
+pub written_few : (tasks : List Task) (a b : Option (List ℕ)) (rows left : List Row) (count most : ℕ) → Written tasks a b rows left count → length rows ≤ most → length left ≤ most
+written_few tasks a b rows left count most h few = (let each = written_counts tasks a b rows left count h in omega (arith, each, few))
+
+-- the lines of a page more are no more than all rows
+pub written_fits : (tasks : List Task) (a b : Option (List ℕ)) (rows left later : List Row) (count lines most : ℕ) (page : List ℕ) → IsPage tasks left later lines page
+    → Written tasks a b rows left count → length rows ≤ most → count + lines ≤ most
+written_fits tasks a b rows left later count lines most page is h few =
+    let each = written_counts tasks a b rows left count h in
+    let more = page_counts tasks left later lines page is in
+    omega (arith, each, more, few)
+
+-- a page that has a line leaves fewer rows
+pub page_smaller : (tasks : List Task) (rows left : List Row) (lines : ℕ) (page : List ℕ) → IsPage tasks rows left lines page → (lines ≡ 0 → ⊥) → length left < length rows
+page_smaller tasks rows left lines page is some =
+    let more = page_counts tasks rows left lines page is in
+    let one : 0 < lines = elim (cases_lt 0 lines) [
+      | inl above ↦ above
+      | inr none ↦ absurd (some (omega (arith, none)))
+    ] in
+    omega (arith, more, one)
 
 -- a page more
 pub written_more : (tasks : List Task) (a b c : Option (List ℕ)) (rows left later : List Row) (count lines : ℕ) (page : List ℕ) → IsPage tasks left later lines page
