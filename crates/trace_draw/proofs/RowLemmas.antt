@@ -1,5 +1,5 @@
 -- Of the rows that reach into a window the first ones are drawn.
-use Rattle.std.proofs.Common.{ℕ, suc, ◌+◌, ◌<◌, ◌≤◌, ◌≡◌, Bool, true, false, cond, min, List, ◌∷◌, ◌++◌, take, drop, get_or, filter, length, length-append, drop-cons, sym, ap, ◌∙◌, subst, arith}
+use Rattle.std.proofs.Common.{ℕ, Fits, w64, Option, Result, [], zero, suc, ◌+◌, ◌<◌, ◌≤◌, ◌≡◌, Bool, true, false, cond, min, List, ◌∷◌, ◌++◌, take, drop, get_or, filter, length, length-append, drop-cons, sym, ap, ◌∙◌, subst, arith}
 use Rattle.std.proofs.lemmas.Bool.{cond-true, cond-false}
 use Rattle.std.proofs.lemmas.List.{take-append-drop, take_all, length-take, get_or-take}
 use Rattle.std.proofs.lemmas.List.Elements.{filter-append}
@@ -7,7 +7,14 @@ use Rattle.std.proofs.lemmas.List.Filters.{length-filter_more}
 use Rattle.std.proofs.Math.Seq.{get_or-append_seam}
 use Rattle.sched_base.specs.declared.rows.Row.{Row}
 use Rattle.trace_draw.specs.declared.shown_units.ShownUnits.{ShownUnits}
-use Rattle.trace_draw.specs.ShownUnits.{most_drawn, reaches}
+use Rattle.std.specs.List.{AllByRecursion, concat}
+use Rattle.sched_base.specs.Sets.{SetContents}
+use Rattle.sched_edges.specs.Streams.{Wrote}
+use Rattle.trace_verdict.specs.Faults.{IsTraceRow, row_at}
+use Rattle.trace_draw.specs.declared.rows.Part.{Part}
+use Rattle.trace_draw.specs.declared.rows.Part.TheVariants.{Boxes, Words}
+use Rattle.trace_draw.specs.Rows.{boxes_lines, words_lines, task_row_text}
+use Rattle.trace_draw.specs.ShownUnits.{most_drawn, reaches, place, span}
 use Rattle.trace_draw.proofs.Parts.{drawn_rows}
 
 -- what passes is what passed before an item that does, this item, and what passes behind it
@@ -32,6 +39,30 @@ stands_first p xs i n x within at passes few =
           ∙ ap (λ ys. get_or ys (length before) x) split
           ∙ get_or-append_seam before x (filter p (drop (suc i) xs)) x),
     )
+
+-- what holds of each row of a trace holds of row i
+pub trace_row_at : (s : SetContents) (rows : List Row) (i : ℕ) → i < length rows → AllByRecursion (IsTraceRow s) rows → IsTraceRow s (row_at rows i)
+trace_row_at s [] i within all = absurd (omega (arith, within))
+trace_row_at s (r ∷ rows) zero within all = all.0
+trace_row_at s (r ∷ rows) (suc i) within all = trace_row_at s rows i (omega (arith, within)) all.1
+
+-- a row more is drawn, where there is room for it
+pub drawn_fits : (drawn : ℕ) → drawn < most_drawn → Fits w64 (drawn + 1)
+drawn_fits drawn few = omega (arith, few)
+
+text_wrote : {T E : Type 0} (a b : Option (List ℕ)) (xs ys : List ℕ) (result : Result T E) → xs ≡ ys → Wrote a b xs result → Wrote a b ys result
+text_wrote a b xs ys result same wrote = subst (λ text. Wrote a b text result) same wrote
+
+-- the lines of a part of a row were written
+pub boxes_wrote : {T E : Type 0} (a b : Option (List ℕ)) (part : Part) (s : SetContents) (w : ShownUnits) (j : ℕ) (r : Row) (x width : ℕ) (lines : List (List ℕ)) (result : Result T E)
+    → part ≡ Boxes → x ≡ place w r.start → width ≡ span w r.start r.end → lines ≡ boxes_lines s j r x width → Wrote a b (concat lines) result → Wrote a b (task_row_text part s w j r) result
+boxes_wrote a b part s w j r x width lines result is left wide told wrote =
+    text_wrote a b _ _ result (ap concat told ∙ ap (λ n. concat (boxes_lines s j r n width)) left ∙ ap (λ n. concat (boxes_lines s j r (place w r.start) n)) wide ∙ ap (λ p. task_row_text p s w j r) (sym is)) wrote
+
+pub words_wrote : {T E : Type 0} (a b : Option (List ℕ)) (part : Part) (s : SetContents) (w : ShownUnits) (j : ℕ) (r : Row) (x width : ℕ) (lines : List (List ℕ)) (result : Result T E)
+    → part ≡ Words → x ≡ place w r.start → width ≡ span w r.start r.end → lines ≡ words_lines s j r x width → Wrote a b (concat lines) result → Wrote a b (task_row_text part s w j r) result
+words_wrote a b part s w j r x width lines result is left wide told wrote =
+    text_wrote a b _ _ result (ap concat told ∙ ap (λ n. concat (words_lines s j r n width)) left ∙ ap (λ n. concat (words_lines s j r (place w r.start) n)) wide ∙ ap (λ p. task_row_text p s w j r) (sym is)) wrote
 
 -- ---- rows that are gone through, of which so many were drawn
 
