@@ -1,5 +1,5 @@
 -- The reading of a text, part by part.
-use Rattle.std.proofs.Common.{◌≡◌, ℕ, zero, suc, ◌+◌, ◌-◌, ◌^◌, ◌<◌, ◌≤◌, true, false, cond, List, [], ◌∷◌, ◌++◌, Option, Some, None, Result, Ok, Err, codes, length, get_or, refl, ap, ap₂, arith, inl, inr, sym, subst, ◌∙◌}
+use Rattle.std.proofs.Common.{lit<, ◌≡◌, ℕ, zero, suc, ◌+◌, ◌-◌, ◌^◌, ◌<◌, ◌≤◌, true, false, cond, List, [], ◌∷◌, ◌++◌, Option, Some, None, Result, Ok, Err, codes, length, get_or, refl, ap, ap₂, arith, inl, inr, sym, subst, ◌∙◌}
 use Rattle.std.specs.Prelude.{is_some, IfOk, IfErr}
 use Rattle.std.specs.List.{AllByRecursion, range_with_len, sum_by}
 use Rattle.std.proofs.lemmas.Bool.{cases_lt, cond-true, cond-false}
@@ -10,7 +10,6 @@ use Rattle.sched_base.specs.Sets.{SetContents, IsLawful}
 use Rattle.text_words.specs.Words.{lines_of, after_word}
 use Rattle.trace_format.specs.declared.versions.Version.TheVariants.{One}
 use Rattle.trace_check.specs.declared.faults.TraceFault.{TraceFault}
-use Rattle.trace_check.specs.declared.faults.TraceFault.TheVariants as trace
 use Rattle.trace_check.specs.declared.head_lines.Head.{Head}
 use Rattle.trace_check.specs.Steps.{and_then, step, next_line, number_after, number_within}
 use Rattle.trace_check.specs.HeadLines.{capped}
@@ -117,6 +116,25 @@ levels_stop scale at levels lines rest line NoMemory e off s = tt
 pub levels_done : (scale at : ℕ) (levels : List (List Pack)) (lines rest : List (List ℕ)) (line : List ℕ) → lines ≡ line ∷ rest → is_some (after_word (codes "levels") line) ≡ true
     → levels_from scale at 0 levels lines ≡ ended at levels (number_after (codes "levels") line) rest
 levels_done scale at levels lines rest line e on = ap (levels_from scale at 0 levels) e ∙ cond-true (is_some (after_word (codes "levels") line)) _ _ on
+
+below_all : (a b c : ℕ) → a ≤ b → b < c → a < c
+below_all a b c small less = omega (arith, small, less)
+
+-- a scale is less than the largest number that a word may write
+pub scale_small : (scale : ℕ) → scale ≤ 2 ^ 94 → scale < 2 ^ 128 - 1
+scale_small scale few = below_all scale (2 ^ 94) (2 ^ 128 - 1) few (lit< tt)
+
+-- the number of a line has one after it that fits
+pub line_fits : (at rest first text : ℕ) → at + rest ≤ first + text → first + text + 1 < 2 ^ 64 → at + 1 < 2 ^ 64
+line_fits at rest first text within few = omega (arith, within, few)
+
+-- so have the lines behind it
+pub later_fits : (at later rest first text : ℕ) → later < rest → at + rest ≤ first + text → first + text + 1 < 2 ^ 64 → at + 1 + later < 2 ^ 64
+later_fits at later rest first text less within few = omega (arith, less, within, few)
+
+-- what is behind the packs of a level is less than what is behind the line before it
+pub rest_smaller : (packs after later rest : ℕ) → packs + after ≤ later → later < rest → after < rest
+rest_smaller packs after later rest some less = omega (arith, some, less)
 
 -- what stops a reading stops one that it equals
 pub stops_same : {A : Type 0} (r s : Result A ℕ) (fault : TraceFault) → r ≡ s → NamesBadLine s fault → NamesBadLine r fault

@@ -3,7 +3,7 @@ use Rattle.std.proofs.lemmas.Result.{err_from_is_err_and, IfOk-from_err}
 use Rattle.std.specs.List.{AllByRecursion}
 use Rattle.text_words.specs.Words.{lines_of}
 use Rattle.tree_reader.specs.Reading.{idles_from}
-use Rattle.tree_reader.proofs.ReadingLemmas.{idles_more, idles_stop, all_push}
+use Rattle.tree_reader.proofs.ReadingLemmas.{idles_more, idles_stop, all_push, scale_small}
 use Rattle.tree_reader.proofs.idles.read_idles.Goals as goal
 
 pub returns-in_err-rate-clause-fault : goal.returns-in_err-rate-clause-fault
@@ -49,3 +49,6 @@ returns-in_err-push-clause-fault c = let why = err_from_is_err_and c.from_residu
 
 pub returns-clause-each : goal.returns-clause-each
 returns-clause-each c = c.loop-k.invariant.2
+
+pub next_second-requires-clause-second : goal.next_second-requires-clause-second
+next_second-requires-clause-second c = scale_small _ c.requires.scale

@@ -5,7 +5,7 @@ use Rattle.text_words.specs.Words.{lines_of}
 use Rattle.tree_check.specs.Written.{Pack, IsWrittenLevel}
 use Rattle.trace_check.specs.Faults.{NamesBadLine}
 use Rattle.tree_reader.specs.Reading.{level_from, levels_from, lines_so_far}
-use Rattle.tree_reader.proofs.ReadingLemmas.{levels_more, levels_stop, stops_same, lawful_more}
+use Rattle.tree_reader.proofs.ReadingLemmas.{levels_more, levels_stop, stops_same, lawful_more, line_fits, later_fits, rest_smaller}
 use Rattle.tree_reader.proofs.levels.read_levels.Goals as goal
 
 pub loop-rest-preserved : goal.loop-rest-preserved
@@ -61,3 +61,19 @@ returns-in_err-push-clause-fault c = let why = err_from_is_err_and c.from_residu
 
 pub read_level-requires-clause-scale : goal.read_level-requires-clause-scale
 read_level-requires-clause-scale c = c.requires.scale
+
+pub end_of-requires : goal.end_of-requires
+end_of-requires c = line_fits c.loop-rest.at (length c.loop-rest.rest.now) c.args.first (length c.args.text.now) c.loop-rest.invariant.2 c.requires.first
+
+pub returns-in-Ok-clause-some : goal.returns-in-Ok-clause-some
+returns-in-Ok-clause-some c = subst (λ (ls : List (List Pack)). 0 < length ls) c.deref.ensures.value c.in-Ok.ensures.some
+
+pub returns-in-Ok-clause-lawful : goal.returns-in-Ok-clause-lawful
+returns-in-Ok-clause-lawful c = c.loop-rest.invariant.3
+
+pub read_level-requires-clause-at : goal.read_level-requires-clause-at
+read_level-requires-clause-at c =
+    later_fits c.loop-rest.at (length c.first_line.result.1.now) (length c.loop-rest.rest.now) c.args.first (length c.args.text.now) c.first_line.ensures.less c.loop-rest.invariant.2 c.requires.first
+
+pub loop-rest-smaller : goal.loop-rest-smaller
+loop-rest-smaller c = rest_smaller _ _ _ _ c.in-Ok-read_level.ensures.less c.first_line.ensures.less

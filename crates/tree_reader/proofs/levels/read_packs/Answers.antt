@@ -7,7 +7,7 @@ use Rattle.text_words.specs.Words.{lines_of}
 use Rattle.trace_check.proofs.TaskLemmas.{no_lines}
 use Rattle.tree_check.specs.Written.{Pack, IsWrittenPack}
 use Rattle.tree_reader.specs.Reading.{packs_from}
-use Rattle.tree_reader.proofs.ReadingLemmas.{packs_more, packs_stop, packs_end, all_push}
+use Rattle.tree_reader.proofs.ReadingLemmas.{packs_more, packs_stop, packs_end, all_push, scale_small}
 use Rattle.tree_reader.proofs.levels.read_packs.Goals as goal
 
 pub returns-then-is_empty-clause-fault : goal.returns-then-is_empty-clause-fault
@@ -74,3 +74,6 @@ returns-in_err-push-clause-fault c = let why = err_from_is_err_and c.from_residu
 
 pub returns-clause-each : goal.returns-clause-each
 returns-clause-each c = c.loop-i.invariant.3
+
+pub read_pack-requires : goal.read_pack-requires
+read_pack-requires c = scale_small _ c.requires.scale

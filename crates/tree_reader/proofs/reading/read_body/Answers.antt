@@ -1,4 +1,4 @@
-use Rattle.std.proofs.Common.{Err, arith}
+use Rattle.std.proofs.Common.{ℕ, ◌≤◌, Fits, w32, Err, arith}
 use Rattle.std.proofs.lemmas.Result.{err_from_is_err_and, IfOk-from_err}
 use Rattle.text_words.specs.Words.{lines_of}
 use Rattle.trace_check.proofs.ScaleTest.{is_scale_to}
@@ -31,3 +31,12 @@ returns-in_err-idles-clause-tree c = IfOk-from_err _ _ c.from_residual-in_err-id
 
 pub returns-in_err-levels-clause-tree : goal.returns-in_err-levels-clause-tree
 returns-in_err-levels-clause-tree c = IfOk-from_err _ _ c.from_residual-in_err-levels.ensures.0
+
+count_fits : (n : ℕ) → n ≤ 1024 → Fits w32 n
+count_fits n few = omega (arith, few)
+
+pub overflow_cast-count : goal.overflow_cast-count
+overflow_cast-count c = count_fits _ c.in_ok-count.ensures.limits.1
+
+pub read_idles-requires-clause-count : goal.read_idles-requires-clause-count
+read_idles-requires-clause-count c = c.in_ok-count.ensures.limits.1
