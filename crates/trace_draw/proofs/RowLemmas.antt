@@ -1,5 +1,5 @@
 -- Of the rows that reach into a window the first ones are drawn.
-use Rattle.std.proofs.Common.{ℕ, Fits, w64, Option, Result, [], zero, suc, ◌+◌, ◌<◌, ◌≤◌, ◌≡◌, Bool, true, false, cond, min, List, ◌∷◌, ◌++◌, take, drop, get_or, filter, length, length-append, drop-cons, sym, ap, ◌∙◌, subst, arith}
+use Rattle.std.proofs.Common.{ℕ, Option, Result, [], zero, suc, ◌+◌, ◌<◌, ◌≤◌, ◌≡◌, Bool, true, false, cond, min, List, ◌∷◌, ◌++◌, take, drop, get_or, filter, length, length-append, drop-cons, sym, ap, ◌∙◌, subst, arith}
 use Rattle.std.proofs.lemmas.Bool.{cond-true, cond-false}
 use Rattle.std.proofs.lemmas.List.{take-append-drop, take_all, length-take, get_or-take}
 use Rattle.std.proofs.lemmas.List.Elements.{filter-append}
@@ -45,10 +45,6 @@ pub trace_row_at : (s : SetContents) (rows : List Row) (i : ℕ) → i < length 
 trace_row_at s [] i within all = absurd (omega (arith, within))
 trace_row_at s (r ∷ rows) zero within all = all.0
 trace_row_at s (r ∷ rows) (suc i) within all = trace_row_at s rows i (omega (arith, within)) all.1
-
--- a row more is drawn, where there is room for it
-pub drawn_fits : (drawn : ℕ) → drawn < most_drawn → Fits w64 (drawn + 1)
-drawn_fits drawn few = omega (arith, few)
 
 text_wrote : {T E : Type 0} (a b : Option (List ℕ)) (xs ys : List ℕ) (result : Result T E) → xs ≡ ys → Wrote a b xs result → Wrote a b ys result
 text_wrote a b xs ys result same wrote = subst (λ text. Wrote a b text result) same wrote

@@ -4,7 +4,7 @@ use Rattle.sched_base.specs.declared.rows.Leaf.TheVariants as leaves
 use Rattle.sched_edges.proofs.Wrote.{item_written, wrote_item}
 use Rattle.trace_verdict.specs.Faults.{row_at}
 use Rattle.sched_edges.proofs.CauseLemmas.{cause_cut, took_none}
-use Rattle.trace_draw.proofs.RowLemmas.{next_drawn, count_next, count_past, count_full, all_drawn, trace_row_at, drawn_fits}
+use Rattle.trace_draw.proofs.RowLemmas.{next_drawn, count_next, count_past, count_full, all_drawn, trace_row_at}
 use Rattle.trace_draw.proofs.rows.write_rows.Goals.{then-drawn-lt-MOST_DRAWN+then-reaches+in_ok-write_row, else-drawn-lt-MOST_DRAWN}
 use Rattle.trace_draw.proofs.rows.write_rows.Goals.{else-drawn-lt-MOST_DRAWN-via-then-drawn-lt-MOST_DRAWN+else-reaches, else-drawn-lt-MOST_DRAWN-via-else-drawn-lt-MOST_DRAWN}
 use Rattle.trace_draw.proofs.rows.write_rows.Goals as goal
@@ -73,6 +73,3 @@ reaches-requires g c = c.requires.window
 
 pub write_row-requires-clause-row : goal.write_row-requires-clause-row
 write_row-requires-clause-row g c = trace_row_at c.args.set.now c.args.rows.now c.loop-row.row-index c.loop-row-test.true c.requires.rows
-
-pub overflow_add-drawn : goal.overflow_add-drawn
-overflow_add-drawn g c = drawn_fits _ c.if-drawn-lt-MOST_DRAWN.true
