@@ -29,7 +29,7 @@ pub post_and_take-requires-clause-agreed : goal.post_and_take-requires-clause-ag
 post_and_take-requires-clause-agreed g c = c.requires.agreed
 
 pub take_next-requires : goal.take_next-requires
-take_next-requires g c = record { agreed = c.requires.agreed; }
+take_next-requires g c = record { agreed = c.requires.agreed }
 
 pub same-lane : goal.same-lane
 same-lane g c = refl
